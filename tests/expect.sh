@@ -1,0 +1,34 @@
+# What the test scripts share. `expect STATUS OUTPUT ERRORS COMMAND..` runs the command and compares; OUTPUT and ERRORS
+# are a whole text without its last newline, or a pattern after `~`. Each script ends with `finish`.
+mistakes=0
+
+differs() {
+    echo "$*" >&2
+    mistakes=$((mistakes + 1))
+}
+
+matches() {
+    local text=$1 wanted=$2
+    if [[ $wanted == "~"* ]]; then
+        [[ $text == ${wanted#"~"} ]]
+    else
+        [[ $text == "$wanted" ]]
+    fi
+}
+
+expect() {
+    local status=$1 output=$2 errors=$3
+    shift 3
+    local told errors_file
+    errors_file=$(mktemp)
+    told=$("$@" 2> "$errors_file")
+    local got=$?
+    [[ $got -eq $status ]] || differs "status $got, not $status: $*"
+    matches "$told" "$output" || differs "standard output '$told', not '$output': $*"
+    matches "$(cat "$errors_file")" "$errors" || differs "standard error '$(cat "$errors_file")', not '$errors': $*"
+    rm -f "$errors_file"
+}
+
+finish() {
+    exit $((mistakes > 0))
+}

@@ -1,0 +1,9 @@
+#!/usr/bin/env bash
+# Arguments that are no text are a wrong command line: status 2, one line on standard error, nothing on standard output.
+set -uo pipefail
+. "$(dirname "$0")/expect.sh"
+
+expect 2 "" "error: an argument is not UTF-8 text" "$PROGRAM" verify export $'\xff'
+expect 2 "" "error: an argument is not UTF-8 text" "$PROGRAM" $'\xc3\x28' export file
+expect 2 "" "error: an argument is not UTF-8 text" "$PROGRAM" --help $'caf\xe9'
+finish
