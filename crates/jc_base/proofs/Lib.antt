@@ -1,0 +1,6 @@
+pub mod Cut
+pub mod Sets
+pub mod KeptLemmas
+pub mod WentOutLemmas
+pub mod TurnLemmas
+pub mod TextLemmas

@@ -1,0 +1,14 @@
+use Rattle.std.proofs.Common.{◌≡◌, ◌-◌, ◌≤◌, length}
+use Rattle.jc_base.specs.Device.{WentOut}
+use Rattle.jc_base.proofs.sink.write_all.Given as goal
+
+-- a front of the text went out
+abbrev pub invariant-loop-at : goal.invariant-loop-at
+invariant-loop-at g l = record {
+  out : WentOut (g.W.ByteSink.written l.fn.sink) (g.W.ByteSink.written l.sink) l.text l.at;
+  count : g.W.ByteSink.failures l.fn.sink ≤ g.W.ByteSink.failures l.sink;
+  lent : g.W.ByteSink.lent l.sink ≡ g.W.ByteSink.lent l.fn.sink;
+}
+
+abbrev pub decreases-loop-at : goal.decreases-loop-at
+decreases-loop-at g l = length l.text - l.at

@@ -1,0 +1,14 @@
+pub mod Number
+pub mod Pair
+pub mod Text
+pub mod Fault
+pub mod LimitBounds
+pub mod Limit
+pub mod LogEntry
+pub mod FromPairs
+pub mod Reading
+pub mod Journal
+pub mod Device
+pub mod Source
+pub mod Turn
+pub mod Listed

@@ -1,0 +1,127 @@
+//! Devices that fail once, for tests of what stands on them.
+
+ghost use Rattle.std.specs.Prelude.{◌≡◌, ◌<◌, ◌↔◌, Some, IsTrue, IsErr, IfOk, length};
+ghost use Rattle.std.specs.Io.{ReadsAtMost, WritesAtMost};
+ghost use Rattle.std.specs.Io.KnownBytes.{ReadConsumes, WriteAppends};
+ghost use Rattle.jc_base.specs.Device.{CountsFailure, BoundFalls};
+ghost use Rattle.jc_base.specs.Turn.{TakesTurn, count_with};
+
+use crate::{ByteSink, ByteStream, ReadFailed, WriteFailed};
+
+/// A stream that passes some calls on, fails the next one, and passes all later ones on.
+#[derive(Debug, Drop)]
+pub struct FailStream<R> {
+    /// The stream that calls are passed on to.
+    pub inner: R,
+    /// How many calls are still passed on before the one that fails; `None` once that one came.
+    pub passes: Option<u64>,
+}
+
+impl<R: ByteStream> FailStream<R> {
+    /// The call behind the first `passes` ones fails.
+    pub fn new(inner: R, passes: u64) -> FailStream<R>
+        ensures inner { result.inner ≡ inner }
+        ensures passes { result.passes ≡ Some passes }
+    {
+        FailStream {
+            inner,
+            passes: Some(passes),
+        }
+    }
+}
+
+impl<R: ByteStream> ByteStream for FailStream<R> {
+    ghost to_come = { λ s. R.to_come s.inner };
+
+    ghost bound = { λ s. R.bound s.inner };
+
+    ghost failures = { λ s. count_with (R.failures s.inner) s.passes };
+
+    ghost lent = { λ s. R.lent s.inner };
+
+    ghost small = { λ s. R.small s.inner };
+
+    fn read(&mut self, out: &mut [u8]) -> Result<usize, ReadFailed>
+        ensures within { ReadsAtMost result out.new }
+        ensures bytes { ReadConsumes (R.to_come self.old.inner) (R.to_come self.new.inner) result out.new }
+        ensures bound { BoundFalls (R.bound self.old.inner) (R.bound self.new.inner) result }
+        ensures failures { CountsFailure (count_with (R.failures self.old.inner) self.old.passes)
+            (count_with (R.failures self.new.inner) self.new.passes) result }
+        ensures lent { R.lent self.new.inner ≡ R.lent self.old.inner }
+
+        // The call that fails is the one behind those that are passed on, and it reaches no inner stream.
+        ensures turn { TakesTurn self.old.passes self.new.passes }
+        ensures fails { self.old.passes ≡ Some 0 → IsErr result × (self.new.inner ≡ self.old.inner) }
+    {
+        if turn(&mut self.passes) {
+            return Err(ReadFailed);
+        }
+        self.inner.read(out)
+    }
+}
+
+/// A sink that passes some calls on, fails the next one, and passes all later ones on.
+#[derive(Debug, Drop)]
+pub struct FailSink<W> {
+    /// The sink that calls are passed on to.
+    pub inner: W,
+    /// How many calls are still passed on before the one that fails; `None` once that one came.
+    pub passes: Option<u64>,
+}
+
+impl<W: ByteSink> FailSink<W> {
+    /// The call behind the first `passes` ones fails.
+    pub fn new(inner: W, passes: u64) -> FailSink<W>
+        ensures inner { result.inner ≡ inner }
+        ensures passes { result.passes ≡ Some passes }
+    {
+        FailSink {
+            inner,
+            passes: Some(passes),
+        }
+    }
+}
+
+impl<W: ByteSink> ByteSink for FailSink<W> {
+    ghost written = { λ s. W.written s.inner };
+
+    ghost failures = { λ s. count_with (W.failures s.inner) s.passes };
+
+    ghost lent = { λ s. W.lent s.inner };
+
+    fn write(&mut self, piece: &[u8]) -> Result<usize, WriteFailed>
+        ensures within { WritesAtMost result piece.now }
+        ensures takes { IfOk result (λ count. 0 < length piece.now → 0 < count) }
+        ensures bytes { WriteAppends (W.written self.old.inner) (W.written self.new.inner) result piece.now }
+        ensures failures { CountsFailure (count_with (W.failures self.old.inner) self.old.passes)
+            (count_with (W.failures self.new.inner) self.new.passes) result }
+        ensures lent { W.lent self.new.inner ≡ W.lent self.old.inner }
+
+        // The call that fails is the one behind those that are passed on, and it reaches no inner sink.
+        ensures turn { TakesTurn self.old.passes self.new.passes }
+        ensures fails { self.old.passes ≡ Some 0 → IsErr result × (self.new.inner ≡ self.old.inner) }
+    {
+        if turn(&mut self.passes) {
+            return Err(WriteFailed);
+        }
+        self.inner.write(piece)
+    }
+}
+
+/// Counts a call, and answers whether it is the one that fails.
+pub fn turn(passes: &mut Option<u64>) -> bool
+    ensures counted { TakesTurn passes.old passes.new }
+    ensures fails { IsTrue result ↔ (passes.old ≡ Some 0) }
+{
+    match *passes {
+        None => false,
+        Some(0) => {
+            *passes = None;
+            true
+        }
+        Some(left) => {
+            *passes = Some(left - 1);
+            false
+        }
+    }
+}
