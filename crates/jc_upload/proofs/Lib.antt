@@ -1,0 +1,5 @@
+pub mod HeadLemmas
+pub mod WordLemmas
+pub mod PartLemmas
+pub mod AnswerLemmas
+pub mod ResumeLemmas

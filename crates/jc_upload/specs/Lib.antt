@@ -1,0 +1,6 @@
+pub mod Head
+pub mod Line
+pub mod Answer
+pub mod Resume
+pub mod Reading
+pub mod Upload

@@ -1,0 +1,66 @@
+-- What a sender keeps, the uploads that it makes, and what an answer to one changes. (own)
+use Rattle.std.specs.Prelude.{ℕ, zero, suc, ◌≡◌, ◌+◌, ◌<◌, ◌≤◌, List, ◌++◌, length, take, drop, flat_map, slice_get, Option, None}
+use Rattle.std.specs.Option.{option_map}
+use Rattle.jc_base.specs.declared.id.Id128.{Id128}
+use Rattle.jc_base.specs.declared.id.Key.{Key}
+use Rattle.jc_base.specs.LogEntry.{LogEntry}
+use Rattle.jc_export.specs.Canonical.{canon}
+use Rattle.jc_upload.specs.declared.head.Kind.TheVariants.{Export, File}
+use Rattle.jc_upload.specs.declared.answer.Answer.{Answer}
+use Rattle.jc_upload.specs.declared.answer.Answer.TheVariants.{Ack, No}
+use Rattle.jc_upload.specs.Head.{head_text}
+use Rattle.jc_upload.specs.Resume.{Point}
+
+-- A source's id, and how many of its entries are done with.
+pub record Sender : Type 0 where
+  pub source : Id128
+  pub point : Point
+
+-- ---- a source's entries and a resume point
+
+-- the key of the last of the first n entries
+abbrev pub key_before : List LogEntry → ℕ → Option Key
+key_before entries zero = None
+key_before entries (suc n) = option_map (λ e. e.key) (slice_get entries n)
+
+abbrev pub point_behind : List LogEntry → ℕ → Point
+point_behind entries n = record { position = n; last = key_before entries n }
+
+-- The source still has as many entries, and the last of them has the kept key.
+pub record Agrees (point : Point) (entries : List LogEntry) : Type 0 where
+  pub within : point.position ≤ length entries
+  pub last : key_before entries point.position ≡ point.last
+
+-- ---- uploads
+
+-- The canonical texts of the entries from the point on, the first of them where more than the limit remain.
+abbrev pub next_upload_of : Sender → List LogEntry → ℕ → List ℕ
+next_upload_of sender entries limit =
+    head_text (record { kind = Export; source = sender.source; start = sender.point.position })
+    ++ flat_map canon (take limit (drop sender.point.position entries))
+
+abbrev pub file_upload_of : Id128 → List ℕ → List ℕ
+file_upload_of source bytes = head_text (record { kind = File; source = source; start = 0 }) ++ bytes
+
+-- ---- answers
+
+-- An ack of these entries of this source moves the point on.
+pub record MovesOn (sender : Sender) (entries : List LogEntry) (source : Id128) (start count : ℕ) : Type 0 where
+  pub agrees : Agrees sender.point entries
+  pub own : source ≡ sender.source
+  pub begun : start ≤ sender.point.position
+  pub further : sender.point.position < start + count
+  pub within : start + count ≤ length entries
+
+abbrev pub Advances : Sender → List LogEntry → Answer → Type 0
+Advances sender entries (Ack source start count new left) = MovesOn sender entries source start count
+Advances sender entries (No of code place) = ⊥
+
+-- how many of the source's entries an ack says are stored, from the first on
+abbrev pub acked_to : Answer → ℕ
+acked_to (Ack source start count new left) = start + count
+acked_to (No of code place) = 0
+
+-- the sender once its point is there
+abbrev pub moved_to : Sender → List LogEntry → ℕ → Sender
+moved_to sender entries n = record { source = sender.source; point = point_behind entries n }

@@ -1,0 +1,16 @@
+//! Uploads as they travel: their headers, the answers to them, and the sender's part.
+#![tactic(auto)]
+
+mod answer;
+mod head;
+mod line;
+mod resume;
+#[cfg(test)]
+mod tests;
+mod uploader;
+
+pub use answer::{Answer, one_answer};
+pub use head::{Kind, UploadHead, one_head};
+pub use line::Line;
+pub use resume::{Resume, one_resume};
+pub use uploader::{UploadFault, Uploader, file_upload};

@@ -1,0 +1,197 @@
+//! The sender's part: which entries an upload carries, and when a resume point moves on.
+
+ghost use Rattle.std.specs.Prelude.{◌≡◌, ◌↔◌, ◌≤◌, ◌++◌, length, flat_map, IsTrue, IfOk, OnOk, IsErrOf, MatchOption};
+ghost use Rattle.std.specs.Bool.{OnTrue, OnFalse};
+ghost use Rattle.std.specs.Io.KnownBytes.{Appends};
+ghost use Rattle.jc_export.specs.Canonical.{canon};
+ghost use Rattle.jc_upload.specs.declared.uploader.UploadFault.TheVariants as faults;
+ghost use Rattle.jc_upload.specs.Head.{head_text};
+ghost use Rattle.jc_upload.specs.Upload.{Advances, Agrees, acked_to, file_upload_of, moved_to, next_upload_of, point_behind};
+
+use crate::{Answer, Kind, Resume, UploadHead};
+use jc_base::{ByteSink, Entry, Id128, OutOfMemory, VecSink, Written, write_all};
+use jc_export::write_entry;
+use std::alloc::Global;
+use std::error::Error;
+use std::fmt;
+use std::marker::Model;
+
+/// Why there is no next upload.
+#[derive(Clone, Copy, Debug, PartialEq, Eq)]
+pub enum UploadFault {
+    /// The source no longer has the entries that are done with.
+    SourceChanged,
+    OutOfMemory,
+}
+
+impl fmt::Display for UploadFault {
+    fn fmt<W: fmt::Write>(&self, f: &mut fmt::Formatter<W>) -> fmt::Result {
+        match self {
+            UploadFault::SourceChanged => write!(f, "the source changed"),
+            UploadFault::OutOfMemory => write!(f, "out of memory"),
+        }
+    }
+}
+
+impl Error for UploadFault {}
+
+impl From<OutOfMemory> for UploadFault {
+    ghost from_gives = { λ _ fault. fault ≡ faults.OutOfMemory };
+
+    fn from(_refused: OutOfMemory) -> UploadFault {
+        UploadFault::OutOfMemory
+    }
+}
+
+/// One machine's source of entries, and how far it is with sending them.
+#[derive(Debug, Drop)]
+pub struct Uploader {
+    source: Id128,
+    resume: Resume,
+}
+
+impl Model for Uploader {
+    ghost use Rattle.jc_upload.specs.Upload.{Sender};
+
+    ghost Value = { Sender };
+
+    ghost view = { λ uploader. record { source = uploader.source; point = uploader.resume } };
+}
+
+impl Uploader {
+    pub fn new(source: Id128, resume: Resume) -> Uploader
+        ensures { result ≡ record { source = source; point = resume } }
+    {
+        Uploader { source, resume }
+    }
+
+    pub fn resume(&self) -> &Resume
+        ensures { result.now ≡ self.now.point }
+    {
+        &self.resume
+    }
+
+    /// Whether the source still has the entries that are done with: there are as many, and the last of them has the
+    /// kept key. Takes no memory.
+    pub fn agrees(&self, entries: &[Entry]) -> bool
+        ensures { IsTrue result ↔ Agrees self.now.point entries.now }
+    {
+        let position = self.resume.position();
+        position <= entries.len() as u64 && point_behind(entries, position as usize) == self.resume
+    }
+
+    /// The next upload: a header that starts at the resume point, and the canonical texts of the entries from there,
+    /// the first `limit` of them where more remain. `SourceChanged` exactly where the source doesn't agree.
+    pub fn next_upload(
+        &self,
+        alloc: Global,
+        entries: &[Entry],
+        limit: u64,
+    ) -> Result<Vec<u8>, UploadFault>
+        ensures upload { IfOk result (λ upload. upload.items ≡ next_upload_of self.now entries.now limit) }
+        ensures agrees { OnOk result (Agrees self.now.point entries.now) }
+        ensures changed { IsErrOf result UploadFault.SourceChanged ↔ ¬ Agrees self.now.point entries.now }
+    {
+        if !self.agrees(entries) {
+            return Err(UploadFault::SourceChanged);
+        }
+        let head = UploadHead {
+            kind: Kind::Export,
+            source: self.source,
+            start: self.resume.position(),
+        };
+        let remaining = &entries[self.resume.position() as usize..];
+        let count = limit.min(remaining.len() as u64) as usize;
+        Ok(export_upload(alloc, &head, &remaining[..count])?)
+    }
+
+    /// Takes an answer. The resume point moves on to the last entry that an ack of this source tells, where the source
+    /// still agrees, the ack begins at or before the point and ends behind it, and the source has as many entries.
+    /// Otherwise it answers false and changes nothing. Takes no memory.
+    pub fn on_answer(&mut self, entries: &[Entry], answer: &Answer) -> bool
+        ensures when { IsTrue result ↔ Advances self.old entries.now answer.now }
+        ensures moved { OnTrue result (self.new ≡ moved_to self.old entries.now (acked_to answer.now)) }
+        ensures same { OnFalse result (self.new ≡ self.old) }
+    {
+        let Some(end) = self.advance(entries, answer) else {
+            return false;
+        };
+        self.resume = point_behind(entries, end);
+        true
+    }
+
+    /// The position that the answer moves the resume point on to, if it does.
+    fn advance(&self, entries: &[Entry], answer: &Answer) -> Option<usize>
+        ensures { MatchOption result (¬ Advances self.now entries.now answer.now)
+            (λ end. Advances self.now entries.now answer.now
+            × (end ≡ acked_to answer.now) × (end ≤ length entries.now)) }
+    {
+        let Answer::Ack {
+            source,
+            start,
+            count,
+            ..
+        } = *answer
+        else {
+            return None;
+        };
+        if source != self.source || !self.agrees(entries) {
+            return None;
+        }
+        let position = self.resume.position();
+        let end = start.checked_add(count)?;
+        if start <= position && position < end && end <= entries.len() as u64 {
+            Some(end as usize)
+        } else {
+            None
+        }
+    }
+}
+
+/// The point behind the first entries, as many as `position` says.
+fn point_behind(entries: &[Entry], position: usize) -> Resume
+    requires { position ≤ length entries.now }
+    ensures { result ≡ point_behind entries.now position }
+{
+    match position {
+        0 => Resume::default(),
+        _ => Resume::behind(&entries[position - 1], position as u64),
+    }
+}
+
+/// An upload of these entries.
+fn export_upload(
+    alloc: Global,
+    head: &UploadHead,
+    entries: &[Entry],
+) -> Result<Vec<u8>, OutOfMemory>
+    ensures { IfOk result (λ upload. upload.items ≡ head_text head.now ++ flat_map canon entries.now) }
+{
+    let mut sink = VecSink::new(alloc);
+    write_all(&mut sink, &head.write()).map_err(|_| OutOfMemory)?;
+    write_entries(&mut sink, entries).map_err(|_| OutOfMemory)?;
+    Ok(sink.into_bytes())
+}
+
+fn write_entries<W: ByteSink>(sink: &mut W, entries: &[Entry]) -> Result<(), Written>
+    ensures { OnOk result (Appends (W.written sink.old) (W.written sink.new) (flat_map canon entries.now)) }
+{
+    for entry in entries {
+        write_entry(entry, sink)?;
+    }
+    Ok(())
+}
+
+/// The upload of a whole journal file, whatever its bytes are.
+pub fn file_upload(alloc: Global, source: Id128, file: &[u8]) -> Result<Vec<u8>, OutOfMemory>
+    ensures { IfOk result (λ upload. upload.items ≡ file_upload_of source file.now) }
+{
+    let head = UploadHead {
+        kind: Kind::File,
+        source,
+        start: 0,
+    };
+    let mut upload = Vec::from_slice(alloc, &head.write())?;
+    upload.extend_from_slice(file)?;
+    Ok(upload)
+}
