@@ -1,0 +1,51 @@
+-- The program's grammar is one that clap's definitions cover.
+use Rattle.std.proofs.Common.{◌≡◌, ◌⊎◌, ◌∙◌, ap, refl, sym, subst, inl, inr, true, List, [], Option, Some, None}
+use Rattle.std.specs.Prelude.{IsSome, IfSome, IfErr, IsErrAnd, Result, Ok, Err}
+use Rattle.clap.specs.Words.{App, Row, Text, HasKind, fault_of, is_simple, is_simple_and_free, kind_of, subcommand_of}
+use Rattle.clap.specs.declared.error.Error.{Error}
+use Rattle.clap.specs.declared.error.kind.ErrorKind.TheVariants.{OutOfMemory, MissingSubcommand}
+use Rattle.clap.proofs.OnLiterals.{clap_on_literals}
+use Rattle.clap.specs.declared.builder.value_parser.ValueParser.{ValueParser}
+use Rattle.jc_cli.specs.declared.words.Request.{Request}
+use Rattle.jc_cli.specs.Words.{AreAnswered, AskFor, Asks, AsksNothing, IsGrammar, grammar}
+
+computed : (kinds : ValueParser) → is_simple_and_free (grammar kinds) ≡ true
+unfolding clap_on_literals
+computed kinds = refl
+
+computed_simple : (kinds : ValueParser) → is_simple (grammar kinds) ≡ true
+unfolding clap_on_literals
+computed_simple kinds = refl
+
+pub simple_and_free : (app : App) → IsGrammar app → is_simple_and_free app ≡ true
+simple_and_free app ours = ap is_simple_and_free ours.whole ∙ computed ours.kinds
+
+pub simple : (app : App) → IsGrammar app → is_simple app ≡ true
+simple app ours = ap is_simple ours.whole ∙ computed_simple ours.kinds
+
+-- an error that is passed on is the one that came
+pub passed_on : {T : Type 0} (r : Result T Error) (e : Error) (P : Error → Type 0) → IsErrAnd r (λ given. given ≡ e) → P e
+    → IfErr r P
+passed_on (Ok x) e P same holds = tt
+passed_on (Err given) e P same holds = subst P (sym same) holds
+
+-- an error that clap gives is one that the words have
+pub answered : (app : App) (words : List Text) (e : Error) → IsGrammar app → HasKind (fault_of app words) e
+    → (kind_of e ≡ OutOfMemory) ⊎ AreAnswered words (kind_of e)
+answered app words e ours (inl memory) = inl memory
+answered app words e ours (inr among) = inr (record { app = app; ours = ours; why = inl among })
+
+-- what the matches ask for is what the words ask for
+pub asked : (app : App) (words : List Text) (request : Request) (rows : Option (Text × List Row)) → IsGrammar app
+    → fault_of app words ≡ [] → rows ≡ subcommand_of app words → IsSome rows
+    → IfSome rows (λ found. Asks found request) → AskFor words request
+asked app words request None ours right same there found = cc
+asked app words request (Some found) ours right same there asks =
+    record { app = app; ours = ours; right = right; found = found; met = sym same; asked = asks }
+
+-- where the matches ask for nothing, the words do
+pub nothing : (app : App) (words : List Text) (e : Error) (rows : Option (Text × List Row)) → IsGrammar app
+    → kind_of e ≡ MissingSubcommand → rows ≡ subcommand_of app words → AsksNothing rows
+    → (kind_of e ≡ OutOfMemory) ⊎ AreAnswered words (kind_of e)
+nothing app words e rows ours kind same none =
+    inr (record { app = app; ours = ours; why = inr (kind, subst AsksNothing same none) })

@@ -1,0 +1,32 @@
+-- A request is performed; what clap answers in place of one is printed.
+use Rattle.std.proofs.Common.{sym, subst, inl, inr, map, string_bytes}
+use Rattle.std.specs.Prelude.{IfOk, Result}
+use Rattle.std.proofs.lemmas.Result.{IfOk-weaker}
+use Rattle.clap.specs.Words.{kind_of}
+use Rattle.jc_cli.specs.declared.failure.Failure.{Failure}
+use Rattle.jc_cli.specs.declared.status.Status.{Status}
+use Rattle.jc_cli.specs.Run.{Ends}
+use Rattle.jc_cli.proofs.Runs.{performed, told}
+use Rattle.jc_cli.proofs.command.answered.Goals as goal
+
+pub returns-in-Ok-clause-ended : goal.returns-in-Ok-clause-ended
+returns-in-Ok-clause-ended g c =
+    IfOk-weaker c.perform.result _ _
+    (λ status does. performed (map string_bytes c.args.words.now) c.in-Ok.request (g.O.Write.contents c.args.output.now)
+    (g.O.Write.contents c.perform.new.output) (g.E.Write.contents c.args.errors.now) status c.in-Ok.ensures.request does)
+    c.perform.ensures.performed
+
+pub returns-in-Err-clause-ended : goal.returns-in-Err-clause-ended
+returns-in-Err-clause-ended g c =
+    let words = map string_bytes c.args.words.now in
+    let output = g.O.Write.contents c.args.output.now in
+    let output' = g.O.Write.contents c.answer_words.new.output in
+    let errors = g.E.Write.contents c.args.errors.now in
+    let errors' = g.E.Write.contents c.answer_words.new.errors in
+    let Goal : Result Status Failure → Type 0 = λ r. IfOk r (Ends words output output' errors errors') in
+    let prints = c.answer_words.ensures in
+    elim c.in-Err.ensures.answer [
+      | inl memory ↦ subst Goal (sym (prints.memory memory)) tt
+      | inr answered ↦ told words (kind_of c.in-Err.answer) c.answer_words.result output output' errors errors' answered
+          prints.asked prints.mistaken prints.memory
+    ]

@@ -1,0 +1,99 @@
+//! One run of the program.
+
+ghost use Rattle.std.specs.Prelude.{◌≡◌, ◌≢◌, ◌≤◌, ⊤, Ok, Err, IfOk, IfErr, map, string_bytes};
+ghost use Rattle.std.specs.Io.KnownBytes.{Keeps};
+ghost use Rattle.clap.specs.Words.{kind_of};
+ghost use Rattle.jc_cli.specs.Answer.{IsAskedFor};
+ghost use Rattle.jc_cli.specs.Failure.{status_of};
+ghost use Rattle.jc_cli.specs.Run.{Ends, FailsBy, Performs};
+
+use crate::failure::Failure;
+use crate::status::Status;
+use crate::verify::verify;
+use crate::words;
+use crate::words::Request;
+use clap::error::ErrorKind;
+use std::io::{Read, Write};
+use std::rt::Files;
+
+/// Does what the words ask for and answers the status to end with. The first word is the program's name.
+///
+/// What is asked for goes to `output`. A failure, or what is wrong with the words, goes to `errors`. With status 3
+/// something failed, and then nothing is said of either.
+pub fn command<R: Files + AllocGlobal, I: Read, O: Write, E: Write>(
+    rt: &R,
+    words: Vec<String>,
+    _input: &mut I,
+    output: &mut O,
+    errors: &mut E,
+) -> u8
+    ensures status { result ≤ 3 }
+    ensures success { result ≡ 0 → Ends (map string_bytes words.items) (O.contents output.old) (O.contents output.new)
+        (E.contents errors.old) (E.contents errors.new) Status.Success }
+    ensures refused { result ≡ 1 → Ends (map string_bytes words.items) (O.contents output.old) (O.contents output.new)
+        (E.contents errors.old) (E.contents errors.new) Status.Refused }
+    ensures misused { result ≡ 2 → Ends (map string_bytes words.items) (O.contents output.old) (O.contents output.new)
+        (E.contents errors.old) (E.contents errors.new) Status.Misused }
+{
+    match answered(rt, words.as_slice(), output, errors) {
+        Ok(status) => status.number(),
+        Err(failure) => failure.tell(errors).number(),
+    }
+}
+
+/// Does what the words ask for, up to a failure.
+fn answered<'a, R: Files + AllocGlobal, O: Write, E: Write>(
+    rt: &R,
+    words: &'a [String],
+    output: &mut O,
+    errors: &mut E,
+) -> Result<Status, Failure<'a>>
+    ensures ended { IfOk result (Ends (map string_bytes words.entry.now) (O.contents output.old) (O.contents output.new)
+        (E.contents errors.old) (E.contents errors.new)) }
+    ensures failed { IfErr result (λ failure. status_of failure ≡ Status.Failed) }
+{
+    match words::parse(rt.alloc(), words) {
+        Ok(request) => perform(rt, request, output),
+        Err(answer) => answer_words(&answer, output, errors),
+    }
+}
+
+fn perform<'a, R: Files + AllocGlobal, O: Write>(
+    rt: &R,
+    request: Request<'a>,
+    output: &mut O,
+) -> Result<Status, Failure<'a>>
+    ensures performed { IfOk result (Performs request.entry (O.contents output.old) (O.contents output.new)) }
+    ensures failed { IfErr result (FailsBy request.entry) }
+{
+    match request {
+        Request::Verify { kind, file } => verify(rt, kind, file, output),
+    }
+}
+
+/// Prints what `clap` answers in place of a request.
+fn answer_words<'a, O: Write, E: Write>(
+    answer: &clap::Error,
+    output: &mut O,
+    errors: &mut E,
+) -> Result<Status, Failure<'a>>
+    ensures asked { IsAskedFor (kind_of answer.now) → IfOk result (λ status. status ≡ Status.Success)
+        × IfErr result (λ failure. failure ≡ Failure.WriteFailed)
+        × Keeps (E.contents errors.old) (E.contents errors.new) }
+    ensures mistaken { ¬ IsAskedFor (kind_of answer.now) → kind_of answer.now ≢ ErrorKind.OutOfMemory
+        → (result ≡ Ok Status.Misused) × Keeps (O.contents output.old) (O.contents output.new) }
+    ensures memory { kind_of answer.now ≡ ErrorKind.OutOfMemory → result ≡ Err Failure.OutOfMemory }
+{
+    if answer.kind() == ErrorKind::OutOfMemory {
+        return Err(Failure::OutOfMemory);
+    }
+    if answer.use_stderr() {
+        // Where this fails too there is nowhere left to say it.
+        let _ = write!(errors, "{answer}");
+        return Ok(Status::Misused);
+    }
+    if write!(output, "{answer}").is_err() || output.flush().is_err() {
+        return Err(Failure::WriteFailed);
+    }
+    Ok(Status::Success)
+}

@@ -1,0 +1,75 @@
+//! Why a command stops short, and the line that says so.
+
+ghost use Rattle.std.specs.Prelude.{◌≡◌, Some};
+ghost use Rattle.jc_cli.specs.Failure.{status_of, line_of};
+ghost use Rattle.jc_cli.specs.declared.failure.Failure.TheVariants.{OutOfMemory};
+
+use crate::status::Status;
+use jc_base::OutOfMemory;
+use std::alloc::AllocError;
+use std::fmt;
+use std::io::Write;
+
+/// Why a command stops short. Its text is one line on standard error. (own)
+#[derive(Debug, Drop)]
+pub enum Failure<'a> {
+    /// The file of this path cannot be opened.
+    CannotOpen(&'a str),
+    /// A file failed while it was read.
+    ReadFailed,
+    /// Standard output failed while it was written.
+    WriteFailed,
+    /// Memory was refused.
+    OutOfMemory,
+    /// A word of the command line is not UTF-8.
+    WordsAreNoText,
+}
+
+impl Failure<'_> {
+    pub fn status(&self) -> Status
+        ensures { result ≡ status_of self.now }
+    {
+        match self {
+            Failure::WordsAreNoText => Status::Misused,
+            _ => Status::Failed,
+        }
+    }
+
+    /// Prints the line. Where that fails too there is nowhere left to say it, and the status stands.
+    pub fn tell<E: Write>(&self, errors: &mut E) -> Status
+        ensures { result ≡ status_of self.now }
+    {
+        let _ = writeln!(errors, "{self}");
+        self.status()
+    }
+}
+
+impl fmt::Display for Failure<'_> {
+    ghost output = { λ failure. Some (line_of failure) };
+
+    fn fmt<W: fmt::Write>(&self, f: &mut fmt::Formatter<W>) -> fmt::Result {
+        match self {
+            Failure::CannotOpen(path) => write!(f, "cannot open {path}"),
+            Failure::ReadFailed => write!(f, "read failed"),
+            Failure::WriteFailed => write!(f, "write failed"),
+            Failure::OutOfMemory => write!(f, "out of memory"),
+            Failure::WordsAreNoText => write!(f, "error: an argument is not UTF-8 text"),
+        }
+    }
+}
+
+impl From<OutOfMemory> for Failure<'_> {
+    ghost from_gives = { λ _ failure. failure ≡ OutOfMemory };
+
+    fn from(_refused: OutOfMemory) -> Self {
+        Failure::OutOfMemory
+    }
+}
+
+impl From<AllocError> for Failure<'_> {
+    ghost from_gives = { λ _ failure. failure ≡ OutOfMemory };
+
+    fn from(_refused: AllocError) -> Self {
+        Failure::OutOfMemory
+    }
+}

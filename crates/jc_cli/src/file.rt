@@ -1,0 +1,74 @@
+//! Files that are read whole.
+
+ghost use Rattle.std.specs.Prelude.{◌≡◌, ◌⊎◌, IfOk, IfErr, IfSome};
+
+use crate::failure::Failure;
+use std::alloc::Global;
+use std::io::Read;
+use std::rt::Files;
+use std::{fs, io};
+
+/// The bytes of the file at `path`.
+pub fn read_file<'a, R: Files + AllocGlobal>(rt: &R, path: &'a str) -> Result<Vec<u8>, Failure<'a>>
+    ensures { IfErr result (λ failure. (failure ≡ Failure.CannotOpen path.entry) ⊎ (failure ≡ Failure.ReadFailed)
+        ⊎ (failure ≡ Failure.OutOfMemory)) }
+{
+    let Ok(mut file) = fs::open(rt, path) else {
+        return Err(Failure::CannotOpen(path));
+    };
+    read_whole(rt.alloc(), &mut file)
+}
+
+fn read_whole<'a, F: Read>(alloc: Global, file: &mut F) -> Result<Vec<u8>, Failure<'a>>
+    ensures whole { IfOk result (λ bytes. IfSome (F.remaining file.old) (λ held. bytes.items ≡ held)) }
+    ensures err { IfErr result (λ failure. (failure ≡ Failure.ReadFailed) ⊎ (failure ≡ Failure.OutOfMemory)) }
+{
+    let mut bytes = Vec::new(alloc);
+    match file.read_to_end(&mut bytes) {
+        Ok(_) => Ok(bytes),
+        Err(refusal) if refusal.kind() == io::ErrorKind::OutOfMemory => Err(Failure::OutOfMemory),
+        Err(_) => Err(Failure::ReadFailed),
+    }
+}
+
+#[cfg(test)]
+mod tests {
+    use super::*;
+    use std::test::Fail;
+
+    /// Gives a few bytes and then fails.
+    #[derive(Drop)]
+    struct Broken {
+        left: usize,
+        with: io::ErrorKind,
+    }
+
+    impl Read for Broken {
+        fn read(&mut self, buf: &mut [u8]) -> io::Result<usize> {
+            let given = buf.len().min(self.left);
+            if given < 1 {
+                return Err(io::Error::from(self.with));
+            }
+            self.left -= given;
+            Ok(given)
+        }
+    }
+
+    #[test]
+    fn a_failure_in_mid_stream_is_told(rt: HostRuntime) -> Result<(), Fail> {
+        let alloc = rt.alloc();
+        for left in [0, 1, 100_000] {
+            let with = io::ErrorKind::Other;
+            let failed = read_whole(alloc, &mut Broken { left, with });
+            assert!(rt; matches!(failed, Err(Failure::ReadFailed)));
+            let with = io::ErrorKind::OutOfMemory;
+            let failed = read_whole(alloc, &mut Broken { left, with });
+            assert!(rt; matches!(failed, Err(Failure::OutOfMemory)));
+        }
+        let Ok(whole) = read_whole(alloc, &mut b"some bytes".as_slice()) else {
+            return Err(Fail::from("it failed"));
+        };
+        assert_eq!(rt; whole.as_slice(), b"some bytes".as_slice());
+        Ok(())
+    }
+}
