@@ -4,3 +4,4 @@ pub mod KeptLemmas
 pub mod WentOutLemmas
 pub mod TurnLemmas
 pub mod TextLemmas
+pub mod FieldOrder

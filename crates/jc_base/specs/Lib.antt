@@ -12,3 +12,5 @@ pub mod Device
 pub mod Source
 pub mod Turn
 pub mod Listed
+pub mod PairSet
+pub mod PairSetLaws
