@@ -1,0 +1,13 @@
+pub mod Lists
+pub mod Sayings
+pub mod OneMore
+pub mod OneAnswer
+pub mod OneSet
+pub mod Positions
+pub mod CollectedMore
+pub mod UnderWay
+pub mod Filling
+pub mod Reading
+pub mod Heads
+pub mod Bodies
+pub mod Answering

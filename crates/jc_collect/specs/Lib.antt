@@ -1,0 +1,9 @@
+pub mod Says
+pub mod Answer
+pub mod Accepted
+pub mod Position
+pub mod Delivered
+pub mod Run
+pub mod Part
+pub mod Begun
+pub mod Body

@@ -1,0 +1,57 @@
+-- What one delivery does to a journal, and what is answered. (own)
+use Rattle.std.specs.Prelude.{ℕ, ◌≡◌, ◌≤◌, Option, Some, None, MatchBool, List}
+use Rattle.jc_base.specs.declared.fault.Code.{Code}
+use Rattle.jc_base.specs.declared.limits.Limits.{Limits}
+use Rattle.jc_base.specs.Device.{Rose}
+use Rattle.jc_base.specs.Fault.{number_of}
+use Rattle.jc_base.specs.Journal.{Journal}
+use Rattle.jc_base.specs.Reading.{Reading}
+use Rattle.jc_store.specs.Absorb.{TakesAll}
+use Rattle.jc_store.specs.Agree.{HasBoth}
+use Rattle.jc_upload.specs.declared.answer.Answer.{Answer}
+use Rattle.jc_upload.specs.declared.answer.Answer.TheVariants.{Ack, No}
+use Rattle.jc_collect.specs.Says.{Says}
+use Rattle.jc_collect.specs.Answer.{IsAnswer, IsFailure, is_failure}
+
+-- A failure is told, or else the answer to the upload.
+abbrev pub Answers : Limits → (upload : List ℕ) → Journal → Answer → Type 0
+Answers limits upload journal answer =
+    MatchBool (is_failure answer) (IsFailure upload answer) (IsAnswer limits upload journal answer)
+
+-- The journal afterwards has the entries of the one before and of the upload, and no others.
+pub record Joins (limits : Limits) (upload : List ℕ) (before after : Journal) : Type 0 where
+  pub reading : Reading
+  pub says : Says limits upload reading
+  pub has : HasBoth before reading.entries after
+
+-- An acknowledged upload joins the journal, any other leaves it as it was.
+abbrev pub Leaves : Limits → (upload : List ℕ) → (before : Journal) → Answer → (after : Journal) → Type 0
+Leaves limits upload before (Ack source start count new left) after = Joins limits upload before after
+Leaves limits upload before (No of code place) after = after ≡ before
+
+-- One position of a run: the answer, and what is stored afterwards.
+pub record IsPosition (limits : Limits) (upload : List ℕ) (before : Journal) (answer : Answer) (after : Journal) : Type 0 where
+  pub answers : Answers limits upload before answer
+  pub leaves : Leaves limits upload before answer after
+
+-- The same where the delivery doesn't tell its bytes: what is acknowledged is some reading, taken up whole.
+abbrev pub LeavesUntold : (before : Journal) → Answer → (after : Journal) → Type 0
+LeavesUntold before (Ack source start count new left) after =
+    (reading : Reading) × TakesAll before reading count new left after
+LeavesUntold before (No of code place) after = after ≡ before
+
+-- What a delivery does, by whether it tells its bytes.
+abbrev pub Collects : Limits → (told : Option (List ℕ)) → (before : Journal) → Answer → (after : Journal) → Type 0
+Collects limits None before answer after = LeavesUntold before answer after
+Collects limits (Some upload) before answer after = IsPosition limits upload before answer after
+
+-- ---- causes of failures
+
+abbrev pub HasCode : Answer → Code → Type 0
+HasCode (Ack source start count new left) code = ⊥
+HasCode (No of number place) code = number ≡ number_of code
+
+-- A failure with this code is told only where the device's count of failures has risen.
+pub record HasCause (code : Code) (before now : ℕ) (answer : Answer) : Type 0 where
+  pub never_falls : before ≤ now
+  pub failed : HasCode answer code → Rose before now

@@ -1,0 +1,106 @@
+-- What a whole run is. (own)
+use Rattle.std.specs.Prelude.{ℕ, ◌≡◌, ◌+◌, ◌<◌, ◌≤◌, Bool, List, [], ◌∷◌, ◌++◌, length, map, take, Option, Some, slice_get, slice_index, ⊤}
+use Rattle.std.specs.List.{All, flat_map}
+use Rattle.std.specs.Io.KnownBytes.{Appends}
+use Rattle.jc_base.specs.declared.fault.Code.{Code}
+use Rattle.jc_base.specs.declared.fault.Code.TheVariants.{ReadFailed, StoreFailed}
+use Rattle.jc_base.specs.declared.id.Id128.{Id128}
+use Rattle.jc_base.specs.declared.limits.Limits.{Limits}
+use Rattle.jc_base.specs.Device.{Rose}
+use Rattle.jc_base.specs.Journal.{Journal}
+use Rattle.jc_base.specs.LogEntry.{LogEntry}
+use Rattle.jc_base.specs.Reading.{Reading}
+use Rattle.jc_store.specs.Agree.{IsStored}
+use Rattle.jc_upload.specs.Answer.{answer_text}
+use Rattle.jc_upload.specs.declared.answer.Answer.{Answer}
+use Rattle.jc_upload.specs.declared.answer.Answer.TheVariants.{Ack}
+use Rattle.jc_collect.specs.Accepted.{SaysAt, AreAccepted, IsStoredBefore}
+use Rattle.jc_collect.specs.Answer.{is_failure}
+use Rattle.jc_collect.specs.Position.{Answers, HasCode}
+use Rattle.jc_collect.specs.declared.runs.RunEnd.{RunEnd}
+use Rattle.jc_collect.specs.declared.runs.RunEnd.TheVariants.{Done, Stopped}
+
+-- What a contract sees before and after a run: of its keeper, of its sink, and of the device of each delivery.
+pub record Seen : Type 0 where
+  pub journal : Journal
+  pub store_failures : ℕ
+  pub read_failures : List ℕ
+  pub written : Option (List ℕ)
+
+abbrev pub seen : Journal → ℕ → List ℕ → Option (List ℕ) → Seen
+seen journal store_failures read_failures written =
+    record { journal = journal; store_failures = store_failures; read_failures = read_failures; written = written }
+
+-- The answer at a position is the one over what is stored before it, or it tells a failure.
+pub record AnswersAt (limits : Limits) (start : Journal) (uploads : List (List ℕ)) (accepted : List Bool) (i : ℕ) (answer : Answer) : Type 0 where
+  pub upload : List ℕ
+  pub at : slice_get uploads i ≡ Some upload
+  pub journal : Journal
+  pub stored : IsStoredBefore limits start uploads accepted i journal
+  pub answers : Answers limits upload journal answer
+
+-- So many entries of the upload at a position are acknowledged, and they are all that it says; they are stored.
+pub record AcksStored (limits : Limits) (uploads : List (List ℕ)) (i count : ℕ) (journal : Journal) : Type 0 where
+  pub reading : Reading
+  pub says : SaysAt limits uploads i reading
+  pub all : count ≡ length reading.entries
+  pub stored : All (IsStored journal) reading.entries
+
+-- A failure with this code is told at no position but where its count has risen.
+abbrev pub AreCaused : Code → List Answer → (Counted : ℕ → Type 0) → Type 0
+AreCaused code answers Counted =
+    (i : ℕ) (answer : Answer) → slice_get answers i ≡ Some answer → HasCode answer code → Counted i
+
+-- These uploads were collected in order, and answered so.
+pub record Collected (limits : Limits) (uploads : List (List ℕ)) (before after : Seen) (answers : List Answer) : Type 0 where
+  pub each : length answers ≡ length uploads
+  -- the accepted positions, and the answers over what is stored before each
+  pub accepted : List Bool
+  pub are_accepted : AreAccepted limits before.journal uploads (map is_failure answers) accepted
+  pub answered : (i : ℕ) (answer : Answer) → slice_get answers i ≡ Some answer
+      → AnswersAt limits before.journal uploads accepted i answer
+  -- what is stored at the end
+  pub stored : IsStoredBefore limits before.journal uploads accepted (length uploads) after.journal
+  -- what is acknowledged is stored, and so is all that was there before
+  pub acknowledged : (i : ℕ) (source : Id128) (start count new left : ℕ) → slice_get answers i ≡ Some (Ack source start count new left)
+      → AcksStored limits uploads i count after.journal
+  pub kept : (e : LogEntry) → IsStored before.journal e → IsStored after.journal e
+  -- failures have causes
+  pub reads : AreCaused ReadFailed answers (λ i. Rose (slice_index before.read_failures i) (slice_index after.read_failures i))
+  pub stores : AreCaused StoreFailed answers (λ _. Rose before.store_failures after.store_failures)
+
+-- the lines of answers, in order
+abbrev pub lines_of : List Answer → List ℕ
+lines_of answers = flat_map answer_text answers
+
+-- All uploads were collected, and the line of each answer was written.
+pub record RunsToEnd (limits : Limits) (uploads : List (List ℕ)) (before after : Seen) : Type 0 where
+  pub answers : List Answer
+  pub collected : Collected limits uploads before after answers
+  pub lines : Appends before.written after.written (lines_of answers)
+
+-- The sink failed in the line of the upload with this number, from 0, which was already collected. The lines before it
+-- were written, and so many bytes of its own.
+pub record StopsAt (limits : Limits) (uploads : List (List ℕ)) (before after : Seen) (done written : ℕ) : Type 0 where
+  pub answers : List Answer
+  pub last : Answer
+  pub number : length answers ≡ done
+  pub inside : done < length uploads
+  pub collected : Collected limits (take (done + 1) uploads) before after (answers ++ last ∷ [])
+  pub within : written ≤ length (answer_text last)
+  pub lines : Appends before.written after.written (lines_of answers ++ take written (answer_text last))
+
+-- A run over uploads, and how it ended.
+abbrev pub IsRun : Limits → (uploads : List (List ℕ)) → (before : Seen) → RunEnd → (after : Seen) → Type 0
+IsRun limits uploads before Done after = RunsToEnd limits uploads before after
+IsRun limits uploads before (Stopped done written) after = StopsAt limits uploads before after done written
+
+-- A run stops only where the sink's count of failures has risen.
+pub record SinkFailed (before now : ℕ) (end : RunEnd) : Type 0 where
+  pub never_falls : before ≤ now
+  pub rose : (done written : ℕ) → end ≡ Stopped done written → Rose before now
+
+-- Deliveries behind the one at which a run stopped are as they were.
+abbrev pub LeavesOthers : {D : Type 0} → (before now : List D) → RunEnd → Type 0
+LeavesOthers before now Done = ⊤
+LeavesOthers before now (Stopped done written) = (i : ℕ) → done < i → slice_get now i ≡ slice_get before i

@@ -1,0 +1,8 @@
+//! How an upload comes.
+
+/// One upload, header and body: a stream of its bytes, or a space that has them.
+#[derive(Debug, Drop)]
+pub enum Delivery<R, B> {
+    Stream(R),
+    Space(B),
+}

@@ -1,0 +1,19 @@
+//! One answer for each upload: deliveries are collected into a journal.
+#![tactic(auto)]
+
+mod body;
+mod collect;
+mod delivery;
+mod head;
+mod law;
+mod lent;
+mod runs;
+#[cfg(test)]
+mod samples;
+mod space_stream;
+mod whole;
+
+pub use collect::collect_one;
+pub use delivery::Delivery;
+pub use law::{one_answer, one_journal_stored, one_saying, one_set_accepted};
+pub use runs::{RunEnd, run};
