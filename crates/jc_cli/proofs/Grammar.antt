@@ -9,19 +9,19 @@ use Rattle.clap.specs.declared.builder.value_parser.ValueParser.{ValueParser}
 use Rattle.jc_cli.specs.declared.words.Request.{Request}
 use Rattle.jc_cli.specs.Words.{AreAnswered, AskFor, Asks, AsksNothing, IsGrammar, grammar}
 
-computed : (kinds : ValueParser) → is_simple_and_free (grammar kinds) ≡ true
+computed : (verify upload ack : ValueParser) → is_simple_and_free (grammar verify upload ack) ≡ true
 unfolding clap_on_literals
-computed kinds = refl
+computed verify upload ack = refl
 
-computed_simple : (kinds : ValueParser) → is_simple (grammar kinds) ≡ true
+computed_simple : (verify upload ack : ValueParser) → is_simple (grammar verify upload ack) ≡ true
 unfolding clap_on_literals
-computed_simple kinds = refl
+computed_simple verify upload ack = refl
 
 pub simple_and_free : (app : App) → IsGrammar app → is_simple_and_free app ≡ true
-simple_and_free app ours = ap is_simple_and_free ours.whole ∙ computed ours.kinds
+simple_and_free app ours = ap is_simple_and_free ours.whole ∙ computed ours.verify ours.upload ours.ack
 
 pub simple : (app : App) → IsGrammar app → is_simple app ≡ true
-simple app ours = ap is_simple ours.whole ∙ computed_simple ours.kinds
+simple app ours = ap is_simple ours.whole ∙ computed_simple ours.verify ours.upload ours.ack
 
 -- an error that is passed on is the one that came
 pub passed_on : {T : Type 0} (r : Result T Error) (e : Error) (P : Error → Type 0) → IsErrAnd r (λ given. given ≡ e) → P e

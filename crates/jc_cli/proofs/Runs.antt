@@ -1,5 +1,5 @@
 -- How a run ends, from what its parts promise.
-use Rattle.std.proofs.Common.{◌≡◌, ◌≢◌, ◌⊎◌, ◌∙◌, refl, sym, subst, inl, inr, List, ℕ, Option, Some, None}
+use Rattle.std.proofs.Common.{◌≡◌, ◌≢◌, ◌⊎◌, ◌∙◌, ap, refl, sym, subst, inl, inr, List, ℕ, Option, Some, None}
 use Rattle.std.specs.Prelude.{IfOk, IfErr, Result, Ok, Err}
 use Rattle.std.specs.Io.KnownBytes.{Keeps}
 use Rattle.clap.specs.Words.{Text}
@@ -8,13 +8,14 @@ use Rattle.clap.specs.declared.error.kind.ErrorKind.TheVariants as kind
 use Rattle.jc_base.specs.declared.fault.Ending.{Ending}
 use Rattle.jc_base.specs.declared.fault.Ending.TheVariants.{End, Bad}
 use Rattle.jc_cli.specs.declared.failure.Failure.{Failure}
-use Rattle.jc_cli.specs.declared.failure.Failure.TheVariants as failure
+use Rattle.jc_cli.specs.declared.failure.Failure.TheVariants as failures
 use Rattle.jc_cli.specs.declared.status.Status.{Status}
 use Rattle.jc_cli.specs.declared.status.Status.TheVariants.{Success, Refused, Misused, Failed}
 use Rattle.jc_cli.specs.declared.words.Request.{Request}
-use Rattle.jc_cli.specs.declared.words.Request.TheVariants.{Verify}
+use Rattle.jc_cli.specs.declared.words.Request.TheVariants.{Verify, Upload, Ack}
 use Rattle.jc_cli.specs.Answer.{IsAskedFor}
-use Rattle.jc_cli.specs.Run.{Ends, Performs}
+use Rattle.jc_cli.specs.Failure.{status_of}
+use Rattle.jc_cli.specs.Run.{Ends, FailsBy, Performs, Stops, StopsAsked}
 use Rattle.jc_cli.specs.Status.{number_of}
 use Rattle.jc_cli.specs.Verdict.{verdict_status}
 use Rattle.jc_cli.specs.Words.{AreAnswered, AskFor}
@@ -33,12 +34,50 @@ not_failed (End left) same = cc
 not_failed (Bad fault) same = cc
 
 -- what was asked for is performed
-pub performed : (words : List Text) (request : Request) (output output' errors : Option (List ℕ)) (status : Status)
-    → AskFor words request → Performs request output output' status → Ends words output output' errors errors status
-performed words request output output' errors Success asks does = (keeps_itself errors, inr (request, asks, does))
-performed words request output output' errors Refused asks does = (request, asks, does)
-performed words (Verify k file) output output' errors Misused asks (count, ending, told) = absurd (not_misused ending told.judged)
-performed words (Verify k file) output output' errors Failed asks (count, ending, told) = absurd (not_failed ending told.judged)
+pub performed : (words : List Text) (request : Request) (given output output' errors : Option (List ℕ)) (status : Status)
+    → AskFor words request → Performs request given output output' status → Ends words given output output' errors errors status
+performed words request given output output' errors Success asks does = (keeps_itself errors, inr (request, asks, does))
+performed words request given output output' errors Refused asks does = inl (request, asks, does)
+performed words (Verify k file) given output output' errors Misused asks (count, ending, told) = absurd (not_misused ending told.judged)
+performed words (Verify k file) given output output' errors Failed asks (count, ending, told) = absurd (not_failed ending told.judged)
+performed words (Upload source limit) given output output' errors Misused asks does = let same : Misused ≡ Success = does.0 in cc
+performed words (Upload source limit) given output output' errors Failed asks does = let same : Failed ≡ Success = does.0 in cc
+performed words (Ack source) given output output' errors Misused asks does = let same : Misused ≡ Success = does.0 in cc
+performed words (Ack source) given output output' errors Failed asks does = let same : Failed ≡ Success = does.0 in cc
+
+-- a failed write is a failure
+write_fails : (failure : Failure) → (status_of failure ≡ Failed) ⊎ (failure ≢ failures.WriteFailed)
+write_fails failures.WriteFailed = inl refl
+write_fails (failures.Bad fault) = inr (λ e. cc)
+write_fails failures.SourceChanged = inr (λ e. cc)
+write_fails failures.BadResume = inr (λ e. cc)
+write_fails (failures.BadAnswer line) = inr (λ e. cc)
+write_fails failures.BadId = inr (λ e. cc)
+write_fails (failures.CannotOpen path) = inr (λ e. cc)
+write_fails failures.ReadFailed = inr (λ e. cc)
+write_fails failures.OutOfMemory = inr (λ e. cc)
+write_fails failures.WordsAreNoText = inr (λ e. cc)
+
+pub IfErr-both : {T E : Type 0} (r : Result T E) (P Q R : E → Type 0) → ((e : E) → P e → Q e → R e) → IfErr r P → IfErr r Q
+    → IfErr r R
+IfErr-both (Ok x) P Q R both p q = tt
+IfErr-both (Err e) P Q R both p q = both e p q
+
+-- what was asked for fails
+pub failed : (words : List Text) (request : Request) (given output output' : Option (List ℕ)) (failure : Failure)
+    → AskFor words request → FailsBy request given failure → (failure ≢ failures.WriteFailed → Keeps output output')
+    → Stops words given output output' failure
+failed words request given output output' failure asks why keeps = elim (write_fails failure) [
+  | inl device ↦ inl device
+  | inr other ↦ inr (record {
+    request = request;
+    asked = asks;
+    failure = failure;
+    why = why;
+    judged = refl;
+    kept = keeps other;
+  })
+]
 
 -- a kind of answer: help or the version, want of memory, or a mistake
 sorted : (k : ErrorKind) → IsAskedFor k ⊎ ((k ≡ kind.OutOfMemory) ⊎ (¬ IsAskedFor k × (k ≢ kind.OutOfMemory)))
@@ -48,27 +87,27 @@ sorted kind.OutOfMemory = inr (inl refl)
 sorted _ = inr (inr (λ asked. elim asked [ inl e ↦ cc | inr e ↦ cc ], λ e. cc))
 
 -- the words are answered in place of a request
-pub told : (words : List Text) (k : ErrorKind) (r : Result Status Failure) (output output' errors errors' : Option (List ℕ))
-    → AreAnswered words k
-    → (IsAskedFor k → IfOk r (λ status. status ≡ Success) × IfErr r (λ why. why ≡ failure.WriteFailed) × Keeps errors errors')
+pub told : (words : List Text) (k : ErrorKind) (r : Result Status Failure)
+    (given output output' errors errors' : Option (List ℕ)) → AreAnswered words k
+    → (IsAskedFor k → IfOk r (λ status. status ≡ Success) × IfErr r (λ why. why ≡ failures.WriteFailed) × Keeps errors errors')
     → (¬ IsAskedFor k → k ≢ kind.OutOfMemory → (r ≡ Ok Misused) × Keeps output output')
-    → (k ≡ kind.OutOfMemory → r ≡ Err failure.OutOfMemory)
-    → IfOk r (Ends words output output' errors errors')
-told words k r output output' errors errors' answered asked mistaken memory =
-    let Goal : Result Status Failure → Type 0 = λ r. IfOk r (Ends words output output' errors errors') in
+    → (k ≡ kind.OutOfMemory → r ≡ Err failures.OutOfMemory)
+    → IfOk r (Ends words given output output' errors errors')
+told words k r given output output' errors errors' answered asked mistaken memory =
+    let Goal : Result Status Failure → Type 0 = λ r. IfOk r (Ends words given output output' errors errors') in
     elim (sorted k) [
       | inl h ↦ shown r (asked h) h
       | inr rest ↦ elim rest [
         | inl m ↦ subst Goal (sym (memory m)) tt
-        | inr n ↦ subst Goal (sym (mistaken n.0 n.1).0) ((k, n.0, answered), (mistaken n.0 n.1).1)
+        | inr n ↦ subst Goal (sym (mistaken n.0 n.1).0) (inl ((k, n.0, answered), (mistaken n.0 n.1).1))
       ]
     ]
   where
     shown : (r : Result Status Failure)
-        → IfOk r (λ status. status ≡ Success) × IfErr r (λ why. why ≡ failure.WriteFailed) × Keeps errors errors'
-        → IsAskedFor k → IfOk r (Ends words output output' errors errors')
+        → IfOk r (λ status. status ≡ Success) × IfErr r (λ why. why ≡ failures.WriteFailed) × Keeps errors errors'
+        → IsAskedFor k → IfOk r (Ends words given output output' errors errors')
     shown (Ok status) facts h =
-        subst (Ends words output output' errors errors') (sym facts.0) (facts.2, inl (k, h, answered))
+        subst (Ends words given output output' errors errors') (sym facts.0) (facts.2, inl (k, h, answered))
     shown (Err why) facts h = tt
 
 -- a status is known by its number
@@ -91,9 +130,52 @@ same_status Failed Misused e = cc
 same_status Failed Failed e = refl
 
 -- the status that a number says, over words that are the same
-pub by_number : (words given : List Text) (output output' errors errors' : Option (List ℕ)) (n : ℕ) (status wanted : Status)
-    → given ≡ words → n ≡ number_of status → n ≡ number_of wanted → Ends given output output' errors errors' status
-    → Ends words output output' errors errors' wanted
-by_number words given output output' errors errors' n status wanted same is wants ends =
-    subst (Ends words output output' errors errors') (same_status status wanted (sym is ∙ wants))
-    (subst (λ (texts : List Text). Ends texts output output' errors errors' status) same ends)
+pub by_number : (words texts : List Text) (given output output' errors errors' : Option (List ℕ)) (n : ℕ) (status wanted : Status)
+    → texts ≡ words → n ≡ number_of status → n ≡ number_of wanted → Ends texts given output output' errors errors' status
+    → Ends words given output output' errors errors' wanted
+by_number words texts given output output' errors errors' n status wanted same is wants ends =
+    subst (Ends words given output output' errors errors') (same_status status wanted (sym is ∙ wants))
+    (subst (λ (t : List Text). Ends t given output output' errors errors' status) same ends)
+
+-- a run that stops short ends with the failure's status
+stops : (words : List Text) (given output output' errors errors' : Option (List ℕ)) (failure : Failure) (wanted : Status)
+    → status_of failure ≡ wanted → (wanted ≡ Refused) ⊎ (wanted ≡ Misused) → Stops words given output output' failure
+    → Ends words given output output' errors errors' wanted
+stops words given output output' errors errors' failure Success same which stopped = elim which [ inl e ↦ cc | inr e ↦ cc ]
+stops words given output output' errors errors' failure Failed same which stopped = elim which [ inl e ↦ cc | inr e ↦ cc ]
+stops words given output output' errors errors' failure Refused same which stopped = elim stopped [
+  | inl failed ↦ let both : Failed ≡ Refused = sym failed ∙ same in cc
+  | inr asked ↦ inr (subst (StopsAsked words given output output') same asked)
+]
+stops words given output output' errors errors' failure Misused same which stopped = elim stopped [
+  | inl failed ↦ let both : Failed ≡ Misused = sym failed ∙ same in cc
+  | inr asked ↦ inr (subst (StopsAsked words given output output') same asked)
+]
+
+pub stops_by_number : (words texts : List Text) (given output output' errors errors' : Option (List ℕ)) (n : ℕ)
+    (failure : Failure) (wanted : Status) → texts ≡ words → n ≡ number_of (status_of failure) → n ≡ number_of wanted
+    → (wanted ≡ Refused) ⊎ (wanted ≡ Misused) → Stops texts given output output' failure
+    → Ends words given output output' errors errors' wanted
+stops_by_number words texts given output output' errors errors' n failure wanted same is wants which stopped =
+    stops words given output output' errors errors' failure wanted (same_status (status_of failure) wanted (sym is ∙ wants)) which
+    (subst (λ (t : List Text). Stops t given output output' failure) same stopped)
+
+-- ... and an answer in place of a request fails only where a device or memory does
+pub told_stops : (words : List Text) (k : ErrorKind) (r : Result Status Failure) (given output output' errors errors' : Option (List ℕ))
+    → (IsAskedFor k → IfOk r (λ status. status ≡ Success) × IfErr r (λ why. why ≡ failures.WriteFailed) × Keeps errors errors')
+    → (¬ IsAskedFor k → k ≢ kind.OutOfMemory → (r ≡ Ok Misused) × Keeps output output')
+    → (k ≡ kind.OutOfMemory → r ≡ Err failures.OutOfMemory)
+    → IfErr r (Stops words given output output')
+told_stops words k r given output output' errors errors' asked mistaken memory =
+    let Goal : Result Status Failure → Type 0 = λ r. IfErr r (Stops words given output output') in
+    elim (sorted k) [
+      | inl h ↦ by_write r (asked h).1
+      | inr rest ↦ elim rest [
+        | inl m ↦ subst Goal (sym (memory m)) (inl refl)
+        | inr n ↦ subst Goal (sym (mistaken n.0 n.1).0) tt
+      ]
+    ]
+  where
+    by_write : (r : Result Status Failure) → IfErr r (λ why. why ≡ failures.WriteFailed) → IfErr r (Stops words given output output')
+    by_write (Ok status) fact = tt
+    by_write (Err why) fact = inl (ap status_of fact)

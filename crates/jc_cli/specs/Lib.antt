@@ -1,6 +1,11 @@
 pub mod Status
 pub mod Failure
+pub mod Reads
+pub mod Gathered
 pub mod Verdict
+pub mod Source
+pub mod Sent
+pub mod Taken
 pub mod Answer
 pub mod Words
 pub mod Run

@@ -1,36 +1,79 @@
 -- How a run of the program ends. (own)
-use Rattle.std.specs.Prelude.{◌≡◌, ◌⊎◌, ⊤, ℕ, List, Option}
+use Rattle.std.specs.Prelude.{◌≡◌, ◌⊎◌, ⊤, ℕ, List, Option, IfSome}
 use Rattle.std.specs.Io.KnownBytes.{Keeps}
 use Rattle.clap.specs.Words.{Text}
 use Rattle.jc_base.specs.declared.fault.Ending.{Ending}
 use Rattle.jc_cli.specs.declared.failure.Failure.{Failure}
-use Rattle.jc_cli.specs.declared.failure.Failure.TheVariants.{CannotOpen, WordsAreNoText}
+use Rattle.jc_cli.specs.declared.failure.Failure.TheVariants.{Bad, BadAnswer, BadId, BadResume, CannotOpen, OutOfMemory, ReadFailed, SourceChanged, WriteFailed}
 use Rattle.jc_cli.specs.declared.status.Status.{Status}
 use Rattle.jc_cli.specs.declared.status.Status.TheVariants.{Success, Refused, Misused, Failed}
+use Rattle.jc_cli.specs.declared.words.Kind.TheVariants.{Export}
 use Rattle.jc_cli.specs.declared.words.Request.{Request}
-use Rattle.jc_cli.specs.declared.words.Request.TheVariants.{Verify}
+use Rattle.jc_cli.specs.declared.words.Request.TheVariants.{Verify, Upload, Ack}
+use Rattle.jc_cli.specs.declared.words.Source.{Source}
+use Rattle.jc_cli.specs.Failure.{status_of}
+use Rattle.jc_cli.specs.Sent.{TellsSomeUpload}
+use Rattle.jc_cli.specs.Source.{HasFault, IsIdText}
+use Rattle.jc_cli.specs.Taken.{HasBadLine, TellsSomePoint}
 use Rattle.jc_cli.specs.Verdict.{TellsReading}
 use Rattle.jc_cli.specs.Words.{AreWrong, AskFor, AskForHelp}
 
--- What standard output gains where a request is performed, and the status: `verify` tells a reading.
-abbrev pub Performs : Request → (old new : Option (List ℕ)) → Status → Type 0
-Performs (Verify kind file) old new status = (count : ℕ) × (ending : Ending) × TellsReading count ending status old new
+-- What standard output gains where a request is performed, over what standard input gives, and the status: `verify` tells
+-- a reading, `upload` an upload and `ack` a resume point.
+abbrev pub Performs : Request → (given old new : Option (List ℕ)) → Status → Type 0
+Performs (Verify kind file) given old new status = (count : ℕ) × (ending : Ending) × TellsReading count ending status old new
+Performs (Upload source limit) given old new status = (status ≡ Success) × TellsSomeUpload source limit old new
+Performs (Ack source) given old new status = (status ≡ Success) × TellsSomePoint source given old new
 
--- Why a request fails: its own file can't be opened, or a device or memory fails.
-abbrev pub FailsBy : Request → Failure → Type 0
-FailsBy (Verify kind file) (CannotOpen path) = path.now ≡ file.now
-FailsBy (Verify kind file) WordsAreNoText = ⊥
-FailsBy (Verify kind file) _ = ⊤
+-- Why nothing is known of a source: its id is none, one of its two files can't be opened or read, the resume file's text
+-- is none, or its bytes have a fault.
+abbrev pub SourceFailsBy : Source → Failure → Type 0
+SourceFailsBy source BadId = ¬ IsIdText source.id.now
+SourceFailsBy source (CannotOpen path) = (path.now ≡ source.resume.now) ⊎ (path.now ≡ source.file.now)
+SourceFailsBy source (Bad fault) = (bytes : List ℕ) × HasFault source.kind bytes fault
+SourceFailsBy source BadResume = ⊤
+SourceFailsBy source ReadFailed = ⊤
+SourceFailsBy source WriteFailed = ⊤
+SourceFailsBy source OutOfMemory = ⊤
+SourceFailsBy source _ = ⊥
+
+-- Why a request fails: its own file can't be opened, what it names is refused, or a device or memory fails.
+abbrev pub FailsBy : Request → (given : Option (List ℕ)) → Failure → Type 0
+FailsBy (Verify kind file) given (CannotOpen path) = path.now ≡ file.now
+FailsBy (Verify kind file) given ReadFailed = ⊤
+FailsBy (Verify kind file) given WriteFailed = ⊤
+FailsBy (Verify kind file) given OutOfMemory = ⊤
+FailsBy (Verify kind file) given _ = ⊥
+FailsBy (Upload source limit) given SourceChanged = source.kind ≡ Export
+FailsBy (Upload source limit) given failure = SourceFailsBy source failure
+FailsBy (Ack source) given (BadAnswer line) = IfSome given (HasBadLine line)
+FailsBy (Ack source) given failure = SourceFailsBy source failure
 
 -- The words ask for something, and it is performed.
-abbrev pub PerformsAsked : List Text → (old new : Option (List ℕ)) → Status → Type 0
-PerformsAsked words old new status = (request : Request) × AskFor words request × Performs request old new status
+abbrev pub PerformsAsked : List Text → (given old new : Option (List ℕ)) → Status → Type 0
+PerformsAsked words given old new status = (request : Request) × AskFor words request × Performs request given old new status
+
+-- The words ask for something that fails with this status, before anything is printed.
+pub record StopsAsked (words : List Text) (given old new : Option (List ℕ)) (status : Status) : Type 0 where
+  pub request : Request
+  pub asked : AskFor words request
+  pub failure : Failure
+  pub why : FailsBy request given failure
+  pub judged : status ≡ status_of failure
+  pub kept : Keeps old new
 
 -- How a run over these words ends by its status, unless something fails: what it prints on standard output, and that it
 -- prints nothing on standard error where all is well.
-abbrev pub Ends : List Text → (output output' errors errors' : Option (List ℕ)) → Status → Type 0
-Ends words output output' errors errors' Success =
-    Keeps errors errors' × (AskForHelp words ⊎ PerformsAsked words output output' Success)
-Ends words output output' errors errors' Refused = PerformsAsked words output output' Refused
-Ends words output output' errors errors' Misused = AreWrong words × Keeps output output'
-Ends words output output' errors errors' Failed = ⊥
+abbrev pub Ends : List Text → (given output output' errors errors' : Option (List ℕ)) → Status → Type 0
+Ends words given output output' errors errors' Success =
+    Keeps errors errors' × (AskForHelp words ⊎ PerformsAsked words given output output' Success)
+Ends words given output output' errors errors' Refused =
+    PerformsAsked words given output output' Refused ⊎ StopsAsked words given output output' Refused
+Ends words given output output' errors errors' Misused =
+    (AreWrong words × Keeps output output') ⊎ StopsAsked words given output output' Misused
+Ends words given output output' errors errors' Failed = ⊥
+
+-- Where a run stops short, a device or memory failed, or something was asked for that is refused.
+abbrev pub Stops : List Text → (given output output' : Option (List ℕ)) → Failure → Type 0
+Stops words given output output' failure =
+    (status_of failure ≡ Failed) ⊎ StopsAsked words given output output' (status_of failure)

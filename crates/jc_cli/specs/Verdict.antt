@@ -8,9 +8,10 @@ use Rattle.jc_base.specs.Reading.{Reading}
 use Rattle.jc_base.specs.declared.fault.Ending.{Ending}
 use Rattle.jc_base.specs.declared.fault.Ending.TheVariants.{End, Bad}
 use Rattle.jc_base.specs.declared.limits.Limits.{Limits}
-use Rattle.jc_export.specs.Stream.{IsOnlyReading, StreamReading}
+use Rattle.jc_cli.specs.Reads.{ReadsAs}
 use Rattle.jc_cli.specs.declared.status.Status.{Status}
 use Rattle.jc_cli.specs.declared.status.Status.TheVariants.{Success, Refused}
+use Rattle.jc_cli.specs.declared.words.Kind.{Kind}
 
 -- `ok <count> <left>` or `bad <code> <place>`, without the newline
 abbrev pub verdict_text : ℕ → Ending → List ℕ
@@ -26,12 +27,10 @@ pub record TellsReading (count : ℕ) (ending : Ending) (status : Status) (old n
   pub judged : status ≡ verdict_status ending
   pub printed : Appends old new (verdict_text count ending ++ 10 ∷ [])
 
--- The output gained the line, and the status is the one, of what the bytes say as an export stream under the default
--- limits: of their one reading.
-pub record TellsStream (bytes : List ℕ) (status : Status) (old new : Option (List ℕ)) : Type 0 where
+-- The output gained the line, and the status is the one, of what the bytes say under the default limits.
+pub record TellsBytes (kind : Kind) (bytes : List ℕ) (status : Status) (old new : Option (List ℕ)) : Type 0 where
   pub limits : Limits
   pub defaults : AreDefaults limits.name limits.value limits.fields limits.entry limits.file
   pub reading : Reading
-  pub reads : StreamReading limits 0 bytes reading
-  pub only : IsOnlyReading limits 0 bytes reading
+  pub reads : ReadsAs kind limits bytes reading
   pub told : TellsReading (length reading.entries) reading.ending status old new

@@ -4,11 +4,12 @@ ghost use Rattle.std.specs.Prelude.{◌≡◌, ◌≢◌, ◌≤◌, ⊤, Ok, Er
 ghost use Rattle.std.specs.Io.KnownBytes.{Keeps};
 ghost use Rattle.clap.specs.Words.{kind_of};
 ghost use Rattle.jc_cli.specs.Answer.{IsAskedFor};
-ghost use Rattle.jc_cli.specs.Failure.{status_of};
-ghost use Rattle.jc_cli.specs.Run.{Ends, FailsBy, Performs};
+ghost use Rattle.jc_cli.specs.Run.{Ends, FailsBy, Performs, Stops};
 
+use crate::ack::ack;
 use crate::failure::Failure;
 use crate::status::Status;
+use crate::upload::upload;
 use crate::verify::verify;
 use crate::words;
 use crate::words::Request;
@@ -19,55 +20,69 @@ use std::rt::Files;
 /// Does what the words ask for and answers the status to end with. The first word is the program's name.
 ///
 /// What is asked for goes to `output`. A failure, or what is wrong with the words, goes to `errors`. With status 3
-/// something failed, and then nothing is said of either.
+/// something failed, and then nothing is said of either. Answers of the collector come from `input`.
 pub fn command<R: Files + AllocGlobal, I: Read, O: Write, E: Write>(
     rt: &R,
     words: Vec<String>,
-    _input: &mut I,
+    input: &mut I,
     output: &mut O,
     errors: &mut E,
 ) -> u8
     ensures status { result ≤ 3 }
-    ensures success { result ≡ 0 → Ends (map string_bytes words.items) (O.contents output.old) (O.contents output.new)
-        (E.contents errors.old) (E.contents errors.new) Status.Success }
-    ensures refused { result ≡ 1 → Ends (map string_bytes words.items) (O.contents output.old) (O.contents output.new)
-        (E.contents errors.old) (E.contents errors.new) Status.Refused }
-    ensures misused { result ≡ 2 → Ends (map string_bytes words.items) (O.contents output.old) (O.contents output.new)
-        (E.contents errors.old) (E.contents errors.new) Status.Misused }
+    ensures success { result ≡ 0 → Ends (map string_bytes words.items) (I.remaining input.old)
+        (O.contents output.old) (O.contents output.new) (E.contents errors.old) (E.contents errors.new) Status.Success }
+    ensures refused { result ≡ 1 → Ends (map string_bytes words.items) (I.remaining input.old)
+        (O.contents output.old) (O.contents output.new) (E.contents errors.old) (E.contents errors.new) Status.Refused }
+    ensures misused { result ≡ 2 → Ends (map string_bytes words.items) (I.remaining input.old)
+        (O.contents output.old) (O.contents output.new) (E.contents errors.old) (E.contents errors.new) Status.Misused }
 {
-    match answered(rt, words.as_slice(), output, errors) {
+    match answered(rt, words.as_slice(), input, output, errors) {
         Ok(status) => status.number(),
         Err(failure) => failure.tell(errors).number(),
     }
 }
 
 /// Does what the words ask for, up to a failure.
-fn answered<'a, R: Files + AllocGlobal, O: Write, E: Write>(
+fn answered<'a, R: Files + AllocGlobal, I: Read, O: Write, E: Write>(
     rt: &R,
     words: &'a [String],
+    input: &mut I,
     output: &mut O,
     errors: &mut E,
 ) -> Result<Status, Failure<'a>>
-    ensures ended { IfOk result (Ends (map string_bytes words.entry.now) (O.contents output.old) (O.contents output.new)
-        (E.contents errors.old) (E.contents errors.new)) }
-    ensures failed { IfErr result (λ failure. status_of failure ≡ Status.Failed) }
+    ensures ended { IfOk result (Ends (map string_bytes words.entry.now) (I.remaining input.old)
+        (O.contents output.old) (O.contents output.new) (E.contents errors.old) (E.contents errors.new)) }
+    ensures stopped { IfErr result (Stops (map string_bytes words.entry.now) (I.remaining input.old) (O.contents output.old)
+        (O.contents output.new)) }
 {
     match words::parse(rt.alloc(), words) {
-        Ok(request) => perform(rt, request, output),
+        Ok(request) => perform(rt, request, input, output),
         Err(answer) => answer_words(&answer, output, errors),
     }
 }
 
-fn perform<'a, R: Files + AllocGlobal, O: Write>(
+fn perform<'a, R: Files + AllocGlobal, I: Read, O: Write>(
     rt: &R,
     request: Request<'a>,
+    input: &mut I,
     output: &mut O,
 ) -> Result<Status, Failure<'a>>
-    ensures performed { IfOk result (Performs request.entry (O.contents output.old) (O.contents output.new)) }
-    ensures failed { IfErr result (FailsBy request.entry) }
+    ensures performed { IfOk result (Performs request.entry (I.remaining input.old) (O.contents output.old)
+        (O.contents output.new)) }
+    ensures failed { IfErr result (FailsBy request.entry (I.remaining input.old)) }
+    ensures untouched { IfErr result (λ failure. failure ≢ Failure.WriteFailed
+        → Keeps (O.contents output.old) (O.contents output.new)) }
 {
     match request {
         Request::Verify { kind, file } => verify(rt, kind, file, output),
+        Request::Upload { source, limit } => {
+            upload(rt, source, limit, output)?;
+            Ok(Status::Success)
+        }
+        Request::Ack { source } => {
+            ack(rt, source, input, output)?;
+            Ok(Status::Success)
+        }
     }
 }
 

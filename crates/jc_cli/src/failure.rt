@@ -1,18 +1,29 @@
 //! Why a command stops short, and the line that says so.
 
 ghost use Rattle.std.specs.Prelude.{◌≡◌, Some};
-ghost use Rattle.jc_cli.specs.Failure.{status_of, line_of};
+ghost use Rattle.jc_cli.specs.Failure.{status_of, stop_failure, upload_failure, line_of};
 ghost use Rattle.jc_cli.specs.declared.failure.Failure.TheVariants.{OutOfMemory};
 
 use crate::status::Status;
-use jc_base::OutOfMemory;
-use std::alloc::AllocError;
+use jc_base::{Code, Fault, OutOfMemory, Stop};
+use jc_upload::UploadFault;
+use std::alloc::{AllocError, AllocFailed};
 use std::fmt;
 use std::io::Write;
 
 /// Why a command stops short. Its text is one line on standard error. (own)
 #[derive(Debug, Drop)]
 pub enum Failure<'a> {
+    /// A source's bytes have a fault.
+    Bad(Fault),
+    /// A source's entries no longer go on from its resume point.
+    SourceChanged,
+    /// A resume file has no resume point's text.
+    BadResume,
+    /// The line of this number, from 1, is no answer's.
+    BadAnswer(u64),
+    /// An id is not 32 hexadecimal digits.
+    BadId,
     /// The file of this path cannot be opened.
     CannotOpen(&'a str),
     /// A file failed while it was read.
@@ -30,7 +41,9 @@ impl Failure<'_> {
         ensures { result ≡ status_of self.now }
     {
         match self {
-            Failure::WordsAreNoText => Status::Misused,
+            Failure::Bad(_) | Failure::SourceChanged => Status::Refused,
+            Failure::BadResume | Failure::BadAnswer(_) => Status::Refused,
+            Failure::BadId | Failure::WordsAreNoText => Status::Misused,
             _ => Status::Failed,
         }
     }
@@ -49,6 +62,11 @@ impl fmt::Display for Failure<'_> {
 
     fn fmt<W: fmt::Write>(&self, f: &mut fmt::Formatter<W>) -> fmt::Result {
         match self {
+            Failure::Bad(fault) => write!(f, "bad {} {}", fault.code, fault.place),
+            Failure::SourceChanged => write!(f, "refused {}", Code::SourceChanged),
+            Failure::BadResume => write!(f, "bad resume"),
+            Failure::BadAnswer(line) => write!(f, "bad answer {line}"),
+            Failure::BadId => write!(f, "bad id"),
             Failure::CannotOpen(path) => write!(f, "cannot open {path}"),
             Failure::ReadFailed => write!(f, "read failed"),
             Failure::WriteFailed => write!(f, "write failed"),
@@ -71,5 +89,35 @@ impl From<AllocError> for Failure<'_> {
 
     fn from(_refused: AllocError) -> Self {
         Failure::OutOfMemory
+    }
+}
+
+impl<T: Drop> From<AllocFailed<T>> for Failure<'_> {
+    ghost from_gives = { λ _ failure. failure ≡ OutOfMemory };
+
+    fn from(_refused: AllocFailed<T>) -> Self {
+        Failure::OutOfMemory
+    }
+}
+
+impl From<Stop> for Failure<'_> {
+    ghost from_gives = { λ stop failure. failure ≡ stop_failure stop };
+
+    fn from(stop: Stop) -> Self {
+        match stop {
+            Stop::ReadFailed => Failure::ReadFailed,
+            Stop::OutOfMemory => Failure::OutOfMemory,
+        }
+    }
+}
+
+impl From<UploadFault> for Failure<'_> {
+    ghost from_gives = { λ fault failure. failure ≡ upload_failure fault };
+
+    fn from(fault: UploadFault) -> Self {
+        match fault {
+            UploadFault::SourceChanged => Failure::SourceChanged,
+            UploadFault::OutOfMemory => Failure::OutOfMemory,
+        }
     }
 }

@@ -1,12 +1,18 @@
 //! The program `journal-collect`.
 #![tactic(auto)]
 
+mod ack;
+mod answers;
 mod command;
 mod failure;
 mod file;
+mod gather;
+mod resume_file;
+mod source;
 mod status;
 #[cfg(test)]
 mod tests;
+mod upload;
 mod verify;
 mod words;
 

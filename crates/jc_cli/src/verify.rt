@@ -1,24 +1,27 @@
 //! `verify`: how a file reads.
 
-ghost use Rattle.std.specs.Prelude.{◌≡◌, ◌≢◌, ◌⊎◌, ℕ, Some, IfOk, IfErr, OnOk, ◌++◌, ◌∷◌, []};
-ghost use Rattle.std.specs.Io.KnownBytes.{Appends, Keeps};
-ghost use Rattle.jc_cli.specs.Verdict.{verdict_text, verdict_status, TellsReading, TellsStream};
+ghost use Rattle.std.specs.Prelude.{◌≡◌, ◌≢◌, ◌⊎◌, ℕ, List, Some, IfOk, IfErr};
+ghost use Rattle.std.specs.Io.KnownBytes.{Keeps};
+ghost use Rattle.jc_cli.specs.Verdict.{verdict_text, verdict_status, TellsReading, TellsBytes};
 
 use crate::failure::Failure;
-use crate::file::read_file;
+use crate::file::{is_regular, open_file, read_file, read_front};
+use crate::gather::count_entries;
 use crate::status::Status;
 use crate::words::Kind;
 use jc_base::{Ending, Limits};
 use jc_export::read_all;
+use jc_file::{ByteSpace, FileEntries, FileSpace, PagedSpace, SliceSpace};
 use std::alloc::Global;
 use std::fmt;
-use std::io::Write;
+use std::fs::OpenFile;
+use std::io::{Read, Seek, Write};
 use std::rt::Files;
 
 /// What `verify` prints: how many entries are complete, and how the reading ends.
 #[derive(Clone, Copy)]
 struct Verdict {
-    count: usize,
+    count: u64,
     ending: Ending,
 }
 
@@ -59,9 +62,12 @@ pub fn verify<'a, R: Files + AllocGlobal, O: Write>(
     ensures untouched { IfErr result (λ failure. failure ≢ Failure.WriteFailed
         → Keeps (O.contents output.old) (O.contents output.new)) }
 {
-    let bytes = read_file(rt, file)?;
     match kind {
-        Kind::Export => verify_export(rt.alloc(), bytes.as_slice(), output),
+        Kind::Export => {
+            let bytes = read_file(rt, file)?;
+            verify_export(rt.alloc(), bytes.as_slice(), output)
+        }
+        Kind::File => verify_file(rt.alloc(), open_file(rt, file)?, output),
     }
 }
 
@@ -71,26 +77,68 @@ fn verify_export<'a, O: Write>(
     bytes: &[u8],
     output: &mut O,
 ) -> Result<Status, Failure<'a>>
-    ensures told { IfOk result (λ status. TellsStream bytes.now status (O.contents output.old) (O.contents output.new)) }
+    ensures told { IfOk result (λ status. TellsBytes Kind.Export bytes.now status (O.contents output.old)
+        (O.contents output.new)) }
     ensures failed { IfErr result (λ failure. (failure ≡ Failure.WriteFailed) ⊎ (failure ≡ Failure.OutOfMemory)) }
     ensures untouched { IfErr result (λ failure. failure ≢ Failure.WriteFailed
         → Keeps (O.contents output.old) (O.contents output.new)) }
 {
     let reading = read_all(alloc, bytes, &Limits::default())?;
-    let verdict = Verdict {
-        count: reading.entries.len(),
-        ending: reading.end,
-    };
-    print(&verdict, output)?;
-    Ok(verdict.status())
+    tell(reading.entries.len() as u64, reading.end, output)
 }
 
-fn print<'a, O: Write>(verdict: &Verdict, output: &mut O) -> Result<(), Failure<'a>>
-    ensures refused { IfErr result (λ failure. failure ≡ Failure.WriteFailed) }
-    ensures printed { OnOk result (Appends (O.contents output.old) (O.contents output.new) (verdict_text verdict.now.count verdict.now.ending ++ 10 ∷ [])) }
+/// Prints how a file reads as a journal file. Where its ranges can't be read it is read whole, up to one byte more than
+/// the limit of a file, which tells as much as all of it.
+fn verify_file<'a, F: Read + Seek + OpenFile + Drop, O: Write>(
+    alloc: Global,
+    file: F,
+    output: &mut O,
+) -> Result<Status, Failure<'a>>
+    ensures told { IfOk result (λ status. (count : ℕ) × (ending : Ending)
+        × TellsReading count ending status (O.contents output.old) (O.contents output.new)) }
+    ensures failed { IfErr result (λ failure. (failure ≡ Failure.ReadFailed) ⊎ (failure ≡ Failure.WriteFailed)
+        ⊎ (failure ≡ Failure.OutOfMemory)) }
+    ensures untouched { IfErr result (λ failure. failure ≢ Failure.WriteFailed
+        → Keeps (O.contents output.old) (O.contents output.new)) }
 {
+    if !is_regular(&file) {
+        let bytes = read_front(alloc, file, Limits::default().file + 1)?;
+        return verify_space(alloc, SliceSpace { bytes: &bytes }, output);
+    }
+    match FileSpace::new(file) {
+        Ok(space) => verify_space(alloc, PagedSpace::new(alloc, space)?, output),
+        Err(_) => Err(Failure::ReadFailed),
+    }
+}
+
+/// Prints how the bytes of a space read as a journal file.
+fn verify_space<'a, B: ByteSpace + Drop, O: Write>(
+    alloc: Global,
+    space: B,
+    output: &mut O,
+) -> Result<Status, Failure<'a>>
+    ensures told { IfOk result (λ status. (count : ℕ) × (ending : Ending)
+        × TellsReading count ending status (O.contents output.old) (O.contents output.new)) }
+    ensures bytes { (bytes : List ℕ) → B.bytes space ≡ Some bytes → IfOk result (λ status.
+        TellsBytes Kind.File bytes status (O.contents output.old) (O.contents output.new)) }
+    ensures failed { IfErr result (λ failure. (failure ≡ Failure.ReadFailed) ⊎ (failure ≡ Failure.WriteFailed)
+        ⊎ (failure ≡ Failure.OutOfMemory)) }
+    ensures untouched { IfErr result (λ failure. failure ≢ Failure.WriteFailed
+        → Keeps (O.contents output.old) (O.contents output.new)) }
+{
+    let mut entries = FileEntries::new(alloc, space, Limits::default());
+    let (count, ending) = count_entries(&mut entries)?;
+    tell(count, ending, output)
+}
+
+/// Prints a verdict, and answers its status.
+fn tell<'a, O: Write>(count: u64, ending: Ending, output: &mut O) -> Result<Status, Failure<'a>>
+    ensures told { IfOk result (λ status. TellsReading count ending status (O.contents output.old) (O.contents output.new)) }
+    ensures failed { IfErr result (λ failure. failure ≡ Failure.WriteFailed) }
+{
+    let verdict = Verdict { count, ending };
     if writeln!(output, "{verdict}").is_err() || output.flush().is_err() {
         return Err(Failure::WriteFailed);
     }
-    Ok(())
+    Ok(verdict.status())
 }

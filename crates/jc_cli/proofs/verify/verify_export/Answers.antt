@@ -1,15 +1,13 @@
 -- The reading that `read_all` gave, under the default limits, is the one that the line tells.
-use Rattle.std.proofs.Common.{◌≡◌, length, rules}
+use Rattle.std.proofs.Common.{◌≡◌, length, refl, rules}
+use Rattle.jc_cli.proofs.Verdicts.{tells_bytes}
+use Rattle.jc_cli.specs.declared.words.Kind.TheVariants.{Export}
 use Rattle.jc_cli.proofs.verify.verify_export.Goals as goal
 
 pub returns-clause-told : goal.returns-clause-told
 returns-clause-told g c =
-    let count : length c.in_ok-reading.reading.entries.items ≡ c.len.result = search rules in
-    record {
-      limits = c.default.result;
-      defaults = c.default.ensures;
-      reading = record { entries = c.in_ok-reading.reading.entries.items; ending = c.in_ok-reading.reading.end };
-      reads = c.in_ok-reading.ensures.reading;
-      only = c.in_ok-reading.ensures.only;
-      told = record { judged = c.status.ensures; printed = rw count c.in_ok-print.ensures.printed };
-    }
+    let reading = c.in_ok-reading.reading in
+    let count : c.len.result ≡ length reading.entries.items = search rules in
+    tells_bytes Export c.args.bytes.now c.default.result (record { entries = reading.entries.items; ending = reading.end })
+    c.len.result reading.end c.tell.result (g.O.Write.contents c.args.output.now) (g.O.Write.contents c.tell.new.output)
+    c.default.ensures (c.in_ok-reading.ensures.reading, c.in_ok-reading.ensures.only) count refl c.tell.ensures.told
