@@ -8,8 +8,6 @@ mod head;
 mod law;
 mod lent;
 mod runs;
-#[cfg(test)]
-mod samples;
 mod space_stream;
 mod whole;
 
@@ -17,3 +15,6 @@ pub use collect::collect_one;
 pub use delivery::Delivery;
 pub use law::{one_answer, one_journal_stored, one_saying, one_set_accepted};
 pub use runs::{RunEnd, run};
+
+#[cfg(test)]
+mod tests;

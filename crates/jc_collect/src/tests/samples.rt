@@ -1,37 +1,34 @@
-//! Uploads and devices that tests share.
+//! Uploads that tests share.
 
-ghost use Rattle.std.specs.Prelude.{◌<◌};
-
-use jc_base::{ByteSink, ByteStream, ReadFailed, WriteFailed};
 use std::alloc::Global;
 use std::test::Fail;
 
 /// The header of an upload of an export stream, from a source whose id is `a0` to `af`.
-pub(crate) const EXPORT: &[u8] = b"JCUPLD01\x01\0\0\0\0\0\0\0\
+pub(super) const EXPORT: &[u8] = b"JCUPLD01\x01\0\0\0\0\0\0\0\
     \xa0\xa1\xa2\xa3\xa4\xa5\xa6\xa7\xa8\xa9\xaa\xab\xac\xad\xae\xaf\
     \0\0\0\0\0\0\0\0\0\0\0\0\0\0\0\0";
 
 /// The same for a journal file.
-pub(crate) const FILE: &[u8] = b"JCUPLD01\x02\0\0\0\0\0\0\0\
+pub(super) const FILE: &[u8] = b"JCUPLD01\x02\0\0\0\0\0\0\0\
     \xa0\xa1\xa2\xa3\xa4\xa5\xa6\xa7\xa8\xa9\xaa\xab\xac\xad\xae\xaf\
     \0\0\0\0\0\0\0\0\0\0\0\0\0\0\0\0";
 
 /// The metadata of an entry, 109 bytes, and the same with the numbers 2 and 3.
-pub(crate) const META: &[u8] =
+pub(super) const META: &[u8] =
     b"__REALTIME_TIMESTAMP=1000000\n__MONOTONIC_TIMESTAMP=5\n__SEQNUM=1\n__SEQNUM_ID=000102030405060708090a0b0c0d0e0f\n";
 
-pub(crate) const META_2: &[u8] =
+pub(super) const META_2: &[u8] =
     b"__REALTIME_TIMESTAMP=1000000\n__MONOTONIC_TIMESTAMP=5\n__SEQNUM=2\n__SEQNUM_ID=000102030405060708090a0b0c0d0e0f\n";
 
-pub(crate) const META_3: &[u8] =
+pub(super) const META_3: &[u8] =
     b"__REALTIME_TIMESTAMP=1000000\n__MONOTONIC_TIMESTAMP=5\n__SEQNUM=3\n__SEQNUM_ID=000102030405060708090a0b0c0d0e0f\n";
 
 /// A field and the end of an entry, and the same with another value.
-pub(crate) const HI: &[u8] = b"MESSAGE=hi\n\n";
+pub(super) const HI: &[u8] = b"MESSAGE=hi\n\n";
 
-pub(crate) const HO: &[u8] = b"MESSAGE=ho\n\n";
+pub(super) const HO: &[u8] = b"MESSAGE=ho\n\n";
 
-pub(crate) fn joined(alloc: Global, parts: &[&[u8]]) -> Result<Vec<u8>, Fail> {
+pub(super) fn joined(alloc: Global, parts: &[&[u8]]) -> Result<Vec<u8>, Fail> {
     let mut bytes = Vec::new(alloc);
     for part in parts {
         bytes.extend_from_slice(part)?;
@@ -39,8 +36,30 @@ pub(crate) fn joined(alloc: Global, parts: &[&[u8]]) -> Result<Vec<u8>, Fail> {
     Ok(bytes)
 }
 
+/// The header of an upload of an export stream with one other byte.
+pub(super) fn head_with(place: usize, byte: u8) -> [u8; 48] {
+    let mut head = [0; 48];
+    put(&mut head, 0, EXPORT);
+    put(&mut head, place, &[byte]);
+    head
+}
+
+/// The lines of answers, each with `S` for the source's id.
+pub(super) fn lines(alloc: Global, shorts: &[&str]) -> Result<String, Fail> {
+    let source = "a0a1a2a3a4a5a6a7a8a9aaabacadaeaf";
+    let mut lines = String::new(alloc);
+    for short in shorts {
+        let line = match short.split_once(" S ") {
+            Some((verb, rest)) => format!(in alloc; "{verb} {source} {rest}\n")?,
+            None => format!(in alloc; "{short}\n")?,
+        };
+        lines.push_str(&line)?;
+    }
+    Ok(lines)
+}
+
 /// A journal file of 400 bytes: one array at 208, one ENTRY at 240 and one DATA object at 320.
-pub(crate) fn small_file() -> [u8; 400] {
+pub(super) fn small_file() -> [u8; 400] {
     let mut file = [0; 400];
     put(&mut file, 0, b"LPKSHHRH");
     put(
@@ -77,7 +96,7 @@ pub(crate) fn small_file() -> [u8; 400] {
 }
 
 /// The same with 64 bytes more in its header, a known compatible flag and KEYED_HASH.
-pub(crate) fn long_header_file() -> [u8; 464] {
+pub(super) fn long_header_file() -> [u8; 464] {
     let mut file = [0; 464];
     put(&mut file, 0, &small_file());
     for place in (208..464).step_by(8) {
@@ -92,7 +111,7 @@ pub(crate) fn long_header_file() -> [u8; 464] {
     file
 }
 
-pub(crate) fn put(file: &mut [u8], place: usize, bytes: &[u8]) {
+pub(super) fn put(file: &mut [u8], place: usize, bytes: &[u8]) {
     put_rest(file, place, bytes, 0);
 }
 
@@ -103,50 +122,6 @@ fn put_rest(file: &mut [u8], place: usize, bytes: &[u8], from: usize) {
     }
 }
 
-pub(crate) fn put_number(file: &mut [u8], place: usize, number: u64) {
+pub(super) fn put_number(file: &mut [u8], place: usize, number: u64) {
     put(file, place, &number.to_le_bytes());
-}
-
-/// A stream that gives so many bytes of another one at each read, at most.
-#[derive(Drop)]
-pub(crate) struct Pieces<R> {
-    pub(crate) inner: R,
-    pub(crate) most: usize,
-    ghost some: { 0 < most },
-}
-
-impl<R: ByteStream> ByteStream for Pieces<R> {
-    ghost to_come = { λ s. R.to_come s.inner };
-
-    ghost bound = { λ s. R.bound s.inner };
-
-    ghost failures = { λ s. R.failures s.inner };
-
-    ghost lent = { λ s. R.lent s.inner };
-
-    ghost small = { λ s. R.small s.inner };
-
-    fn read(&mut self, out: &mut [u8]) -> Result<usize, ReadFailed> {
-        let end = out.len().min(self.most);
-        self.inner.read(&mut out[..end])
-    }
-}
-
-/// A sink that takes one byte at each write.
-#[derive(Drop)]
-pub(crate) struct Slow<W> {
-    pub(crate) inner: W,
-}
-
-impl<W: ByteSink> ByteSink for Slow<W> {
-    ghost written = { λ s. W.written s.inner };
-
-    ghost failures = { λ s. W.failures s.inner };
-
-    ghost lent = { λ s. W.lent s.inner };
-
-    fn write(&mut self, piece: &[u8]) -> Result<usize, WriteFailed> {
-        let end = piece.len().min(1);
-        self.inner.write(&piece[..end])
-    }
 }
