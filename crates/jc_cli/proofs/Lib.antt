@@ -1,6 +1,6 @@
-pub mod Commands
+pub mod Databases
+pub mod Flushing
 pub mod Gathering
-pub mod Grammar
 pub mod Lines
 pub mod Runs
 pub mod Sources

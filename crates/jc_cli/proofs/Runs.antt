@@ -7,18 +7,22 @@ use Rattle.clap.specs.declared.error.kind.ErrorKind.{ErrorKind}
 use Rattle.clap.specs.declared.error.kind.ErrorKind.TheVariants as kind
 use Rattle.jc_base.specs.declared.fault.Ending.{Ending}
 use Rattle.jc_base.specs.declared.fault.Ending.TheVariants.{End, Bad}
+use Rattle.jc_cli.specs.declared.check.Health.{Health}
+use Rattle.jc_cli.specs.declared.check.Health.TheVariants as health
 use Rattle.jc_cli.specs.declared.failure.Failure.{Failure}
 use Rattle.jc_cli.specs.declared.failure.Failure.TheVariants as failures
 use Rattle.jc_cli.specs.declared.status.Status.{Status}
 use Rattle.jc_cli.specs.declared.status.Status.TheVariants.{Success, Refused, Misused, Failed}
-use Rattle.jc_cli.specs.declared.words.Request.{Request}
-use Rattle.jc_cli.specs.declared.words.Request.TheVariants.{Verify, Upload, Ack}
-use Rattle.jc_cli.specs.Answer.{IsAskedFor}
+use Rattle.jc_words.specs.declared.request.Request.{Request}
+use Rattle.jc_words.specs.declared.request.Request.TheVariants.{Verify, Upload, Ack}
+use Rattle.jc_words.specs.declared.request.Request.TheVariants as requests
+use Rattle.jc_words.specs.Answer.{IsAskedFor}
+use Rattle.jc_cli.specs.Checked.{health_status}
 use Rattle.jc_cli.specs.Failure.{status_of}
 use Rattle.jc_cli.specs.Run.{Ends, FailsBy, Performs, Stops, StopsAsked}
 use Rattle.jc_cli.specs.Status.{number_of}
 use Rattle.jc_cli.specs.Verdict.{verdict_status}
-use Rattle.jc_cli.specs.Words.{AreAnswered, AskFor}
+use Rattle.jc_words.specs.Words.{AreAnswered, AskFor}
 
 keeps_itself : (known : Option (List ℕ)) → Keeps known known
 keeps_itself None = tt
@@ -29,34 +33,37 @@ not_misused : (ending : Ending) → Misused ≡ verdict_status ending → ⊥
 not_misused (End left) same = cc
 not_misused (Bad fault) same = cc
 
-not_failed : (ending : Ending) → Failed ≡ verdict_status ending → ⊥
-not_failed (End left) same = cc
-not_failed (Bad fault) same = cc
+health_not_misused : (health : Health) → Misused ≡ health_status health → ⊥
+health_not_misused (health.Whole count) same = cc
+health_not_misused (health.Bad fault) same = cc
 
 -- what was asked for is performed
 pub performed : (words : List Text) (request : Request) (given output output' errors : Option (List ℕ)) (status : Status)
     → AskFor words request → Performs request given output output' status → Ends words given output output' errors errors status
 performed words request given output output' errors Success asks does = (keeps_itself errors, inr (request, asks, does))
 performed words request given output output' errors Refused asks does = inl (request, asks, does)
+performed words request given output output' errors Failed asks does = (request, asks, does)
 performed words (Verify k file) given output output' errors Misused asks (count, ending, told) = absurd (not_misused ending told.judged)
-performed words (Verify k file) given output output' errors Failed asks (count, ending, told) = absurd (not_failed ending told.judged)
 performed words (Upload source limit) given output output' errors Misused asks does = let same : Misused ≡ Success = does.0 in cc
-performed words (Upload source limit) given output output' errors Failed asks does = let same : Failed ≡ Success = does.0 in cc
 performed words (Ack source) given output output' errors Misused asks does = let same : Misused ≡ Success = does.0 in cc
-performed words (Ack source) given output output' errors Failed asks does = let same : Failed ≡ Success = does.0 in cc
+performed words (requests.Collect database uploads) given output output' errors Misused asks does = absurd (does refl)
+performed words (requests.Export database) given output output' errors Misused asks does = let same : Misused ≡ Success = does in cc
+performed words (requests.Show database id first last) given output output' errors Misused asks does = let same : Misused ≡ Success = does in cc
+performed words (requests.Check database) given output output' errors Misused asks (health, is, told) = absurd (health_not_misused health told.judged)
 
--- a failed write is a failure
-write_fails : (failure : Failure) → (status_of failure ≡ Failed) ⊎ (failure ≢ failures.WriteFailed)
-write_fails failures.WriteFailed = inl refl
-write_fails (failures.Bad fault) = inr (λ e. cc)
-write_fails failures.SourceChanged = inr (λ e. cc)
-write_fails failures.BadResume = inr (λ e. cc)
-write_fails (failures.BadAnswer line) = inr (λ e. cc)
-write_fails failures.BadId = inr (λ e. cc)
-write_fails (failures.CannotOpen path) = inr (λ e. cc)
-write_fails failures.ReadFailed = inr (λ e. cc)
-write_fails failures.OutOfMemory = inr (λ e. cc)
-write_fails failures.WordsAreNoText = inr (λ e. cc)
+-- a failure's status is that of a device or memory, or another one
+device_or_not : (status : Status) → (status ≡ Failed) ⊎ (status ≢ Failed)
+device_or_not Success = inr (λ e. cc)
+device_or_not Refused = inr (λ e. cc)
+device_or_not Misused = inr (λ e. cc)
+device_or_not Failed = inl refl
+
+-- what stays the same where no write failed stays the same where no device did
+pub unless_failed : {T : Type 0} (r : Result T Failure) (output output' : Option (List ℕ))
+    → IfErr r (λ failure. failure ≢ failures.WriteFailed → Keeps output output')
+    → IfErr r (λ failure. status_of failure ≢ Failed → Keeps output output')
+unless_failed (Ok x) output output' keeps = tt
+unless_failed (Err failure) output output' keeps = λ other. keeps (λ is. other (ap status_of is))
 
 pub IfErr-both : {T E : Type 0} (r : Result T E) (P Q R : E → Type 0) → ((e : E) → P e → Q e → R e) → IfErr r P → IfErr r Q
     → IfErr r R
@@ -65,9 +72,9 @@ IfErr-both (Err e) P Q R both p q = both e p q
 
 -- what was asked for fails
 pub failed : (words : List Text) (request : Request) (given output output' : Option (List ℕ)) (failure : Failure)
-    → AskFor words request → FailsBy request given failure → (failure ≢ failures.WriteFailed → Keeps output output')
+    → AskFor words request → FailsBy request given failure → (status_of failure ≢ Failed → Keeps output output')
     → Stops words given output output' failure
-failed words request given output output' failure asks why keeps = elim (write_fails failure) [
+failed words request given output output' failure asks why keeps = elim (device_or_not (status_of failure)) [
   | inl device ↦ inl device
   | inr other ↦ inr (record {
     request = request;

@@ -12,8 +12,8 @@ use Rattle.jc_cli.specs.Reads.{ReadsAs}
 use Rattle.jc_cli.specs.Verdict.{TellsBytes, TellsReading}
 use Rattle.jc_cli.specs.declared.failure.Failure.{Failure}
 use Rattle.jc_cli.specs.declared.status.Status.{Status}
-use Rattle.jc_cli.specs.declared.words.Kind.{Kind}
-use Rattle.jc_cli.specs.declared.words.Kind.TheVariants.{File}
+use Rattle.jc_words.specs.declared.request.Kind.{Kind}
+use Rattle.jc_words.specs.declared.request.Kind.TheVariants.{File}
 
 -- the line that was told is that of the bytes' reading
 pub tells_bytes : (kind : Kind) (bytes : List ℕ) (limits : Limits) (reading : Reading) (count : ℕ) (ending : Ending)

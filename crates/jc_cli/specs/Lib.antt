@@ -6,6 +6,7 @@ pub mod Verdict
 pub mod Source
 pub mod Sent
 pub mod Taken
-pub mod Answer
-pub mod Words
+pub mod Answered
+pub mod Database
+pub mod Checked
 pub mod Run

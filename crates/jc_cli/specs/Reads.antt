@@ -4,8 +4,8 @@ use Rattle.jc_base.specs.Reading.{Reading}
 use Rattle.jc_base.specs.declared.limits.Limits.{Limits}
 use Rattle.jc_export.specs.Stream.{IsOnlyReading, StreamReading}
 use Rattle.jc_file.specs.FileReading.{IsFileReading}
-use Rattle.jc_cli.specs.declared.words.Kind.{Kind}
-use Rattle.jc_cli.specs.declared.words.Kind.TheVariants.{Export, File}
+use Rattle.jc_words.specs.declared.request.Kind.{Kind}
+use Rattle.jc_words.specs.declared.request.Kind.TheVariants.{Export, File}
 
 -- the bytes' one reading, as an export stream or as a journal file
 abbrev pub ReadsAs : Kind → Limits → List ℕ → Reading → Type 0

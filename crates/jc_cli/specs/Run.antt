@@ -1,29 +1,38 @@
 -- How a run of the program ends. (own)
-use Rattle.std.specs.Prelude.{◌≡◌, ◌⊎◌, ⊤, ℕ, List, Option, IfSome}
+use Rattle.std.specs.Prelude.{◌≡◌, ◌≢◌, ◌⊎◌, ⊤, ℕ, List, Option, IfSome, map, option_map}
 use Rattle.std.specs.Io.KnownBytes.{Keeps}
 use Rattle.clap.specs.Words.{Text}
 use Rattle.jc_base.specs.declared.fault.Ending.{Ending}
+use Rattle.jc_cli.specs.declared.check.Health.{Health}
 use Rattle.jc_cli.specs.declared.failure.Failure.{Failure}
 use Rattle.jc_cli.specs.declared.failure.Failure.TheVariants.{Bad, BadAnswer, BadId, BadResume, CannotOpen, OutOfMemory, ReadFailed, SourceChanged, WriteFailed}
 use Rattle.jc_cli.specs.declared.status.Status.{Status}
 use Rattle.jc_cli.specs.declared.status.Status.TheVariants.{Success, Refused, Misused, Failed}
-use Rattle.jc_cli.specs.declared.words.Kind.TheVariants.{Export}
-use Rattle.jc_cli.specs.declared.words.Request.{Request}
-use Rattle.jc_cli.specs.declared.words.Request.TheVariants.{Verify, Upload, Ack}
-use Rattle.jc_cli.specs.declared.words.Source.{Source}
+use Rattle.jc_words.specs.declared.request.Kind.TheVariants.{Export}
+use Rattle.jc_words.specs.declared.request.Request.{Request}
+use Rattle.jc_words.specs.declared.request.Request.TheVariants.{Collect, Show, Check, Verify, Upload, Ack}
+use Rattle.jc_words.specs.declared.request.Request.TheVariants as request
+use Rattle.jc_words.specs.declared.request.Source.{Source}
+use Rattle.jc_cli.specs.Checked.{IsHealth, TellsHealth}
+use Rattle.jc_cli.specs.Database.{CheckFailsBy, CollectFailsBy, DatabaseFailsBy, ShowFailsBy}
 use Rattle.jc_cli.specs.Failure.{status_of}
 use Rattle.jc_cli.specs.Sent.{TellsSomeUpload}
 use Rattle.jc_cli.specs.Source.{HasFault, IsIdText}
 use Rattle.jc_cli.specs.Taken.{HasBadLine, TellsSomePoint}
 use Rattle.jc_cli.specs.Verdict.{TellsReading}
-use Rattle.jc_cli.specs.Words.{AreWrong, AskFor, AskForHelp}
+use Rattle.jc_words.specs.Words.{AreWrong, AskFor, AskForHelp}
 
 -- What standard output gains where a request is performed, over what standard input gives, and the status: `verify` tells
--- a reading, `upload` an upload and `ack` a resume point.
+-- a reading, `upload` an upload, `ack` a resume point, and `check` what there is of a journal. Of a listing nothing is said
+-- here, and of answers not which: no contract can name what a database's file holds.
 abbrev pub Performs : Request → (given old new : Option (List ℕ)) → Status → Type 0
 Performs (Verify kind file) given old new status = (count : ℕ) × (ending : Ending) × TellsReading count ending status old new
 Performs (Upload source limit) given old new status = (status ≡ Success) × TellsSomeUpload source limit old new
 Performs (Ack source) given old new status = (status ≡ Success) × TellsSomePoint source given old new
+Performs (Collect database uploads) given old new status = status ≢ Misused
+Performs (request.Export database) given old new status = status ≡ Success
+Performs (Show database id first last) given old new status = status ≡ Success
+Performs (Check database) given old new status = (health : Health) × IsHealth health × TellsHealth health status old new
 
 -- Why nothing is known of a source: its id is none, one of its two files can't be opened or read, the resume file's text
 -- is none, or its bytes have a fault.
@@ -48,6 +57,10 @@ FailsBy (Upload source limit) given SourceChanged = source.kind ≡ Export
 FailsBy (Upload source limit) given failure = SourceFailsBy source failure
 FailsBy (Ack source) given (BadAnswer line) = IfSome given (HasBadLine line)
 FailsBy (Ack source) given failure = SourceFailsBy source failure
+FailsBy (Collect database uploads) given failure = CollectFailsBy database.now (map (λ path. path.now) uploads.items) failure
+FailsBy (request.Export database) given failure = DatabaseFailsBy database.now failure
+FailsBy (Show database id first last) given failure = ShowFailsBy database.now (option_map (λ digits. digits.now) id) failure
+FailsBy (Check database) given failure = CheckFailsBy database.now failure
 
 -- The words ask for something, and it is performed.
 abbrev pub PerformsAsked : List Text → (given old new : Option (List ℕ)) → Status → Type 0
@@ -62,8 +75,8 @@ pub record StopsAsked (words : List Text) (given old new : Option (List ℕ)) (s
   pub judged : status ≡ status_of failure
   pub kept : Keeps old new
 
--- How a run over these words ends by its status, unless something fails: what it prints on standard output, and that it
--- prints nothing on standard error where all is well.
+-- How a run over these words ends by its status, unless something fails that is told on standard error: what it prints on
+-- standard output, and that it prints nothing on standard error where all is well.
 abbrev pub Ends : List Text → (given output output' errors errors' : Option (List ℕ)) → Status → Type 0
 Ends words given output output' errors errors' Success =
     Keeps errors errors' × (AskForHelp words ⊎ PerformsAsked words given output output' Success)
@@ -71,7 +84,7 @@ Ends words given output output' errors errors' Refused =
     PerformsAsked words given output output' Refused ⊎ StopsAsked words given output output' Refused
 Ends words given output output' errors errors' Misused =
     (AreWrong words × Keeps output output') ⊎ StopsAsked words given output output' Misused
-Ends words given output output' errors errors' Failed = ⊥
+Ends words given output output' errors errors' Failed = PerformsAsked words given output output' Failed
 
 -- Where a run stops short, a device or memory failed, or something was asked for that is refused.
 abbrev pub Stops : List Text → (given output output' : Option (List ℕ)) → Failure → Type 0

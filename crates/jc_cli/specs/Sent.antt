@@ -9,9 +9,9 @@ use Rattle.jc_upload.specs.Upload.{Agrees, Sender, file_upload_of, next_upload_o
 use Rattle.jc_cli.specs.Source.{HasFault, IsIdOf, ReadsWell}
 use Rattle.jc_cli.specs.declared.failure.Failure.{Failure}
 use Rattle.jc_cli.specs.declared.failure.Failure.TheVariants.{Bad, OutOfMemory, SourceChanged}
-use Rattle.jc_cli.specs.declared.words.Kind.{Kind}
-use Rattle.jc_cli.specs.declared.words.Kind.TheVariants.{Export, File}
-use Rattle.jc_cli.specs.declared.words.Source.{Source}
+use Rattle.jc_words.specs.declared.request.Kind.{Kind}
+use Rattle.jc_words.specs.declared.request.Kind.TheVariants.{Export, File}
+use Rattle.jc_words.specs.declared.request.Source.{Source}
 
 abbrev pub sender_of : Id128 → Point → Sender
 sender_of id point = record { source = id; point = point }

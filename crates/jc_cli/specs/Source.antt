@@ -13,7 +13,7 @@ use Rattle.jc_base.specs.declared.limits.Limits.{Limits}
 use Rattle.jc_cli.specs.Reads.{ReadsAs}
 use Rattle.jc_cli.specs.declared.failure.Failure.{Failure}
 use Rattle.jc_cli.specs.declared.failure.Failure.TheVariants as failure
-use Rattle.jc_cli.specs.declared.words.Kind.{Kind}
+use Rattle.jc_words.specs.declared.request.Kind.{Kind}
 
 -- the text is 32 hexadecimal digits
 abbrev pub IsIdText : List ℕ → Type 0

@@ -13,8 +13,8 @@ use Rattle.jc_cli.specs.Sent.{sender_of}
 use Rattle.jc_cli.specs.Source.{HasFault, IsIdOf, ReadsWell}
 use Rattle.jc_cli.specs.declared.failure.Failure.{Failure}
 use Rattle.jc_cli.specs.declared.failure.Failure.TheVariants.{Bad, BadAnswer, OutOfMemory, ReadFailed}
-use Rattle.jc_cli.specs.declared.words.Kind.{Kind}
-use Rattle.jc_cli.specs.declared.words.Source.{Source}
+use Rattle.jc_words.specs.declared.request.Kind.{Kind}
+use Rattle.jc_words.specs.declared.request.Source.{Source}
 
 -- ---- lines
 

@@ -11,7 +11,7 @@ use Rattle.jc_base.specs.declared.limits.Limits.{Limits}
 use Rattle.jc_cli.specs.Reads.{ReadsAs}
 use Rattle.jc_cli.specs.declared.status.Status.{Status}
 use Rattle.jc_cli.specs.declared.status.Status.TheVariants.{Success, Refused}
-use Rattle.jc_cli.specs.declared.words.Kind.{Kind}
+use Rattle.jc_words.specs.declared.request.Kind.{Kind}
 
 -- `ok <count> <left>` or `bad <code> <place>`, without the newline
 abbrev pub verdict_text : ℕ → Ending → List ℕ

@@ -4,16 +4,16 @@ ghost use Rattle.std.specs.Prelude.{◌≡◌, ◌≢◌, ◌++◌, ◌∷◌, [
 ghost use Rattle.std.specs.Io.KnownBytes.{Appends, Keeps};
 ghost use Rattle.jc_cli.specs.Run.{FailsBy};
 ghost use Rattle.jc_cli.specs.Taken.{MovesBy, MovesPoint, TellsSomePoint, WhyNoAnswers, WhyNoPoint, point_line};
-ghost use Rattle.jc_cli.specs.declared.words.Request.TheVariants as requests;
+ghost use Rattle.jc_words.specs.declared.request.Request.TheVariants as requests;
 
 use crate::answers::{read_answers, take_answers};
 use crate::failure::Failure;
 use crate::file::read_whole;
 use crate::resume_file::{read_resume, write_resume};
 use crate::source::{entries_of, read_source, source_id};
-use crate::words::{Kind, Source};
 use jc_base::{Entry, Id128};
 use jc_upload::{Resume, Uploader};
+use jc_words::{Kind, Source};
 use std::alloc::Global;
 use std::io::{Read, Write};
 use std::rt::Files;

@@ -3,17 +3,21 @@
 ghost use Rattle.std.specs.Prelude.{◌≡◌, ◌≢◌, ◌≤◌, ⊤, Ok, Err, IfOk, IfErr, map, string_bytes};
 ghost use Rattle.std.specs.Io.KnownBytes.{Keeps};
 ghost use Rattle.clap.specs.Words.{kind_of};
-ghost use Rattle.jc_cli.specs.Answer.{IsAskedFor};
+ghost use Rattle.jc_words.specs.Answer.{IsAskedFor};
+ghost use Rattle.jc_cli.specs.Failure.{status_of};
 ghost use Rattle.jc_cli.specs.Run.{Ends, FailsBy, Performs, Stops};
 
 use crate::ack::ack;
+use crate::check::check;
+use crate::collect::collect;
+use crate::database::Databases;
 use crate::failure::Failure;
+use crate::listing::{export, show};
 use crate::status::Status;
 use crate::upload::upload;
 use crate::verify::verify;
-use crate::words;
-use crate::words::Request;
 use clap::error::ErrorKind;
+use jc_words::{Request, parse};
 use std::io::{Read, Write};
 use std::rt::Files;
 
@@ -21,7 +25,7 @@ use std::rt::Files;
 ///
 /// What is asked for goes to `output`. A failure, or what is wrong with the words, goes to `errors`. With status 3
 /// something failed, and then nothing is said of either. Answers of the collector come from `input`.
-pub fn command<R: Files + AllocGlobal, I: Read, O: Write, E: Write>(
+pub fn command<R: Databases + Files + AllocGlobal, I: Read, O: Write, E: Write>(
     rt: &R,
     words: Vec<String>,
     input: &mut I,
@@ -43,7 +47,7 @@ pub fn command<R: Files + AllocGlobal, I: Read, O: Write, E: Write>(
 }
 
 /// Does what the words ask for, up to a failure.
-fn answered<'a, R: Files + AllocGlobal, I: Read, O: Write, E: Write>(
+fn answered<'a, R: Databases + Files + AllocGlobal, I: Read, O: Write, E: Write>(
     rt: &R,
     words: &'a [String],
     input: &mut I,
@@ -55,13 +59,14 @@ fn answered<'a, R: Files + AllocGlobal, I: Read, O: Write, E: Write>(
     ensures stopped { IfErr result (Stops (map string_bytes words.entry.now) (I.remaining input.old) (O.contents output.old)
         (O.contents output.new)) }
 {
-    match words::parse(rt.alloc(), words) {
+    match parse(rt.alloc(), words) {
         Ok(request) => perform(rt, request, input, output),
         Err(answer) => answer_words(&answer, output, errors),
     }
 }
 
-fn perform<'a, R: Files + AllocGlobal, I: Read, O: Write>(
+#[tactic(auto, using(crate::proofs::Runs::unless_failed))]
+fn perform<'a, R: Databases + Files + AllocGlobal, I: Read, O: Write>(
     rt: &R,
     request: Request<'a>,
     input: &mut I,
@@ -70,7 +75,7 @@ fn perform<'a, R: Files + AllocGlobal, I: Read, O: Write>(
     ensures performed { IfOk result (Performs request.entry (I.remaining input.old) (O.contents output.old)
         (O.contents output.new)) }
     ensures failed { IfErr result (FailsBy request.entry (I.remaining input.old)) }
-    ensures untouched { IfErr result (λ failure. failure ≢ Failure.WriteFailed
+    ensures untouched { IfErr result (λ failure. status_of failure ≢ Status.Failed
         → Keeps (O.contents output.old) (O.contents output.new)) }
 {
     match request {
@@ -83,6 +88,23 @@ fn perform<'a, R: Files + AllocGlobal, I: Read, O: Write>(
             ack(rt, source, input, output)?;
             Ok(Status::Success)
         }
+        Request::Collect { database, uploads } => {
+            collect(rt, database, uploads.as_slice(), input, output)
+        }
+        Request::Export { database } => {
+            export(rt, database, output)?;
+            Ok(Status::Success)
+        }
+        Request::Show {
+            database,
+            id,
+            first,
+            last,
+        } => {
+            show(rt, database, id, first, last, output)?;
+            Ok(Status::Success)
+        }
+        Request::Check { database } => check(rt, database, output),
     }
 }
 

@@ -1,11 +1,12 @@
 //! Why a command stops short, and the line that says so.
 
 ghost use Rattle.std.specs.Prelude.{◌≡◌, Some};
-ghost use Rattle.jc_cli.specs.Failure.{status_of, stop_failure, upload_failure, line_of};
+ghost use Rattle.jc_cli.specs.Failure.{status_of, stop_failure, upload_failure, adopt_failure, keep_failure, out_failure, line_of};
 ghost use Rattle.jc_cli.specs.declared.failure.Failure.TheVariants.{OutOfMemory};
 
 use crate::status::Status;
 use jc_base::{Code, Fault, OutOfMemory, Stop};
+use jc_store::{AdoptFault, KeepStop, OutStop};
 use jc_upload::UploadFault;
 use std::alloc::{AllocError, AllocFailed};
 use std::fmt;
@@ -14,7 +15,7 @@ use std::io::Write;
 /// Why a command stops short. Its text is one line on standard error. (own)
 #[derive(Debug, Drop)]
 pub enum Failure<'a> {
-    /// A source's bytes have a fault.
+    /// A source's bytes have a fault, or a database has, whose place is the number of a row, from 0.
     Bad(Fault),
     /// A source's entries no longer go on from its resume point.
     SourceChanged,
@@ -24,12 +25,16 @@ pub enum Failure<'a> {
     BadAnswer(u64),
     /// An id is not 32 hexadecimal digits.
     BadId,
+    /// A database's name begins with `:` or with `file:`.
+    BadDatabaseName,
     /// The file of this path cannot be opened.
     CannotOpen(&'a str),
     /// A file failed while it was read.
     ReadFailed,
     /// Standard output failed while it was written.
     WriteFailed,
+    /// A database failed while it was read or written.
+    StoreFailed,
     /// Memory was refused.
     OutOfMemory,
     /// A word of the command line is not UTF-8.
@@ -43,7 +48,8 @@ impl Failure<'_> {
         match self {
             Failure::Bad(_) | Failure::SourceChanged => Status::Refused,
             Failure::BadResume | Failure::BadAnswer(_) => Status::Refused,
-            Failure::BadId | Failure::WordsAreNoText => Status::Misused,
+            Failure::BadId | Failure::BadDatabaseName => Status::Misused,
+            Failure::WordsAreNoText => Status::Misused,
             _ => Status::Failed,
         }
     }
@@ -67,9 +73,11 @@ impl fmt::Display for Failure<'_> {
             Failure::BadResume => write!(f, "bad resume"),
             Failure::BadAnswer(line) => write!(f, "bad answer {line}"),
             Failure::BadId => write!(f, "bad id"),
+            Failure::BadDatabaseName => write!(f, "bad database name"),
             Failure::CannotOpen(path) => write!(f, "cannot open {path}"),
             Failure::ReadFailed => write!(f, "read failed"),
             Failure::WriteFailed => write!(f, "write failed"),
+            Failure::StoreFailed => write!(f, "store failed"),
             Failure::OutOfMemory => write!(f, "out of memory"),
             Failure::WordsAreNoText => write!(f, "error: an argument is not UTF-8 text"),
         }
@@ -118,6 +126,45 @@ impl From<UploadFault> for Failure<'_> {
         match fault {
             UploadFault::SourceChanged => Failure::SourceChanged,
             UploadFault::OutOfMemory => Failure::OutOfMemory,
+        }
+    }
+}
+
+impl From<AdoptFault> for Failure<'_> {
+    ghost from_gives = { λ fault failure. failure ≡ adopt_failure fault.code fault.row };
+
+    fn from(fault: AdoptFault) -> Self {
+        match fault.code {
+            Code::StoreFailed => Failure::StoreFailed,
+            Code::OutOfMemory => Failure::OutOfMemory,
+            code => Failure::Bad(Fault {
+                code,
+                place: fault.row,
+            }),
+        }
+    }
+}
+
+impl From<KeepStop> for Failure<'_> {
+    ghost from_gives = { λ stop failure. failure ≡ keep_failure stop };
+
+    fn from(stop: KeepStop) -> Self {
+        match stop {
+            KeepStop::ReadFailed => Failure::ReadFailed,
+            KeepStop::StoreFailed => Failure::StoreFailed,
+            KeepStop::OutOfMemory => Failure::OutOfMemory,
+        }
+    }
+}
+
+impl From<OutStop> for Failure<'_> {
+    ghost from_gives = { λ stop failure. failure ≡ out_failure stop.code };
+
+    fn from(stop: OutStop) -> Self {
+        match stop.code {
+            Code::StoreFailed => Failure::StoreFailed,
+            Code::OutOfMemory => Failure::OutOfMemory,
+            _ => Failure::WriteFailed,
         }
     }
 }

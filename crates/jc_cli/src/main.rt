@@ -2,19 +2,24 @@
 #![tactic(auto)]
 
 mod ack;
+mod answer_sink;
 mod answers;
+mod check;
+mod collect;
 mod command;
+mod database;
 mod failure;
 mod file;
 mod gather;
+mod listing;
 mod resume_file;
 mod source;
 mod status;
 #[cfg(test)]
 mod tests;
 mod upload;
+mod uploads;
 mod verify;
-mod words;
 
 pub use command::command;
 use failure::Failure;

@@ -7,10 +7,10 @@ ghost use Rattle.jc_cli.specs.Source.{HasEntriesOf, IsIdOf, IsIdText, ReadsWell,
 use crate::failure::Failure;
 use crate::file::{open_file, read_front, read_whole};
 use crate::gather::{all_entries, count_entries};
-use crate::words::{Kind, Source};
 use jc_base::{Ending, Entry, Id128, Limits};
 use jc_export::read_all;
 use jc_file::{FileEntries, SliceSpace};
+use jc_words::{Kind, Source};
 use std::alloc::Global;
 use std::rt::Files;
 

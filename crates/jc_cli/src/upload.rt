@@ -5,14 +5,14 @@ ghost use Rattle.std.specs.Io.KnownBytes.{Appends, Keeps};
 ghost use Rattle.jc_upload.specs.Resume.{Point};
 ghost use Rattle.jc_cli.specs.Run.{FailsBy};
 ghost use Rattle.jc_cli.specs.Sent.{MakesUpload, TellsSomeUpload, TellsUpload, WhyNoUpload, sender_of};
-ghost use Rattle.jc_cli.specs.declared.words.Request.TheVariants as requests;
+ghost use Rattle.jc_words.specs.declared.request.Request.TheVariants as requests;
 
 use crate::failure::Failure;
 use crate::resume_file::read_resume;
 use crate::source::{check_file, export_entries, read_source, source_id};
-use crate::words::{Kind, Source};
 use jc_base::Id128;
 use jc_upload::{Resume, Uploader, file_upload};
+use jc_words::{Kind, Source};
 use std::alloc::Global;
 use std::io::Write;
 use std::rt::Files;

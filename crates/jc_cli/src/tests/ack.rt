@@ -4,6 +4,7 @@ use super::{
     ENTRY, SOURCE, entry, expect_over, expect_run, head, journal_file, new_folder, run_over,
     write_parts,
 };
+use crate::database::Databases;
 use std::fs;
 use std::path::PathBuf;
 use std::process::Abort;
@@ -33,7 +34,7 @@ fn new_machine(rt: &HostRuntime, name: &str, kind: &'static str) -> Result<Machi
 
 impl Machine {
     /// `ack` over these lines, in which `S` stands for the id.
-    fn ack<R: Files + AllocGlobal + Abort>(
+    fn ack<R: Databases + Files + AllocGlobal + Abort>(
         &self,
         rt: &R,
         lines: &[&str],
@@ -57,7 +58,7 @@ impl Machine {
     }
 
     /// The resume file has the point at this position, and nothing lies beside it.
-    fn expect_point<R: Files + AllocGlobal + Abort>(
+    fn expect_point<R: Databases + Files + AllocGlobal + Abort>(
         &self,
         rt: &R,
         position: u64,
@@ -72,7 +73,7 @@ impl Machine {
 }
 
 /// What `ack` prints over these files and these bytes on standard input, and its status.
-fn run_ack<R: Files + AllocGlobal>(
+fn run_ack<R: Databases + Files + AllocGlobal>(
     rt: &R,
     kind: &str,
     resume: &str,

@@ -3,6 +3,7 @@
 use super::{
     ENTRY, SOURCE, entry, expect, expect_over, head, journal_file, new_folder, run, write_parts,
 };
+use crate::database::Databases;
 use std::fs;
 use std::path::PathBuf;
 use std::process::Abort;
@@ -30,7 +31,7 @@ fn new_paths(rt: &HostRuntime, name: &str) -> Result<Paths, Fail> {
 
 impl Paths {
     /// An upload of this kind prints this header and this body.
-    fn expect_upload<R: Files + AllocGlobal + Abort>(
+    fn expect_upload<R: Databases + Files + AllocGlobal + Abort>(
         &self,
         rt: &R,
         kind: &str,
@@ -53,7 +54,7 @@ impl Paths {
     }
 
     /// An upload of this kind prints nothing but this line on standard error.
-    fn expect_refusal<R: Files + AllocGlobal + Abort>(
+    fn expect_refusal<R: Databases + Files + AllocGlobal + Abort>(
         &self,
         rt: &R,
         kind: &str,
@@ -204,7 +205,7 @@ fn the_id_of_a_source_may_have_upper_case_digits(rt: HostRuntime) -> Result<(), 
 }
 
 /// A limit that is a wrong command line.
-fn expect_wrong_limit<R: Files + AllocGlobal + Abort>(
+fn expect_wrong_limit<R: Databases + Files + AllocGlobal + Abort>(
     rt: &R,
     kind: &str,
     limit: &str,

@@ -1,13 +1,14 @@
 //! `verify file`: journal files that are a few bytes away from one another.
 
 use super::{expect, journal_file, new_folder, put, put_number, write_parts};
+use crate::database::Databases;
 use std::fs;
 use std::process::Abort;
 use std::rt::Files;
 use std::test::Fail;
 
 /// Each row: the numbers that are put into the file of one entry, with their places, and what is printed.
-fn file_rows<R: Files + AllocGlobal + Abort>(
+fn file_rows<R: Databases + Files + AllocGlobal + Abort>(
     rt: &R,
     path: &str,
     rows: &[(&[(usize, u64)], &str)],

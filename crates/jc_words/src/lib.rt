@@ -1,0 +1,14 @@
+//! The command line: what its words ask for, and what help says of it.
+#![tactic(auto)]
+
+mod arguments;
+mod asked;
+mod grammar;
+mod request;
+#[cfg(test)]
+mod tests;
+mod texts;
+mod words;
+
+pub use request::{Kind, Request, Source};
+pub use words::parse;

@@ -1,0 +1,28 @@
+//! The words of a command line, and what they ask for.
+
+ghost use Rattle.std.specs.Prelude.{◌≡◌, ◌⊎◌, IfOk, IfErr, map, string_bytes};
+ghost use Rattle.clap.specs.Words.{kind_of};
+ghost use Rattle.jc_words.specs.Words.{AreAnswered, AskFor};
+
+use crate::asked::requested;
+use crate::grammar::program;
+use crate::request::Request;
+use clap::Error;
+use clap::error::ErrorKind;
+use std::alloc::Global;
+
+/// Reads the words, the program's name first. The error is a mistake in them, a request for help or for the
+/// version, or want of memory.
+pub fn parse<'a>(alloc: Global, words: &'a [String]) -> Result<Request<'a>, Error>
+    ensures request { IfOk result (AskFor (map string_bytes words.entry.now)) }
+    ensures answer { IfErr result (λ e. (kind_of e ≡ ErrorKind.OutOfMemory)
+        ⊎ AreAnswered (map string_bytes words.entry.now) (kind_of e)) }
+{
+    let mut program = program(alloc)?;
+    let matches = program.try_get_matches_from_mut(words)?;
+    let asked = requested(alloc, &matches)?;
+    match asked {
+        Some(request) => Ok(request),
+        None => Err(program.error(ErrorKind::MissingSubcommand, "a command is missing")?),
+    }
+}
