@@ -1,0 +1,135 @@
+"""What the tests with random choices share: the program that is tried, what a database has to hold, the count of mistakes."""
+import os
+import random
+import shutil
+import subprocess
+import sys
+import tempfile
+import time
+
+from stock import IS_HERE, stock
+
+PROGRAM = os.environ["PROGRAM"]
+TABLES = "SELECT sql FROM sqlite_schema WHERE sql IS NOT NULL ORDER BY name"
+SCHEMA = """
+CREATE TABLE entry(seqid BLOB NOT NULL, seqnum INTEGER NOT NULL,
+  realtime INTEGER NOT NULL, monotonic INTEGER NOT NULL,
+  body BLOB NOT NULL, PRIMARY KEY(seqid, seqnum)) STRICT
+CREATE TABLE journal(one INTEGER PRIMARY KEY, version INTEGER NOT NULL) STRICT
+"""
+VERSION = "SELECT one || ' ' || version FROM journal"
+ROWS = """
+SELECT lower(hex(seqid)) || ' ' || seqnum || ' ' || realtime || ' ' || monotonic || ' ' || lower(hex(body))
+FROM entry ORDER BY seqid, seqnum
+"""
+# How many mistakes of a script are printed.
+SHOWN = 10
+
+
+def start(*words, **options):
+    """The program, running. Its outputs are pipes without a buffer of their own."""
+    return subprocess.Popen([PROGRAM, *words], stdout=subprocess.PIPE, stderr=subprocess.PIPE, bufsize=0, **options)
+
+
+def run(*words, stdin=b"", **options):
+    """The standard output, the standard error and the status of the program."""
+    told = subprocess.run([PROGRAM, *words], input=stdin, stdout=subprocess.PIPE, stderr=subprocess.PIPE, check=False,
+                          timeout=120, **options)
+    return told.stdout, told.stderr.decode(), told.returncode
+
+
+def status_of(lines):
+    """The status of a `collect` that printed these lines: those of failures go before those of refusals."""
+    codes = {line.split(" ")[3] for line in lines if line.startswith("no ")}
+    return 3 if {"61", "62", "63"} & codes else 1 if codes else 0
+
+
+def as_output(lines):
+    return "".join(line + "\n" for line in lines).encode()
+
+
+class Trial:
+    """One script's trials, in a folder of their own, with the random choices of a seed that is printed."""
+
+    def __init__(self, name):
+        self.name = name
+        self.seed = int(os.environ.get("SEED", time.time_ns() % 10**9))
+        self.dice = random.Random(self.seed)
+        self.mistakes = 0
+        self.base = tempfile.mkdtemp()
+        if not IS_HERE:
+            print(f"{name}: there is no stock sqlite3 of 3.37 or later, so what it reads isn't tried")
+
+    def __enter__(self):
+        return self
+
+    def __exit__(self, *_):
+        shutil.rmtree(self.base)
+
+    def expect(self, what, got, wanted):
+        if got != wanted:
+            self.mistakes += 1
+            if self.mistakes <= SHOWN:
+                print(f"{self.name}: {what}: {short(got)}, not {short(wanted)} (SEED={self.seed})", file=sys.stderr)
+        return got == wanted
+
+    def folder(self):
+        return tempfile.mkdtemp(dir=self.base)
+
+    def database(self):
+        """The path of a database that isn't there yet."""
+        return os.path.join(self.folder(), "db")
+
+    def put(self, uploads):
+        """The uploads as files."""
+        folder = self.folder()
+        names = [os.path.join(folder, f"upload-{number}") for number in range(len(uploads))]
+        for name, upload in zip(names, uploads):
+            with open(name, "wb") as file:
+                file.write(upload)
+        return names
+
+    def copy(self, database):
+        """The database's files copied as they lie, so that whoever reads the copy changes nothing."""
+        name = self.database()
+        for end in ("", "-wal"):
+            if os.path.exists(database + end):
+                shutil.copyfile(database + end, name + end)
+        return name
+
+    def holds(self, what, database, journal):
+        """The database is read by the program and by the stock sqlite3, and each finds just this journal."""
+        self.expect(f"{what}: export", run("export", self.copy(database)), (journal.text(), "", 0))
+        self.holds_rows(what, database, journal)
+
+    def holds_rows(self, what, database, journal):
+        if IS_HERE:
+            copied = self.copy(database)
+            self.expect(f"{what}: tables", (stock(copied, TABLES) or "").split(), SCHEMA.split())
+            self.expect(f"{what}: version", stock(copied, VERSION), "1 1\n")
+            self.expect(f"{what}: rows", stock(copied, ROWS), journal.rows())
+            self.expect(f"{what}: integrity", stock(copied, "PRAGMA integrity_check"), "ok\n")
+
+    def left(self, what, database, journals):
+        """Which of these journals the database holds; None where it has no table yet, or where that is a mistake."""
+        copied = self.copy(database)
+        told = run("export", copied)
+        if told == (b"", f"cannot open {copied}\n", 3):
+            self.expect(f"{what}: tables", IS_HERE and stock(self.copy(database), TABLES) or "", "")
+            return None
+        for number, journal in enumerate(journals):
+            if told == (journal.text(), "", 0):
+                self.holds_rows(what, database, journal)
+                return number
+        self.expect(f"{what}: export", told, "one of the journals that may be there")
+        return None
+
+    def finish(self, *counts):
+        print(f"{self.name}: {', '.join(counts)}; SEED={self.seed}")
+        sys.exit(self.mistakes > 0)
+
+
+def short(value):
+    """A value for a message, without the middle of a long one."""
+    text = repr(value)
+    return text if len(text) <= 600 else f"{text[:300]} .. {text[-300:]}"

@@ -1,0 +1,145 @@
+#!/usr/bin/env bash
+# Collecting into a database, as only processes show it: many uploads in one run, a collector that is killed, a full disk, several
+# collectors at once, files that can't be read, and databases of other programs. What is stored is read by the stock sqlite3 too.
+# The random choices come from a seed that each part prints; SEED=N makes the same choices again.
+set -uo pipefail
+. "$(dirname "$0")/expect.sh"
+
+folder=$(mktemp -d)
+trap 'chmod -R u+rwx "$folder"; rm -rf "$folder"' EXIT
+chmod 755 "$folder"
+id=a0a1a2a3a4a5a6a7a8a9aaabacadaeaf
+ack="ack $id 0 1 1 0"
+again="ack $id 0 1 0 0"
+up=$folder/upload
+db=$folder/db
+# the header of an upload of this id, and behind it the sample's one entry
+printf 'JCUPLD01\1\0\0\0\0\0\0\0\240\241\242\243\244\245\246\247\250\251\252\253\254\255\256\257' > "$up"
+printf '\0\0\0\0\0\0\0\0\0\0\0\0\0\0\0\0' >> "$up"
+cat examples/one-entry.export >> "$up"
+sample=$(cat examples/one-entry.export)
+
+# a folder in place of an upload, of a database, and of the folder of a database
+mkdir "$folder/sub"
+expect 3 "$ack"$'\n'"no - - 61 0"$'\n'"$again" "" "$PROGRAM" collect "$db" "$up" "$folder/sub" "$up"
+expect 0 "$sample" "" "$PROGRAM" export "$db"
+for command in collect export show check; do
+    expect 3 "" "cannot open $folder/sub" "$PROGRAM" $command "$folder/sub" < "$up"
+    expect 3 "" "cannot open $folder/none/db" "$PROGRAM" $command "$folder/none/db" < "$up"
+    expect 3 "" "cannot open $up/db" "$PROGRAM" $command "$up/db" < "$up"
+done
+[[ -z $(ls "$folder/sub") ]] || differs "something lies in a folder that was no database"
+
+# pipes in place of files
+expect 0 "$again"$'\n'"$again" "" "$PROGRAM" collect "$db" <(cat "$up") "$up"
+expect 0 "$again" "" "$PROGRAM" collect "$db" < <(cat "$up")
+
+# uploads are opened before the database is
+expect 3 "" "cannot open $folder/none" "$PROGRAM" collect "$folder/new" "$up" "$folder/none"
+[[ ! -e $folder/new ]] || differs "a database was made before its uploads were opened"
+expect 3 "no - - 61 0" "" "$PROGRAM" collect "$folder/new" < "$folder/sub"
+
+# standard output that takes nothing: what its line was for is stored, and nothing behind it is collected
+sed 's/__SEQNUM=1$/__SEQNUM=2/' "$up" > "$folder/second"
+rm -f "$db"*
+expect 3 "" "write failed" bash -c "'$PROGRAM' collect '$db' '$up' '$folder/second' > /dev/full"
+expect 0 "$sample" "" "$PROGRAM" export "$db"
+for command in export show check; do
+    expect 3 "" "write failed" bash -c "'$PROGRAM' $command '$db' > /dev/full"
+    { sleep 0.2; "$PROGRAM" $command "$db" 2> "$folder/errors"; echo $? > "$folder/status"; } | :
+    [[ $(cat "$folder/status" "$folder/errors") == 3$'\n'"write failed" ]] || differs "$command into a closed pipe"
+done
+
+# a database without bytes, and files that are none; a refusal changes no byte
+expect_other() {
+    cp -p "$1" "$folder/before"
+    for command in collect export show; do
+        expect 1 "" "bad 64 0" "$PROGRAM" $command "$1" < "$up"
+    done
+    expect 1 "bad 64 0" "" "$PROGRAM" check "$1"
+    cmp -s "$1" "$folder/before" || differs "a refusal changed $1"
+}
+expect_empty() {
+    for command in export show check; do
+        expect 3 "" "cannot open $1" "$PROGRAM" $command "$1"
+    done
+    expect 0 "$ack" "" "$PROGRAM" collect "$1" "$up"
+    expect 0 "ok 1" "" "$PROGRAM" check "$1"
+}
+: > "$folder/empty"
+expect_empty "$folder/empty"
+echo "a text of one line" > "$folder/text"
+expect_other "$folder/text"
+echo "So begins another" > "$folder/text"
+expect_other "$folder/text"
+head -c 20000 "$PROGRAM" > "$folder/text"
+expect_other "$folder/text"
+expect_other "$up"
+
+# databases that another program made
+stock() { python3 tests/collect/stock.py "$@"; }
+if stock; then
+    stock "$folder/other" "CREATE TABLE note(id INTEGER PRIMARY KEY, text TEXT)"
+    stock "$folder/other" "INSERT INTO note VALUES(1, 'kept')"
+    expect_other "$folder/other"
+    [[ $(stock "$folder/other" "SELECT text FROM note") == kept ]] || differs "another program's row is lost"
+    stock "$folder/other" "PRAGMA journal_mode = WAL" > "$folder/told"
+    expect_other "$folder/other"
+    stock "$folder/names" "CREATE TABLE journal(title TEXT)"
+    expect_other "$folder/names"
+    cp "$db" "$folder/later"
+    stock "$folder/later" "UPDATE journal SET version = 9"
+    expect_other "$folder/later"
+    stock "$folder/tables" "PRAGMA journal_mode = WAL" > "$folder/told"
+    expect_empty "$folder/tables"
+    # an entry that the stock sqlite3 puts in, and one that reads as none
+    body="CAST('MESSAGE=ho' || char(10) AS BLOB)"
+    stock "$db" "INSERT INTO entry SELECT seqid, 2, 7, 8, $body FROM entry"
+    expect 0 "000102030405060708090a0b0c0d0e0f 2 7 8 ho" "" "$PROGRAM" show "$db" --from 2
+    stock "$db" "INSERT INTO entry SELECT seqid, 3, -1, 8, $body FROM entry WHERE seqnum = 1"
+    expect 1 "bad 65 2" "" "$PROGRAM" check "$db"
+    for command in collect export show; do
+        expect 1 "" "bad 65 2" "$PROGRAM" $command "$db" < "$up"
+    done
+else
+    echo "there is no stock sqlite3 of 3.37 or later: databases of other programs aren't tried"
+fi
+
+# files that this user may not read or write; where the superuser tries, it is as nobody
+as_user() {
+    if [[ $(id -u) -ne 0 ]]; then
+        "$@"
+    else
+        setpriv --reuid=65534 --regid=65534 --clear-groups "$@"
+    fi
+}
+cp "$PROGRAM" "$folder/program"
+chmod 755 "$folder/program"
+if as_user "$folder/program" --version > "$folder/told" 2>&1; then
+    mkdir "$folder/open" "$folder/shut"
+    chmod 777 "$folder/open"
+    cp "$up" "$folder/secret"
+    chmod 000 "$folder/secret"
+    chmod 644 "$up"
+    mine=$folder/open/db
+    expect 3 "" "cannot open $folder/secret" as_user "$folder/program" collect "$mine" "$up" "$folder/secret"
+    [[ ! -e $mine ]] || differs "a database was made beside an upload that may not be read"
+    expect 0 "$ack" "" as_user "$folder/program" collect "$mine" "$up"
+    expect 3 "" "cannot open $folder/secret" as_user "$folder/program" collect "$mine" "$folder/secret"
+    expect 0 "$sample" "" as_user "$folder/program" export "$mine"
+    chmod 555 "$folder/shut"
+    expect 3 "" "cannot open $folder/shut/db" as_user "$folder/program" collect "$folder/shut/db" "$up"
+    cp "$mine" "$folder/open/secret"
+    chmod 000 "$folder/open/secret"
+    for command in collect export show check; do
+        expect 3 "" "cannot open $folder/open/secret" as_user "$folder/program" $command "$folder/open/secret" < "$up"
+    done
+else
+    echo "no user without rights can be had here: files that may not be read aren't tried"
+fi
+
+export PROGRAM
+for part in runs at_once full kills; do
+    python3 "tests/collect/$part.py" || differs "tests/collect/$part.py"
+done
+finish

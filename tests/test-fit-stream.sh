@@ -1,0 +1,38 @@
+#!/usr/bin/env bash
+# examples/fit-stream.py: keys from cursors, messages that look like cursors, entries over a limit, and streams cut off.
+set -uo pipefail
+. "$(dirname "$0")/expect.sh"
+
+folder=$(mktemp -d)
+trap 'rm -rf "$folder"' EXIT
+fit=(python3 examples/fit-stream.py)
+times=$'__REALTIME_TIMESTAMP=1000000\n__MONOTONIC_TIMESTAMP=5\n'
+cursor=__CURSOR=s=000102030405060708090a0b0c0d0e0f
+
+# the second message has three lines, and the second of them is no cursor of an entry
+printf '%s;i=1;b=0\n%sMESSAGE=hi\n\n' "$cursor" "$times" > "$folder/old"
+printf '%s;i=ff;b=0\n%sMESSAGE\n\x0f\0\0\0\0\0\0\0a\n__CURSOR=s\n\nb\n\n' "$cursor" "$times" >> "$folder/old"
+expect 1 "bad 23 0" "" "$PROGRAM" verify export "$folder/old"
+"${fit[@]}" < "$folder/old" > "$folder/new" || differs "a stream with cursors"
+expect 0 "ok 2 0" "" "$PROGRAM" verify export "$folder/new"
+[[ $(grep -a -c '^__SEQNUM=255$' "$folder/new") == 1 ]] || differs "the second number"
+"${fit[@]}" < "$folder/new" | cmp - "$folder/new" || differs "a stream that has its keys"
+
+# a value of one byte over the limit
+{
+    cat "$folder/new"
+    printf '__SEQNUM=7\n__SEQNUM_ID=000102030405060708090a0b0c0d0e0f\n%sMESSAGE=' "$times"
+    head -c 16777217 /dev/zero | tr '\0' x
+    printf '\n\n'
+} > "$folder/large"
+expect 1 "~bad 12 *" "" "$PROGRAM" verify export "$folder/large"
+"${fit[@]}" --leave-out-large < "$folder/large" 2> "$folder/told" | cmp - "$folder/new" || differs "an entry over a limit"
+[[ $(cat "$folder/told") == "left out: __SEQNUM=7 __SEQNUM_ID=000102030405060708090a0b0c0d0e0f" ]] || differs "what is told of it"
+
+# cut off within a text, within a value and before the empty line; no cursor; an output that takes nothing
+for bytes in 20 170 195; do
+    expect 1 "~*" "the stream is cut off within an entry" "${fit[@]}" < <(head -c $bytes "$folder/old")
+done
+expect 1 "~*" "an entry has neither a sequence number nor a cursor that tells it" "${fit[@]}" < <(printf '%s\n' "$times")
+expect 1 "" "~write failed: *" bash -c "python3 examples/fit-stream.py < '$folder/old' > /dev/full"
+finish

@@ -1,0 +1,22 @@
+#!/usr/bin/env bash
+# `make install` puts the program and its man page where it is told, and starts no build (-o: the program isn't made anew).
+# The installed program prints its version, and does the demo as the README's quick start shows it.
+set -uo pipefail
+. "$(dirname "$0")/expect.sh"
+
+folder=$(mktemp -d)
+trap 'rm -rf "$folder"' EXIT
+program=$folder/usr/bin/journal-collect
+page=$folder/usr/share/man/man1/journal-collect.1
+
+expect 0 "~*" "" env -u MAKEFLAGS -u MAKELEVEL make -o crates/jc_cli/out/jc_cli install DESTDIR="$folder" PREFIX=/usr
+[[ $(stat -c %a "$program") == 755 ]] || differs "the program's mode"
+[[ $(stat -c %a "$page") == 644 ]] || differs "the page's mode"
+cmp "$program" "$PROGRAM" || differs "the program installed"
+cmp "$page" docs/journal-collect.1 || differs "the page installed"
+expect 0 "journal-collect 0.1.0" "" "$program" --version
+
+# the block of the quick start from its first prompt behind `make demo`
+shown=$(sed -n '/^\$ make demo$/,/^```$/p' README.md | sed '1d;$d')
+expect 0 "$shown" "" bash examples/demo.sh "$program"
+finish
