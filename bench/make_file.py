@@ -1,10 +1,8 @@
 #!/usr/bin/env python3
 """Writes a journal file with so many entries: make_file.py ENTRIES > FILE
 
-Objects lie as journald appends them: the DATA objects of an entry that aren't there yet, then the ENTRY, and an array
-of entries whenever the present one is full, each twice as long as the one before. An entry has 20 fields; six are the
-same in all entries, or in many, and are stored once. Hashes are zero, since no reader here looks at them. The same
-number gives the same file.
+An entry has 20 fields, _BOOT_ID aside; six are the same in all entries, or in many, and are stored once. The same number
+gives the same file. `Journal` makes a file of any entries.
 """
 import struct
 import sys
@@ -12,6 +10,11 @@ import sys
 HEADER = 208
 SEQNUM_ID = bytes(range(16))
 BOOT_ID = bytes(range(16, 32))
+
+
+def numbers(number):
+    """An entry's number, realtime and monotonic."""
+    return number, 1_700_000_000_000_000 + number * 1013, number * 211
 
 
 def fields(number):
@@ -41,12 +44,16 @@ def fields(number):
 
 
 class Journal:
-    def __init__(self, entries):
-        self.entries = entries
+    """A file that grows as journald's does: the DATA objects of an entry that aren't there yet, then the ENTRY, and an
+    array of entries whenever the present one is full, each twice as long as the one before. Hashes are zero, since no
+    reader here looks at them."""
+
+    def __init__(self):
         self.parts = []
         self.end = HEADER
         self.stored = {}
         self.arrays = []
+        self.count = 0
 
     def append(self, kind, body):
         """Puts an object at the end; `body` is all of it behind its header of 16 bytes."""
@@ -66,45 +73,51 @@ class Journal:
         self.stored[payload] = offset
         return offset
 
-    def entry(self, number):
-        offsets = [self.data(field.encode()) for field in fields(number)]
-        body = struct.pack("<QQQ", number, 1_700_000_000_000_000 + number * 1013, number * 211) + BOOT_ID + bytes(8)
-        return self.append(3, body + b"".join(struct.pack("<QQ", offset, 0) for offset in offsets))
-
     def array(self, items):
         """An array is put in place empty, and filled once its entries are known."""
         place = len(self.parts) + 1
-        self.arrays.append((place, self.append(6, bytes(8 + 8 * items)), []))
+        self.arrays.append((place, items, self.append(6, bytes(8 + 8 * items)), []))
 
-    def build(self):
-        items = 4
-        for number in range(1, self.entries + 1):
-            offset = self.entry(number)
-            if not self.arrays or len(self.arrays[-1][2]) == items:
-                items = 2 * items if self.arrays else items
-                self.array(items)
-            self.arrays[-1][2].append(offset)
-        for index, (place, _, filled) in enumerate(self.arrays):
-            behind = self.arrays[index + 1][1] if index + 1 < len(self.arrays) else 0
-            body = struct.pack("<Q", behind) + b"".join(struct.pack("<Q", offset) for offset in filled)
-            self.parts[place] = body + bytes(len(self.parts[place]) - len(body))
+    def add(self, number, realtime, monotonic, boot_id, payloads):
+        offsets = [self.data(payload) for payload in payloads]
+        body = struct.pack("<QQQ", number, realtime, monotonic) + boot_id + bytes(8)
+        entry = self.append(3, body + b"".join(struct.pack("<QQ", offset, 0) for offset in offsets))
+        if not self.arrays:
+            self.array(4)
+        elif len(self.arrays[-1][3]) == self.arrays[-1][1]:
+            self.array(2 * self.arrays[-1][1])
+        self.arrays[-1][3].append(entry)
+        self.count += 1
 
-    def header(self):
+    def header(self, seqnum_id):
         head = bytearray(HEADER)
         head[:8] = b"LPKSHHRH"
         head[16] = 2
-        head[72:88] = SEQNUM_ID
-        first = self.arrays[0][1] if self.arrays else 0
-        for place, number in ((88, HEADER), (96, self.end - HEADER), (152, self.entries), (176, first)):
+        head[72:88] = seqnum_id
+        first = self.arrays[0][2] if self.arrays else 0
+        for place, number in ((88, HEADER), (96, self.end - HEADER), (152, self.count), (176, first)):
             struct.pack_into("<Q", head, place, number)
         return bytes(head)
 
+    def pieces(self, seqnum_id):
+        """The file's bytes, in pieces."""
+        for index, (place, _, _, filled) in enumerate(self.arrays):
+            behind = self.arrays[index + 1][2] if index + 1 < len(self.arrays) else 0
+            body = struct.pack("<Q", behind) + b"".join(struct.pack("<Q", offset) for offset in filled)
+            self.parts[place] = body + bytes(len(self.parts[place]) - len(body))
+        return [self.header(seqnum_id)] + self.parts
+
+
+def file_of(entries):
+    """The file of so many entries, in pieces."""
+    journal = Journal()
+    for number in range(1, entries + 1):
+        journal.add(*numbers(number), BOOT_ID, [field.encode() for field in fields(number)])
+    return journal.pieces(SEQNUM_ID)
+
 
 def main():
-    journal = Journal(int(sys.argv[1]))
-    journal.build()
-    sys.stdout.buffer.write(journal.header())
-    sys.stdout.buffer.writelines(journal.parts)
+    sys.stdout.buffer.writelines(file_of(int(sys.argv[1])))
 
 
 if __name__ == "__main__":

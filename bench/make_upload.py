@@ -1,0 +1,46 @@
+#!/usr/bin/env python3
+"""Writes an upload: make_upload.py export FIRST LAST > FILE, or make_upload.py file LAST > FILE
+
+The entries are those of make_file.py, from number FIRST to number LAST, either as an export stream with the lines that
+journalctl writes, or as the journal file. Both say the same of an entry.
+"""
+import struct
+import sys
+
+from make_file import BOOT_ID, SEQNUM_ID, fields, file_of, numbers
+from make_stream import field
+
+SOURCE = bytes(range(160, 176))
+
+
+def head(kind, start):
+    return b"JCUPLD01" + bytes([kind]) + bytes(7) + SOURCE + struct.pack("<QQ", start, 0)
+
+
+def text(number):
+    seqnum, realtime, monotonic = numbers(number)
+    lines = [
+        f"__CURSOR=s={SEQNUM_ID.hex()};i={seqnum:x};b={BOOT_ID.hex()};m={monotonic:x};t={realtime:x};x=0",
+        f"__REALTIME_TIMESTAMP={realtime}",
+        f"__MONOTONIC_TIMESTAMP={monotonic}",
+        f"__SEQNUM={seqnum}",
+        f"__SEQNUM_ID={SEQNUM_ID.hex()}",
+        f"_BOOT_ID={BOOT_ID.hex()}",
+        *fields(number),
+    ]
+    return b"".join(field(*line.split("=", 1)) for line in lines) + b"\n"
+
+
+def main():
+    kind, *bounds = sys.argv[1:]
+    if kind == "file":
+        sys.stdout.buffer.write(head(2, 0))
+        sys.stdout.buffer.writelines(file_of(int(bounds[0])))
+    else:
+        first, last = map(int, bounds)
+        sys.stdout.buffer.write(head(1, first - 1))
+        sys.stdout.buffer.writelines(map(text, range(first, last + 1)))
+
+
+if __name__ == "__main__":
+    main()
