@@ -1,7 +1,9 @@
+pub mod AnswerLines
 pub mod Databases
-pub mod Flushing
 pub mod Gathering
+pub mod Judging
 pub mod Lines
+pub mod Printing
 pub mod Runs
 pub mod Sources
 pub mod Taking

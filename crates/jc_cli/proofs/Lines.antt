@@ -5,7 +5,7 @@ use Rattle.jc_upload.specs.Answer.{IsAnswer, answer_text}
 use Rattle.jc_upload.specs.declared.answer.Answer.{Answer}
 use Rattle.jc_cli.specs.Taken.{AreAnswers, lines_of}
 
-one_more : (b : ℕ) (text : List ℕ) (line : List ℕ) (lines : List (List ℕ)) → (b == 10 ≡ true → ⊥) → lines_of text ≡ line ∷ lines
+pub one_more : (b : ℕ) (text : List ℕ) (line : List ℕ) (lines : List (List ℕ)) → (b == 10 ≡ true → ⊥) → lines_of text ≡ line ∷ lines
     → lines_of (b ∷ text) ≡ (b ∷ line) ∷ lines
 unfolding lines_of
 one_more b text line lines other rest = go (b == 10) refl

@@ -1,6 +1,7 @@
 -- How a run ends, from what its parts promise.
-use Rattle.std.proofs.Common.{◌≡◌, ◌≢◌, ◌⊎◌, ◌∙◌, ap, refl, sym, subst, inl, inr, List, ℕ, Option, Some, None}
-use Rattle.std.specs.Prelude.{IfOk, IfErr, Result, Ok, Err}
+use Rattle.std.proofs.Common.{◌≡◌, ◌≢◌, ◌⊎◌, ◌∙◌, ap, refl, sym, subst, inl, inr, Bool, true, false, List, ℕ, Option, Some, None}
+use Rattle.std.specs.Prelude.{IfOk, IfErr, Result, Ok, Err, if◌then◌else◌}
+use Rattle.std.specs.List.{list_any}
 use Rattle.std.specs.Io.KnownBytes.{Keeps}
 use Rattle.clap.specs.Words.{Text}
 use Rattle.clap.specs.declared.error.kind.ErrorKind.{ErrorKind}
@@ -16,7 +17,9 @@ use Rattle.jc_cli.specs.declared.status.Status.TheVariants.{Success, Refused, Mi
 use Rattle.jc_words.specs.declared.request.Request.{Request}
 use Rattle.jc_words.specs.declared.request.Request.TheVariants.{Verify, Upload, Ack}
 use Rattle.jc_words.specs.declared.request.Request.TheVariants as requests
+use Rattle.jc_collect.specs.Answer.{is_failure}
 use Rattle.jc_words.specs.Answer.{IsAskedFor}
+use Rattle.jc_cli.specs.Answered.{is_refusal}
 use Rattle.jc_cli.specs.Checked.{health_status}
 use Rattle.jc_cli.specs.Failure.{status_of}
 use Rattle.jc_cli.specs.Run.{Ends, FailsBy, Performs, Stops, StopsAsked}
@@ -37,6 +40,11 @@ health_not_misused : (health : Health) → Misused ≡ health_status health → 
 health_not_misused (health.Whole count) same = cc
 health_not_misused (health.Bad fault) same = cc
 
+judged_not_misused : (failed refused : Bool) → Misused ≡ (if failed then Failed else (if refused then Refused else Success)) → ⊥
+judged_not_misused true refused same = cc
+judged_not_misused false true same = cc
+judged_not_misused false false same = cc
+
 -- what was asked for is performed
 pub performed : (words : List Text) (request : Request) (given output output' errors : Option (List ℕ)) (status : Status)
     → AskFor words request → Performs request given output output' status → Ends words given output output' errors errors status
@@ -46,7 +54,8 @@ performed words request given output output' errors Failed asks does = (request,
 performed words (Verify k file) given output output' errors Misused asks (count, ending, told) = absurd (not_misused ending told.judged)
 performed words (Upload source limit) given output output' errors Misused asks does = let same : Misused ≡ Success = does.0 in cc
 performed words (Ack source) given output output' errors Misused asks does = let same : Misused ≡ Success = does.0 in cc
-performed words (requests.Collect database uploads) given output output' errors Misused asks does = absurd (does refl)
+performed words (requests.Collect database uploads) given output output' errors Misused asks does =
+    absurd (judged_not_misused (list_any is_failure does.answers) (list_any is_refusal does.answers) does.is)
 performed words (requests.Export database) given output output' errors Misused asks does = let same : Misused ≡ Success = does in cc
 performed words (requests.Show database id first last) given output output' errors Misused asks does = let same : Misused ≡ Success = does in cc
 performed words (requests.Check database) given output output' errors Misused asks (health, is, told) = absurd (health_not_misused health told.judged)

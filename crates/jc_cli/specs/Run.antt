@@ -1,5 +1,5 @@
 -- How a run of the program ends. (own)
-use Rattle.std.specs.Prelude.{◌≡◌, ◌≢◌, ◌⊎◌, ⊤, ℕ, List, Option, IfSome, map, option_map}
+use Rattle.std.specs.Prelude.{◌≡◌, ◌⊎◌, ⊤, ℕ, List, Option, IfSome, length, map, option_map}
 use Rattle.std.specs.Io.KnownBytes.{Keeps}
 use Rattle.clap.specs.Words.{Text}
 use Rattle.jc_base.specs.declared.fault.Ending.{Ending}
@@ -13,6 +13,7 @@ use Rattle.jc_words.specs.declared.request.Request.{Request}
 use Rattle.jc_words.specs.declared.request.Request.TheVariants.{Collect, Show, Check, Verify, Upload, Ack}
 use Rattle.jc_words.specs.declared.request.Request.TheVariants as request
 use Rattle.jc_words.specs.declared.request.Source.{Source}
+use Rattle.jc_cli.specs.Answered.{TellsAnswers, number_of_uploads}
 use Rattle.jc_cli.specs.Checked.{IsHealth, TellsHealth}
 use Rattle.jc_cli.specs.Database.{CheckFailsBy, CollectFailsBy, DatabaseFailsBy, ShowFailsBy}
 use Rattle.jc_cli.specs.Failure.{status_of}
@@ -23,13 +24,13 @@ use Rattle.jc_cli.specs.Verdict.{TellsReading}
 use Rattle.jc_words.specs.Words.{AreWrong, AskFor, AskForHelp}
 
 -- What standard output gains where a request is performed, over what standard input gives, and the status: `verify` tells
--- a reading, `upload` an upload, `ack` a resume point, and `check` what there is of a journal. Of a listing nothing is said
--- here, and of answers not which: no contract can name what a database's file holds.
+-- a reading, `upload` an upload, `ack` a resume point, `collect` an answer to each upload, and `check` what there is of a
+-- journal. Of a listing nothing is said here, and of answers not which: no contract can name what a database's file holds.
 abbrev pub Performs : Request → (given old new : Option (List ℕ)) → Status → Type 0
 Performs (Verify kind file) given old new status = (count : ℕ) × (ending : Ending) × TellsReading count ending status old new
 Performs (Upload source limit) given old new status = (status ≡ Success) × TellsSomeUpload source limit old new
 Performs (Ack source) given old new status = (status ≡ Success) × TellsSomePoint source given old new
-Performs (Collect database uploads) given old new status = status ≢ Misused
+Performs (Collect database uploads) given old new status = TellsAnswers (number_of_uploads (length uploads.items)) status old new
 Performs (request.Export database) given old new status = status ≡ Success
 Performs (Show database id first last) given old new status = status ≡ Success
 Performs (Check database) given old new status = (health : Health) × IsHealth health × TellsHealth health status old new

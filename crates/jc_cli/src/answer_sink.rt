@@ -1,80 +1,96 @@
 //! The sink that answers are printed through.
 
-ghost use Rattle.std.specs.Prelude.{◌≡◌, ◌≢◌, ◌≤◌, false, length, take};
-ghost use Rattle.jc_cli.specs.declared.status.Status.TheVariants.{Misused};
+ghost use Rattle.std.specs.Prelude.{◌≡◌, ◌≤◌, [], ◌∷◌, List, ℕ, Option, Some, IfSome, false, length, take};
 ghost use Rattle.std.specs.Io.KnownBytes.{Appends};
-ghost use Rattle.jc_cli.specs.Answered.{flushed, status_with};
+ghost use Rattle.std.specs.List.{All};
 ghost use Rattle.jc_base.specs.Device.{Rose};
-ghost use Rattle.jc_collect.specs.Answer.{is_failure_code};
-ghost use Rattle.jc_upload.specs.Answer.{IsAnswer, answer_text};
-ghost use Rattle.jc_upload.specs.declared.answer.Answer.{Answer as AnswerValue};
+ghost use Rattle.jc_cli.specs.Answered.{Appends-prop, begun, judged};
+ghost use Rattle.jc_collect.specs.Run.{lines_of};
+ghost use Rattle.jc_upload.specs.Answer.{IsAnswer};
+ghost use Rattle.jc_upload.specs.declared.answer.Answer.{Answer};
 
+use crate::judged::status_of_lines;
 use crate::status::Status;
-use jc_base::{ByteSink, Code, WriteFailed};
-use jc_upload::Answer;
+use jc_base::{ByteSink, WriteFailed};
 use std::io::Write;
+use std::snapshot::Snapshot;
 
-/// Passes answer lines on to a writer, each of them as one piece, flushes it behind each, and reads them for the status
-/// to end with. Once it has failed it takes no more.
+/// Passes answer lines on to a writer, each of them as one piece, flushes it behind each, and keeps what was printed.
+/// Once it has failed it takes no more.
 #[derive(Drop)]
-pub struct AnswerSink<'a, O> {
+pub struct AnswerSink<'a, O: Write> {
     output: &'a mut O,
-    status: Status,
+    /// The writer as it was before the first line.
+    before: Snapshot<O>,
+    /// What was printed.
+    lines: &'a mut Vec<u8>,
     failed: bool,
-    /// How many bytes the writer took at last without flushing them.
-    unflushed: usize,
     failures: u64,
-    ghost judged: { status ≢ Misused },
-    ghost all_flushed: { failed ≡ false → unflushed ≡ 0 },
+    ghost printed: { failed ≡ false → Appends (O.contents before.value) (O.contents output.now) lines.now.items } by { Prim.hlevel (Appends-prop) },
 }
 
 impl<'a, O: Write> AnswerSink<'a, O> {
-    pub fn new(output: &'a mut O) -> AnswerSink<'a, O> {
+    /// A sink that keeps in `lines` what it prints.
+    pub fn new(output: &'a mut O, lines: &'a mut Vec<u8>) -> AnswerSink<'a, O>
+        requires { lines.old.items ≡ [] }
+        ensures written { ⟦<AnswerSink<'a, O> as ByteSink>⟧.written result ≡ Some (begun (O.contents output.old) []) }
+        ensures lent { ⟦<AnswerSink<'a, O> as ByteSink>⟧.lent result ≡ output.entry.ghost_name ∷ [] }
+    {
         AnswerSink {
+            before: Snapshot::of(output),
             output,
-            status: Status::Success,
+            lines,
             failed: false,
-            unflushed: 0,
             failures: 0,
         }
     }
 
-    /// The status to end with, by the lines that were printed.
-    pub fn status(&self) -> Status
-        ensures { result ≢ Misused }
+    /// The writer, and the status by the answers that were printed; `None` where the sink has failed.
+    pub fn end(self) -> (&'a mut O, Option<Status>)
+        ensures lent { result.0.ghost_name ∷ [] ≡ ⟦<AnswerSink<'a, O> as ByteSink>⟧.lent self.entry }
+        ensures told { IfSome result.1 (λ status. (before : Option (List ℕ)) (answers : List Answer) → All IsAnswer answers
+            → ⟦<AnswerSink<'a, O> as ByteSink>⟧.written self.entry ≡ Some (begun before (lines_of answers))
+            → (status ≡ judged answers) × Appends before (O.contents result.0.now) (lines_of answers)) }
     {
-        self.status
+        let AnswerSink {
+            output,
+            before,
+            lines,
+            failed,
+            failures: _,
+        } = self;
+        drop(before);
+        if failed {
+            return (output, None);
+        }
+        (output, Some(status_of_lines(lines)))
     }
 }
 
 impl<O: Write> ByteSink for AnswerSink<'_, O> {
-    ghost written = { λ s. flushed s.unflushed (O.contents s.output.now) };
+    // What the writer had comes with the lines, so that a proof over any sink keeps it.
+    ghost written = { λ s. Some (begun (O.contents s.before.value) s.lines.now.items) };
 
     ghost failures = { λ s. s.failures };
 
-    #[tactic(auto, using(crate::proofs::Flushing::passes, crate::proofs::Flushing::undoes))]
+    ghost lent = { λ s. s.output.ghost_name ∷ [] };
+
+    #[tactic(auto, using(crate::proofs::Printing::goes_on))]
     fn write(&mut self, line: &[u8]) -> Result<usize, WriteFailed> {
-        if self.failed {
+        let failed = self.failed;
+        // Until the line is printed whole, the sink counts as failed.
+        self.failed = true;
+        if failed || self.lines.reserve(line.len()).is_err() {
             self.failures = one_more(self.failures);
             return Err(WriteFailed);
         }
-        let count = write_front(self.output, line);
-        if count < line.len() {
-            self.failed = true;
-            if count > 0 {
-                return Ok(count);
-            }
+        if write_front(self.output, line) < line.len() || self.output.flush().is_err() {
             self.failures = one_more(self.failures);
             return Err(WriteFailed);
         }
-        if self.output.flush().is_err() {
-            self.failed = true;
-            self.unflushed = count;
-            self.failures = one_more(self.failures);
-            return Err(WriteFailed);
-        }
-        self.status = status_behind(self.status, line);
-        Ok(count)
+        self.lines.extend_from_slice(line).unwrap();
+        self.failed = false;
+        Ok(line.len())
     }
 }
 
@@ -83,17 +99,6 @@ fn one_more(failures: u64) -> u64
     ensures { Rose failures result }
 {
     failures.saturating_add(1)
-}
-
-/// The status of a run that printed a line behind others, which gave the status `before`.
-fn status_behind(before: Status, line: &[u8]) -> Status
-    ensures judged { before ≢ Misused → result ≢ Misused }
-    ensures answer { (answer : AnswerValue) → IsAnswer answer → line.now ≡ answer_text answer → result ≡ status_with before answer }
-{
-    match Answer::read(line) {
-        Some(answer) => status_with(before, &answer),
-        None => before,
-    }
 }
 
 /// Writes as much of a text as a writer takes, and answers how much that was.
@@ -109,30 +114,4 @@ fn write_front<O: Write>(output: &mut O, text: &[u8]) -> usize
         }
     }
     at
-}
-
-/// The status of a run that printed an answer behind others, which gave the status `before`.
-fn status_with(before: Status, answer: &Answer) -> Status
-    ensures status { result ≡ status_with before answer.now }
-    ensures judged { before ≢ Misused → result ≢ Misused }
-{
-    match answer {
-        Answer::Ack { .. } => before,
-        Answer::No { code, .. } => {
-            if before == Status::Failed || is_failure(*code) {
-                Status::Failed
-            } else {
-                Status::Refused
-            }
-        }
-    }
-}
-
-/// Whether an answer's code says that reading, the store or memory failed.
-fn is_failure(code: u16) -> bool
-    ensures { result ≡ is_failure_code code }
-{
-    code == Code::ReadFailed.number()
-        || code == Code::StoreFailed.number()
-        || code == Code::OutOfMemory.number()
 }

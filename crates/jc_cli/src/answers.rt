@@ -29,7 +29,7 @@ pub fn read_answers<'a>(alloc: Global, text: &[u8]) -> Result<Vec<Answer>, Failu
 }
 
 /// How many bytes the first line of a text has, its newline among them.
-fn line_length(text: &[u8]) -> usize
+pub fn line_length(text: &[u8]) -> usize
     requires { 0 < length text.now }
     ensures some { 0 < result }
     ensures within { result ≤ length text.now }

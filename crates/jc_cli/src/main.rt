@@ -11,6 +11,7 @@ mod database;
 mod failure;
 mod file;
 mod gather;
+mod judged;
 mod listing;
 mod resume_file;
 mod source;

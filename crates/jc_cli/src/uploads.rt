@@ -1,6 +1,6 @@
 //! UPLOAD files as deliveries.
 
-ghost use Rattle.std.specs.Prelude.{◌≡◌, ◌⊎◌, IfErr, map};
+ghost use Rattle.std.specs.Prelude.{◌≡◌, ◌⊎◌, IfOk, IfErr, length, map};
 ghost use Rattle.jc_cli.specs.Database.{WhyUnopened};
 
 use crate::failure::Failure;
@@ -18,7 +18,8 @@ pub fn open_uploads<'a, R: Files + AllocGlobal>(
     rt: &R,
     paths: &[&'a str],
 ) -> Result<Vec<Upload<R::File>>, Failure<'a>>
-    ensures { IfErr result (WhyUnopened (map (λ path. path.now) paths.now)) }
+    ensures each { IfOk result (λ uploads. length uploads.items ≡ length paths.now) }
+    ensures failed { IfErr result (WhyUnopened (map (λ path. path.now) paths.now)) }
 {
     let mut uploads = Vec::new(rt.alloc());
     for path in paths {

@@ -6,6 +6,7 @@ pub mod OneSet
 pub mod Positions
 pub mod CollectedMore
 pub mod UnderWay
+pub mod Telling
 pub mod Filling
 pub mod Reading
 pub mod Heads

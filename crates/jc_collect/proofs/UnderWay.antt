@@ -37,7 +37,7 @@ pub record UnderWay {D : Type 0} (Premise : Type 0) (told : D → Option (List �
   pub kept : Premise → (e : LogEntry) → IsStored before.journal e → IsStored now.journal e
   pub ran : Premise → (uploads : List (List ℕ)) → map told first ≡ map (λ u. Some u) uploads → RunsToEnd limits (take done uploads) before now
 
-lines_more : (answers : List Answer) (answer : Answer) → lines_of (answers ++ answer ∷ []) ≡ lines_of answers ++ answer_text answer
+pub lines_more : (answers : List Answer) (answer : Answer) → lines_of (answers ++ answer ∷ []) ≡ lines_of answers ++ answer_text answer
 lines_more answers answer =
     flat_map-append answer_text answers (answer ∷ []) ∙ ap (λ l. lines_of answers ++ l) (append-nil (answer_text answer))
 

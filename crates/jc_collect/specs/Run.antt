@@ -11,7 +11,7 @@ use Rattle.jc_base.specs.Journal.{Journal}
 use Rattle.jc_base.specs.LogEntry.{LogEntry}
 use Rattle.jc_base.specs.Reading.{Reading}
 use Rattle.jc_store.specs.Agree.{IsStored}
-use Rattle.jc_upload.specs.Answer.{answer_text}
+use Rattle.jc_upload.specs.Answer.{IsAnswer, answer_text}
 use Rattle.jc_upload.specs.declared.answer.Answer.{Answer}
 use Rattle.jc_upload.specs.declared.answer.Answer.TheVariants.{Ack}
 use Rattle.jc_collect.specs.Accepted.{SaysAt, AreAccepted, IsStoredBefore}
@@ -94,6 +94,29 @@ pub record StopsAt (limits : Limits) (uploads : List (List ℕ)) (before after :
 abbrev pub IsRun : Limits → (uploads : List (List ℕ)) → (before : Seen) → RunEnd → (after : Seen) → Type 0
 IsRun limits uploads before Done after = RunsToEnd limits uploads before after
 IsRun limits uploads before (Stopped done written) after = StopsAt limits uploads before after done written
+
+-- ---- what is written, whatever the deliveries tell
+
+-- The lines of so many answers were written, in order.
+pub record AreTold (count : ℕ) (before now : Option (List ℕ)) : Type 0 where
+  pub answers : List Answer
+  pub number : length answers ≡ count
+  pub lawful : All IsAnswer answers
+  pub lines : Appends before now (lines_of answers)
+
+-- ... and behind them so many bytes of the line of one more.
+pub record AreToldUpTo (count written : ℕ) (before now : Option (List ℕ)) : Type 0 where
+  pub answers : List Answer
+  pub last : Answer
+  pub number : length answers ≡ count
+  pub lawful : All IsAnswer (answers ++ last ∷ [])
+  pub within : written ≤ length (answer_text last)
+  pub lines : Appends before now (lines_of answers ++ take written (answer_text last))
+
+-- A run over so many deliveries writes a line for each of them, or up to where it stopped.
+abbrev pub TellsEach : (deliveries : ℕ) → (before now : Option (List ℕ)) → RunEnd → Type 0
+TellsEach deliveries before now Done = AreTold deliveries before now
+TellsEach deliveries before now (Stopped done written) = (done < deliveries) × AreToldUpTo done written before now
 
 -- A run stops only where the sink's count of failures has risen.
 pub record SinkFailed (before now : ℕ) (end : RunEnd) : Type 0 where

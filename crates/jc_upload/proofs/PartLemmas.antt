@@ -57,7 +57,7 @@ pub high_more : (b : ℕ) (word : List ℕ) → 45 ≤ b → IsHigh word → IsH
 high_more b word high others zero below = high
 high_more b word high others (suc k) below = others k (omega arith)
 
-high_decimal : (n : ℕ) → n < 2 ^ 64 → IsHigh (decimal n)
+pub high_decimal : (n : ℕ) → n < 2 ^ 64 → IsHigh (decimal n)
 high_decimal n small k below =
     let digit = digit_at (decimal n) k (decimal_is_IsNumeral n small).0.1 below in
     omega arith
@@ -65,7 +65,7 @@ high_decimal n small k below =
 hex_high : (c : ℕ) → is_hex_digit c ≡ true → 45 ≤ c
 hex_high c h = grind (arith)
 
-high_id : (id : List ℕ) → IsId id → IsHigh (encode_lower id)
+pub high_id : (id : List ℕ) → IsId id → IsHigh (encode_lower id)
 high_id id ok k below = hex_high _ ((id_digits id ok).1 k 0 below)
 
 pub word_again : (end : ℕ) (word rest : List ℕ) → end < 45 → IsHigh word → word_at end (word ++ end ∷ rest) ≡ Some (word, rest)

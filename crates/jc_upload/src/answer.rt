@@ -36,7 +36,8 @@ pub enum Answer {
 impl Answer {
     /// The answer's line, with its newline. Takes no memory.
     pub fn line(&self) -> Line
-        ensures { result ≡ answer_text self.now }
+        ensures text { result ≡ answer_text self.now }
+        ensures lawful { IsAnswer self.now }
     {
         let mut line = Line::new();
         match self {

@@ -4,6 +4,7 @@ ghost use Rattle.std.specs.Prelude.{ℕ, ◌≡◌, ◌↔◌, ◌+◌, ◌^◌,
 ghost use Rattle.std.specs.List.{position};
 ghost use Rattle.hex.specs.Hex.{encode_lower};
 ghost use Rattle.jc_base.specs.Number.{IsId};
+ghost use Rattle.jc_upload.specs.Answer.{IsPair};
 ghost use Rattle.jc_upload.specs.Line.{pair_text};
 ghost use Rattle.jc_upload.specs.Reading.{Gives, GivesBytes, number_of, id_of, word_at, number_at, id_at, dash_at, pair_at};
 
@@ -79,6 +80,7 @@ impl Line {
     pub(crate) fn id(&mut self, id: &Id128, end: u8)
         requires { length self.old + 33 ≤ 128 }
         ensures text { self.new ≡ self.old ++ (encode_lower id.now.0 ++ end ∷ []) }
+        ensures lawful { IsId id.now.0 }
         ensures longer { length self.new ≤ length self.old + 33 }
     {
         self.word(&id.to_hex(), end);
@@ -88,6 +90,7 @@ impl Line {
     pub(crate) fn pair(&mut self, pair: Option<(Id128, u64)>, end: u8)
         requires { length self.old + 54 ≤ 128 }
         ensures text { self.new ≡ self.old ++ pair_text pair end }
+        ensures lawful { IfSome pair IsPair }
         ensures longer { length self.new ≤ length self.old + 54 }
     {
         match pair {

@@ -28,7 +28,8 @@ pub(crate) const COLLECT_MORE: &str =
     "The database is made where it is missing or empty. Prints one line for each upload, in their order:
   ack SOURCE START COUNT NEW LEFT  its COUNT entries are stored, NEW of them were not before;
                                    LEFT bytes at the end belong to an entry that isn't complete
-  no SOURCE START CODE PLACE       it is refused and nothing of it is stored: what is wrong, by its number, and where
+  no SOURCE START CODE PLACE       it is refused and nothing of it is stored: what is wrong, by its number, and where;
+                                   after 62, where the database failed, it may be stored whole
   no - - CODE PLACE                the same of an upload whose header can't be read
 docs/FORMATS.md says what each number means.
 
