@@ -1,0 +1,128 @@
+#!/usr/bin/env python3
+"""Compares the page on proofs with the sources: proofs_page.py [PAGE]
+
+The page has a section for each crate. A claim there names a function in bold, and its clauses in brackets after it; `(unnamed)`
+is one clause without a name. `impl TRAIT for TYPE` in bold stands for a contract that the trait has. "`NAME` in `specs/FILE`" is a
+definition. Each of these has to be in the sources of that crate, and each public function of a library on the page.
+"""
+import re
+import sys
+from pathlib import Path
+from typing import NamedTuple
+
+ROOT = Path(__file__).resolve().parent.parent
+CLAIM = re.compile(r"\*\*`([^`]+)`\*\*(?: \(([^)]*)\))?")
+DEFINITION = re.compile(r"`(\w+)` in `(specs/[\w/]+\.antt)`")
+BLOCK = re.compile(r"^(?:pub )?(impl|trait)\b(?:<[^{]*?>)? ?(.*?)(?: where.*)?(?: \{)?$")
+FUNCTION = re.compile(r"^\s*(pub(?:\(\w+\))? )?fn (\w+)")
+CLAUSE = re.compile(r"^\s*ensures(?: (\w+))? \{|^\s*ghost (\w+) = ")
+
+
+class Function(NamedTuple):
+    module: str
+    owner: str
+    name: str
+    is_public: bool
+    clauses: set
+
+    @property
+    def path(self):
+        return f"{self.owner}::{self.name}" if self.owner else self.name
+
+
+def plain(name):
+    """A type's or a trait's name without its module and its parameters."""
+    return re.sub(r"<.*", "", name).split("::")[-1].split(":")[0].strip()
+
+
+class Crate:
+    """The functions of a crate with their clauses, and its implementations of traits."""
+
+    def __init__(self, folder):
+        self.folder = folder
+        self.functions = []
+        self.implementations = {}
+        for path in sorted(folder.glob("src/**/*.rt")):
+            self.read(path)
+
+    def read(self, path):
+        owner, known = "", set()
+        for line in path.read_text().splitlines():
+            block = BLOCK.match(line)
+            function = FUNCTION.match(line)
+            if block:
+                trait, _, kind = block[2].rpartition(" for ")
+                owner, known = plain(kind), set()
+                if trait:
+                    self.implementations.setdefault(f"impl {plain(trait)} for {owner}", known)
+            elif line == "}":
+                owner, known = "", set()
+            elif function:
+                known = set()
+                self.functions.append(Function(path.stem, owner, function[2], function[1] == "pub ", known))
+            elif clause := CLAUSE.match(line):
+                known.add(clause[1] or clause[2] or "unnamed")
+
+    def clauses(self, name):
+        """The clauses of the functions or the implementation of this name, or None."""
+        if name.startswith("impl "):
+            return self.implementations.get(name)
+        found = [function.clauses for function in self.functions if function.path == name]
+        return set().union(*found) if found else None
+
+    def public(self):
+        """The functions with a contract that other crates can call."""
+        library = self.folder / "src/lib.rt"
+        if not library.exists():
+            return set()
+        text = library.read_text()
+        names = set(re.findall(r"\w+", " ".join(re.findall(r"^pub use ([^;]*);", text, re.MULTILINE))))
+        modules = set(re.findall(r"^pub mod (\w+);", text, re.MULTILINE))
+        return {function.path for function in self.functions if function.is_public and function.clauses
+                and (function.module in modules or (function.owner or function.name) in names)}
+
+
+def sections(page):
+    """The crates of the page, each with its text on one line."""
+    parts = re.split(r"^## (.*)$", page, flags=re.MULTILINE)
+    return {title: " ".join(text.split()) for title, text in zip(parts[1::2], parts[2::2]) if title.startswith("jc_")}
+
+
+def mistakes_in(title, text):
+    """What a section says that its crate has not, and what it leaves out."""
+    folder = ROOT / "crates" / title
+    if not folder.is_dir():
+        yield f"{title}: there is no such crate"
+        return
+    crate = Crate(folder)
+    named = set()
+    for name, brackets in CLAIM.findall(text):
+        named.add(name)
+        known = crate.clauses(name)
+        if known is None:
+            yield f"{title}: there is no {name}"
+            continue
+        clauses = set(re.findall(r"`(\w+)`", brackets)) or ({"unnamed"} if brackets == "unnamed" else set())
+        if not clauses and not name.startswith("impl "):
+            yield f"{title}: {name} stands without its clauses"
+        yield from (f"{title}: {name} has no clause {clause}" for clause in sorted(clauses - known))
+    for name, path in DEFINITION.findall(text):
+        file = folder / path
+        if not file.exists() or not re.search(rf"^\s*(?:\w+ )*{name}\b.* :", file.read_text(), re.MULTILINE):
+            yield f"{title}: there is no {name} in {path}"
+    yield from (f"{title}: {name} isn't on the page" for name in sorted(crate.public() - named))
+
+
+def main():
+    page = Path(sys.argv[1]) if len(sys.argv) > 1 else ROOT / "docs/PROOFS.md"
+    found = sections(page.read_text())
+    crates = {path.name for path in (ROOT / "crates").glob("jc_*") if (path / "specs").is_dir()}
+    mistakes = [mistake for title, text in found.items() for mistake in mistakes_in(title, text)]
+    mistakes += [f"{crate} has no section" for crate in sorted(crates - set(found))]
+    for mistake in mistakes:
+        print(mistake, file=sys.stderr)
+    return 1 if mistakes else 0
+
+
+if __name__ == "__main__":
+    sys.exit(main())
