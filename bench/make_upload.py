@@ -2,7 +2,7 @@
 """Writes an upload: make_upload.py export FIRST LAST > FILE, or make_upload.py file LAST > FILE
 
 The entries are those of make_file.py, from number FIRST to number LAST, either as an export stream with the lines that
-journalctl writes, or as the journal file. Both say the same of an entry.
+journalctl writes, or as the journal file. Both say the same of an entry. `stream FIRST LAST` writes the export stream alone.
 """
 import struct
 import sys
@@ -38,7 +38,8 @@ def main():
         sys.stdout.buffer.writelines(file_of(int(bounds[0])))
     else:
         first, last = map(int, bounds)
-        sys.stdout.buffer.write(head(1, first - 1))
+        if kind == "export":
+            sys.stdout.buffer.write(head(1, first - 1))
         sys.stdout.buffer.writelines(map(text, range(first, last + 1)))
 
 

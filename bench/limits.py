@@ -1,0 +1,128 @@
+#!/usr/bin/env python3
+"""Measures what docs/LIMITS.md says: limits.py PROGRAM [ENTRIES..]
+
+For each number of entries (10,000 and 100,000 unless given): time and memory of each command, and the size of the database. Then
+uploads that are named at once, machines, and the greatest entry and file.
+"""
+import os
+import resource
+import struct
+import sys
+
+from measure import OUT, Run, forget, made, megabytes, output_of, say_machine
+
+SOURCE = "a0a1a2a3a4a5a6a7a8a9aaabacadaeaf"
+SEQUENCE = bytes(range(16)).hex().encode()
+DATABASE = os.path.join(OUT, "limits.db")
+RESUME = os.path.join(OUT, "limits.resume")
+
+
+def say(what, run):
+    print(f"  {what:38} {run.seconds:8.2f} s {run.peak:7.0f} MiB", flush=True)
+
+
+def source(kind, path):
+    return ["--source", SOURCE, "--resume", RESUME, kind, path]
+
+
+def measure_machine(program, entries):
+    """The commands of a machine, over a stream and a journal file of so many entries."""
+    stream = made(f"{entries}.stream", "make_upload.py", "stream", 1, entries)
+    file = made(f"{entries}.journal", "make_file.py", entries)
+    for kind, path in (("export", stream), ("file", file)):
+        print(f"  a source of {megabytes([path]):.0f} MB")
+        say(f"verify {kind}", Run([program, "verify", kind, path]))
+        say(f"upload {kind}", Run([program, "upload", *source(kind, path)]))
+        say(f"ack {kind}", Run(["sh", "-c", '"$@" < /dev/null', "sh", program, "ack", *source(kind, path)]))
+        os.remove(RESUME)
+
+
+def measure_collector(program, entries):
+    """The commands over a database, which gets so many entries from one upload."""
+    empty = made("empty.upload", "make_upload.py", "export", 1, 0)
+    uploads = [made(f"{first}.upload", "make_upload.py", "export", first, first + 999) for first in range(1, entries, 1000)]
+    for what, paths in (("one export upload", [made(f"{entries}.upload", "make_upload.py", "export", 1, entries)]),
+                        ("one journal file", [made(f"{entries}.file-upload", "make_upload.py", "file", entries)]),
+                        (f"{len(uploads)} export uploads", uploads)):
+        forget(DATABASE)
+        say(f"collect {what}", Run([program, "collect", DATABASE, *paths]))
+    print(f"  a database of {megabytes([DATABASE]):.0f} MB")
+    say("collect an upload without entries", Run([program, "collect", DATABASE, empty]))
+    for command in ("check", "export", "show"):
+        say(command, Run([program, command, DATABASE]))
+    forget(DATABASE)
+
+
+def measure_uploads(program):
+    """How much memory an upload takes that is named beside others, and what happens at the limit of open files."""
+    empty = made("empty.upload", "make_upload.py", "export", 1, 0)
+    one, many = (Run([program, "collect", DATABASE, *[empty] * count]).peak for count in (1, 900))
+    print(f"uploads named at once: {(many - one) * 1024 / 899:.0f} KiB of memory each")
+    greatest = resource.getrlimit(resource.RLIMIT_NOFILE)
+    resource.setrlimit(resource.RLIMIT_NOFILE, (64, greatest[1]))
+    errors = os.path.join(OUT, "errors")
+    for count in range(50, 70):
+        try:
+            Run([program, "collect", DATABASE, *[empty] * count], errors=errors)
+        except OSError:
+            break
+    resource.setrlimit(resource.RLIMIT_NOFILE, greatest)
+    print(f"with 64 open files allowed, {count} uploads are too many: {output_of(['cat', errors])[:11]}", flush=True)
+    forget(DATABASE)
+
+
+def measure_machines(program):
+    """Uploads of ten entries from 900 machines, beside nine uploads of 1,000 entries from one."""
+    with open(made("1-10.upload", "make_upload.py", "export", 1, 10), "rb") as file:
+        upload = file.read()
+    paths = [os.path.join(OUT, f"machine-{number}") for number in range(900)]
+    for number, path in enumerate(paths):
+        own = struct.pack(">QQ", number, 1)
+        with open(path, "wb") as file:
+            file.write(upload[:16] + own + upload[32:].replace(SEQUENCE, own.hex().encode()))
+    print("9,000 entries")
+    say("of 900 machines, in 900 uploads", Run([program, "collect", DATABASE, *paths]))
+    forget(DATABASE)
+    uploads = [made(f"{first}.upload", "make_upload.py", "export", first, first + 999) for first in range(1, 9000, 1000)]
+    say("of 1 machine, in 9 uploads", Run([program, "collect", DATABASE, *uploads]))
+    for path in paths:
+        os.remove(path)
+    forget(DATABASE)
+
+
+def measure_greatest(program):
+    """An entry at its limit, and a journal file of one byte over its limit."""
+    path = os.path.join(OUT, "greatest.upload")
+    with open(made("1-10.upload", "make_upload.py", "export", 1, 10), "rb") as file:
+        head = file.read(48)
+    meta = b"__REALTIME_TIMESTAMP=1\n__MONOTONIC_TIMESTAMP=1\n__SEQNUM=1\n__SEQNUM_ID=%s\n" % SEQUENCE
+    for over in (0, 1):
+        with open(path, "wb") as file:
+            file.write(head + meta)
+            for name in (b"A", b"B"):
+                file.write(name + b"=" + b"x" * ((1 << 24) - 1 + (over if name == b"A" else 0)) + b"\n")
+            file.write(b"\n")
+        forget(DATABASE)
+        say(f"collect an entry of 32 MiB and {over} bytes", Run([program, "collect", DATABASE, path], status=over))
+    forget(DATABASE)
+    with open(path, "wb") as file:
+        file.truncate((1 << 30) + 1)
+    say("verify a file of 1 GiB and 1 byte", Run([program, "verify", "file", path], status=1))
+    os.remove(path)
+
+
+def main():
+    program = os.path.abspath(sys.argv[1])
+    os.makedirs(OUT, exist_ok=True)
+    say_machine(program)
+    for entries in map(int, sys.argv[2:] or (10_000, 100_000)):
+        print(f"{entries:,} entries")
+        measure_machine(program, entries)
+        measure_collector(program, entries)
+    measure_uploads(program)
+    measure_machines(program)
+    measure_greatest(program)
+
+
+if __name__ == "__main__":
+    main()
