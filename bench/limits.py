@@ -26,7 +26,7 @@ def source(kind, path):
 
 
 def measure_machine(program, entries):
-    """The commands of a machine, over a stream and a journal file of so many entries."""
+    """The commands of a machine, over a stream and a journal file with this number of entries."""
     stream = made(f"{entries}.stream", "make_upload.py", "stream", 1, entries)
     file = made(f"{entries}.journal", "make_file.py", entries)
     for kind, path in (("export", stream), ("file", file)):
@@ -38,7 +38,7 @@ def measure_machine(program, entries):
 
 
 def measure_collector(program, entries):
-    """The commands over a database, which gets so many entries from one upload."""
+    """The commands over a database, which gets this number of entries."""
     empty = made("empty.upload", "make_upload.py", "export", 1, 0)
     uploads = [made(f"{first}.upload", "make_upload.py", "export", first, first + 999) for first in range(1, entries, 1000)]
     for what, paths in (("one export upload", [made(f"{entries}.upload", "make_upload.py", "export", 1, entries)]),

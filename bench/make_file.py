@@ -1,5 +1,5 @@
 #!/usr/bin/env python3
-"""Writes a journal file with so many entries: make_file.py ENTRIES > FILE
+"""Writes a journal file with a number of entries: make_file.py ENTRIES > FILE
 
 An entry has 20 fields, _BOOT_ID aside; six are the same in all entries, or in many, and are stored once. The same number
 gives the same file. `Journal` makes a file of any entries.
@@ -56,7 +56,7 @@ class Journal:
         self.count = 0
 
     def append(self, kind, body):
-        """Puts an object at the end; `body` is all of it behind its header of 16 bytes."""
+        """Puts an object at the end; `body` is all of it after its header of 16 bytes."""
         offset = self.end
         size = 16 + len(body)
         self.parts.append(struct.pack("<B7xQ", kind, size))
@@ -102,14 +102,14 @@ class Journal:
     def pieces(self, seqnum_id):
         """The file's bytes, in pieces."""
         for index, (place, _, _, filled) in enumerate(self.arrays):
-            behind = self.arrays[index + 1][2] if index + 1 < len(self.arrays) else 0
-            body = struct.pack("<Q", behind) + b"".join(struct.pack("<Q", offset) for offset in filled)
+            following = self.arrays[index + 1][2] if index + 1 < len(self.arrays) else 0
+            body = struct.pack("<Q", following) + b"".join(struct.pack("<Q", offset) for offset in filled)
             self.parts[place] = body + bytes(len(self.parts[place]) - len(body))
         return [self.header(seqnum_id)] + self.parts
 
 
 def file_of(entries):
-    """The file of so many entries, in pieces."""
+    """The file with this number of entries, in pieces."""
     journal = Journal()
     for number in range(1, entries + 1):
         journal.add(*numbers(number), BOOT_ID, [field.encode() for field in fields(number)])

@@ -1,5 +1,5 @@
 #!/usr/bin/env python3
-"""Writes an export stream of about so many bytes: make_stream.py BYTES > FILE
+"""Writes an export stream of about a number of bytes: make_stream.py BYTES > FILE
 
 The entries are like those of a busy machine: some twenty fields, most of them short texts, every tenth entry with a
 message of several lines in the binary spelling. The same size gives the same stream.

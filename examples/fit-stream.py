@@ -2,8 +2,8 @@
 """Makes an export stream one that journal-collect takes: fit-stream.py [--leave-out-large] < STREAM > FITTED
 
 An entry without `__SEQNUM` and `__SEQNUM_ID`, as journalctl before systemd 254 writes it, gets both from its
-`__CURSOR`. With --leave-out-large an entry over the limits is left out and told on standard error. All else is
-written as it was. Lengths are followed, so no line of a message is taken for a field. The status is 1 where the
+`__CURSOR`. With --leave-out-large an entry over the limits is left out and named on standard error. All else is
+written as it was. Lengths are followed, so no line of a message is taken for a field. The status is 1 if the
 stream is cut off within an entry, can't be followed, or can't be written.
 """
 import argparse
@@ -27,11 +27,11 @@ def read_field(stream, line):
         length = read_exactly(stream, 8)
         number = int.from_bytes(length, "little")
         if number > LONGEST:
-            sys.exit(f"a value of {number} bytes: this is no export stream, or it is damaged")
+            sys.exit(f"a value of {number} bytes: this isn't an export stream, or it is damaged")
         value = read_exactly(stream, number)
         newline = read_exactly(stream, 1)
         if newline != b"\n":
-            sys.exit("no newline behind a value: this is no export stream, or it is damaged")
+            sys.exit("no newline after a value: this isn't an export stream, or it is damaged")
         line += length + value + newline
     return name, value, line
 
@@ -52,7 +52,7 @@ def entries(stream):
 
 
 def key_lines(fields):
-    """The two fields with an entry's key, or nothing where it has them."""
+    """The two fields with an entry's key, or nothing if it has them."""
     values = {name: value for name, value, _ in fields if name.startswith(b"__")}
     if b"__SEQNUM" in values and b"__SEQNUM_ID" in values:
         return b""
@@ -60,7 +60,7 @@ def key_lines(fields):
     try:
         return b"__SEQNUM=%d\n__SEQNUM_ID=%s\n" % (int(parts[b"i"], 16), parts[b"s"])
     except (KeyError, ValueError):
-        sys.exit("an entry has neither a sequence number nor a cursor that tells it")
+        sys.exit("an entry has neither a sequence number nor a cursor that has it")
 
 
 def is_large(fields):
@@ -79,8 +79,8 @@ def main():
         for fields in entries(sys.stdin.buffer):
             key = key_lines(fields)
             if leave_out and is_large(fields):
-                told = key or b"".join(line for name, _, line in fields if name in (b"__SEQNUM", b"__SEQNUM_ID"))
-                print("left out:", *told.decode(errors="replace").split(), file=sys.stderr)
+                named = key or b"".join(line for name, _, line in fields if name in (b"__SEQNUM", b"__SEQNUM_ID"))
+                print("left out:", *named.decode(errors="replace").split(), file=sys.stderr)
                 continue
             out.write(key + b"".join(line for _, _, line in fields) + b"\n")
         out.flush()

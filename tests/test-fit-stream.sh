@@ -9,7 +9,7 @@ fit=(python3 examples/fit-stream.py)
 times=$'__REALTIME_TIMESTAMP=1000000\n__MONOTONIC_TIMESTAMP=5\n'
 cursor=__CURSOR=s=000102030405060708090a0b0c0d0e0f
 
-# the second message has three lines, and the second of them is no cursor of an entry
+# the second message has three lines, and the second of them isn't a cursor of an entry
 printf '%s;i=1;b=0\n%sMESSAGE=hi\n\n' "$cursor" "$times" > "$folder/old"
 printf '%s;i=ff;b=0\n%sMESSAGE\n\x0f\0\0\0\0\0\0\0a\n__CURSOR=s\n\nb\n\n' "$cursor" "$times" >> "$folder/old"
 expect 1 "bad 23 0" "" "$PROGRAM" verify export "$folder/old"
@@ -27,12 +27,12 @@ expect 0 "ok 2 0" "" "$PROGRAM" verify export "$folder/new"
 } > "$folder/large"
 expect 1 "~bad 12 *" "" "$PROGRAM" verify export "$folder/large"
 "${fit[@]}" --leave-out-large < "$folder/large" 2> "$folder/told" | cmp - "$folder/new" || differs "an entry over a limit"
-[[ $(cat "$folder/told") == "left out: __SEQNUM=7 __SEQNUM_ID=000102030405060708090a0b0c0d0e0f" ]] || differs "what is told of it"
+[[ $(cat "$folder/told") == "left out: __SEQNUM=7 __SEQNUM_ID=000102030405060708090a0b0c0d0e0f" ]] || differs "what is said of it"
 
 # cut off within a text, within a value and before the empty line; no cursor; an output that takes nothing
 for bytes in 20 170 195; do
     expect 1 "~*" "the stream is cut off within an entry" "${fit[@]}" < <(head -c $bytes "$folder/old")
 done
-expect 1 "~*" "an entry has neither a sequence number nor a cursor that tells it" "${fit[@]}" < <(printf '%s\n' "$times")
+expect 1 "~*" "an entry has neither a sequence number nor a cursor that has it" "${fit[@]}" < <(printf '%s\n' "$times")
 expect 1 "" "~write failed: *" bash -c "python3 examples/fit-stream.py < '$folder/old' > /dev/full"
 finish
