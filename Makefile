@@ -16,6 +16,8 @@ install: $(PROGRAM)
 	install -d "$(DESTDIR)$(PREFIX)/bin" "$(DESTDIR)$(PREFIX)/share/man/man1"
 	install -m 755 $(PROGRAM) "$(DESTDIR)$(PREFIX)/bin/journal-collect"
 	install -m 644 docs/journal-collect.1 "$(DESTDIR)$(PREFIX)/share/man/man1/journal-collect.1"
+	install -d "$(DESTDIR)$(PREFIX)/share/doc/journal-collect"
+	install -m 644 docs/GUIDE.md docs/FORMATS.md docs/LIMITS.md "$(DESTDIR)$(PREFIX)/share/doc/journal-collect/"
 
 # The gate. The last line is `N passed, M failed`.
 test:

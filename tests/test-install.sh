@@ -1,5 +1,6 @@
 #!/usr/bin/env bash
-# `make install` puts the program and its man page where it is told, and starts no build (-o: the program isn't made anew).
+# `make install` puts the program, its man page and the documents that this names below PREFIX, and starts no build (-o: the program
+# isn't made anew).
 # The installed program prints its version, and does the demo as the README's quick start shows it.
 set -uo pipefail
 . "$(dirname "$0")/expect.sh"
@@ -14,9 +15,12 @@ expect 0 "~*" "" env -u MAKEFLAGS -u MAKELEVEL make -o crates/jc_cli/out/jc_cli 
 [[ $(stat -c %a "$page") == 644 ]] || differs "the page's mode"
 cmp "$program" "$PROGRAM" || differs "the program installed"
 cmp "$page" docs/journal-collect.1 || differs "the page installed"
+for name in GUIDE FORMATS LIMITS; do
+    cmp "$folder/usr/share/doc/journal-collect/$name.md" "docs/$name.md" || differs "the document installed"
+done
 expect 0 "journal-collect 0.1.0" "" "$program" --version
 
-# the block of the quick start from its first prompt behind `make demo`
+# the block of the quick start from its first prompt after `make demo`
 shown=$(sed -n '/^\$ make demo$/,/^```$/p' README.md | sed '1d;$d')
 expect 0 "$shown" "" bash examples/demo.sh "$program"
 finish
