@@ -3,7 +3,8 @@
 
 The page has a section for each crate. A claim there names a function in bold, and its clauses in brackets after it; `(unnamed)`
 is one clause without a name. `impl TRAIT for TYPE` in bold stands for a contract that the trait has. "`NAME` in `specs/FILE`" is a
-definition. Each of these has to be in the sources of that crate, and each public function of a library on the page.
+definition. Each of these has to be in the sources of that crate, and each public function of a library on the page. The list of what the
+main theorem rests on has to have all definitions that its own file uses, and what these use.
 """
 import re
 import sys
@@ -13,6 +14,7 @@ from typing import NamedTuple
 ROOT = Path(__file__).resolve().parent.parent
 CLAIM = re.compile(r"\*\*`([^`]+)`\*\*(?: \(([^)]*)\))?")
 DEFINITION = re.compile(r"`(\w+)` in `(specs/[\w/]+\.antt)`")
+USED = re.compile(r"^use Rattle\.(jc_\w+)\.specs\.([A-Z][\w.]*?)\.\{", re.MULTILINE)
 BLOCK = re.compile(r"^(?:pub )?(impl|trait)\b(?:<[^{]*?>)? ?(.*?)(?: where.*)?(?: \{)?$")
 FUNCTION = re.compile(r"^\s*(pub(?:\(\w+\))? )?fn (\w+)")
 CLAUSE = re.compile(r"^\s*ensures(?: (\w+))? \{|^\s*ghost (\w+) = ")
@@ -83,9 +85,24 @@ class Crate:
 
 
 def sections(page):
-    """The crates of the page, each with its text on one line."""
+    """The sections of the page."""
     parts = re.split(r"^## (.*)$", page, flags=re.MULTILINE)
-    return {title: " ".join(text.split()) for title, text in zip(parts[1::2], parts[2::2]) if title.startswith("jc_")}
+    return dict(zip(parts[1::2], parts[2::2]))
+
+
+def definitions_below(crate, name, found):
+    """Adds the files of definitions that this one uses, and itself."""
+    path = ROOT / "crates" / crate / "specs" / (name.replace(".", "/") + ".antt")
+    if (crate, name) not in found and path.exists():
+        found.add((crate, name))
+        for used in USED.findall(path.read_text()):
+            definitions_below(*used, found)
+
+
+def listed_definitions(text):
+    """The files that the list of the main theorem has."""
+    return {(crate, name) for crate, names in re.findall(r"^- (jc_\w+): (.*(?:\n  .*)*)", text, re.MULTILINE)
+            for name in re.findall(r"`([\w.]+)`", names)}
 
 
 def mistakes_in(title, text):
@@ -116,9 +133,14 @@ def mistakes_in(title, text):
 def main():
     page = Path(sys.argv[1]) if len(sys.argv) > 1 else ROOT / "docs/PROOFS.md"
     found = sections(page.read_text())
+    about = {title: " ".join(text.split()) for title, text in found.items() if title.startswith("jc_")}
     crates = {path.name for path in (ROOT / "crates").glob("jc_*") if (path / "specs").is_dir()}
-    mistakes = [mistake for title, text in found.items() for mistake in mistakes_in(title, text)]
-    mistakes += [f"{crate} has no section" for crate in sorted(crates - set(found))]
+    mistakes = [mistake for title, text in about.items() for mistake in mistakes_in(title, text)]
+    mistakes += [f"{crate} has no section" for crate in sorted(crates - set(about))]
+    rests_on = set()
+    definitions_below("jc_collect", "Run", rests_on)
+    differing = rests_on ^ listed_definitions(found["What the main theorem rests on"])
+    mistakes += [f"the main theorem's list: {crate}, {name}" for crate, name in sorted(differing)]
     for mistake in mistakes:
         print(mistake, file=sys.stderr)
     return 1 if mistakes else 0

@@ -18,4 +18,5 @@ refuses 's/\*\*`split_pair`\*\*/**`cut_pair`**/' $'jc_base: there is no cut_pair
 refuses 's/\*\*`read_fields`\*\* (unnamed)/**`read_fields`**/' "jc_export: read_fields stands without its clauses"
 refuses 's/`impl ByteSpace for FileSpace`/`impl ByteSpace for NoSpace`/' "jc_file: there is no impl ByteSpace for NoSpace"
 refuses 's/`StreamReading` in/`StreamRiding` in/' "jc_export: there is no StreamRiding in specs/Stream.antt"
+refuses 's/^- jc_store: `Agree`, /- jc_store: /' "the main theorem's list: jc_store, Agree"
 finish
