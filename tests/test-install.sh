@@ -20,6 +20,13 @@ for name in GUIDE FORMATS LIMITS; do
 done
 expect 0 "journal-collect 0.1.0" "" "$program" --version
 
+# the commands after `make install`, with a stand-in for journalctl that prints what the real one wrote
+mkdir "$folder/stand-in"
+printf '#!/bin/sh\n[ "$*" = --output=export ] && cat "%s/tests/fixtures/systemd-254/regular.export"\n' "$PWD" > "$folder/stand-in/journalctl"
+chmod 755 "$folder/stand-in/journalctl"
+commands=$(sed -n '/^make install /,/^```$/p' README.md | sed '1d;$d')
+expect 0 "ok 6 0" "" env -C "$folder" PATH="$folder/stand-in:$folder/usr/bin:$PATH" bash -ec "$commands"
+
 # the block of the quick start from its first prompt after `make demo`
 shown=$(sed -n '/^\$ make demo$/,/^```$/p' README.md | sed '1d;$d')
 expect 0 "$shown" "" bash examples/demo.sh "$program"
