@@ -1,0 +1,90 @@
+"""Tries the edits crates/NAME/refused/*.edit: the prover must refuse each of them.
+
+usage: python3 tests/refused [--only CRATE] [--list]
+
+An edit gives one function another body, in the form of a file of must-fail/. Many are applied at once, one a function,
+and each is judged by what the check says of its own function: a promise of that function must be refused. It fails if
+it doesn't apply, changes more than a body, can't be read, or if its function is proved, or refused only by arithmetic,
+by bounds or by what a call needs. At the end the crate without its edits must be proved over the same work.
+
+The libraries below a crate are taken as `rt ci` left them, and built if they aren't there or older than their sources.
+RT_JOBS is how many crates are judged side by side; without it, as many as there are processors and memory for.
+The last line is 'N passed, M failed'.
+"""
+
+from __future__ import annotations
+
+import argparse
+import os
+import sys
+from concurrent.futures import ThreadPoolExecutor
+from functools import partial
+from typing import Any
+
+import toolchain
+from edits import Sources, read_edits
+from judging import Outcome, Waiting, judge, next_batch
+from lanes import lanes
+from libraries import libraries_stand
+
+
+def main() -> int:
+    wanted = _arguments()
+    crates = [it for it in _crates() if wanted.only in (None, it.name)]
+    if wanted.only and not crates:
+        sys.exit(f"refused: crates.txt names no crate {wanted.only}")
+    crates = [it for it in crates if os.path.isdir(os.path.join(it.folder, "refused"))]
+    if wanted.list:
+        return _list(crates)
+    toolchain.rt().rtlib.guarded()
+    with ThreadPoolExecutor(lanes()) as pool:
+        judged = [pool.submit(_judge, it) for it in _largest_first(crates)]
+        outcomes = [outcome for it in judged for outcome in it.result()]
+    failed = sum(not it.is_well for it in outcomes)
+    print(f"{len(outcomes) - failed} passed, {failed} failed")
+    return 1 if failed else 0
+
+
+def _arguments() -> argparse.Namespace:
+    parser = argparse.ArgumentParser(prog="refused", description=__doc__.split("\n")[0])
+    parser.add_argument("--only", metavar="CRATE", help="the edits of this crate alone")
+    parser.add_argument("--list", action="store_true", help="show the first batches, and try nothing")
+    return parser.parse_args()
+
+
+def _crates() -> list[Any]:
+    return toolchain.rt().rtlib.crates_below(os.getcwd())
+
+
+def _largest_first(crates: list[Any]) -> list[Any]:
+    return sorted(crates, key=lambda it: -it.count(rb"\n"))
+
+
+def _judge(crate: Any) -> list[Outcome]:
+    say = partial(print, flush=True)
+    if (lacking := libraries_stand(crate)) is not None:
+        outcomes = [Outcome("", False, f"its library {lacking} is NOT BUILT")]
+    else:
+        outcomes = judge(crate, say)
+    for it in outcomes:
+        say(f"refused {crate.name}{'/' * bool(it.name)}{it.name}: {it.text}")
+    return outcomes
+
+
+def _list(crates: list[Any]) -> int:
+    for crate in crates:
+        edits, bad = read_edits(Sources(crate))
+        waiting, number = [Waiting(it) for it in edits], 0
+        while waiting:
+            batch, number = next_batch(waiting), number + 1
+            waiting = [it for it in waiting if it not in batch]
+            print(f"{crate.name}, batch {number}: {len(batch)} edits")
+            for it in batch:
+                print(f"  {it.edit.name}: {it.edit.function.symbols[0]}")
+        for it in bad:
+            print(f"{crate.name}, BAD EDIT {it.name}: {it.why}")
+    return 0
+
+
+if __name__ == "__main__":
+    sys.exit(main())

@@ -1,0 +1,85 @@
+"""Edits: each gives one function of a crate another body."""
+
+from __future__ import annotations
+
+import os
+from dataclasses import dataclass
+from functools import cached_property
+from typing import Any
+
+import toolchain
+from functions import Function, functions_of
+
+
+@dataclass(frozen=True)
+class Edit:
+    """The body, in bytes of UTF-8, that stands for a function's own."""
+
+    name: str
+    function: Function
+    body: bytes
+
+
+@dataclass(frozen=True)
+class BadEdit:
+    """A file that is no such edit, and why."""
+
+    name: str
+    why: str
+
+
+class Sources:
+    """The functions and the files of a crate, as they stand unedited."""
+
+    def __init__(self, crate: Any) -> None:
+        self.crate = crate
+
+    @cached_property
+    def functions(self) -> list[Function]:
+        return functions_of(self.crate)
+
+    def text(self, file: str) -> bytes:
+        with open(os.path.join(self.crate.folder, file), "rb") as it:
+            return it.read()
+
+    def with_bodies(self, edits: list[Edit]) -> dict[str, str]:
+        """The edited files' texts, by their path in the crate. No two edits may be of one function."""
+        texts: dict[str, bytes] = {}
+        for edit in sorted(edits, key=lambda it: it.function.start, reverse=True):
+            place = edit.function
+            text = texts.get(place.file) or self.text(place.file)
+            texts[place.file] = text[: place.start] + edit.body + text[place.end :]
+        return {file: text.decode() for file, text in texts.items()}
+
+
+def read_edits(sources: Sources) -> tuple[list[Edit], list[BadEdit]]:
+    """The edits of the crate's folder refused/, by name, and the files of it that are none."""
+    folder = os.path.join(sources.crate.folder, "refused")
+    names = sorted(os.listdir(folder)) if os.path.isdir(folder) else []
+    read = [_read_edit(sources, os.path.join(folder, it)) for it in names]
+    return [it for it in read if isinstance(it, Edit)], [it for it in read if isinstance(it, BadEdit)]
+
+
+def _read_edit(sources: Sources, path: str) -> Edit | BadEdit:
+    name = os.path.basename(path)
+    if not name.endswith(".edit"):
+        return BadEdit(name, "its name does not end in .edit")
+    texts, why = toolchain.rt().read_edit(path, sources.crate.folder)
+    if why:
+        return BadEdit(name, why)
+    if len(texts) != 1:
+        return BadEdit(name, "it changes more than one file")
+    [(file, text)] = texts.items()
+    found = [it for it in sources.functions if it.file == file]
+    return _new_body(name, found, sources.text(file), text.encode())
+
+
+def _new_body(name: str, functions: list[Function], old: bytes, new: bytes) -> Edit | BadEdit:
+    """The edit from a file's old text to its new one, which must differ in one function's body alone."""
+    if old == new:
+        return BadEdit(name, "it changes nothing")
+    for it in functions:
+        end = len(new) - (len(old) - it.end)
+        if new[: it.start] == old[: it.start] and end > it.start and new[end:] == old[it.end :]:
+            return Edit(name, it, new[it.start : end])
+    return BadEdit(name, "it changes more than the body of one function")

@@ -1,0 +1,114 @@
+"""Judges the edits of a crate: many in one check, each by what the check says of its own function."""
+
+from __future__ import annotations
+
+import tempfile
+from collections.abc import Callable
+from dataclasses import dataclass, field, replace
+from typing import Any
+
+import toolchain
+from edits import BadEdit, Edit, Sources, read_edits
+from verdicts import Kind, Report, Ruling
+
+
+@dataclass(frozen=True)
+class Outcome:
+    """What is told of an edit, or of the crate where it has no edit's name."""
+
+    name: str
+    is_well: bool
+    text: str
+
+
+@dataclass(frozen=True)
+class Waiting:
+    """An edit that is still to be judged, apart from edits of these functions, or with no other edit."""
+
+    edit: Edit
+    apart: frozenset[str] = field(default=frozenset())
+    alone: bool = False
+
+    def again(self, hidden_by: frozenset[str]) -> Waiting:
+        """The edit after a check in which these functions hid it: apart from them, and the next time alone."""
+        return replace(self, apart=hidden_by, alone=bool(self.apart))
+
+    def goes_with(self, other: Waiting) -> bool:
+        mine, its = self.edit.function.symbols, other.edit.function.symbols
+        is_apart = mine == its or other.apart.intersection(mine) or self.apart.intersection(its)
+        return not (is_apart or self.alone or other.alone)
+
+
+def next_batch(waiting: list[Waiting]) -> list[Waiting]:
+    """As many of the edits as one check can judge, the first among them."""
+    batch: list[Waiting] = []
+    for it in waiting:
+        if all(it.goes_with(other) for other in batch):
+            batch.append(it)
+    return batch
+
+
+class Judge:
+    """Judges a crate's edits over its libraries as they are built, and keeps the work of its checks in a folder."""
+
+    def __init__(self, crate: Any, kept: str, say: Callable[[str], None] = print) -> None:
+        self.crate = crate
+        self.kept = kept
+        self.say = say
+        self.sources = Sources(crate)
+
+    def outcomes(self, edits: list[Edit]) -> list[Outcome]:
+        """An outcome for each edit, and a last one for the crate without them."""
+        waiting, outcomes = [Waiting(it) for it in edits], []
+        while waiting:
+            batch = next_batch(waiting)
+            waiting = [it for it in waiting if it not in batch]
+            for it, ruling in self._judged(batch):
+                if ruling.kind is Kind.HIDDEN and not it.alone:
+                    waiting.append(it.again(ruling.hidden_by))
+                else:
+                    outcomes.append(_outcome(it.edit, ruling))
+        return [*outcomes, self._unedited()] if edits else []
+
+    def _judged(self, batch: list[Waiting]) -> list[tuple[Waiting, Ruling]]:
+        """What one check says of each edit. If the edited crate can't be read, its halves are checked."""
+        report = self._check([it.edit for it in batch])
+        unread = report.unread()
+        if unread is None:
+            return [(it, report.ruling(it.edit.function)) for it in batch]
+        if len(batch) == 1:
+            return [(batch[0], Ruling(Kind.UNREAD, (unread,)))]
+        half = len(batch) // 2
+        return self._judged(batch[:half]) + self._judged(batch[half:])
+
+    def _unedited(self) -> Outcome:
+        """Whether the crate itself is proved over what the edits' checks kept."""
+        report = self._check([])
+        if report.is_proved() and report.unread() is None:
+            return Outcome("", True, "without its edits it is proved")
+        return Outcome("", False, f"without its edits it is NOT PROVED: {report.lines[-1]}")
+
+    def _check(self, edits: list[Edit]) -> Report:
+        self.say(f"{self.crate.name}: a check of {len(edits)} edits" if edits else f"{self.crate.name}: a check without edits")
+        texts = self.sources.with_bodies(edits)
+        ran = toolchain.rt().checked(self.crate, texts, ["--jobs", "1"], self.kept)
+        return Report(ran.returncode, ran.stdout, set(texts))
+
+
+def _outcome(edit: Edit, ruling: Ruling) -> Outcome:
+    goals = ", ".join(ruling.goals)[:200]
+    if ruling.kind is Kind.REFUSED:
+        return Outcome(edit.name, True, f"refused, as it must be: {goals}")
+    return Outcome(edit.name, False, f"NOT REFUSED: {ruling.kind.value}" + (f": {goals}" if goals else ""))
+
+
+def judge(crate: Any, say: Callable[[str], None] = print) -> list[Outcome]:
+    """The outcomes of a crate's folder refused/: one for each file in it, and one for the crate without them."""
+    with tempfile.TemporaryDirectory(prefix="refused-") as kept:
+        it = Judge(crate, kept, say)
+        edits, bad = read_edits(it.sources)
+        return [_bad(edit) for edit in bad] + it.outcomes(edits)
+
+
+def _bad(edit: BadEdit) -> Outcome:
+    return Outcome(edit.name, False, f"BAD EDIT: {edit.why}")

@@ -1,0 +1,110 @@
+"""What a check of an edited crate says of each of its functions.
+
+The checker ends with `logic=proved` or `logic=not-proved`, after one line for each function:
+
+    fn base::key: proved
+    fn base::fits: no proof: expected answers in ./proofs/fits/Answers.antt; `search` did not prove `returns`
+    fn base::text: not proved
+    fn base::line: no proof: it calls `base::key`, which is not proved
+
+What isn't proved of a function stands there, in notes at its lines, or in errors at its proof files:
+
+    note: src/key.rt:36:1: it is not proved that what the function ensures holds when it returns (`returns`)
+    ./proofs/text/Answers.antt:8:24: error: `returns-then-is_plain`: computed as far as they go, the two types differ
+"""
+
+from __future__ import annotations
+
+import re
+from dataclasses import dataclass
+from enum import Enum
+
+import toolchain
+from functions import Function
+
+GOAL_AT_LINE = re.compile(r"note: (?:\./)?(src/\S+?):(\d+):\d+: .*? \(`([^`]+)`\)")
+GOAL_OF_PROOF = re.compile(r"(?:\./)?(proofs/\S+)/\w+\.antt:\d+:\d+: error: `([^`]+)`: (.*)")
+SEARCHED = re.compile(r"`search` did not prove ((?:`[^`]+`(?:, | and )?)+)")
+CALLED = re.compile(r"; it [^;]*?((?:`[^`]+`(?:, | and )?)+), which (?:is|are) not proved")
+# A proof file that names what the edit took away says nothing of the contract.
+STALE = re.compile(r"has no field|is not in scope|has no `|was not admitted")
+# A goal of the function's own promises: its clauses, a loop's invariant, or what its type always keeps. The other goals
+# are of arithmetic, of bounds, of an end, or of what a call needs.
+PROMISE = re.compile(r"returns(-|$)|invariant_of-|(?!.*-requires(-|$)).*-(init|preserved)(-|$)")
+
+
+class Kind(Enum):
+    """What became of an edit's function in one check."""
+
+    REFUSED = "a promise of its own isn't proved"
+    PROVED = "it is proved"
+    UNTELLING = "no promise of its own is refused"
+    HIDDEN = "the checker says only that it calls what isn't proved"
+    UNREAD = "the checker's words can't be read"
+
+
+@dataclass(frozen=True)
+class Ruling:
+    """What became of a function, the goals that say so, and the functions that hide it."""
+
+    kind: Kind
+    goals: tuple[str, ...] = ()
+    hidden_by: frozenset[str] = frozenset()
+
+
+class Report:
+    """A check's exit status and output, over a crate in which these files are edited."""
+
+    def __init__(self, status: int, output: str, edited: set[str]) -> None:
+        self.status = status
+        self.lines = output.rstrip("\n").split("\n")
+        self.edited = edited
+
+    def is_proved(self) -> bool:
+        return self.status == 0 and self.lines[-1].startswith("logic=proved ")
+
+    def unread(self) -> str | None:
+        """The line that shows that the crate wasn't judged, if it wasn't."""
+        rt = toolchain.rt()
+        for line in self.lines:
+            if rt.unread(line, self.edited) or rt.rtlib.STALE.search(line):
+                return line
+        if self.is_proved() or (self.status == 1 and self.lines[-1].startswith("logic=not-proved")):
+            return None
+        return next((it for it in self.lines if "error" in it), self.lines[-1])
+
+    def ruling(self, function: Function) -> Ruling:
+        """What became of a function. The crate must have been judged."""
+        heads = tuple(f"fn {it}: " for it in function.symbols)
+        found = [it.split(": ", 1)[1] for it in self.lines if it.startswith(heads)]
+        if found == ["proved"]:
+            return Ruling(Kind.PROVED)
+        if len(found) != 1 or not re.match(r"no proof: |not proved(;|$)", found[0]):
+            return Ruling(Kind.UNREAD, tuple(found))
+        goals = tuple(dict.fromkeys([*_searched(found[0]), *self._goals_at(function)]))
+        if any(PROMISE.match(it) for it in goals):
+            return Ruling(Kind.REFUSED, goals)
+        called = CALLED.findall(found[0].replace("no proof: ", "; "))
+        if goals or not called:
+            return Ruling(Kind.UNTELLING, goals)
+        return Ruling(Kind.HIDDEN, hidden_by=frozenset(_ticked(" ".join(called))))
+
+    def _goals_at(self, function: Function) -> list[str]:
+        """The goals that the notes at a function's lines and the errors at its proof files name."""
+        goals = []
+        for line in self.lines:
+            if found := GOAL_AT_LINE.match(line):
+                if found[1] == function.file and int(found[2]) in function.lines:
+                    goals.append(found[3])
+            elif found := GOAL_OF_PROOF.match(line):
+                if found[1] in function.proofs and not STALE.search(found[3]):
+                    goals.append(found[2])
+        return goals
+
+
+def _searched(words: str) -> list[str]:
+    return [goal for it in SEARCHED.findall(words) for goal in _ticked(it)]
+
+
+def _ticked(text: str) -> list[str]:
+    return re.findall(r"`([^`]+)`", text)
