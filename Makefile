@@ -2,37 +2,50 @@
 
 PROGRAM := crates/jc_cli/out/jc_cli
 SOURCES := $(shell find crates/*/src crates/*/specs crates/*/proofs -type f) crates.txt
-LOG := build/proof.log
 PREFIX ?= /usr/local
+BIN := $(DESTDIR)$(PREFIX)/bin
+MAN := $(DESTDIR)$(PREFIX)/share/man/man1
+DOC := $(DESTDIR)$(PREFIX)/share/doc/journal-collect
 
-.PHONY: demo install test bench clean
+.DELETE_ON_ERROR:
+.PHONY: build help demo install uninstall test gate-times bench clean always
 
-# The main job on the samples: the uploads of two machines are collected, and the journal is shown and exported.
-demo: $(PROGRAM)
+build: $(PROGRAM) ## prove and build the program: the first goal, and make without one
+
+help: ## this listing
+	@awk -F ':[^#]*## ' '/^[a-z-]+:.*## / { printf "make %-12s %s\n", $$1, $$2 }' $(MAKEFILE_LIST)
+
+demo: $(PROGRAM) ## the main job on samples: uploads of two machines are collected, shown and exported
 	@bash examples/demo.sh $(PROGRAM)
 
-# The program as journal-collect, and its man page.
-install: $(PROGRAM)
-	install -d "$(DESTDIR)$(PREFIX)/bin" "$(DESTDIR)$(PREFIX)/share/man/man1"
-	install -m 755 $(PROGRAM) "$(DESTDIR)$(PREFIX)/bin/journal-collect"
-	install -m 644 docs/journal-collect.1 "$(DESTDIR)$(PREFIX)/share/man/man1/journal-collect.1"
-	install -d "$(DESTDIR)$(PREFIX)/share/doc/journal-collect"
-	install -m 644 docs/GUIDE.md docs/FORMATS.md docs/LIMITS.md "$(DESTDIR)$(PREFIX)/share/doc/journal-collect/"
+install: $(PROGRAM) ## journal-collect, its man page and its documents, below PREFIX (/usr/local)
+	install -d "$(BIN)" "$(MAN)" "$(DOC)"
+	install -m 755 $(PROGRAM) "$(BIN)/journal-collect"
+	install -m 644 docs/journal-collect.1 "$(MAN)/journal-collect.1"
+	install -m 644 docs/GUIDE.md docs/FORMATS.md docs/LIMITS.md "$(DOC)/"
 
-# The gate. The last line is `N passed, M failed`.
-test:
+uninstall: ## what install put there
+	rm -f "$(BIN)/journal-collect" "$(MAN)/journal-collect.1"
+	rm -rf "$(DOC)"
+
+test: ## the gate: every proof from nothing, the edits, the tests, the scripts; the last line is `N passed, M failed`
 	@tests/run.sh
 
-# How fast uploads are read and stored, beside a baseline in C. No part of the tests.
-bench: $(PROGRAM)
+gate-times: ## the gate, with the processor time and memory of each crate and kind of check at the end
+	python3 -ESB tools/gate_times.py
+
+bench: $(PROGRAM) ## how fast uploads are read and stored, beside a baseline in C; no part of the tests
 	python3 -ES bench/run.py $(PROGRAM)
 
-# Proves the program and what it stands on, and builds it, where a source is newer than it.
-$(PROGRAM): $(SOURCES)
-	@mkdir -p build
-	@echo "proving and building $(PROGRAM): the first time takes minutes, see $(LOG)"
-	@cd crates/jc_cli && rt run -- --version > ../../$(LOG) 2>&1 || { tail -n 40 ../../$(LOG); exit 1; }
-	@touch $(PROGRAM)
-
-clean:
+clean: ## take away what was built
 	rm -rf build bench/out crates/*/out
+
+# Built if a source is newer, or if one was added or taken away since the last build from here.
+$(PROGRAM): build/sources $(SOURCES)
+	@python3 -ESB tools/build.py jc_cli
+	@touch $@
+
+build/sources: always
+	@mkdir -p build
+	@printf '%s\n' $(sort $(SOURCES)) > $@.new
+	@if [ ! -e $@ ]; then mv $@.new $@ && touch -d @0 $@; elif cmp -s $@.new $@; then rm $@.new; else mv $@.new $@; fi

@@ -1,35 +1,10 @@
-"""The toolchain's own command `rt`, loaded as a module, and the reader of functions that stands beside it."""
+"""The toolchain's modules, as tools/kit.py finds them."""
 
-import functools
-import importlib.machinery
-import importlib.util
 import os
-import shutil
 import sys
-from types import ModuleType
 
-sys.dont_write_bytecode = True
+sys.path.append(os.path.join(os.path.dirname(os.path.realpath(__file__)), "..", "..", "tools"))
 
+from kit import bodies, rt  # noqa: E402
 
-def _load(name: str, file: str) -> ModuleType:
-    loader = importlib.machinery.SourceFileLoader(name, file)
-    spec = importlib.util.spec_from_loader(name, loader)
-    assert spec is not None
-    module = importlib.util.module_from_spec(spec)
-    loader.exec_module(module)
-    return module
-
-
-@functools.cache
-def rt() -> ModuleType:
-    """`rt`, from where the PATH finds it."""
-    found = shutil.which("rt")
-    if found is None:
-        sys.exit("refused: there is no rt on the PATH")
-    return _load("rt", os.path.realpath(found))
-
-
-@functools.cache
-def bodies() -> ModuleType:
-    """What `rt plant` reads a crate's functions with."""
-    return _load("rt_plant_bodies", os.path.join(rt().HERE, "rt-plant-bodies"))
+__all__ = ["bodies", "rt"]

@@ -1,0 +1,145 @@
+"""Runs the gate, and says where its processor time goes: for each crate its proof, its tests, its edits tried singly and its
+edits in batches, in processor seconds, and the largest memory of one process.
+
+usage: python3 tools/gate_times.py [COMMAND ..]
+
+It looks at the running processes four times a second, so what a process does after the last look isn't counted: the
+table's sum is a little below the whole, which stands under it. The table goes to build/gate-times.md too. The status is
+the gate's.
+"""
+
+from __future__ import annotations
+
+import os
+import resource
+import subprocess
+import sys
+import threading
+import time
+from collections import defaultdict
+from dataclasses import dataclass
+
+EVERY = 0.25
+TICKS = os.sysconf("SC_CLK_TCK")
+KINDS = ("proof", "tests", "edits singly", "edits in batches")
+
+
+@dataclass
+class Process:
+    """What is known of a process of the checker."""
+
+    crate: str
+    kind: str
+    seconds: float = 0.0
+    memory: int = 0
+
+
+class Watch:
+    """The checker's processes below this one that were seen, by their number and the time of their start."""
+
+    def __init__(self) -> None:
+        self.seen: dict[tuple[int, str], Process] = {}
+        self.of_others: set[tuple[int, str]] = set()
+        self.ended = threading.Event()
+
+    def look_again(self) -> None:
+        while not self.ended.wait(EVERY):
+            self.look()
+
+    def look(self) -> None:
+        for name in os.listdir("/proc"):
+            if name.isdigit():
+                try:
+                    self._note(int(name))
+                except (OSError, ValueError, IndexError):
+                    # it has ended meanwhile
+                    continue
+
+    def _note(self, number: int) -> None:
+        if _read(number, "comm") != "rattle\n":
+            return
+        fields = _fields(number)
+        key = number, fields[19]
+        if key not in self.seen:
+            words = _read(number, "cmdline").split("\0")
+            if key in self.of_others or "--crate-name" not in words:
+                return
+            if not _is_below(number, os.getpid()):
+                self.of_others.add(key)
+                return
+            folder = os.path.basename(os.readlink(f"/proc/{number}/cwd"))
+            self.seen[key] = Process(words[words.index("--crate-name") + 1], kind_of(words, folder))
+        found = self.seen[key]
+        found.seconds = (int(fields[11]) + int(fields[12])) / TICKS
+        status = dict(it.split(":", 1) for it in _read(number, "status").splitlines())
+        found.memory = max(found.memory, int(status["VmHWM"].split()[0]) * 1024)
+
+
+def _fields(number: int) -> list[str]:
+    """The fields of a process's stat after its name, which may have blanks: its state, its parent and so on."""
+    return _read(number, "stat").rpartition(")")[2].split()
+
+
+def _is_below(number: int, top: int) -> bool:
+    while number not in (0, top):
+        number = int(_fields(number)[1])
+    return number == top
+
+
+def _read(number: int, file: str) -> str:
+    with open(f"/proc/{number}/{file}", encoding="utf-8", errors="replace") as it:
+        return it.read()
+
+
+def kind_of(words: list[str], folder: str) -> str:
+    """What a command of the checker is for, by its words and the folder that it works in."""
+    kept = words[words.index("--incremental") + 1] if "--incremental" in words else ""
+    if os.path.basename(kept).startswith("refused-"):
+        return "edits in batches"
+    if folder.startswith("rt-edit-"):
+        return "edits singly"
+    return "tests" if "--test" in words else "proof"
+
+
+def table(seen: list[Process]) -> str:
+    """The table by crate, in the order of their sums, the dearest first."""
+    seconds: dict[str, dict[str, float]] = defaultdict(lambda: dict.fromkeys(KINDS, 0.0))
+    memory: dict[str, int] = defaultdict(int)
+    for it in seen:
+        seconds[it.crate][it.kind] += it.seconds
+        memory[it.crate] = max(memory[it.crate], it.memory)
+    rows = sorted(seconds.items(), key=lambda it: -sum(it[1].values()))
+    lines = [_row("crate", *KINDS, "sum", "largest"), _row(*["---"] * (len(KINDS) + 3))]
+    lines += [_row(crate, *_numbers(of_kind), f"{memory[crate] / 1e9:.1f} GB") for crate, of_kind in rows]
+    sums = {kind: sum(of_kind[kind] for _, of_kind in rows) for kind in KINDS}
+    lines.append(_row("sum", *_numbers(sums), f"{max(memory.values(), default=0) / 1e9:.1f} GB"))
+    return "\n".join(lines)
+
+
+def _row(*cells: str) -> str:
+    return f"| {' | '.join(cells)} |"
+
+
+def _numbers(of_kind: dict[str, float]) -> list[str]:
+    return [f"{it:.0f}" for it in [*of_kind.values(), sum(of_kind.values())]]
+
+
+def main(command: list[str]) -> int:
+    watch, begin = Watch(), time.monotonic()
+    looking = threading.Thread(target=watch.look_again, daemon=True)
+    looking.start()
+    status = subprocess.run(command, check=False).returncode
+    watch.ended.set()
+    looking.join()
+    used = resource.getrusage(resource.RUSAGE_CHILDREN)
+    whole = (used.ru_utime + used.ru_stime) / 60
+    said = f"{table(list(watch.seen.values()))}\n\nProcessor minutes of the whole: {whole:.0f}; minutes: {(time.monotonic() - begin) / 60:.0f}."
+    os.makedirs("build", exist_ok=True)
+    with open("build/gate-times.md", "w", encoding="utf-8") as it:
+        it.write(said + "\n")
+    print(said)
+    return status
+
+
+if __name__ == "__main__":
+    sys.exit(main(sys.argv[1:] or ["tests/run.sh"]))
