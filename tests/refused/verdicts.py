@@ -22,14 +22,16 @@ from enum import Enum
 import toolchain
 from functions import Function
 
-GOAL_AT_LINE = re.compile(r"note: (?:\./)?(src/\S+?):(\d+):\d+: .*? \(`([^`]+)`\)")
+GOAL_AT_LINE = re.compile(
+    r"note: (?:\./)?(src/\S+?):(\d+):\d+: (?:it is not proved that .*?|`search` found no proof) \(`([^`]+)`\)"
+)
 GOAL_OF_PROOF = re.compile(r"(?:\./)?(proofs/\S+)/\w+\.antt:\d+:\d+: error: `([^`]+)`: (.*)")
 SEARCHED = re.compile(r"`search` did not prove ((?:`[^`]+`(?:, | and )?)+)")
 CALLED = re.compile(r"; it [^;]*?((?:`[^`]+`(?:, | and )?)+), which (?:is|are) not proved")
 # A proof file that names what the edit took away says nothing of the contract.
 STALE = re.compile(r"has no field|is not in scope|has no `|was not admitted")
 # A goal of the function's own promises: its clauses, a loop's invariant, or what its type always keeps. The other goals
-# are of arithmetic, of bounds, of an end, or of what a call needs.
+# are of arithmetic, of bounds, of an end, or of what a call requires.
 PROMISE = re.compile(r"returns(-|$)|invariant_of-|(?!.*-requires(-|$)).*-(init|preserved)(-|$)")
 
 
