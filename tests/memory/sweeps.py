@@ -1,0 +1,269 @@
+"""Memory is refused at one place after another of every command, until a run asks for no more: once there alone, and once there and at
+all later ones.
+
+A command then answers as ever, or that memory was refused. The journal holds what is acknowledged and nothing else, the resume file
+is the old or the new one whole, and the same command run anew succeeds.
+"""
+import os
+import shutil
+import sys
+from concurrent.futures import ThreadPoolExecutor
+
+import refusal
+import samples
+from model import Journal
+from trial import PROGRAM, Trial, as_output, run, status_of
+
+REFUSED = (b"", "out of memory\n", 3)
+# Of the places of a sweep, one in so many is refused together with all later ones.
+LATER = 5
+NEVER = 10**12
+# The length of a write-ahead log that has no page.
+EMPTY_LOG = 41
+SOURCE_WORDS = ["--source", samples.SOURCE.hex(), "--resume"]
+
+
+def content(path):
+    """A file's bytes; None where it isn't there."""
+    if not os.path.exists(path):
+        return None
+    with open(path, "rb") as file:
+        return file.read()
+
+
+def put(path, data):
+    with open(path, "wb") as file:
+        file.write(data)
+    return path
+
+
+class Sweep:
+    """A command that reads files and prints. Its words name no file that it writes."""
+
+    def __init__(self, trial, name, words, usual=None, stdin=b""):
+        self.trial = trial
+        self.name = name
+        self.words = words
+        self.usual = usual
+        self.stdin = stdin
+
+    def prepare(self, folder):
+        """Puts the files that the command works on into a folder, and answers the command's words."""
+        return self.words
+
+    def judge(self, what, folder, told):
+        """Holds what a run printed and left against what it may; answers whether the refusal was seen."""
+        if self.is_usual(told):
+            return False
+        # what went out is a beginning of the whole
+        self.trial.expect(what, (b"", *told[1:]), REFUSED)
+        self.trial.expect(f"{what}: output", self.usual[0].startswith(told[0]), True)
+        return True
+
+    def is_usual(self, told):
+        return told == self.usual
+
+    def one(self, first, last):
+        """One run: how many requests were refused, and whether that was seen."""
+        folder = self.trial.folder()
+        words = [PROGRAM, *self.prepare(folder)]
+        told = refusal.run(self.trial.library, first, last, words, self.stdin)
+        alone = "alone" if first == last else "and all later"
+        seen = self.judge(f"{self.name}, request {first} {alone}", folder, told[:3])
+        shutil.rmtree(folder)
+        return len(told.sizes), seen
+
+    def all_sizes(self):
+        """The sizes of all requests of an undisturbed run, which has to print what is usual."""
+        told = refusal.run(self.trial.library, 0, 0, [PROGRAM, *self.prepare(self.trial.folder())], self.stdin)
+        self.trial.expect(f"{self.name}, undisturbed", told[:3], self.usual)
+        return told.sizes
+
+    def sweep(self, pool):
+        sizes = self.all_sizes()
+        numbers = list(refusal.places(sizes))
+        alone = list(pool.map(lambda number: self.one(number, number), numbers))
+        later = list(pool.map(lambda number: self.one(number, NEVER), numbers[::LATER]))
+        beyond = len(sizes) + 1
+        while self.one(beyond, beyond)[0] > 0:
+            beyond += 1
+        tried = alone + later
+        self.trial.expect(f"{self.name}: places without a refusal", [count for count, _ in tried].count(0), 0)
+        unseen = [seen for _, seen in tried].count(False)
+        print(f"memory: {self.name}: {len(sizes)} requests, {len(alone)} refused alone, {len(later)} with all later ones; "
+              f"{unseen} of these runs went as usual")
+        return len(tried)
+
+
+class Listing(Sweep):
+    """A command that reads a database, and writes nothing into it."""
+
+    def __init__(self, trial, name, words, base, output):
+        super().__init__(trial, name, words, (output, "", 0))
+        self.base = base
+
+    def prepare(self, folder):
+        database = copied(self.base, folder)
+        return [self.words[0], database, *self.words[1:]]
+
+    def judge(self, what, folder, told):
+        self.trial.expect(f"{what}: the database", content(os.path.join(folder, "db")), content(self.base))
+        self.trial.expect(f"{what}: its log", len(content(os.path.join(folder, "db-wal")) or b"") <= EMPTY_LOG, True)
+        return super().judge(what, folder, told)
+
+
+class Collect(Sweep):
+    """Uploads that are collected into a database, which has some entries already or isn't there."""
+
+    def __init__(self, trial, name, uploads, base=None, before=(), by_input=False):
+        super().__init__(trial, name, [] if by_input else trial.put(uploads), stdin=uploads[0] if by_input else b"")
+        self.uploads = uploads
+        self.base = base
+        self.before = before
+        self.usual = self.answers(self.start())
+
+    def prepare(self, folder):
+        return ["collect", copied(self.base, folder) if self.base else os.path.join(folder, "db"), *self.words]
+
+    def start(self):
+        journal = Journal()
+        for upload in self.before:
+            journal.take(upload)
+        return journal
+
+    def judge(self, what, folder, told):
+        output, errors, status = told
+        journal = self.start()
+        lines = output.decode().splitlines()
+        if lines:
+            usual = [answer_or_refusal(journal, line, upload) for line, upload in zip(lines, self.uploads)]
+            self.trial.expect(what, told, (as_output(usual), "", status_of(usual)))
+            self.trial.expect(f"{what}: number of lines", len(lines), len(self.uploads))
+        else:
+            self.trial.expect(what, told, REFUSED)
+        self.left(what, os.path.join(folder, "db"), journal, bool(lines))
+        return not self.is_usual(told)
+
+    def answers(self, journal):
+        """What a run over a journal prints, which then has what is accepted."""
+        lines = [journal.take(upload) for upload in self.uploads]
+        return as_output(lines), "", status_of(lines)
+
+    def left(self, what, database, journal, has_tables):
+        """The database holds this journal, and the same uploads complete it."""
+        if content(database) == (content(self.base) if self.base else None):
+            # nothing was written into it: what is in it was looked at before the sweep
+            log = content(database + "-wal") or b""
+            self.trial.expect(f"{what}: nothing in the log", len(log) <= EMPTY_LOG, True)
+            self.trial.expect(f"{what}: nothing new", journal.entries, self.start().entries)
+            return
+        copy = self.trial.copy(database)
+        told = run("export", copy)
+        if has_tables or self.base or told[1] != f"cannot open {copy}\n":
+            self.trial.expect(f"{what}: export", told, (journal.text(), "", 0))
+        else:
+            self.trial.expect(f"{what}: no journal yet", told, (b"", f"cannot open {copy}\n", 3))
+        again = self.answers(journal)
+        self.trial.expect(f"{what}: again", run("collect", database, *self.words, stdin=self.stdin), again)
+        self.trial.expect(f"{what}: export then", run("export", database), (journal.text(), "", 0))
+        shutil.rmtree(os.path.dirname(copy))
+
+
+def answer_or_refusal(journal, line, upload):
+    """The line that an upload has to get: its answer, or, where the line says so, that memory was refused."""
+    after = journal.copy()
+    answer = after.take(upload)
+    if line.endswith(" 63 0") and len(upload) >= 48:
+        return " ".join(["no", *answer.split(" ")[1:3], "63 0"])
+    journal.entries = after.entries
+    return answer
+
+
+def copied(base, folder):
+    database = os.path.join(folder, "db")
+    for end in ("", "-wal"):
+        shutil.copyfile(base + end, database + end)
+    return database
+
+
+class Ack(Sweep):
+    """An answer that moves a resume point on."""
+
+    OLD = f"resume 1 {samples.SEQNUM_ID.hex()} 1\n".encode()
+    NEW = f"resume 2 {samples.SEQNUM_ID.hex()} 2\n".encode()
+
+    def prepare(self, folder):
+        resume = put(os.path.join(folder, "resume"), self.OLD)
+        source = put(os.path.join(folder, "source"), samples.E1 + samples.E2)
+        return ["ack", *SOURCE_WORDS, resume, "export", source]
+
+    def judge(self, what, folder, told):
+        resume = os.path.join(folder, "resume")
+        left = content(resume)
+        may_be = [self.NEW] if self.is_usual(told) else [self.OLD, self.NEW]
+        self.trial.expect(f"{what}: resume file", left in may_be, True)
+        self.trial.expect(f"{what}: what lies beside it", sorted(os.listdir(folder)), ["resume", "source"])
+        again = run("ack", *SOURCE_WORDS, resume, "export", os.path.join(folder, "source"), stdin=self.stdin)
+        self.trial.expect(f"{what}: again", (again, content(resume)), (self.usual, self.NEW))
+        return super().judge(what, folder, told)
+
+
+class Upload(Sweep):
+    """An upload that is made of a source; nothing is written but to standard output."""
+
+    def __init__(self, trial, kind, source, resume, output):
+        self.resume = put(os.path.join(trial.folder(), "resume"), resume)
+        self.old = resume
+        words = ["upload", *SOURCE_WORDS, self.resume, kind, put(os.path.join(trial.folder(), "source"), source)]
+        super().__init__(trial, f"upload {kind}", words, (output, "", 0))
+
+    def judge(self, what, folder, told):
+        self.trial.expect(f"{what}: resume file", content(self.resume), self.old)
+        return super().judge(what, folder, told)
+
+
+def collecting(trial, base):
+    one, two, three = samples.E1, samples.E2, samples.E3
+    row, file = samples.stream(one), samples.head(2) + samples.FILE
+    conflict = samples.stream(two, three, samples.H1)
+    several = [row, samples.stream(two, one), conflict, b"JCUPLD", samples.stream(three, b"=x"), samples.stream(three), file]
+    yield Collect(trial, "collect into a new database", [row])
+    yield Collect(trial, "collect into a journal", [samples.stream(two, three)], base, [row])
+    yield Collect(trial, "collect of a conflict", [conflict], base, [row])
+    yield Collect(trial, "collect of a journal file", [file])
+    yield Collect(trial, "collect of a journal file on standard input", [file], by_input=True)
+    yield Collect(trial, "collect of several uploads", several)
+
+
+def reading(trial, base):
+    row = samples.stream(samples.E1)
+    journal = Journal()
+    journal.take(row)
+    yield Listing(trial, "export", ["export"], base, journal.text())
+    yield Listing(trial, "show", ["show", "--from", "1"], base, journal.lines())
+    yield Listing(trial, "check", ["check"], base, b"ok 1\n")
+    file = put(os.path.join(trial.folder(), "file"), samples.FILE)
+    texts = put(os.path.join(trial.folder(), "texts"), samples.E1 + samples.E2)
+    yield Sweep(trial, "verify export", ["verify", "export", texts], (b"ok 2 0\n", "", 0))
+    yield Sweep(trial, "verify file", ["verify", "file", file], (b"ok 1 0\n", "", 0))
+    yield Upload(trial, "export", samples.E1 + samples.E2, Ack.OLD, samples.stream(samples.E2, start=1))
+    yield Upload(trial, "file", samples.FILE, b"resume 0 - -\n", samples.head(2) + samples.FILE)
+    yield Ack(trial, "ack", [], (b"resume 2\n", "", 0), f"ack {samples.SOURCE.hex()} 1 1 1 0\n".encode())
+    for words in (["collect", "--help"], ["show", "db", "--from", "x"]):
+        yield Sweep(trial, " ".join(words), words, run(*words))
+
+
+def main():
+    with Trial("memory") as trial, ThreadPoolExecutor(os.cpu_count()) as pool:
+        trial.library = refusal.built(trial.base)
+        base = trial.database()
+        trial.expect("the journal that others begin with", run("collect", base, *trial.put([samples.stream(samples.E1)])),
+                     (f"ack {samples.SOURCE.hex()} 0 1 1 0\n".encode(), "", 0))
+        sweeps = [*collecting(trial, base), *reading(trial, base)]
+        wanted = sys.argv[1:]
+        tried = sum(sweep.sweep(pool) for sweep in sweeps if not wanted or sweep.name in wanted)
+        trial.finish(f"{tried} runs with memory refused")
+
+
+if __name__ == "__main__":
+    main()

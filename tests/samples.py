@@ -1,0 +1,48 @@
+"""The sample entries, journal files and uploads that the scripts share, as docs/FORMATS.md spells them."""
+import os
+import struct
+
+SOURCE = bytes(range(0xa0, 0xb0))
+SEQNUM_ID = bytes(range(16))
+BOOT_ID = bytes(range(16, 32))
+
+
+def entry_text(number, message=b"hi"):
+    """An entry as an export stream has it."""
+    return (b"__REALTIME_TIMESTAMP=1000000\n__MONOTONIC_TIMESTAMP=5\n__SEQNUM=%d\n__SEQNUM_ID=%s\nMESSAGE=%s\n\n"
+            % (number, SEQNUM_ID.hex().encode(), message))
+
+
+def head(kind, start=0):
+    """An upload's header."""
+    return b"JCUPLD01" + bytes([kind]) + bytes(7) + SOURCE + struct.pack("<QQ", start, 0)
+
+
+def stream(*texts, start=0):
+    """An upload of an export stream."""
+    return head(1, start) + b"".join(texts)
+
+
+def edited(data, edits):
+    """Bytes with others put over them at their places; numbers take 8 bytes."""
+    made = bytearray(data)
+    for place, new in edits.items():
+        new = struct.pack("<Q", new) if isinstance(new, int) else new
+        made[place:place + len(new)] = new
+    return bytes(made)
+
+
+E1, E2, E3 = map(entry_text, (1, 2, 3))
+# The entry of E1's key with another message.
+H1 = entry_text(1, b"ho")
+
+# A journal file of 400 bytes: its header of 208, an array of entries at 208, an entry at 240 and its one field at 320.
+FILE = edited(bytes(400), {
+    0: b"LPKSHHRH",
+    24: bytes(range(32, 64)),
+    72: SEQNUM_ID,
+    88: 208, 96: 192, 136: 320, 144: 3, 152: 1, 160: 1, 168: 1, 176: 208, 184: 1000000, 192: 1000000, 200: 5,
+    208: b"\x06", 216: 32, 232: 240,
+    240: b"\x03", 248: 80, 256: 1, 264: 1000000, 272: 5, 280: BOOT_ID, 304: 320,
+    320: b"\x01", 328: 74, 360: 240, 376: 1, 384: b"MESSAGE=hi",
+})

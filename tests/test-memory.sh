@@ -1,0 +1,15 @@
+#!/usr/bin/env bash
+# Memory is refused at every place of every command, one request after another, and with it all later ones.
+# The library that refuses is preloaded, and compiled here by the compiler of the toolchain.
+set -uo pipefail
+. "$(dirname "$0")/expect.sh"
+
+# files in memory, where there are some: each run makes its database anew
+if [[ -d /dev/shm && -w /dev/shm ]]; then
+    export TMPDIR=/dev/shm
+fi
+# The store takes 8 MB as it opens a database; in large pages that takes the system half of the time.
+export GLIBC_TUNABLES=glibc.malloc.hugetlb=1
+export PROGRAM PYTHONPATH=tests:tests/collect PYTHONDONTWRITEBYTECODE=1
+python3 tests/memory/sweeps.py || differs "tests/memory/sweeps.py"
+finish
