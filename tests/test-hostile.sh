@@ -1,0 +1,14 @@
+#!/usr/bin/env bash
+# Hostile uploads, and databases that were damaged: what the program answers, and that it neither crashes nor hangs.
+set -uo pipefail
+. "$(dirname "$0")/expect.sh"
+
+# files in memory, where there are some: each run makes its database anew
+if [[ -d /dev/shm && -w /dev/shm ]]; then
+    export TMPDIR=/dev/shm
+fi
+# less memory than the largest journal file has bytes
+ulimit -v 1000000
+export PROGRAM PYTHONPATH=tests:tests/collect PYTHONDONTWRITEBYTECODE=1
+python3 tests/hostile/uploads.py || differs "tests/hostile/uploads.py"
+finish
