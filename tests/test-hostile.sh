@@ -11,4 +11,5 @@ fi
 ulimit -v 1000000
 export PROGRAM PYTHONPATH=tests:tests/collect PYTHONDONTWRITEBYTECODE=1
 python3 tests/hostile/uploads.py || differs "tests/hostile/uploads.py"
+python3 tests/hostile/damaged.py || differs "tests/hostile/damaged.py"
 finish
