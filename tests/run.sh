@@ -1,7 +1,7 @@
 #!/usr/bin/env bash
-# The gate: every proof from nothing, the must-fail edits, the tests and the stored run (rt ci); then the edits that are
-# judged in batches (tests/refused); then each script tests/test-*.sh over the program that rt ci built. The last line is
-# `N passed, M failed`, over all of them.
+# The gate: every proof from nothing, the must-fail edits, the tests and the stored run (rt ci); then the edits that
+# are judged in batches (tests/refused); then each script tests/test-*.sh over the program that rt ci built. The last
+# line is `N passed, M failed`, over all of them.
 set -uo pipefail
 cd "$(dirname "$0")/.." || exit
 
@@ -10,8 +10,8 @@ failed=0
 log=$(mktemp)
 trap 'rm -f "$log"' EXIT
 
-# Runs a part whose last line is `N passed, M failed`, and adds its counts. A part that says no count, or whose status its
-# count doesn't explain, is a failure of its own.
+# Runs a part whose last line is `N passed, M failed`, and adds its counts. A part that says no count, or whose status
+# its count doesn't explain, is a failure of its own.
 count() {
     local status=0 of_part=0
     "$@" 2>&1 | tee "$log" || status=1
@@ -28,9 +28,11 @@ count() {
     failed=$((failed + of_part))
 }
 
-jobs=$(python3 -ESB tests/refused/lanes.py)
-echo "RT_JOBS=$jobs, ${RT_JOBS:+as given, }on $(nproc) processors, with $(awk '/MemAvailable/ { print int($2 / 1e6) }' /proc/meminfo) GB of memory free"
-export RT_JOBS=$jobs
+given=${RT_JOBS:-}
+RT_JOBS=$(python3 -ESB tests/refused/lanes.py)
+export RT_JOBS
+memory=$(awk '/^MemAvailable/ { print int($2 / 1e6) }' /proc/meminfo)
+echo "RT_JOBS=$RT_JOBS${given:+, as given}: $(nproc) processors, $memory GB of memory free"
 
 count rt ci
 count python3 -ESB tests/refused

@@ -1,5 +1,5 @@
-"""Runs the gate, and says where its processor time goes: for each crate its proof, its tests, its edits tried singly and its
-edits in batches, in processor seconds, and the largest memory of one process.
+"""Runs the gate, and says where its processor time goes: for each crate its proof, its tests, its edits tried one by
+one and its edits in batches, in processor seconds, and the largest memory of one process.
 
 usage: python3 tools/gate_times.py [COMMAND ..]
 
@@ -21,7 +21,7 @@ from dataclasses import dataclass
 
 EVERY = 0.25
 TICKS = os.sysconf("SC_CLK_TCK")
-KINDS = ("proof", "tests", "edits singly", "edits in batches")
+KINDS = ("proof", "tests", "edits one by one", "edits in batches")
 
 
 @dataclass
@@ -97,7 +97,7 @@ def kind_of(words: list[str], folder: str) -> str:
     if os.path.basename(kept).startswith("refused-"):
         return "edits in batches"
     if folder.startswith("rt-edit-"):
-        return "edits singly"
+        return "edits one by one"
     return "tests" if "--test" in words else "proof"
 
 
@@ -133,7 +133,9 @@ def main(command: list[str]) -> int:
     looking.join()
     used = resource.getrusage(resource.RUSAGE_CHILDREN)
     whole = (used.ru_utime + used.ru_stime) / 60
-    said = f"{table(list(watch.seen.values()))}\n\nProcessor minutes of the whole: {whole:.0f}; minutes: {(time.monotonic() - begin) / 60:.0f}."
+    minutes = (time.monotonic() - begin) / 60
+    said = table(list(watch.seen.values()))
+    said += f"\n\nThe whole took {whole:.0f} processor minutes, in {minutes:.0f} minutes."
     os.makedirs("build", exist_ok=True)
     with open("build/gate-times.md", "w", encoding="utf-8") as it:
         it.write(said + "\n")

@@ -37,6 +37,8 @@ def main() -> int:
     if wanted.list:
         return _list(crates)
     toolchain.rt().rtlib.guarded()
+    # until this ends, no other run of rt changes these crates or their libraries
+    toolchain.rt().rtlib.lock([below for it in crates for below in [*it.below(), it]])
     with ThreadPoolExecutor(lanes()) as pool:
         judged = [pool.submit(_judge, it) for it in _largest_first(crates)]
         outcomes = [outcome for it in judged for outcome in it.result()]

@@ -89,7 +89,7 @@ class Judge:
         return Outcome("", False, f"without its edits it is NOT PROVED: {report.lines[-1]}")
 
     def _check(self, edits: list[Edit]) -> Report:
-        self.say(f"{self.crate.name}: a check of {len(edits)} edits" if edits else f"{self.crate.name}: a check without edits")
+        self.say(f"{self.crate.name}: a check {f'of {len(edits)} edits' if edits else 'without edits'}")
         texts = self.sources.with_bodies(edits)
         ran = toolchain.rt().checked(self.crate, texts, ["--jobs", "1"], self.kept)
         return Report(ran.returncode, ran.stdout, set(texts))

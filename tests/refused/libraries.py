@@ -22,8 +22,8 @@ def libraries_stand(crate: Any) -> str | None:
 
 
 def is_current(library: Any) -> bool:
-    """Whether a library is built from the sources as they are now. What `rt ci` leaves has no stamp, and is known by its
-    age."""
+    """Whether a library is built from the sources as they are now. What `rt ci` leaves has no stamp, and is known by
+    its age."""
     if library.is_built():
         return True
     if os.path.exists(os.path.join(library.folder, "out/rlib/stamp")) or not os.path.isdir(library.rlib):

@@ -1,4 +1,4 @@
-"""Tries the judging of edits over a library of a few functions: what must be refused, and what must never pass as refused."""
+"""Tries the judging of edits over a small library: what must be refused, and what must never pass as refused."""
 
 from __future__ import annotations
 
@@ -77,17 +77,18 @@ impl Starts for Kept {
 REFUSED = "refused, as it must be: "
 PASSED = "NOT REFUSED: it is proved"
 UNREAD = "NOT REFUSED: the checker's words can't be read"
+UNTELLING = "NOT REFUSED: no promise of its own is refused: "
 
 # Of each edit: the text that stands once, what takes its place, and the begin of what must be told of it.
 EDITS = {
     "another-answer": ("number <= 9", "number <= 8", REFUSED + "returns"),
     "another-answer-of-a-trait": ("3 + 4", "3 + 5", REFUSED + "returns"),
-    "beside-a-refused-function": ("if is_digit(number) { Some(number) }", "if is_digit(number) { Some(0) }", REFUSED + "returns"),
-    "clause-turned": ("{ result ≡ number + 1 }", "{ result ≡ number + 2 }", "BAD EDIT: it changes more than the body"),
-    "hidden-by-a-refused-function": ("if is_digit(number) { Some(number) } else { None }", "if !is_digit(number) { None } else { Some(number) }", PASSED),
+    "beside-a-refused-function": ("{ Some(number) }", "{ Some(0) }", REFUSED + "returns"),
+    "clause-turned": ("≡ number + 1", "≡ number + 2", "BAD EDIT: it changes more than the body"),
+    "hidden-by-a-refused-function": ("    if is_digit(number) {", "    if !!is_digit(number) {", PASSED),
     "name-of-nothing": ("self.number = number;", "self.number = nobody;", UNREAD),
     "no-expression": ("    number + one", "    number + + one", UNREAD),
-    "only-arithmetic": ("    given", "    given + 1 - 1", "NOT REFUSED: no promise of its own is refused: overflow_add"),
+    "only-arithmetic": ("    given", "    given + 1 - 1", UNTELLING + "overflow_add"),
     "same-meaning": ("if one < other {", "if one <= other {", PASSED),
     "same-text": ("let one = 1;", "let one = 1;", "BAD EDIT: it changes nothing"),
     "stands-nowhere": ("number <= 10", "number <= 11", "BAD EDIT: an 'old:' text is in src/lib.rt 0 times"),
@@ -102,7 +103,8 @@ def main() -> int:
     failures += _failures(wrong, one, "without its edits it is NOT PROVED")
     for it in failures:
         print(f"tests/refused: {it}")
-    print("tests/refused: " + ("FAILED" if failures else f"ok, {len(EDITS)} edits of a small library are judged as they must be"))
+    if not failures:
+        print(f"tests/refused: {len(EDITS)} edits of a small library are judged as they must be")
     return 1 if failures else 0
 
 
