@@ -1,0 +1,15 @@
+//! Samples that tests share: bytes of entries, of uploads and their answers, and of journal files. No part of the program.
+#![tactic(auto)]
+
+mod answer;
+mod entry;
+mod file;
+mod upload;
+
+pub use answer::answer_lines;
+pub use entry::{
+    BINARY_FRONT, BOOT_FIELD, CHANGED_ENTRY, ENTRY, ENTRY_2, ENTRY_3, HI, HO, LAST_ENTRY, METADATA,
+    METADATA_2, METADATA_3, METADATA_LINES, SEQNUM_ID, SHOWN, numbered_entry,
+};
+pub use file::{JOURNAL_FILE, LONG_HEADER_FILE, put, put_number};
+pub use upload::{EXPORT, FILE, SOURCE, SOURCE_ID, head};
