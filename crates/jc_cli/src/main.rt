@@ -1,29 +1,11 @@
 //! The program `journal-collect`.
 #![tactic(auto)]
 
-mod ack;
-mod answer_sink;
-mod answers;
-mod check;
-mod collect;
-mod command;
-mod database;
-mod failure;
-mod file;
-mod gather;
-mod judged;
-mod listing;
-mod resume_file;
-mod source;
-mod status;
 #[cfg(test)]
 mod tests;
-mod upload;
-mod uploads;
-mod verify;
 
-pub use command::command;
-use failure::Failure;
+pub use jc_command::command;
+use jc_console::Failure;
 use std::process::ExitCode;
 use std::{env, io};
 

@@ -1,14 +1,9 @@
 //! `ack`: which answers move a resume point on, and what is kept of it.
 
-use super::{
-    ENTRY, SOURCE, entry, expect_over, expect_run, head, journal_file, new_folder, run_over,
-    write_parts,
-};
-use crate::database::Databases;
+use super::runs::{Ran, expect_over, expect_run, expect_text, new_folder, run_over, write_parts};
+use jc_samples::{ENTRY, JOURNAL_FILE, SOURCE, head, numbered_entry};
 use std::fs;
 use std::path::PathBuf;
-use std::process::Abort;
-use std::rt::Files;
 use std::test::Fail;
 
 /// The two files of a source of this kind.
@@ -34,9 +29,9 @@ fn new_machine(rt: &HostRuntime, name: &str, kind: &'static str) -> Result<Machi
 
 impl Machine {
     /// `ack` over these lines, in which `S` stands for the id.
-    fn ack<R: Databases + Files + AllocGlobal + Abort>(
+    fn ack(
         &self,
-        rt: &R,
+        rt: &HostRuntime,
         lines: &[&str],
         output: &str,
         errors: &str,
@@ -54,38 +49,36 @@ impl Machine {
         }
         let (resume, file) = (self.resume.as_str(), self.file.as_str());
         let printed = run_ack(rt, self.kind, resume, file, input.as_bytes())?;
-        expect_run(rt, printed, output.as_bytes(), errors, status)
+        expect_run(printed, output.as_bytes(), errors, status)
     }
 
     /// The resume file has the point at this position, and nothing lies beside it.
-    fn expect_point<R: Databases + Files + AllocGlobal + Abort>(
-        &self,
-        rt: &R,
-        position: u64,
-    ) -> Result<(), Fail> {
+    fn expect_point(&self, rt: &HostRuntime, position: u64) -> Result<(), Fail> {
         let text = fs::read(rt, self.resume.as_path())?;
         let wanted = point(rt, position)?;
-        assert_eq!(rt; text.as_slice(), wanted.as_bytes());
+        expect_text("the resume file", &text, wanted.as_bytes(), &[])?;
         let beside = self.folder.join(rt.alloc(), "resume.new")?;
-        assert!(rt; !fs::exists(rt, beside.as_path())?);
+        if fs::exists(rt, beside.as_path())? {
+            return Err(Fail::new("a file lies beside the resume file"));
+        }
         Ok(())
     }
 }
 
 /// What `ack` prints over these files and these bytes on standard input, and its status.
-fn run_ack<R: Databases + Files + AllocGlobal>(
-    rt: &R,
+fn run_ack(
+    rt: &HostRuntime,
     kind: &str,
     resume: &str,
     file: &str,
     input: &[u8],
-) -> Result<(Vec<u8>, Vec<u8>, u8), Fail> {
+) -> Result<Ran, Fail> {
     let words = ["ack", "--source", SOURCE, "--resume", resume, kind, file];
     run_over(rt, &words, input)
 }
 
 /// The text of the resume point behind the sample entry of this number, which is that of the position too.
-fn point<R: AllocGlobal>(rt: &R, position: u64) -> Result<String, Fail> {
+fn point(rt: &HostRuntime, position: u64) -> Result<String, Fail> {
     let alloc = rt.alloc();
     let text = match position {
         0 => String::from_str(alloc, "resume 0 - -\n")?,
@@ -99,7 +92,7 @@ fn machine_of_five(rt: &HostRuntime, name: &str, position: u64) -> Result<Machin
     let machine = new_machine(rt, name, "export")?;
     let mut text = String::new(rt.alloc());
     for number in 1..6u64 {
-        text.push_str(entry(rt, number)?.as_str())?;
+        text.push_str(numbered_entry(rt.alloc(), number)?.as_str())?;
     }
     fs::write(rt, machine.file.as_path(), text.as_bytes())?;
     fs::write(
@@ -192,7 +185,7 @@ fn a_line_that_is_no_answer_changes_nothing(rt: HostRuntime) -> Result<(), Fail>
 #[test]
 fn a_machine_that_uploads_twice(rt: HostRuntime) -> Result<(), Fail> {
     let machine = new_machine(&rt, "twice", "export")?;
-    let second = entry(&rt, 2)?;
+    let second = numbered_entry(rt.alloc(), 2)?;
     let (resume, file) = (machine.resume.as_str(), machine.file.as_str());
     let words = [
         "upload", "--source", SOURCE, "--resume", resume, "export", file,
@@ -228,7 +221,7 @@ fn a_machine_that_uploads_twice(rt: HostRuntime) -> Result<(), Fail> {
 #[test]
 fn a_journal_file_is_acknowledged_as_a_stream_is(rt: HostRuntime) -> Result<(), Fail> {
     let machine = new_machine(&rt, "ack-file", "file")?;
-    let file = journal_file();
+    let file = JOURNAL_FILE;
     fs::write(&rt, machine.file.as_path(), file.as_slice())?;
     machine.ack(&rt, &["ack S 0 1 1 0\n"], "resume 1\n", "", 0)?;
     machine.expect_point(&rt, 1)?;

@@ -1,15 +1,12 @@
 //! `check`: journals, tables that are none, and files that are no database.
 
-use super::{
-    ENTRY, expect, expect_over, expect_refusals, expect_run, head, new_folder, run_into, run_over,
-    write_parts,
+use super::runs::{
+    expect, expect_over, expect_refusals, expect_run, new_folder, run_into, run_over, write_parts,
 };
-use crate::database::Databases;
+use jc_samples::{ENTRY, head};
 use sqlite::Connection;
 use std::fs;
 use std::path::PathBuf;
-use std::process::Abort;
-use std::rt::Files;
 use std::test::Fail;
 
 /// A folder with a database `db`: a journal of this export stream, on which a statement was run.
@@ -19,8 +16,8 @@ fn changed(rt: &HostRuntime, name: &str, stream: &[u8], statement: &str) -> Resu
     let database = folder.join(alloc, "db")?;
     let mut upload = Vec::from_slice(alloc, &head(1, 0))?;
     upload.extend_from_slice(stream)?;
-    let (_, _, status) = run_over(rt, &["collect", database.as_str()], &upload)?;
-    if status != 0 {
+    let ran = run_over(rt, &["collect", database.as_str()], &upload)?;
+    if ran.status != 0 {
         return Err(Fail::from("the upload is refused"));
     }
     let mut conn = Connection::open(rt, database.as_str())?;
@@ -31,11 +28,7 @@ fn changed(rt: &HostRuntime, name: &str, stream: &[u8], statement: &str) -> Resu
 
 /// `check` prints this line of the database in the folder, and the other commands print it on standard error. The folder is
 /// taken away.
-fn expect_refused<R: Databases + Files + AllocGlobal + Abort>(
-    rt: &R,
-    folder: &PathBuf,
-    line: &str,
-) -> Result<(), Fail> {
+fn expect_refused(rt: &HostRuntime, folder: &PathBuf, line: &str) -> Result<(), Fail> {
     let database = folder.join(rt.alloc(), "db")?;
     let name = database.as_str();
     expect(rt, &["check", name], line, "", 1)?;
@@ -98,8 +91,8 @@ fn a_database_without_tables_is_as_a_missing_one(rt: HostRuntime) -> Result<(), 
     let line = format!(in rt.alloc(); "cannot open {name}\n")?;
     let commands = ["check", "show", "export"];
     expect_refusals(&rt, &commands, name, line.as_str(), 3)?;
-    let (_, _, status) = run_over(&rt, &["collect", name], &head(1, 0))?;
-    assert_eq!(rt; status, 0);
+    let ran = run_over(&rt, &["collect", name], &head(1, 0))?;
+    assert_eq!(rt; ran.status, 0);
     expect(&rt, &["check", name], "ok 0\n", "", 0)?;
     fs::remove_dir_all(&rt, folder.as_path())?;
     Ok(())
@@ -114,16 +107,12 @@ fn a_verdict_that_cannot_be_written_is_told(rt: HostRuntime) -> Result<(), Fail>
 }
 
 /// Where standard output takes less than a line, `check` of the database in the folder tells so.
-fn expect_full<R: Databases + Files + AllocGlobal + Abort>(
-    rt: &R,
-    folder: &PathBuf,
-) -> Result<(), Fail> {
+fn expect_full(rt: &HostRuntime, folder: &PathBuf) -> Result<(), Fail> {
     let alloc = rt.alloc();
     let database = folder.join(alloc, "db")?;
     for room in 0..5 {
-        let (told, status) = run_into(rt, &["check", database.as_str()], room)?;
-        let run = (Vec::new(alloc), told, status);
-        expect_run(rt, run, b"", "write failed\n", 3)?;
+        let ran = run_into(rt, &["check", database.as_str()], room)?;
+        expect_run(ran, b"", "write failed\n", 3)?;
     }
     fs::remove_dir_all(rt, folder.as_path())?;
     Ok(())

@@ -1,47 +1,24 @@
 //! `collect`: worked uploads and their answers, as files of one run and by standard input one after the other, and in which
 //! order it refuses.
 
-use super::{
-    ENTRY, META, SOURCE, entry, expect, expect_over, expect_refusals, expect_run, front_of, head,
-    journal_file, new_folder, put, put_number, run_into, write_parts,
+use super::runs::{
+    expect, expect_over, expect_refusals, expect_run, front_of, new_folder, run_into, write_parts,
 };
-use crate::database::Databases;
+use jc_samples::{
+    BINARY_FRONT, BOOT_FIELD, CHANGED_ENTRY, ENTRY, JOURNAL_FILE, METADATA, answer_lines, head,
+    numbered_entry, put, put_number,
+};
 use std::fs;
 use std::path::PathBuf;
-use std::process::Abort;
-use std::rt::Files;
 use std::test::Fail;
 
-/// The sample entry with another message.
-const CHANGED: &[u8] = b"__REALTIME_TIMESTAMP=1000000
-__MONOTONIC_TIMESTAMP=5
-__SEQNUM=1
-__SEQNUM_ID=000102030405060708090a0b0c0d0e0f
-MESSAGE=ho
-
-";
-
-/// The front of a binary field whose value has 121 bytes.
-const BINARY: &[u8] = b"MESSAGE\n\x79\0\0\0\0\0\0\0";
-
-/// The fields of the sample journal file's entry.
-const BOOT: &[u8] = b"_BOOT_ID=101112131415161718191a1b1c1d1e1f\n";
-
-const HI: &[u8] = b"MESSAGE=hi\n";
-
-/// The line with the source's id.
-fn answer_line<R: AllocGlobal>(rt: &R, short: &str) -> Result<String, Fail> {
-    let line = match short.split_once(" S ") {
-        Some((verb, rest)) => format!(in rt.alloc(); "{verb} {SOURCE} {rest}\n")?,
-        None => format!(in rt.alloc(); "{short}\n")?,
-    };
-    Ok(line)
-}
+/// The field of the sample entry.
+const MESSAGE: &[u8] = b"MESSAGE=hi\n";
 
 /// Each upload gives its line, with `S` for the source's id: in one run over files, and in a run for each by standard input.
 /// Then the journal has this text. The folder is taken away.
-fn expect_answers<R: Databases + Files + AllocGlobal + Abort>(
-    rt: &R,
+fn expect_answers(
+    rt: &HostRuntime,
     folder: &PathBuf,
     uploads: &[Vec<u8>],
     lines: &[&str],
@@ -53,8 +30,8 @@ fn expect_answers<R: Databases + Files + AllocGlobal + Abort>(
     Ok(())
 }
 
-fn expect_of_files<R: Databases + Files + AllocGlobal + Abort>(
-    rt: &R,
+fn expect_of_files(
+    rt: &HostRuntime,
     folder: &PathBuf,
     uploads: &[Vec<u8>],
     lines: &[&str],
@@ -74,18 +51,17 @@ fn expect_of_files<R: Databases + Files + AllocGlobal + Abort>(
     for file in &files {
         words.push(file.as_str())?;
     }
-    let mut told = String::new(alloc);
+    let told = answer_lines(alloc, lines)?;
     let mut status = 0;
     for short in lines {
-        told.push_str(answer_line(rt, short)?.as_str())?;
         status = status.max(status_of(short));
     }
     expect(rt, words.as_slice(), told.as_str(), "", status)?;
     expect_export(rt, &database, exported)
 }
 
-fn expect_of_input<R: Databases + Files + AllocGlobal + Abort>(
-    rt: &R,
+fn expect_of_input(
+    rt: &HostRuntime,
     folder: &PathBuf,
     uploads: &[Vec<u8>],
     lines: &[&str],
@@ -93,7 +69,7 @@ fn expect_of_input<R: Databases + Files + AllocGlobal + Abort>(
 ) -> Result<(), Fail> {
     let database = folder.join(rt.alloc(), "input.db")?;
     for (upload, short) in uploads.iter().zip(lines) {
-        let line = answer_line(rt, short)?;
+        let line = answer_lines(rt.alloc(), &[*short])?;
         let words = ["collect", database.as_str()];
         expect_over(rt, &words, upload, line.as_bytes(), "", status_of(short))?;
     }
@@ -105,16 +81,12 @@ fn status_of(short: &str) -> u8 {
     if short.starts_with("no") { 1 } else { 0 }
 }
 
-fn expect_export<R: Databases + Files + AllocGlobal + Abort>(
-    rt: &R,
-    database: &PathBuf,
-    exported: &[u8],
-) -> Result<(), Fail> {
+fn expect_export(rt: &HostRuntime, database: &PathBuf, exported: &[u8]) -> Result<(), Fail> {
     expect_over(rt, &["export", database.as_str()], b"", exported, "", 0)
 }
 
 /// Parts, one behind the other.
-fn joined<R: AllocGlobal>(rt: &R, parts: &[&[u8]]) -> Result<Vec<u8>, Fail> {
+fn joined(rt: &HostRuntime, parts: &[&[u8]]) -> Result<Vec<u8>, Fail> {
     let mut bytes = Vec::new(rt.alloc());
     for part in parts {
         bytes.extend_from_slice(part)?;
@@ -172,10 +144,13 @@ fn an_upload_whose_header_is_wrong_is_refused(rt: HostRuntime) -> Result<(), Fai
 #[test]
 fn a_binary_value_may_look_like_an_entry(rt: HostRuntime) -> Result<(), Fail> {
     let head = head(1, 0);
-    let meta = front_of(&rt, entry(&rt, 2)?.as_bytes(), 109)?;
-    let stored = joined(&rt, &[&meta, BINARY, ENTRY, b"\n\n"])?;
-    let long = joined(&rt, &[META, b"MESSAGE\n\xff\xff\xff\xff\xff\xff\xff\xff"])?;
-    let unended = joined(&rt, &[META, b"MESSAGE\n\x02\0\0\0\0\0\0\0hiX"])?;
+    let meta = front_of(&rt, numbered_entry(rt.alloc(), 2)?.as_bytes(), 109)?;
+    let stored = joined(&rt, &[&meta, BINARY_FRONT, ENTRY, b"\n\n"])?;
+    let long = joined(
+        &rt,
+        &[METADATA, b"MESSAGE\n\xff\xff\xff\xff\xff\xff\xff\xff"],
+    )?;
+    let unended = joined(&rt, &[METADATA, b"MESSAGE\n\x02\0\0\0\0\0\0\0hiX"])?;
     let uploads = [
         joined(&rt, &[&head, &stored])?,
         joined(&rt, &[&head, &long])?,
@@ -188,14 +163,14 @@ fn a_binary_value_may_look_like_an_entry(rt: HostRuntime) -> Result<(), Fail> {
 #[test]
 fn an_entry_that_differs_is_told_by_its_number(rt: HostRuntime) -> Result<(), Fail> {
     let head = head(1, 0);
-    let second = joined(&rt, &[entry(&rt, 2)?.as_bytes()])?;
-    let third = joined(&rt, &[entry(&rt, 3)?.as_bytes()])?;
+    let second = joined(&rt, &[numbered_entry(rt.alloc(), 2)?.as_bytes()])?;
+    let third = joined(&rt, &[numbered_entry(rt.alloc(), 3)?.as_bytes()])?;
     let uploads = [
-        joined(&rt, &[&head, ENTRY, CHANGED])?,
+        joined(&rt, &[&head, ENTRY, CHANGED_ENTRY])?,
         joined(&rt, &[&head, ENTRY])?,
-        joined(&rt, &[&head, CHANGED])?,
-        joined(&rt, &[&head, &second, &third, CHANGED])?,
-        joined(&rt, &[&head, CHANGED, b"=x"])?,
+        joined(&rt, &[&head, CHANGED_ENTRY])?,
+        joined(&rt, &[&head, &second, &third, CHANGED_ENTRY])?,
+        joined(&rt, &[&head, CHANGED_ENTRY, b"=x"])?,
         joined(&rt, &[&head, &second, b"=x"])?,
         joined(&rt, &[&head, &second, &third])?,
         joined(&rt, &[&head, &third, ENTRY, &third])?,
@@ -218,10 +193,30 @@ fn an_entry_that_differs_is_told_by_its_number(rt: HostRuntime) -> Result<(), Fa
 #[test]
 fn a_journal_file_and_its_export_are_one_entry(rt: HostRuntime) -> Result<(), Fail> {
     let (as_export, as_file) = (head(1, 0), head(2, 0));
-    let file = joined(&rt, &[&journal_file()])?;
+    let file = joined(&rt, &[&JOURNAL_FILE])?;
     let cut = front_of(&rt, &file, 399)?;
-    let first = joined(&rt, &[b"__CURSOR=x\n", BOOT, b"__X=1\n", HI, META, b"\n"])?;
-    let second = joined(&rt, &[b"__CURSOR=x\n", HI, b"__X=1\n", BOOT, META, b"\n"])?;
+    let first = joined(
+        &rt,
+        &[
+            b"__CURSOR=x\n",
+            BOOT_FIELD,
+            b"__X=1\n",
+            MESSAGE,
+            METADATA,
+            b"\n",
+        ],
+    )?;
+    let second = joined(
+        &rt,
+        &[
+            b"__CURSOR=x\n",
+            MESSAGE,
+            b"__X=1\n",
+            BOOT_FIELD,
+            METADATA,
+            b"\n",
+        ],
+    )?;
     let uploads = [
         joined(&rt, &[&as_file, &cut])?,
         joined(&rt, &[&as_file, &file])?,
@@ -236,13 +231,13 @@ fn a_journal_file_and_its_export_are_one_entry(rt: HostRuntime) -> Result<(), Fa
         "ack S 0 1 0 0",
         "no S 0 60 0",
     ];
-    let stored = joined(&rt, &[META, HI, BOOT, b"\n"])?;
+    let stored = joined(&rt, &[METADATA, MESSAGE, BOOT_FIELD, b"\n"])?;
     expect_answers(&rt, &new_folder(&rt, "files")?, &uploads, &lines, &stored)
 }
 
 #[test]
 fn an_entry_may_have_no_fields(rt: HostRuntime) -> Result<(), Fail> {
-    let stored = joined(&rt, &[META, b"\n"])?;
+    let stored = joined(&rt, &[METADATA, b"\n"])?;
     let uploads = [joined(&rt, &[&head(1, 0), &stored])?];
     let folder = new_folder(&rt, "bare")?;
     expect_answers(&rt, &folder, &uploads, &["ack S 0 1 1 0"], &stored)
@@ -253,7 +248,7 @@ fn a_thousand_entries_are_taken_and_taken_again(rt: HostRuntime) -> Result<(), F
     let alloc = rt.alloc();
     let mut upload = Vec::from_slice(alloc, &head(1, 0))?;
     for number in 1..1001 {
-        upload.extend_from_slice(entry(&rt, number)?.as_bytes())?;
+        upload.extend_from_slice(numbered_entry(rt.alloc(), number)?.as_bytes())?;
     }
     let folder = new_folder(&rt, "thousand")?;
     let database = folder.join(alloc, "db")?;
@@ -261,8 +256,7 @@ fn a_thousand_entries_are_taken_and_taken_again(rt: HostRuntime) -> Result<(), F
     write_parts(&rt, &one, &[&upload])?;
     write_parts(&rt, &two, &[&upload])?;
     let words = ["collect", database.as_str(), one.as_str(), two.as_str()];
-    let mut told = answer_line(&rt, "ack S 0 1000 1000 0")?;
-    told.push_str(answer_line(&rt, "ack S 0 1000 0 0")?.as_str())?;
+    let told = answer_lines(alloc, &["ack S 0 1000 1000 0", "ack S 0 1000 0 0"])?;
     expect(&rt, &words, told.as_str(), "", 0)?;
     expect(&rt, &["check", database.as_str()], "ok 1000\n", "", 0)?;
     fs::remove_dir_all(&rt, folder.as_path())?;
@@ -293,11 +287,7 @@ fn uploads_are_opened_before_the_database(rt: HostRuntime) -> Result<(), Fail> {
 }
 
 /// `collect` of an upload into databases of these names tells that they are none.
-fn expect_bad_names<R: Databases + Files + AllocGlobal + Abort>(
-    rt: &R,
-    upload: &str,
-    names: &[&str],
-) -> Result<(), Fail> {
+fn expect_bad_names(rt: &HostRuntime, upload: &str, names: &[&str]) -> Result<(), Fail> {
     for name in names {
         let words = ["collect", *name, upload];
         expect(rt, &words, "", "bad database name\n", 2)?;
@@ -310,14 +300,12 @@ fn an_upload_that_cannot_be_read_is_answered(rt: HostRuntime) -> Result<(), Fail
     let alloc = rt.alloc();
     let folder = new_folder(&rt, "unreadable")?;
     let (database, file) = (folder.join(alloc, "db")?, folder.join(alloc, "upload")?);
-    write_parts(&rt, &file, &[&head(1, 0), CHANGED, ENTRY])?;
+    write_parts(&rt, &file, &[&head(1, 0), CHANGED_ENTRY, ENTRY])?;
     let words = ["collect", database.as_str(), folder.as_str(), file.as_str()];
-    let mut told = answer_line(&rt, "no - - 61 0")?;
-    told.push_str(answer_line(&rt, "no S 0 60 1")?.as_str())?;
+    let told = answer_lines(alloc, &["no - - 61 0", "no S 0 60 1"])?;
     expect(&rt, &words, told.as_str(), "", 3)?;
     let words = ["collect", database.as_str(), file.as_str(), folder.as_str()];
-    let mut told = answer_line(&rt, "no S 0 60 1")?;
-    told.push_str(answer_line(&rt, "no - - 61 0")?.as_str())?;
+    let told = answer_lines(alloc, &["no S 0 60 1", "no - - 61 0"])?;
     expect(&rt, &words, told.as_str(), "", 3)?;
     fs::remove_dir_all(&rt, folder.as_path())?;
     Ok(())
@@ -343,7 +331,7 @@ fn an_empty_file_becomes_a_journal(rt: HostRuntime) -> Result<(), Fail> {
     let commands = ["export", "show", "check"];
     expect_refusals(&rt, &commands, database.as_str(), line.as_str(), 3)?;
     let upload = joined(&rt, &[&head(1, 0), ENTRY])?;
-    let told = answer_line(&rt, "ack S 0 1 1 0")?;
+    let told = answer_lines(rt.alloc(), &["ack S 0 1 1 0"])?;
     let words = ["collect", database.as_str()];
     expect_over(&rt, &words, &upload, told.as_bytes(), "", 0)?;
     expect_export(&rt, &database, ENTRY)?;
@@ -357,7 +345,7 @@ fn nothing_is_collected_behind_a_line_that_cannot_be_written(rt: HostRuntime) ->
     let folder = new_folder(&rt, "full-answers")?;
     let (one, two) = (folder.join(alloc, "one")?, folder.join(alloc, "two")?);
     write_parts(&rt, &one, &[&head(1, 0), ENTRY])?;
-    let second = entry(&rt, 2)?;
+    let second = numbered_entry(rt.alloc(), 2)?;
     write_parts(&rt, &two, &[&head(1, 0), second.as_bytes()])?;
     let both = joined(&rt, &[ENTRY, second.as_bytes()])?;
     let uploads = [one.as_str(), two.as_str()];
@@ -369,8 +357,8 @@ fn nothing_is_collected_behind_a_line_that_cannot_be_written(rt: HostRuntime) ->
 }
 
 /// Where standard output takes so many bytes, a run over two uploads stops, and its database has this text.
-fn expect_stop<R: Databases + Files + AllocGlobal + Abort>(
-    rt: &R,
+fn expect_stop(
+    rt: &HostRuntime,
     folder: &PathBuf,
     uploads: [&str; 2],
     room: usize,
@@ -380,8 +368,7 @@ fn expect_stop<R: Databases + Files + AllocGlobal + Abort>(
     let database = folder.join(alloc, format!(in alloc; "db{room}")?)?;
     let [one, two] = uploads;
     let words = ["collect", database.as_str(), one, two];
-    let (told, status) = run_into(rt, &words, room)?;
-    let run = (Vec::new(alloc), told, status);
-    expect_run(rt, run, b"", "write failed\n", 3)?;
+    let ran = run_into(rt, &words, room)?;
+    expect_run(ran, b"", "write failed\n", 3)?;
     expect_export(rt, &database, stored)
 }

@@ -1,16 +1,16 @@
 //! Sources over a device that fails once.
 
-use super::journal_file;
-use crate::gather::{all_entries, count_entries};
 use jc_base::{Ending, Limits, Stop};
 use jc_file::faulty::FailSpace;
 use jc_file::{FileEntries, SliceSpace};
+use jc_samples::JOURNAL_FILE;
+use jc_sender::{all_entries, count_entries};
 use std::test::Fail;
 
 #[test]
 fn a_read_that_fails_is_told_wherever_it_comes(rt: HostRuntime) -> Result<(), Fail> {
     let alloc = rt.alloc();
-    let bytes = journal_file();
+    let bytes = JOURNAL_FILE;
     let limits = Limits::default();
     let mut last_failure = 0;
     for passes in 0..100 {

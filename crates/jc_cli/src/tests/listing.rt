@@ -1,40 +1,21 @@
 //! `export` and `show`: what they print of a journal, and in which order they refuse.
 
-use super::{
-    ENTRY, META, SOURCE, entry, expect, expect_over, expect_refusals, expect_run, front_of, head,
-    new_folder, run_into, run_over,
+use super::runs::{
+    expect, expect_over, expect_refusals, expect_run, front_of, new_folder, run_into, run_over,
 };
-use crate::database::Databases;
+use jc_samples::{ENTRY, LAST_ENTRY, METADATA, SHOWN, SOURCE, head, numbered_entry};
 use std::fs;
 use std::path::PathBuf;
-use std::process::Abort;
-use std::rt::Files;
 use std::test::Fail;
 
-/// The sample entry's line.
-const LINE: &str = "000102030405060708090a0b0c0d0e0f 1 1000000 5 hi\n";
-
-/// The sample entry under an id of 32 digits `f`.
-const LAST: &[u8] = b"__REALTIME_TIMESTAMP=1000000
-__MONOTONIC_TIMESTAMP=5
-__SEQNUM=1
-__SEQNUM_ID=ffffffffffffffffffffffffffffffff
-MESSAGE=hi
-
-";
-
 /// Collects these parts of an export stream as one upload.
-fn take<R: Files + AllocGlobal + Databases>(
-    rt: &R,
-    database: &PathBuf,
-    parts: &[&[u8]],
-) -> Result<(), Fail> {
+fn take(rt: &HostRuntime, database: &PathBuf, parts: &[&[u8]]) -> Result<(), Fail> {
     let mut upload = Vec::from_slice(rt.alloc(), &head(1, 0))?;
     for part in parts {
         upload.extend_from_slice(part)?;
     }
-    let (_, _, status) = run_over(rt, &["collect", database.as_str()], &upload)?;
-    if status != 0 {
+    let ran = run_over(rt, &["collect", database.as_str()], &upload)?;
+    if ran.status != 0 {
         return Err(Fail::from("the upload is refused"));
     }
     Ok(())
@@ -45,10 +26,10 @@ fn entries_are_exported_in_the_order_of_their_keys(rt: HostRuntime) -> Result<()
     let alloc = rt.alloc();
     let folder = new_folder(&rt, "keys")?;
     let database = folder.join(alloc, "db")?;
-    take(&rt, &database, &[LAST])?;
+    take(&rt, &database, &[LAST_ENTRY])?;
     take(&rt, &database, &[ENTRY])?;
     let mut text = Vec::from_slice(alloc, ENTRY)?;
-    text.extend_from_slice(LAST)?;
+    text.extend_from_slice(LAST_ENTRY)?;
     expect_over(&rt, &["export", database.as_str()], b"", &text, "", 0)?;
     fs::remove_dir_all(&rt, folder.as_path())?;
     Ok(())
@@ -59,17 +40,24 @@ fn show_picks_by_number_and_id(rt: HostRuntime) -> Result<(), Fail> {
     let alloc = rt.alloc();
     let folder = new_folder(&rt, "picks")?;
     let database = folder.join(alloc, "db")?;
-    let (second, third) = (entry(&rt, 2)?, entry(&rt, 3)?);
+    let (second, third) = (
+        numbered_entry(rt.alloc(), 2)?,
+        numbered_entry(rt.alloc(), 3)?,
+    );
     take(&rt, &database, &[ENTRY])?;
-    expect(&rt, &["show", database.as_str()], LINE, "", 0)?;
+    expect(&rt, &["show", database.as_str()], SHOWN, "", 0)?;
     expect(&rt, &["show", database.as_str(), "--from", "2"], "", "", 0)?;
-    take(&rt, &database, &[second.as_bytes(), third.as_bytes(), LAST])?;
+    take(
+        &rt,
+        &database,
+        &[second.as_bytes(), third.as_bytes(), LAST_ENTRY],
+    )?;
     let two = "000102030405060708090a0b0c0d0e0f 2 1000000 5 hi\n";
     let last = "ffffffffffffffffffffffffffffffff 1 1000000 5 hi\n";
     let name = database.as_str();
     expect(&rt, &["show", name, "--from", "2", "--to", "2"], two, "", 0)?;
     expect(&rt, &["show", name, "--from", "2", "--to", "1"], "", "", 0)?;
-    let both = format!(in alloc; "{LINE}{last}")?;
+    let both = format!(in alloc; "{SHOWN}{last}")?;
     expect(&rt, &["show", name, "--to", "1"], both.as_str(), "", 0)?;
     let lower = "ffffffffffffffffffffffffffffffff";
     expect(&rt, &["show", name, "--id", lower], last, "", 0)?;
@@ -84,12 +72,12 @@ fn show_picks_by_number_and_id(rt: HostRuntime) -> Result<(), Fail> {
 fn show_prints_the_least_message(rt: HostRuntime) -> Result<(), Fail> {
     let folder = new_folder(&rt, "messages")?;
     let database = folder.join(rt.alloc(), "db")?;
-    let second = entry(&rt, 2)?;
+    let second = numbered_entry(rt.alloc(), 2)?;
     let meta = front_of(&rt, second.as_bytes(), 109)?;
     let several: &[u8] = b"MESSAGE=hi\nMESSAGE=ha\nMESSAGES=a\nMESSAGE=hj\n\n";
     let binary: &[u8] = b"MESSAGE\n\x02\0\0\0\0\0\0\0\x01x\nMESSAGE=hi\n\n";
-    take(&rt, &database, &[META, several, &meta, binary])?;
-    let third = entry(&rt, 3)?;
+    take(&rt, &database, &[METADATA, several, &meta, binary])?;
+    let third = numbered_entry(rt.alloc(), 3)?;
     let bare = front_of(&rt, third.as_bytes(), 109)?;
     take(&rt, &database, &[&bare, b"\n"])?;
     let lines = "000102030405060708090a0b0c0d0e0f 1 1000000 5 ha
@@ -102,11 +90,7 @@ fn show_prints_the_least_message(rt: HostRuntime) -> Result<(), Fail> {
 }
 
 /// An id that is none is told before anything is said of the database.
-fn expect_bad_id<R: Databases + Files + AllocGlobal + Abort>(
-    rt: &R,
-    database: &str,
-    id: &str,
-) -> Result<(), Fail> {
+fn expect_bad_id(rt: &HostRuntime, database: &str, id: &str) -> Result<(), Fail> {
     let words = ["show", database, "--id", id];
     expect(rt, &words, "", "bad id\n", 2)?;
     let words = ["show", ":db", "--id", id];
@@ -142,22 +126,16 @@ fn a_listing_that_cannot_be_written_is_told(rt: HostRuntime) -> Result<(), Fail>
     expect_full(&rt, database.as_str(), 0)?;
     expect_full(&rt, database.as_str(), 1)?;
     expect_full(&rt, database.as_str(), 47)?;
-    let (told, status) = run_into(&rt, &["show", database.as_str()], 48)?;
-    expect_run(&rt, (Vec::new(alloc), told, status), b"", "", 0)?;
+    let ran = run_into(&rt, &["show", database.as_str()], 48)?;
+    expect_run(ran, b"", "", 0)?;
     fs::remove_dir_all(&rt, folder.as_path())?;
     Ok(())
 }
 
 /// Where standard output takes so many bytes, neither listing can be written.
-fn expect_full<R: Databases + Files + AllocGlobal + Abort>(
-    rt: &R,
-    database: &str,
-    room: usize,
-) -> Result<(), Fail> {
-    let (told, status) = run_into(rt, &["export", database], room)?;
-    let run = (Vec::new(rt.alloc()), told, status);
-    expect_run(rt, run, b"", "write failed\n", 3)?;
-    let (told, status) = run_into(rt, &["show", database], room)?;
-    let run = (Vec::new(rt.alloc()), told, status);
-    expect_run(rt, run, b"", "write failed\n", 3)
+fn expect_full(rt: &HostRuntime, database: &str, room: usize) -> Result<(), Fail> {
+    let ran = run_into(rt, &["export", database], room)?;
+    expect_run(ran, b"", "write failed\n", 3)?;
+    let ran = run_into(rt, &["show", database], room)?;
+    expect_run(ran, b"", "write failed\n", 3)
 }

@@ -1,13 +1,9 @@
 //! `upload`: what it prints, and in which order it refuses.
 
-use super::{
-    ENTRY, SOURCE, entry, expect, expect_over, head, journal_file, new_folder, run, write_parts,
-};
-use crate::database::Databases;
+use super::runs::{expect, expect_over, new_folder, run, write_parts};
+use jc_samples::{ENTRY, JOURNAL_FILE, SOURCE, head, numbered_entry};
 use std::fs;
 use std::path::PathBuf;
-use std::process::Abort;
-use std::rt::Files;
 use std::test::Fail;
 
 /// The two files of a source.
@@ -31,9 +27,9 @@ fn new_paths(rt: &HostRuntime, name: &str) -> Result<Paths, Fail> {
 
 impl Paths {
     /// An upload of this kind prints this header and this body.
-    fn expect_upload<R: Databases + Files + AllocGlobal + Abort>(
+    fn expect_upload(
         &self,
-        rt: &R,
+        rt: &HostRuntime,
         kind: &str,
         limit: Option<&str>,
         head: &[u8],
@@ -54,9 +50,9 @@ impl Paths {
     }
 
     /// An upload of this kind prints nothing but this line on standard error.
-    fn expect_refusal<R: Databases + Files + AllocGlobal + Abort>(
+    fn expect_refusal(
         &self,
-        rt: &R,
+        rt: &HostRuntime,
         kind: &str,
         line: &str,
         status: u8,
@@ -68,10 +64,10 @@ impl Paths {
 }
 
 /// The entries of these numbers, the first and the last of them among them.
-fn entries<R: AllocGlobal>(rt: &R, first: u64, last: u64) -> Result<String, Fail> {
+fn entries(rt: &HostRuntime, first: u64, last: u64) -> Result<String, Fail> {
     let mut text = String::new(rt.alloc());
     for number in first..=last {
-        text.push_str(entry(rt, number)?.as_str())?;
+        text.push_str(numbered_entry(rt.alloc(), number)?.as_str())?;
     }
     Ok(text)
 }
@@ -96,7 +92,7 @@ fn an_upload_has_the_entries_behind_the_resume_point(rt: HostRuntime) -> Result<
     fs::write(&rt, paths.resume.as_path(), point)?;
     let last_two = entries(&rt, 2, 3)?;
     paths.expect_upload(&rt, "export", None, &head(1, 1), last_two.as_bytes())?;
-    let second = entry(&rt, 2)?;
+    let second = numbered_entry(rt.alloc(), 2)?;
     paths.expect_upload(&rt, "export", Some("1"), &head(1, 1), second.as_bytes())?;
     let point = "resume 3 000102030405060708090a0b0c0d0e0f 3\n";
     fs::write(&rt, paths.resume.as_path(), point)?;
@@ -114,10 +110,13 @@ fn an_upload_has_a_thousand_entries_unless_a_limit_is_given(rt: HostRuntime) -> 
     let words = [
         "upload", "--source", SOURCE, "--resume", resume, "export", file,
     ];
-    let (printed, _, status) = run(&rt, &words)?;
-    assert_eq!(rt; status, 0);
+    let ran = run(&rt, &words)?;
+    assert_eq!(rt; ran.status, 0);
     // 9 numbers of one digit, 90 of two, 900 of three and one of four, in entries that have 120 bytes beside
-    assert_eq!(rt; printed.len(), 48 + 1000 * 120 + 9 + 2 * 90 + 3 * 900 + 4);
+    assert_eq!(rt;
+        ran.output.len(),
+        48 + 1000 * 120 + 9 + 2 * 90 + 3 * 900 + 4
+    );
     fs::remove_dir_all(&rt, paths.folder.as_path())?;
     Ok(())
 }
@@ -125,7 +124,7 @@ fn an_upload_has_a_thousand_entries_unless_a_limit_is_given(rt: HostRuntime) -> 
 #[test]
 fn a_journal_file_is_uploaded_whole(rt: HostRuntime) -> Result<(), Fail> {
     let paths = new_paths(&rt, "upload-file")?;
-    let file = journal_file();
+    let file = JOURNAL_FILE;
     fs::write(&rt, paths.file.as_path(), file.as_slice())?;
     // 48 bytes, and the 400 of the file
     paths.expect_upload(&rt, "file", None, &head(2, 0), file.as_slice())?;
@@ -148,7 +147,7 @@ fn a_journal_file_is_uploaded_whole(rt: HostRuntime) -> Result<(), Fail> {
 #[test]
 fn a_source_that_changed_is_refused(rt: HostRuntime) -> Result<(), Fail> {
     let paths = new_paths(&rt, "changed")?;
-    let second = entry(&rt, 2)?;
+    let second = numbered_entry(rt.alloc(), 2)?;
     write_parts(&rt, &paths.file, &[ENTRY])?;
     // fewer entries than the position says
     let point = "resume 2 000102030405060708090a0b0c0d0e0f 2\n";
@@ -205,22 +204,15 @@ fn the_id_of_a_source_may_have_upper_case_digits(rt: HostRuntime) -> Result<(), 
 }
 
 /// A limit that is a wrong command line.
-fn expect_wrong_limit<R: Databases + Files + AllocGlobal + Abort>(
-    rt: &R,
-    kind: &str,
-    limit: &str,
-) -> Result<(), Fail> {
+fn expect_wrong_limit(rt: &HostRuntime, kind: &str, limit: &str) -> Result<(), Fail> {
     let words = [
         "upload", "--source", SOURCE, "--resume", "r", limit, kind, "in",
     ];
-    let (output, errors, status) = run(rt, &words)?;
-    assert!(rt; output.is_empty(), "{words:?}");
-    let text = String::from_utf8(errors)?;
-    assert!(rt;
-        text.as_str().starts_with("error: invalid value"),
-        "{words:?}"
-    );
-    assert_eq!(rt; status, 2);
+    let ran = run(rt, &words)?;
+    let is_told = ran.errors.starts_with(b"error: invalid value".as_slice());
+    if !ran.output.is_empty() || !is_told || ran.status != 2 {
+        return Err(Fail::new(format_args!("{words:?} are no mistake")));
+    }
     Ok(())
 }
 

@@ -1,21 +1,15 @@
 //! `verify file`: journal files that are a few bytes away from one another.
 
-use super::{expect, journal_file, new_folder, put, put_number, write_parts};
-use crate::database::Databases;
+use super::runs::{expect, new_folder, write_parts};
+use jc_samples::{ENTRY, JOURNAL_FILE, LONG_HEADER_FILE, put_number};
 use std::fs;
-use std::process::Abort;
-use std::rt::Files;
 use std::test::Fail;
 
 /// Each row: the numbers that are put into the file of one entry, with their places, and what is printed.
-fn file_rows<R: Databases + Files + AllocGlobal + Abort>(
-    rt: &R,
-    path: &str,
-    rows: &[(&[(usize, u64)], &str)],
-) -> Result<(), Fail> {
+fn file_rows(rt: &HostRuntime, path: &str, rows: &[(&[(usize, u64)], &str)]) -> Result<(), Fail> {
     let alloc = rt.alloc();
     for (edits, text) in rows {
-        let mut file = journal_file();
+        let mut file = JOURNAL_FILE;
         for (place, number) in *edits {
             put_number(&mut file, *place, *number);
         }
@@ -55,9 +49,9 @@ fn an_export_stream_is_no_journal_file(rt: HostRuntime) -> Result<(), Fail> {
     let folder = new_folder(&rt, "kinds")?;
     let file = folder.join(rt.alloc(), "in")?;
     let words = ["verify", "file", file.as_str()];
-    write_parts(&rt, &file, &[super::ENTRY])?;
+    write_parts(&rt, &file, &[ENTRY])?;
     expect(&rt, words.as_slice(), "bad 30 121\n", "", 1)?;
-    write_parts(&rt, &file, &[super::ENTRY, super::ENTRY])?;
+    write_parts(&rt, &file, &[ENTRY, ENTRY])?;
     expect(&rt, words.as_slice(), "bad 31 0\n", "", 1)?;
     write_parts(&rt, &file, &[])?;
     expect(&rt, words.as_slice(), "bad 30 0\n", "", 1)?;
@@ -81,25 +75,12 @@ fn a_folder_is_no_journal_file_and_a_missing_one_is_not_opened(
     Ok(())
 }
 
-/// The regular layout in a file that has 64 bytes more in its header, a keyed hash and a boot id of its last entry.
 #[test]
 fn a_longer_header_is_read(rt: HostRuntime) -> Result<(), Fail> {
-    let short = journal_file();
-    let mut long = [0; 464];
-    for (slot, byte) in long.iter_mut().take(208).zip(&short) {
-        *slot = *byte;
-    }
-    for (slot, byte) in long.iter_mut().skip(272).zip(short.iter().skip(208)) {
-        *slot = *byte;
-    }
-    put(&mut long, 8, &[2, 0, 0, 0, 4]);
-    for (place, number) in [(88, 272), (176, 272), (296, 304), (368, 384)] {
-        put_number(&mut long, place, number);
-    }
     let folder = new_folder(&rt, "long-header")?;
     let file = folder.join(rt.alloc(), "journal")?;
     let words = ["verify", "file", file.as_str()];
-    fs::write(&rt, file.as_path(), long.as_slice())?;
+    fs::write(&rt, file.as_path(), LONG_HEADER_FILE.as_slice())?;
     expect(&rt, words.as_slice(), "ok 1 0\n", "", 0)?;
     fs::remove_dir_all(&rt, folder.as_path())?;
     Ok(())

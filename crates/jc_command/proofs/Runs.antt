@@ -1,0 +1,197 @@
+-- How a run ends, from what its parts promise.
+use Rattle.std.proofs.Common.{◌≡◌, ◌≢◌, ◌⊎◌, ◌∙◌, ap, refl, sym, subst, inl, inr, Bool, true, false, List, ℕ, Option, Some, None}
+use Rattle.std.specs.Prelude.{IfOk, IfErr, Result, Ok, Err, if◌then◌else◌}
+use Rattle.std.specs.List.{list_any}
+use Rattle.std.specs.Io.KnownBytes.{Keeps}
+use Rattle.clap.specs.Words.{Text}
+use Rattle.clap.specs.declared.error.kind.ErrorKind.{ErrorKind}
+use Rattle.clap.specs.declared.error.kind.ErrorKind.TheVariants as kind
+use Rattle.jc_base.specs.declared.fault.Ending.{Ending}
+use Rattle.jc_base.specs.declared.fault.Ending.TheVariants.{End, Bad}
+use Rattle.jc_database.specs.declared.health.Health.{Health}
+use Rattle.jc_database.specs.declared.health.Health.TheVariants as health
+use Rattle.jc_console.specs.declared.failure.Failure.{Failure}
+use Rattle.jc_console.specs.declared.failure.Failure.TheVariants as failures
+use Rattle.jc_console.specs.declared.status.Status.{Status}
+use Rattle.jc_console.specs.declared.status.Status.TheVariants.{Success, Refused, Misused, Failed}
+use Rattle.jc_words.specs.declared.request.Request.{Request}
+use Rattle.jc_words.specs.declared.request.Request.TheVariants.{Verify, Upload, Ack}
+use Rattle.jc_words.specs.declared.request.Request.TheVariants as requests
+use Rattle.jc_collect.specs.Answer.{is_failure}
+use Rattle.jc_words.specs.Answer.{IsAskedFor}
+use Rattle.jc_database.specs.Answered.{is_refusal}
+use Rattle.jc_database.specs.Checked.{health_status}
+use Rattle.jc_console.specs.Failure.{status_of}
+use Rattle.jc_command.specs.Run.{Ends, FailsBy, Performs, Stops, StopsAsked}
+use Rattle.jc_console.specs.Status.{number_of}
+use Rattle.jc_sender.specs.Verdict.{verdict_status}
+use Rattle.jc_words.specs.Words.{AreAnswered, AskFor}
+
+keeps_itself : (known : Option (List ℕ)) → Keeps known known
+keeps_itself None = tt
+keeps_itself (Some bytes) = refl
+
+-- a reading's status is one of two
+not_misused : (ending : Ending) → Misused ≡ verdict_status ending → ⊥
+not_misused (End left) same = cc
+not_misused (Bad fault) same = cc
+
+health_not_misused : (health : Health) → Misused ≡ health_status health → ⊥
+health_not_misused (health.Whole count) same = cc
+health_not_misused (health.Bad fault) same = cc
+
+judged_not_misused : (failed refused : Bool) → Misused ≡ (if failed then Failed else (if refused then Refused else Success)) → ⊥
+judged_not_misused true refused same = cc
+judged_not_misused false true same = cc
+judged_not_misused false false same = cc
+
+-- what was asked for is performed
+pub performed : (words : List Text) (request : Request) (given output output' errors : Option (List ℕ)) (status : Status)
+    → AskFor words request → Performs request given output output' status → Ends words given output output' errors errors status
+performed words request given output output' errors Success asks does = (keeps_itself errors, inr (request, asks, does))
+performed words request given output output' errors Refused asks does = inl (request, asks, does)
+performed words request given output output' errors Failed asks does = (request, asks, does)
+performed words (Verify k file) given output output' errors Misused asks (count, ending, told) = absurd (not_misused ending told.judged)
+performed words (Upload source limit) given output output' errors Misused asks does = let same : Misused ≡ Success = does.0 in cc
+performed words (Ack source) given output output' errors Misused asks does = let same : Misused ≡ Success = does.0 in cc
+performed words (requests.Collect database uploads) given output output' errors Misused asks does =
+    absurd (judged_not_misused (list_any is_failure does.answers) (list_any is_refusal does.answers) does.is)
+performed words (requests.Export database) given output output' errors Misused asks does = let same : Misused ≡ Success = does in cc
+performed words (requests.Show database id first last) given output output' errors Misused asks does = let same : Misused ≡ Success = does in cc
+performed words (requests.Check database) given output output' errors Misused asks (health, is, told) = absurd (health_not_misused health told.judged)
+
+-- a failure's status is that of a device or memory, or another one
+device_or_not : (status : Status) → (status ≡ Failed) ⊎ (status ≢ Failed)
+device_or_not Success = inr (λ e. cc)
+device_or_not Refused = inr (λ e. cc)
+device_or_not Misused = inr (λ e. cc)
+device_or_not Failed = inl refl
+
+-- what stays the same where no write failed stays the same where no device did
+pub unless_failed : {T : Type 0} (r : Result T Failure) (output output' : Option (List ℕ))
+    → IfErr r (λ failure. failure ≢ failures.WriteFailed → Keeps output output')
+    → IfErr r (λ failure. status_of failure ≢ Failed → Keeps output output')
+unless_failed (Ok x) output output' keeps = tt
+unless_failed (Err failure) output output' keeps = λ other. keeps (λ is. other (ap status_of is))
+
+pub IfErr-both : {T E : Type 0} (r : Result T E) (P Q R : E → Type 0) → ((e : E) → P e → Q e → R e) → IfErr r P → IfErr r Q
+    → IfErr r R
+IfErr-both (Ok x) P Q R both p q = tt
+IfErr-both (Err e) P Q R both p q = both e p q
+
+-- what was asked for fails
+pub failed : (words : List Text) (request : Request) (given output output' : Option (List ℕ)) (failure : Failure)
+    → AskFor words request → FailsBy request given failure → (status_of failure ≢ Failed → Keeps output output')
+    → Stops words given output output' failure
+failed words request given output output' failure asks why keeps = elim (device_or_not (status_of failure)) [
+  | inl device ↦ inl device
+  | inr other ↦ inr (record {
+    request = request;
+    asked = asks;
+    failure = failure;
+    why = why;
+    judged = refl;
+    kept = keeps other;
+  })
+]
+
+-- a kind of answer: help or the version, want of memory, or a mistake
+sorted : (k : ErrorKind) → IsAskedFor k ⊎ ((k ≡ kind.OutOfMemory) ⊎ (¬ IsAskedFor k × (k ≢ kind.OutOfMemory)))
+sorted kind.DisplayHelp = inl (inl refl)
+sorted kind.DisplayVersion = inl (inr refl)
+sorted kind.OutOfMemory = inr (inl refl)
+sorted _ = inr (inr (λ asked. elim asked [ inl e ↦ cc | inr e ↦ cc ], λ e. cc))
+
+-- the words are answered in place of a request
+pub told : (words : List Text) (k : ErrorKind) (r : Result Status Failure)
+    (given output output' errors errors' : Option (List ℕ)) → AreAnswered words k
+    → (IsAskedFor k → IfOk r (λ status. status ≡ Success) × IfErr r (λ why. why ≡ failures.WriteFailed) × Keeps errors errors')
+    → (¬ IsAskedFor k → k ≢ kind.OutOfMemory → (r ≡ Ok Misused) × Keeps output output')
+    → (k ≡ kind.OutOfMemory → r ≡ Err failures.OutOfMemory)
+    → IfOk r (Ends words given output output' errors errors')
+told words k r given output output' errors errors' answered asked mistaken memory =
+    let Goal : Result Status Failure → Type 0 = λ r. IfOk r (Ends words given output output' errors errors') in
+    elim (sorted k) [
+      | inl h ↦ shown r (asked h) h
+      | inr rest ↦ elim rest [
+        | inl m ↦ subst Goal (sym (memory m)) tt
+        | inr n ↦ subst Goal (sym (mistaken n.0 n.1).0) (inl ((k, n.0, answered), (mistaken n.0 n.1).1))
+      ]
+    ]
+  where
+    shown : (r : Result Status Failure)
+        → IfOk r (λ status. status ≡ Success) × IfErr r (λ why. why ≡ failures.WriteFailed) × Keeps errors errors'
+        → IsAskedFor k → IfOk r (Ends words given output output' errors errors')
+    shown (Ok status) facts h =
+        subst (Ends words given output output' errors errors') (sym facts.0) (facts.2, inl (k, h, answered))
+    shown (Err why) facts h = tt
+
+-- a status is known by its number
+pub same_status : (s t : Status) → number_of s ≡ number_of t → s ≡ t
+same_status Success Success e = refl
+same_status Success Refused e = cc
+same_status Success Misused e = cc
+same_status Success Failed e = cc
+same_status Refused Success e = cc
+same_status Refused Refused e = refl
+same_status Refused Misused e = cc
+same_status Refused Failed e = cc
+same_status Misused Success e = cc
+same_status Misused Refused e = cc
+same_status Misused Misused e = refl
+same_status Misused Failed e = cc
+same_status Failed Success e = cc
+same_status Failed Refused e = cc
+same_status Failed Misused e = cc
+same_status Failed Failed e = refl
+
+-- the status that a number says, over words that are the same
+pub by_number : (words texts : List Text) (given output output' errors errors' : Option (List ℕ)) (n : ℕ) (status wanted : Status)
+    → texts ≡ words → n ≡ number_of status → n ≡ number_of wanted → Ends texts given output output' errors errors' status
+    → Ends words given output output' errors errors' wanted
+by_number words texts given output output' errors errors' n status wanted same is wants ends =
+    subst (Ends words given output output' errors errors') (same_status status wanted (sym is ∙ wants))
+    (subst (λ (t : List Text). Ends t given output output' errors errors' status) same ends)
+
+-- a run that stops short ends with the failure's status
+stops : (words : List Text) (given output output' errors errors' : Option (List ℕ)) (failure : Failure) (wanted : Status)
+    → status_of failure ≡ wanted → (wanted ≡ Refused) ⊎ (wanted ≡ Misused) → Stops words given output output' failure
+    → Ends words given output output' errors errors' wanted
+stops words given output output' errors errors' failure Success same which stopped = elim which [ inl e ↦ cc | inr e ↦ cc ]
+stops words given output output' errors errors' failure Failed same which stopped = elim which [ inl e ↦ cc | inr e ↦ cc ]
+stops words given output output' errors errors' failure Refused same which stopped = elim stopped [
+  | inl failed ↦ let both : Failed ≡ Refused = sym failed ∙ same in cc
+  | inr asked ↦ inr (subst (StopsAsked words given output output') same asked)
+]
+stops words given output output' errors errors' failure Misused same which stopped = elim stopped [
+  | inl failed ↦ let both : Failed ≡ Misused = sym failed ∙ same in cc
+  | inr asked ↦ inr (subst (StopsAsked words given output output') same asked)
+]
+
+pub stops_by_number : (words texts : List Text) (given output output' errors errors' : Option (List ℕ)) (n : ℕ)
+    (failure : Failure) (wanted : Status) → texts ≡ words → n ≡ number_of (status_of failure) → n ≡ number_of wanted
+    → (wanted ≡ Refused) ⊎ (wanted ≡ Misused) → Stops texts given output output' failure
+    → Ends words given output output' errors errors' wanted
+stops_by_number words texts given output output' errors errors' n failure wanted same is wants which stopped =
+    stops words given output output' errors errors' failure wanted (same_status (status_of failure) wanted (sym is ∙ wants)) which
+    (subst (λ (t : List Text). Stops t given output output' failure) same stopped)
+
+-- ... and an answer in place of a request fails only where a device or memory does
+pub told_stops : (words : List Text) (k : ErrorKind) (r : Result Status Failure) (given output output' errors errors' : Option (List ℕ))
+    → (IsAskedFor k → IfOk r (λ status. status ≡ Success) × IfErr r (λ why. why ≡ failures.WriteFailed) × Keeps errors errors')
+    → (¬ IsAskedFor k → k ≢ kind.OutOfMemory → (r ≡ Ok Misused) × Keeps output output')
+    → (k ≡ kind.OutOfMemory → r ≡ Err failures.OutOfMemory)
+    → IfErr r (Stops words given output output')
+told_stops words k r given output output' errors errors' asked mistaken memory =
+    let Goal : Result Status Failure → Type 0 = λ r. IfErr r (Stops words given output output') in
+    elim (sorted k) [
+      | inl h ↦ by_write r (asked h).1
+      | inr rest ↦ elim rest [
+        | inl m ↦ subst Goal (sym (memory m)) (inl refl)
+        | inr n ↦ subst Goal (sym (mistaken n.0 n.1).0) tt
+      ]
+    ]
+  where
+    by_write : (r : Result Status Failure) → IfErr r (λ why. why ≡ failures.WriteFailed) → IfErr r (Stops words given output output')
+    by_write (Ok status) fact = tt
+    by_write (Err why) fact = inl (ap status_of fact)

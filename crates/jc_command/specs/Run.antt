@@ -1,0 +1,77 @@
+-- How a run of the program ends. (own)
+use Rattle.std.specs.Prelude.{◌≡◌, ◌⊎◌, ⊤, ℕ, List, Option, length, map, option_map}
+use Rattle.std.specs.Io.KnownBytes.{Keeps}
+use Rattle.clap.specs.Words.{Text}
+use Rattle.jc_base.specs.declared.fault.Ending.{Ending}
+use Rattle.jc_database.specs.declared.health.Health.{Health}
+use Rattle.jc_console.specs.declared.failure.Failure.{Failure}
+use Rattle.jc_console.specs.declared.failure.Failure.TheVariants.{CannotOpen, OutOfMemory, ReadFailed, WriteFailed}
+use Rattle.jc_console.specs.declared.status.Status.{Status}
+use Rattle.jc_console.specs.declared.status.Status.TheVariants.{Success, Refused, Misused, Failed}
+use Rattle.jc_words.specs.declared.request.Request.{Request}
+use Rattle.jc_words.specs.declared.request.Request.TheVariants.{Collect, Show, Check, Verify, Upload, Ack}
+use Rattle.jc_words.specs.declared.request.Request.TheVariants as request
+use Rattle.jc_database.specs.Answered.{TellsAnswers, number_of_uploads}
+use Rattle.jc_database.specs.Checked.{IsHealth, TellsHealth}
+use Rattle.jc_database.specs.Database.{CheckFailsBy, CollectFailsBy, DatabaseFailsBy, ShowFailsBy}
+use Rattle.jc_console.specs.Failure.{status_of}
+use Rattle.jc_sender.specs.Sent.{TellsSomeUpload}
+use Rattle.jc_sender.specs.Failing.{AckFailsBy, UploadFailsBy}
+use Rattle.jc_sender.specs.Taken.{TellsSomePoint}
+use Rattle.jc_sender.specs.Verdict.{TellsReading}
+use Rattle.jc_words.specs.Words.{AreWrong, AskFor, AskForHelp}
+
+-- What standard output gains where a request is performed, over what standard input gives, and the status: `verify` tells
+-- a reading, `upload` an upload, `ack` a resume point, `collect` an answer to each upload, and `check` what there is of a
+-- journal. Of a listing nothing is said here, and of answers not which: no contract can name what a database's file holds.
+abbrev pub Performs : Request → (given old new : Option (List ℕ)) → Status → Type 0
+Performs (Verify kind file) given old new status = (count : ℕ) × (ending : Ending) × TellsReading count ending status old new
+Performs (Upload source limit) given old new status = (status ≡ Success) × TellsSomeUpload source limit old new
+Performs (Ack source) given old new status = (status ≡ Success) × TellsSomePoint source given old new
+Performs (Collect database uploads) given old new status = TellsAnswers (number_of_uploads (length uploads.items)) status old new
+Performs (request.Export database) given old new status = status ≡ Success
+Performs (Show database id first last) given old new status = status ≡ Success
+Performs (Check database) given old new status = (health : Health) × IsHealth health × TellsHealth health status old new
+
+-- Why a request fails: its own file can't be opened, what it names is refused, or a device or memory fails.
+abbrev pub FailsBy : Request → (given : Option (List ℕ)) → Failure → Type 0
+FailsBy (Verify kind file) given (CannotOpen path) = path.now ≡ file.now
+FailsBy (Verify kind file) given ReadFailed = ⊤
+FailsBy (Verify kind file) given WriteFailed = ⊤
+FailsBy (Verify kind file) given OutOfMemory = ⊤
+FailsBy (Verify kind file) given _ = ⊥
+FailsBy (Upload source limit) given failure = UploadFailsBy source failure
+FailsBy (Ack source) given failure = AckFailsBy source given failure
+FailsBy (Collect database uploads) given failure = CollectFailsBy database.now (map (λ path. path.now) uploads.items) failure
+FailsBy (request.Export database) given failure = DatabaseFailsBy database.now failure
+FailsBy (Show database id first last) given failure = ShowFailsBy database.now (option_map (λ digits. digits.now) id) failure
+FailsBy (Check database) given failure = CheckFailsBy database.now failure
+
+-- The words ask for something, and it is performed.
+abbrev pub PerformsAsked : List Text → (given old new : Option (List ℕ)) → Status → Type 0
+PerformsAsked words given old new status = (request : Request) × AskFor words request × Performs request given old new status
+
+-- The words ask for something that fails with this status, before anything is printed.
+pub record StopsAsked (words : List Text) (given old new : Option (List ℕ)) (status : Status) : Type 0 where
+  pub request : Request
+  pub asked : AskFor words request
+  pub failure : Failure
+  pub why : FailsBy request given failure
+  pub judged : status ≡ status_of failure
+  pub kept : Keeps old new
+
+-- How a run over these words ends by its status, unless something fails that is told on standard error: what it prints on
+-- standard output, and that it prints nothing on standard error where all is well.
+abbrev pub Ends : List Text → (given output output' errors errors' : Option (List ℕ)) → Status → Type 0
+Ends words given output output' errors errors' Success =
+    Keeps errors errors' × (AskForHelp words ⊎ PerformsAsked words given output output' Success)
+Ends words given output output' errors errors' Refused =
+    PerformsAsked words given output output' Refused ⊎ StopsAsked words given output output' Refused
+Ends words given output output' errors errors' Misused =
+    (AreWrong words × Keeps output output') ⊎ StopsAsked words given output output' Misused
+Ends words given output output' errors errors' Failed = PerformsAsked words given output output' Failed
+
+-- Where a run stops short, a device or memory failed, or something was asked for that is refused.
+abbrev pub Stops : List Text → (given output output' : Option (List ℕ)) → Failure → Type 0
+Stops words given output output' failure =
+    (status_of failure ≡ Failed) ⊎ StopsAsked words given output output' (status_of failure)

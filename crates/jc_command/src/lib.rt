@@ -1,0 +1,6 @@
+//! The program's commands as one function: its words, its streams and its status.
+#![tactic(auto)]
+
+mod run;
+
+pub use run::command;

@@ -1,0 +1,129 @@
+//! One run of the program.
+
+ghost use Rattle.std.specs.Prelude.{◌≡◌, ◌≢◌, ◌≤◌, ⊤, Ok, Err, IfOk, IfErr, map, string_bytes};
+ghost use Rattle.std.specs.Io.KnownBytes.{Keeps};
+ghost use Rattle.clap.specs.Words.{kind_of};
+ghost use Rattle.jc_words.specs.Answer.{IsAskedFor};
+ghost use Rattle.jc_console.specs.Failure.{status_of};
+ghost use Rattle.jc_command.specs.Run.{Ends, FailsBy, Performs, Stops};
+
+use clap::error::ErrorKind;
+use jc_console::{Failure, Status, printed};
+use jc_database::{Databases, check, collect, export, show};
+use jc_sender::{ack, upload, verify};
+use jc_words::{Request, parse};
+use std::io::{Read, Write};
+use std::rt::Files;
+
+/// Does what the words ask for and answers the status to end with. The first word is the program's name.
+///
+/// What is asked for goes to `output`. A failure, or what is wrong with the words, goes to `errors`. With status 3
+/// something failed, and then nothing is said of either. Answers of the collector come from `input`.
+pub fn command<R: Databases + Files + AllocGlobal, I: Read, O: Write, E: Write>(
+    rt: &R,
+    words: Vec<String>,
+    input: &mut I,
+    output: &mut O,
+    errors: &mut E,
+) -> u8
+    ensures status { result ≤ 3 }
+    ensures success { result ≡ 0 → Ends (map string_bytes words.items) (I.remaining input.old)
+        (O.contents output.old) (O.contents output.new) (E.contents errors.old) (E.contents errors.new) Status.Success }
+    ensures refused { result ≡ 1 → Ends (map string_bytes words.items) (I.remaining input.old)
+        (O.contents output.old) (O.contents output.new) (E.contents errors.old) (E.contents errors.new) Status.Refused }
+    ensures misused { result ≡ 2 → Ends (map string_bytes words.items) (I.remaining input.old)
+        (O.contents output.old) (O.contents output.new) (E.contents errors.old) (E.contents errors.new) Status.Misused }
+{
+    match answered(rt, words.as_slice(), input, output, errors) {
+        Ok(status) => status.number(),
+        Err(failure) => failure.tell(errors).number(),
+    }
+}
+
+/// Does what the words ask for, up to a failure.
+fn answered<'a, R: Databases + Files + AllocGlobal, I: Read, O: Write, E: Write>(
+    rt: &R,
+    words: &'a [String],
+    input: &mut I,
+    output: &mut O,
+    errors: &mut E,
+) -> Result<Status, Failure<'a>>
+    ensures ended { IfOk result (Ends (map string_bytes words.entry.now) (I.remaining input.old)
+        (O.contents output.old) (O.contents output.new) (E.contents errors.old) (E.contents errors.new)) }
+    ensures stopped { IfErr result (Stops (map string_bytes words.entry.now) (I.remaining input.old) (O.contents output.old)
+        (O.contents output.new)) }
+{
+    match parse(rt.alloc(), words) {
+        Ok(request) => perform(rt, request, input, output),
+        Err(answer) => answer_words(&answer, output, errors),
+    }
+}
+
+#[tactic(auto, using(crate::proofs::Runs::unless_failed))]
+fn perform<'a, R: Databases + Files + AllocGlobal, I: Read, O: Write>(
+    rt: &R,
+    request: Request<'a>,
+    input: &mut I,
+    output: &mut O,
+) -> Result<Status, Failure<'a>>
+    ensures performed { IfOk result (Performs request.entry (I.remaining input.old) (O.contents output.old)
+        (O.contents output.new)) }
+    ensures failed { IfErr result (FailsBy request.entry (I.remaining input.old)) }
+    ensures untouched { IfErr result (λ failure. status_of failure ≢ Status.Failed
+        → Keeps (O.contents output.old) (O.contents output.new)) }
+{
+    match request {
+        Request::Verify { kind, file } => verify(rt, kind, file, output),
+        Request::Upload { source, limit } => {
+            upload(rt, source, limit, output)?;
+            Ok(Status::Success)
+        }
+        Request::Ack { source } => {
+            ack(rt, source, input, output)?;
+            Ok(Status::Success)
+        }
+        Request::Collect { database, uploads } => {
+            collect(rt, database, uploads.as_slice(), input, output)
+        }
+        Request::Export { database } => {
+            export(rt, database, output)?;
+            Ok(Status::Success)
+        }
+        Request::Show {
+            database,
+            id,
+            first,
+            last,
+        } => {
+            show(rt, database, id, first, last, output)?;
+            Ok(Status::Success)
+        }
+        Request::Check { database } => check(rt, database, output),
+    }
+}
+
+/// Prints what `clap` answers in place of a request.
+fn answer_words<'a, O: Write, E: Write>(
+    answer: &clap::Error,
+    output: &mut O,
+    errors: &mut E,
+) -> Result<Status, Failure<'a>>
+    ensures asked { IsAskedFor (kind_of answer.now) → IfOk result (λ status. status ≡ Status.Success)
+        × IfErr result (λ failure. failure ≡ Failure.WriteFailed)
+        × Keeps (E.contents errors.old) (E.contents errors.new) }
+    ensures mistaken { ¬ IsAskedFor (kind_of answer.now) → kind_of answer.now ≢ ErrorKind.OutOfMemory
+        → (result ≡ Ok Status.Misused) × Keeps (O.contents output.old) (O.contents output.new) }
+    ensures memory { kind_of answer.now ≡ ErrorKind.OutOfMemory → result ≡ Err Failure.OutOfMemory }
+{
+    if answer.kind() == ErrorKind::OutOfMemory {
+        return Err(Failure::OutOfMemory);
+    }
+    if answer.use_stderr() {
+        // Where this fails too there is nowhere left to say it.
+        let _ = write!(errors, "{answer}");
+        return Ok(Status::Misused);
+    }
+    let written = write!(output, "{answer}");
+    printed(written, output)?;
+    Ok(Status::Success)
+}

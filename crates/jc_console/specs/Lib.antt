@@ -1,0 +1,4 @@
+pub mod Status
+pub mod Failure
+pub mod Ids
+pub mod Lines

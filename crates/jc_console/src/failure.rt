@@ -1,0 +1,130 @@
+//! Why a command stops short, and the line that says so.
+
+ghost use Rattle.std.specs.Prelude.{◌≡◌, Some};
+ghost use Rattle.jc_console.specs.Failure.{status_of, stop_failure, upload_failure, line_of};
+ghost use Rattle.jc_console.specs.declared.failure.Failure.TheVariants.{OutOfMemory};
+
+use crate::Status;
+use jc_base::{Code, Fault, OutOfMemory, Stop};
+use jc_upload::UploadFault;
+use std::alloc::{AllocError, AllocFailed};
+use std::fmt;
+use std::io::Write;
+
+/// Why a command stops short. Its text is one line on standard error. (own)
+#[derive(Debug, Drop)]
+pub enum Failure<'a> {
+    /// A source's bytes have a fault, or a database has, whose place is the number of a row, from 0.
+    Bad(Fault),
+    /// A source's entries no longer go on from its resume point.
+    SourceChanged,
+    /// A resume file has no resume point's text.
+    BadResume,
+    /// The line of this number, from 1, is no answer's.
+    BadAnswer(u64),
+    /// An id is not 32 hexadecimal digits.
+    BadId,
+    /// A database's name begins with `:` or with `file:`.
+    BadDatabaseName,
+    /// The file of this path cannot be opened.
+    CannotOpen(&'a str),
+    /// A file failed while it was read.
+    ReadFailed,
+    /// Standard output failed while it was written.
+    WriteFailed,
+    /// A database failed while it was read or written.
+    StoreFailed,
+    /// Memory was refused.
+    OutOfMemory,
+    /// A word of the command line is not UTF-8.
+    WordsAreNoText,
+}
+
+impl Failure<'_> {
+    pub fn status(&self) -> Status
+        ensures { result ≡ status_of self.now }
+    {
+        match self {
+            Failure::Bad(_) | Failure::SourceChanged => Status::Refused,
+            Failure::BadResume | Failure::BadAnswer(_) => Status::Refused,
+            Failure::BadId | Failure::BadDatabaseName => Status::Misused,
+            Failure::WordsAreNoText => Status::Misused,
+            _ => Status::Failed,
+        }
+    }
+
+    /// Prints the line. Where that fails too there is nowhere left to say it, and the status stands.
+    pub fn tell<E: Write>(&self, errors: &mut E) -> Status
+        ensures { result ≡ status_of self.now }
+    {
+        let _ = writeln!(errors, "{self}");
+        self.status()
+    }
+}
+
+impl fmt::Display for Failure<'_> {
+    ghost output = { λ failure. Some (line_of failure) };
+
+    fn fmt<W: fmt::Write>(&self, f: &mut fmt::Formatter<W>) -> fmt::Result {
+        match self {
+            Failure::Bad(fault) => write!(f, "bad {} {}", fault.code, fault.place),
+            Failure::SourceChanged => write!(f, "refused {}", Code::SourceChanged),
+            Failure::BadResume => write!(f, "bad resume"),
+            Failure::BadAnswer(line) => write!(f, "bad answer {line}"),
+            Failure::BadId => write!(f, "bad id"),
+            Failure::BadDatabaseName => write!(f, "bad database name"),
+            Failure::CannotOpen(path) => write!(f, "cannot open {path}"),
+            Failure::ReadFailed => write!(f, "read failed"),
+            Failure::WriteFailed => write!(f, "write failed"),
+            Failure::StoreFailed => write!(f, "store failed"),
+            Failure::OutOfMemory => write!(f, "out of memory"),
+            Failure::WordsAreNoText => write!(f, "error: an argument is not UTF-8 text"),
+        }
+    }
+}
+
+impl From<OutOfMemory> for Failure<'_> {
+    ghost from_gives = { λ _ failure. failure ≡ OutOfMemory };
+
+    fn from(_refused: OutOfMemory) -> Self {
+        Failure::OutOfMemory
+    }
+}
+
+impl From<AllocError> for Failure<'_> {
+    ghost from_gives = { λ _ failure. failure ≡ OutOfMemory };
+
+    fn from(_refused: AllocError) -> Self {
+        Failure::OutOfMemory
+    }
+}
+
+impl<T: Drop> From<AllocFailed<T>> for Failure<'_> {
+    ghost from_gives = { λ _ failure. failure ≡ OutOfMemory };
+
+    fn from(_refused: AllocFailed<T>) -> Self {
+        Failure::OutOfMemory
+    }
+}
+
+impl From<Stop> for Failure<'_> {
+    ghost from_gives = { λ stop failure. failure ≡ stop_failure stop };
+
+    fn from(stop: Stop) -> Self {
+        match stop {
+            Stop::ReadFailed => Failure::ReadFailed,
+            Stop::OutOfMemory => Failure::OutOfMemory,
+        }
+    }
+}
+
+impl From<UploadFault> for Failure<'_> {
+    ghost from_gives = { λ fault failure. failure ≡ upload_failure fault };
+
+    fn from(fault: UploadFault) -> Self {
+        match fault {
+            UploadFault::SourceChanged => Failure::SourceChanged,
+            UploadFault::OutOfMemory => Failure::OutOfMemory,
+        }
+    }
+}

@@ -1,0 +1,59 @@
+//! Files that are read whole.
+
+ghost use Rattle.std.specs.Prelude.{◌≡◌, ◌⊎◌, IfOk, IfErr, IfSome, take};
+
+use crate::Failure;
+use std::alloc::Global;
+use std::fs::OpenFile;
+use std::io::Read;
+use std::rt::Files;
+use std::{fs, io};
+
+/// The file at `path`, to be read.
+pub fn open_file<'a, R: Files>(rt: &R, path: &'a str) -> Result<R::File, Failure<'a>>
+    ensures { IfErr result (λ failure. failure ≡ Failure.CannotOpen path.entry) }
+{
+    match fs::open(rt, path) {
+        Ok(file) => Ok(file),
+        Err(_) => Err(Failure::CannotOpen(path)),
+    }
+}
+
+/// The bytes of the file at `path`.
+pub fn read_file<'a, R: Files + AllocGlobal>(rt: &R, path: &'a str) -> Result<Vec<u8>, Failure<'a>>
+    ensures { IfErr result (λ failure. (failure ≡ Failure.CannotOpen path.entry) ⊎ (failure ≡ Failure.ReadFailed)
+        ⊎ (failure ≡ Failure.OutOfMemory)) }
+{
+    let mut file = open_file(rt, path)?;
+    read_whole(rt.alloc(), &mut file)
+}
+
+/// Whether ranges of the file can be read: a pipe gives its bytes once, and a folder none.
+pub fn is_regular<F: OpenFile>(file: &F) -> bool {
+    file.metadata().is_ok_and(|metadata| metadata.is_file())
+}
+
+/// The first `most` bytes of a reader, or all of them where it has no more.
+pub fn read_front<'a, F: Read + Drop>(
+    alloc: Global,
+    file: F,
+    most: u64,
+) -> Result<Vec<u8>, Failure<'a>>
+    ensures front { IfOk result (λ bytes. IfSome (F.remaining file) (λ held. bytes.items ≡ take most held)) }
+    ensures err { IfErr result (λ failure. (failure ≡ Failure.ReadFailed) ⊎ (failure ≡ Failure.OutOfMemory)) }
+{
+    read_whole(alloc, &mut file.take(most))
+}
+
+/// The bytes that a reader has left.
+pub fn read_whole<'a, F: Read>(alloc: Global, file: &mut F) -> Result<Vec<u8>, Failure<'a>>
+    ensures whole { IfOk result (λ bytes. IfSome (F.remaining file.old) (λ held. bytes.items ≡ held)) }
+    ensures err { IfErr result (λ failure. (failure ≡ Failure.ReadFailed) ⊎ (failure ≡ Failure.OutOfMemory)) }
+{
+    let mut bytes = Vec::new(alloc);
+    match file.read_to_end(&mut bytes) {
+        Ok(_) => Ok(bytes),
+        Err(refusal) if refusal.kind() == io::ErrorKind::OutOfMemory => Err(Failure::OutOfMemory),
+        Err(_) => Err(Failure::ReadFailed),
+    }
+}

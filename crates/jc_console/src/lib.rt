@@ -1,0 +1,16 @@
+//! What the program's commands share: files that are read, failures and their lines, statuses, and what is printed.
+#![tactic(auto)]
+
+mod failure;
+mod file;
+mod ids;
+mod lines;
+mod output;
+mod status;
+
+pub use failure::Failure;
+pub use file::{is_regular, open_file, read_file, read_front, read_whole};
+pub use ids::source_id;
+pub use lines::line_length;
+pub use output::printed;
+pub use status::Status;

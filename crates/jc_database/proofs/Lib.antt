@@ -1,0 +1,4 @@
+pub mod AnswerLines
+pub mod Refusals
+pub mod Judging
+pub mod Printing

@@ -1,0 +1,72 @@
+-- The databases that commands work on, and why one of these commands fails. (own)
+use Rattle.std.specs.Prelude.{◌≡◌, ◌⊎◌, ℕ, List, take, Option, None, Some, IsSomeAnd, ⊤, codes}
+use Rattle.std.specs.List.{Contains}
+use Rattle.jc_base.specs.declared.fault.Code.TheVariants.{BadRow, NotAJournal}
+use Rattle.jc_base.specs.declared.fault.Fault.{Fault}
+use Rattle.jc_base.specs.declared.id.Id128.{Id128}
+use Rattle.jc_console.specs.Ids.{IsIdOf, IsIdText}
+use Rattle.jc_console.specs.declared.failure.Failure.{Failure}
+use Rattle.jc_console.specs.declared.failure.Failure.TheVariants.{Bad, BadDatabaseName, BadId, CannotOpen, OutOfMemory, ReadFailed, StoreFailed, WriteFailed}
+
+-- A name that SQLite doesn't take for a path.
+abbrev pub IsBadName : List ℕ → Type 0
+IsBadName name = (take 1 name ≡ codes ":") ⊎ (take 5 name ≡ codes "file:")
+
+-- A database has no journal of this version, which is a fault of no row, or a row that is no entry's.
+abbrev pub IsDatabaseFault : Fault → Type 0
+IsDatabaseFault fault = (fault.code ≡ BadRow) ⊎ ((fault.code ≡ NotAJournal) × (fault.place ≡ 0))
+
+-- Why the tables of an open database are no journal's, or why they could not be made.
+abbrev pub WhyNoTables : Failure → Type 0
+WhyNoTables (Bad fault) = IsDatabaseFault fault
+WhyNoTables StoreFailed = ⊤
+WhyNoTables OutOfMemory = ⊤
+WhyNoTables _ = ⊥
+
+-- Why there is no journal in the database at a path.
+abbrev pub WhyNoJournal : (path : List ℕ) → Failure → Type 0
+WhyNoJournal path (CannotOpen at) = at.now ≡ path
+WhyNoJournal path failure = WhyNoTables failure
+
+-- Why a listing stopped.
+abbrev pub IsOutFailure : Failure → Type 0
+IsOutFailure failure = (failure ≡ WriteFailed) ⊎ (failure ≡ StoreFailed) ⊎ (failure ≡ OutOfMemory)
+
+-- Why a command over a database fails: its name is none, there is no journal, or a device or memory fails.
+abbrev pub DatabaseFailsBy : (database : List ℕ) → Failure → Type 0
+DatabaseFailsBy database BadDatabaseName = IsBadName database
+DatabaseFailsBy database WriteFailed = ⊤
+DatabaseFailsBy database failure = WhyNoJournal database failure
+
+-- Why the uploads in files with these paths can't be read.
+abbrev pub WhyUnopened : (uploads : List (List ℕ)) → Failure → Type 0
+WhyUnopened uploads (CannotOpen path) = Contains uploads path.now
+WhyUnopened uploads ReadFailed = ⊤
+WhyUnopened uploads OutOfMemory = ⊤
+WhyUnopened uploads _ = ⊥
+
+-- The same of a command that reads uploads too, from files with these paths.
+abbrev pub CollectFailsBy : (database : List ℕ) → (uploads : List (List ℕ)) → Failure → Type 0
+CollectFailsBy database uploads (CannotOpen path) = (path.now ≡ database) ⊎ Contains uploads path.now
+CollectFailsBy database uploads ReadFailed = ⊤
+CollectFailsBy database uploads failure = DatabaseFailsBy database failure
+
+-- The id that a listing asks for is the one that the digits spell, where they are given.
+abbrev pub AsksId : (digits : Option (List ℕ)) → Option Id128 → Type 0
+AsksId None id = id ≡ None
+AsksId (Some digits) None = ⊥
+AsksId (Some digits) (Some id) = IsIdOf digits id
+
+-- Why `show` fails: the digits spell no id, or it fails as another command over a database does.
+abbrev pub ShowFailsBy : (database : List ℕ) → (digits : Option (List ℕ)) → Failure → Type 0
+ShowFailsBy database digits BadId = IsSomeAnd digits (λ text. ¬ IsIdText text)
+ShowFailsBy database digits failure = DatabaseFailsBy database failure
+
+-- Why `check` has nothing to tell: what is wrong with the tables of a database it tells.
+abbrev pub WhyNoHealth : (path : List ℕ) → Failure → Type 0
+WhyNoHealth path (Bad fault) = ⊥
+WhyNoHealth path failure = WhyNoJournal path failure
+
+abbrev pub CheckFailsBy : (database : List ℕ) → Failure → Type 0
+CheckFailsBy database (Bad fault) = ⊥
+CheckFailsBy database failure = DatabaseFailsBy database failure

@@ -1,0 +1,117 @@
+//! The sink that answers are printed through.
+
+ghost use Rattle.std.specs.Prelude.{◌≡◌, ◌≤◌, [], ◌∷◌, List, ℕ, Option, Some, IfSome, false, length, take};
+ghost use Rattle.std.specs.Io.KnownBytes.{Appends};
+ghost use Rattle.std.specs.List.{All};
+ghost use Rattle.jc_base.specs.Device.{Rose};
+ghost use Rattle.jc_database.specs.Answered.{Appends-prop, begun, judged};
+ghost use Rattle.jc_collect.specs.Run.{lines_of};
+ghost use Rattle.jc_upload.specs.Answer.{IsAnswer};
+ghost use Rattle.jc_upload.specs.declared.answer.Answer.{Answer};
+
+use crate::judged::status_of_lines;
+use jc_base::{ByteSink, WriteFailed};
+use jc_console::Status;
+use std::io::Write;
+use std::snapshot::Snapshot;
+
+/// Passes answer lines on to a writer, each of them as one piece, flushes it behind each, and keeps what was printed.
+/// Once it has failed it takes no more.
+#[derive(Drop)]
+pub struct AnswerSink<'a, O: Write> {
+    output: &'a mut O,
+    /// The writer as it was before the first line.
+    before: Snapshot<O>,
+    /// What was printed.
+    lines: &'a mut Vec<u8>,
+    failed: bool,
+    failures: u64,
+    ghost printed: { failed ≡ false → Appends (O.contents before.value) (O.contents output.now) lines.now.items } by { Prim.hlevel (Appends-prop) },
+}
+
+impl<'a, O: Write> AnswerSink<'a, O> {
+    /// A sink that keeps in `lines` what it prints.
+    pub fn new(output: &'a mut O, lines: &'a mut Vec<u8>) -> AnswerSink<'a, O>
+        requires { lines.old.items ≡ [] }
+        ensures written { ⟦<AnswerSink<'a, O> as ByteSink>⟧.written result ≡ Some (begun (O.contents output.old) []) }
+        ensures lent { ⟦<AnswerSink<'a, O> as ByteSink>⟧.lent result ≡ output.entry.ghost_name ∷ [] }
+    {
+        AnswerSink {
+            before: Snapshot::of(output),
+            output,
+            lines,
+            failed: false,
+            failures: 0,
+        }
+    }
+
+    /// The writer, and the status by the answers that were printed; `None` where the sink has failed.
+    pub fn end(self) -> (&'a mut O, Option<Status>)
+        ensures lent { result.0.ghost_name ∷ [] ≡ ⟦<AnswerSink<'a, O> as ByteSink>⟧.lent self.entry }
+        ensures told { IfSome result.1 (λ status. (before : Option (List ℕ)) (answers : List Answer) → All IsAnswer answers
+            → ⟦<AnswerSink<'a, O> as ByteSink>⟧.written self.entry ≡ Some (begun before (lines_of answers))
+            → (status ≡ judged answers) × Appends before (O.contents result.0.now) (lines_of answers)) }
+    {
+        let AnswerSink {
+            output,
+            before,
+            lines,
+            failed,
+            failures: _,
+        } = self;
+        drop(before);
+        if failed {
+            return (output, None);
+        }
+        (output, Some(status_of_lines(lines)))
+    }
+}
+
+impl<O: Write> ByteSink for AnswerSink<'_, O> {
+    // What the writer had comes with the lines, so that a proof over any sink keeps it.
+    ghost written = { λ s. Some (begun (O.contents s.before.value) s.lines.now.items) };
+
+    ghost failures = { λ s. s.failures };
+
+    ghost lent = { λ s. s.output.ghost_name ∷ [] };
+
+    #[tactic(auto, using(crate::proofs::Printing::goes_on))]
+    fn write(&mut self, line: &[u8]) -> Result<usize, WriteFailed> {
+        let failed = self.failed;
+        // Until the line is printed whole, the sink counts as failed.
+        self.failed = true;
+        if failed || self.lines.reserve(line.len()).is_err() {
+            self.failures = one_more(self.failures);
+            return Err(WriteFailed);
+        }
+        if write_front(self.output, line) < line.len() || self.output.flush().is_err() {
+            self.failures = one_more(self.failures);
+            return Err(WriteFailed);
+        }
+        self.lines.extend_from_slice(line).unwrap();
+        self.failed = false;
+        Ok(line.len())
+    }
+}
+
+/// A count of failures with one more, up to the greatest count.
+fn one_more(failures: u64) -> u64
+    ensures { Rose failures result }
+{
+    failures.saturating_add(1)
+}
+
+/// Writes as much of a text as a writer takes, and answers how much that was.
+fn write_front<O: Write>(output: &mut O, text: &[u8]) -> usize
+    ensures within { result ≤ length text.now }
+    ensures front { Appends (O.contents output.old) (O.contents output.new) (take result text.now) }
+{
+    let mut at = 0;
+    while at < text.len() {
+        match output.write(&text[at..]) {
+            Ok(count) if count > 0 => at += count,
+            _ => return at,
+        }
+    }
+    at
+}

@@ -1,0 +1,96 @@
+//! `check`: whether a database has a journal, and how many entries it keeps.
+
+ghost use Rattle.std.specs.Prelude.{◌≡◌, ◌≢◌, Some, IfOk, IfErr};
+ghost use Rattle.std.specs.Io.KnownBytes.{Keeps};
+ghost use Rattle.jc_database.specs.Checked.{IsHealth, TellsHealth, health_text, health_status};
+ghost use Rattle.jc_database.specs.Database.{CheckFailsBy, WhyNoHealth};
+ghost use Rattle.jc_console.specs.Failure.{status_of};
+
+use crate::database::{Databases, check_name, close, open_there};
+use crate::failures::why_unanswered;
+use jc_base::Fault;
+use jc_console::{Failure, Status, printed};
+use std::fmt;
+use std::io::Write;
+use std::rt::Files;
+
+/// What `check` prints of a database.
+#[derive(Clone, Copy)]
+pub enum Health {
+    /// It keeps so many entries.
+    Whole(u64),
+    /// It has no journal, or one with a row that is no entry's; the place is that row's number, from 0.
+    Bad(Fault),
+}
+
+impl Health {
+    fn status(&self) -> Status
+        ensures { result ≡ health_status self.now }
+    {
+        match self {
+            Health::Whole(_) => Status::Success,
+            Health::Bad(_) => Status::Refused,
+        }
+    }
+}
+
+impl fmt::Display for Health {
+    ghost output = { λ health. Some (health_text health) };
+
+    fn fmt<W: fmt::Write>(&self, f: &mut fmt::Formatter<W>) -> fmt::Result {
+        match self {
+            Health::Whole(count) => write!(f, "ok {count}"),
+            Health::Bad(fault) => write!(f, "bad {} {}", fault.code, fault.place),
+        }
+    }
+}
+
+/// Prints what is in a database.
+pub fn check<'a, R: Databases + Files + AllocGlobal, O: Write>(
+    rt: &R,
+    database: &'a str,
+    output: &mut O,
+) -> Result<Status, Failure<'a>>
+    ensures told { IfOk result (λ status. (health : Health) × IsHealth health × TellsHealth health status (O.contents output.old)
+        (O.contents output.new)) }
+    ensures failed { IfErr result (CheckFailsBy database.now) }
+    ensures untouched { IfErr result (λ failure. status_of failure ≢ Status.Failed
+        → Keeps (O.contents output.old) (O.contents output.new)) }
+{
+    check_name(database)?;
+    let health = read_health(rt, database)?;
+    tell(health, output)
+}
+
+fn read_health<'a, R: Databases + Files + AllocGlobal>(
+    rt: &R,
+    database: &'a str,
+) -> Result<Health, Failure<'a>>
+    ensures health { IfOk result IsHealth }
+    ensures failed { IfErr result (WhyNoHealth database.now) }
+{
+    let mut keeper = match open_there(rt, database) {
+        Ok(keeper) => keeper,
+        Err(Failure::Bad(fault)) => return Ok(Health::Bad(fault)),
+        Err(failure) => return Err(failure),
+    };
+    let counted = keeper.count();
+    let closed = close(keeper);
+    match counted {
+        Ok(count) => {
+            closed?;
+            Ok(Health::Whole(count))
+        }
+        Err(stop) => Err(why_unanswered(stop)),
+    }
+}
+
+/// Prints what was found, and answers its status.
+fn tell<'a, O: Write>(health: Health, output: &mut O) -> Result<Status, Failure<'a>>
+    ensures told { IfOk result (λ status. TellsHealth health status (O.contents output.old) (O.contents output.new)) }
+    ensures failed { IfErr result (λ failure. failure ≡ Failure.WriteFailed) }
+{
+    let written = writeln!(output, "{health}");
+    printed(written, output)?;
+    Ok(health.status())
+}

@@ -1,0 +1,17 @@
+//! The commands over the journal in a database: `collect`, `export`, `show` and `check`.
+#![tactic(auto)]
+
+mod answer_sink;
+mod collecting;
+mod database;
+mod failures;
+mod health;
+mod host;
+mod judged;
+mod listing;
+mod uploads;
+
+pub use collecting::collect;
+pub use database::{DatabaseStore, Databases};
+pub use health::{Health, check};
+pub use listing::{export, show};

@@ -1,0 +1,5 @@
+pub mod AnswersRead
+pub mod Gathering
+pub mod Sources
+pub mod Taking
+pub mod Verdicts

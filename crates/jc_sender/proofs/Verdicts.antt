@@ -1,0 +1,50 @@
+-- The line of a reading is that of the bytes that have the reading.
+use Rattle.std.proofs.Common.{◌≡◌, ℕ, List, Option, Some, None, length, refl, subst}
+use Rattle.std.specs.Prelude.{IsSomeAnd, IfOk, Result}
+use Rattle.std.proofs.lemmas.Result.{IfOk-weaker}
+use Rattle.jc_base.specs.LimitBounds.{AreDefaults}
+use Rattle.jc_base.specs.Reading.{Reading}
+use Rattle.jc_base.specs.declared.fault.Ending.{Ending}
+use Rattle.jc_base.specs.declared.limits.Limits.{Limits}
+use Rattle.jc_file.specs.FileReading.{IsFileReading}
+use Rattle.jc_sender.specs.Gathered.{HasCount}
+use Rattle.jc_sender.specs.Reads.{ReadsAs}
+use Rattle.jc_sender.specs.Verdict.{TellsBytes, TellsReading}
+use Rattle.jc_console.specs.declared.failure.Failure.{Failure}
+use Rattle.jc_console.specs.declared.status.Status.{Status}
+use Rattle.jc_words.specs.declared.request.Kind.{Kind}
+use Rattle.jc_words.specs.declared.request.Kind.TheVariants.{File}
+
+-- the line that was told is that of the bytes' reading
+pub tells_bytes : (kind : Kind) (bytes : List ℕ) (limits : Limits) (reading : Reading) (count : ℕ) (ending : Ending)
+    (r : Result Status Failure) (old new : Option (List ℕ))
+    → AreDefaults limits.name limits.value limits.fields limits.entry limits.file → ReadsAs kind limits bytes reading
+    → count ≡ length reading.entries → ending ≡ reading.ending
+    → IfOk r (λ status. TellsReading count ending status old new) → IfOk r (λ status. TellsBytes kind bytes status old new)
+tells_bytes kind bytes limits reading count ending r old new defaults reads counted ends told =
+    IfOk-weaker r _ _ (λ status tells. record {
+      limits = limits;
+      defaults = defaults;
+      reading = reading;
+      reads = reads;
+      told = rw (← counted, ← ends) tells;
+    }) told
+
+-- what a source over a file told is the file's one reading
+pub file_reading : (bytes : List ℕ) (limits : Limits) (told : Option Reading) → IsSomeAnd told (IsFileReading limits bytes)
+    → ((r : Reading) → IsFileReading limits bytes r → told ≡ Some r)
+    → (reading : Reading) × (told ≡ Some reading) × ReadsAs File limits bytes reading
+file_reading bytes limits None reads only = absurd reads
+file_reading bytes limits (Some reading) reads only =
+    (reading, refl, (reads, λ other is. let same : Some reading ≡ Some other = only other is in cc))
+
+pub tells_file : (bytes : List ℕ) (limits : Limits) (told : Option Reading) (count : ℕ) (ending : Ending)
+    (r : Result Status Failure) (old new : Option (List ℕ))
+    → AreDefaults limits.name limits.value limits.fields limits.entry limits.file
+    → IsSomeAnd told (IsFileReading limits bytes) → ((r : Reading) → IsFileReading limits bytes r → told ≡ Some r)
+    → HasCount told count ending
+    → IfOk r (λ status. TellsReading count ending status old new) → IfOk r (λ status. TellsBytes File bytes status old new)
+tells_file bytes limits told count ending r old new defaults reads only counted tells =
+    let found = file_reading bytes limits told reads only in
+    let counts : HasCount (Some found.0) count ending = subst (λ t. HasCount t count ending) found.1 counted in
+    tells_bytes File bytes limits found.0 count ending r old new defaults found.2 counts.0 counts.1 tells

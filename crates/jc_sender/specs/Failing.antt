@@ -1,0 +1,31 @@
+-- Why `upload` and `ack` fail. (own)
+use Rattle.std.specs.Prelude.{◌≡◌, ◌⊎◌, ⊤, ℕ, List, Option, IfSome}
+use Rattle.jc_console.specs.Ids.{IsIdText}
+use Rattle.jc_console.specs.declared.failure.Failure.{Failure}
+use Rattle.jc_console.specs.declared.failure.Failure.TheVariants.{Bad, BadAnswer, BadId, BadResume, CannotOpen, OutOfMemory, ReadFailed, SourceChanged, WriteFailed}
+use Rattle.jc_sender.specs.Source.{HasFault}
+use Rattle.jc_sender.specs.Taken.{HasBadLine}
+use Rattle.jc_words.specs.declared.request.Kind.TheVariants.{Export}
+use Rattle.jc_words.specs.declared.request.Source.{Source}
+
+-- Why nothing is known of a source: its id is none, one of its two files can't be opened or read, the resume file's text
+-- is none, or its bytes have a fault.
+abbrev pub SourceFailsBy : Source → Failure → Type 0
+SourceFailsBy source BadId = ¬ IsIdText source.id.now
+SourceFailsBy source (CannotOpen path) = (path.now ≡ source.resume.now) ⊎ (path.now ≡ source.file.now)
+SourceFailsBy source (Bad fault) = (bytes : List ℕ) × HasFault source.kind bytes fault
+SourceFailsBy source BadResume = ⊤
+SourceFailsBy source ReadFailed = ⊤
+SourceFailsBy source WriteFailed = ⊤
+SourceFailsBy source OutOfMemory = ⊤
+SourceFailsBy source _ = ⊥
+
+-- ... or, for `upload`, the entries no longer go on from its resume point.
+abbrev pub UploadFailsBy : Source → Failure → Type 0
+UploadFailsBy source SourceChanged = source.kind ≡ Export
+UploadFailsBy source failure = SourceFailsBy source failure
+
+-- ... or, for `ack`, a line of what standard input gives is no answer's.
+abbrev pub AckFailsBy : Source → (given : Option (List ℕ)) → Failure → Type 0
+AckFailsBy source given (BadAnswer line) = IfSome given (HasBadLine line)
+AckFailsBy source given failure = SourceFailsBy source failure

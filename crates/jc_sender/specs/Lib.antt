@@ -1,0 +1,7 @@
+pub mod Reads
+pub mod Gathered
+pub mod Verdict
+pub mod Source
+pub mod Sent
+pub mod Taken
+pub mod Failing

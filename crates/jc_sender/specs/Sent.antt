@@ -1,0 +1,60 @@
+-- What `upload` prints. (own)
+use Rattle.std.specs.Prelude.{◌≡◌, ℕ, List, Option, ⊤}
+use Rattle.std.specs.Io.KnownBytes.{Appends}
+use Rattle.jc_base.specs.LogEntry.{LogEntry}
+use Rattle.jc_base.specs.Reading.{Reading}
+use Rattle.jc_base.specs.declared.id.Id128.{Id128}
+use Rattle.jc_console.specs.Ids.{IsIdOf}
+use Rattle.jc_upload.specs.Resume.{IsPoint, Point}
+use Rattle.jc_upload.specs.Upload.{Agrees, Sender, file_upload_of, next_upload_of}
+use Rattle.jc_sender.specs.Source.{HasFault, ReadsWell}
+use Rattle.jc_console.specs.declared.failure.Failure.{Failure}
+use Rattle.jc_console.specs.declared.failure.Failure.TheVariants.{Bad, OutOfMemory, SourceChanged}
+use Rattle.jc_words.specs.declared.request.Kind.{Kind}
+use Rattle.jc_words.specs.declared.request.Kind.TheVariants.{Export, File}
+use Rattle.jc_words.specs.declared.request.Source.{Source}
+
+abbrev pub sender_of : Id128 → Point → Sender
+sender_of id point = record { source = id; point = point }
+
+-- Of an export stream an upload has the next entries; of a journal file it has all of the bytes, wherever the sender is.
+abbrev pub upload_of : Kind → Sender → (limit : ℕ) → List LogEntry → (bytes : List ℕ) → List ℕ
+upload_of Export sender limit entries bytes = next_upload_of sender entries limit
+upload_of File sender limit entries bytes = file_upload_of sender.source bytes
+
+-- The upload of a source with these bytes, which have no fault; an export stream still agrees with the resume point.
+pub record MakesUpload (kind : Kind) (sender : Sender) (limit : ℕ) (bytes upload : List ℕ) : Type 0 where
+  pub reading : Reading
+  pub well : ReadsWell kind bytes reading
+  pub agrees : kind ≡ Export → Agrees sender.point reading.entries
+  pub made : upload ≡ upload_of kind sender limit reading.entries bytes
+
+-- The output gained that upload.
+pub record TellsUpload (kind : Kind) (sender : Sender) (limit : ℕ) (bytes : List ℕ) (old new : Option (List ℕ)) : Type 0 where
+  pub upload : List ℕ
+  pub makes : MakesUpload kind sender limit bytes upload
+  pub printed : Appends old new upload
+
+-- The bytes have no fault, and they no longer go on from the resume point.
+pub record HasChanged (sender : Sender) (bytes : List ℕ) : Type 0 where
+  pub reading : Reading
+  pub well : ReadsWell Export bytes reading
+  pub differs : ¬ Agrees sender.point reading.entries
+
+-- Why there is no next upload of a source with these bytes: they have a fault, or they have changed, or memory was
+-- refused.
+abbrev pub WhyNoUpload : Kind → Sender → (bytes : List ℕ) → Failure → Type 0
+WhyNoUpload kind sender bytes (Bad fault) = HasFault kind bytes fault
+WhyNoUpload kind sender bytes SourceChanged = (kind ≡ Export) × HasChanged sender bytes
+WhyNoUpload kind sender bytes OutOfMemory = ⊤
+WhyNoUpload kind sender bytes _ = ⊥
+
+-- The output gained the upload of the source that the command line names, for some bytes of its files, which no
+-- contract can name.
+pub record TellsSomeUpload (source : Source) (limit : ℕ) (old new : Option (List ℕ)) : Type 0 where
+  pub id : Id128
+  pub named : IsIdOf source.id.now id
+  pub point : Point
+  pub lawful : IsPoint point
+  pub bytes : List ℕ
+  pub told : TellsUpload source.kind (sender_of id point) limit bytes old new

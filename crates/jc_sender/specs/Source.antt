@@ -1,0 +1,41 @@
+-- What the bytes of a source say. (own)
+use Rattle.std.specs.Prelude.{◌≡◌, ℕ, List, ⊤}
+use Rattle.jc_base.specs.LimitBounds.{AreDefaults}
+use Rattle.jc_base.specs.LogEntry.{LogEntry}
+use Rattle.jc_base.specs.Reading.{Reading}
+use Rattle.jc_base.specs.declared.fault.Ending.{Ending}
+use Rattle.jc_base.specs.declared.fault.Ending.TheVariants.{End, Bad}
+use Rattle.jc_base.specs.declared.fault.Fault.{Fault}
+use Rattle.jc_base.specs.declared.limits.Limits.{Limits}
+use Rattle.jc_sender.specs.Reads.{ReadsAs}
+use Rattle.jc_console.specs.declared.failure.Failure.{Failure}
+use Rattle.jc_console.specs.declared.failure.Failure.TheVariants as failure
+use Rattle.jc_words.specs.declared.request.Kind.{Kind}
+
+abbrev pub IsEnd : Ending → Type 0
+IsEnd ending = (left : ℕ) × (ending ≡ End left)
+
+-- The bytes read so under the default limits, without a fault.
+pub record ReadsWell (kind : Kind) (bytes : List ℕ) (reading : Reading) : Type 0 where
+  pub limits : Limits
+  pub defaults : AreDefaults limits.name limits.value limits.fields limits.entry limits.file
+  pub reads : ReadsAs kind limits bytes reading
+  pub ends : IsEnd reading.ending
+
+-- Under the default limits the bytes have this fault.
+pub record HasFault (kind : Kind) (bytes : List ℕ) (fault : Fault) : Type 0 where
+  pub limits : Limits
+  pub defaults : AreDefaults limits.name limits.value limits.fields limits.entry limits.file
+  pub reading : Reading
+  pub reads : ReadsAs kind limits bytes reading
+  pub ends : reading.ending ≡ Bad fault
+
+-- The bytes have no fault, and these complete entries.
+abbrev pub HasEntriesOf : Kind → List ℕ → List LogEntry → Type 0
+HasEntriesOf kind bytes entries = (reading : Reading) × ReadsWell kind bytes reading × (entries ≡ reading.entries)
+
+-- Why nothing is read of these bytes: they have a fault, or memory was refused.
+abbrev pub WhyNoEntries : Kind → List ℕ → Failure → Type 0
+WhyNoEntries kind bytes (failure.Bad fault) = HasFault kind bytes fault
+WhyNoEntries kind bytes failure.OutOfMemory = ⊤
+WhyNoEntries kind bytes _ = ⊥

@@ -1,0 +1,44 @@
+//! Lines of answers.
+
+ghost use Rattle.std.specs.Prelude.{◌≡◌, IfOk, IfErr};
+ghost use Rattle.jc_upload.specs.Upload.{Sender};
+ghost use Rattle.jc_console.specs.Lines.{AreAnswers};
+ghost use Rattle.jc_sender.specs.Taken.{Takes, TakesAll, WhyNoAnswers};
+
+use jc_base::Entry;
+use jc_console::{Failure, line_length};
+use jc_upload::{Answer, Uploader};
+use std::alloc::Global;
+
+/// The answers whose lines the text is. The first line that is none is told by its number, from 1.
+pub fn read_answers<'a>(alloc: Global, text: &[u8]) -> Result<Vec<Answer>, Failure<'a>>
+    ensures all { IfOk result (λ answers. AreAnswers answers.items text.now) }
+    ensures failed { IfErr result (WhyNoAnswers text.now) }
+{
+    let mut answers = Vec::new(alloc);
+    let mut rest = text;
+    while !rest.is_empty() {
+        let (line, behind) = rest.split_at(line_length(rest));
+        match Answer::read(line) {
+            Some(answer) => answers.push(answer)?,
+            None => return Err(Failure::BadAnswer(answers.len() as u64 + 1)),
+        }
+        rest = behind;
+    }
+    Ok(answers)
+}
+
+/// Takes answers in their order.
+pub fn take_answers(uploader: &mut Uploader, entries: &[Entry], answers: &[Answer])
+    ensures { TakesAll entries.now answers.now uploader.old uploader.new }
+{
+    for answer in answers {
+        take_answer(uploader, entries, answer);
+    }
+}
+
+fn take_answer(uploader: &mut Uploader, entries: &[Entry], answer: &Answer)
+    ensures { Takes entries.now answer.now uploader.old uploader.new }
+{
+    uploader.on_answer(entries, answer);
+}

@@ -1,0 +1,15 @@
+//! A machine's commands: how a file reads, the next upload of a source, and how far answers move the source on.
+#![tactic(auto)]
+
+mod acknowledge;
+mod answers;
+mod gather;
+mod next_upload;
+mod resume_file;
+mod source;
+mod verdict;
+
+pub use acknowledge::ack;
+pub use gather::{all_entries, count_entries};
+pub use next_upload::upload;
+pub use verdict::verify;

@@ -1,0 +1,141 @@
+//! `verify`: how a file reads.
+
+ghost use Rattle.std.specs.Prelude.{◌≡◌, ◌≢◌, ◌⊎◌, ℕ, List, Some, IfOk, IfErr};
+ghost use Rattle.std.specs.Io.KnownBytes.{Keeps};
+ghost use Rattle.jc_sender.specs.Verdict.{verdict_text, verdict_status, TellsReading, TellsBytes};
+
+use crate::gather::count_entries;
+use jc_base::{Ending, Limits};
+use jc_console::{Failure, Status, is_regular, open_file, printed, read_file, read_front};
+use jc_export::read_all;
+use jc_file::{ByteSpace, FileEntries, FileSpace, PagedSpace, SliceSpace};
+use jc_words::Kind;
+use std::alloc::Global;
+use std::fmt;
+use std::fs::OpenFile;
+use std::io::{Read, Seek, Write};
+use std::rt::Files;
+
+/// What `verify` prints: how many entries are complete, and how the reading ends.
+#[derive(Clone, Copy)]
+struct Verdict {
+    count: u64,
+    ending: Ending,
+}
+
+impl Verdict {
+    fn status(&self) -> Status
+        ensures { result ≡ verdict_status self.now.ending }
+    {
+        match self.ending {
+            Ending::End { .. } => Status::Success,
+            Ending::Bad(_) => Status::Refused,
+        }
+    }
+}
+
+impl fmt::Display for Verdict {
+    ghost output = { λ verdict. Some (verdict_text verdict.count verdict.ending) };
+
+    fn fmt<W: fmt::Write>(&self, f: &mut fmt::Formatter<W>) -> fmt::Result {
+        let count = self.count;
+        match self.ending {
+            Ending::End { left } => write!(f, "ok {count} {left}"),
+            Ending::Bad(fault) => write!(f, "bad {} {}", fault.code.number(), fault.place),
+        }
+    }
+}
+
+/// Prints how the file reads, under the default limits.
+pub fn verify<'a, R: Files + AllocGlobal, O: Write>(
+    rt: &R,
+    kind: Kind,
+    file: &'a str,
+    output: &mut O,
+) -> Result<Status, Failure<'a>>
+    ensures told { IfOk result (λ status. (count : ℕ) × (ending : Ending)
+        × TellsReading count ending status (O.contents output.old) (O.contents output.new)) }
+    ensures failed { IfErr result (λ failure. (failure ≡ Failure.CannotOpen file.entry) ⊎ (failure ≡ Failure.ReadFailed)
+        ⊎ (failure ≡ Failure.WriteFailed) ⊎ (failure ≡ Failure.OutOfMemory)) }
+    ensures untouched { IfErr result (λ failure. failure ≢ Failure.WriteFailed
+        → Keeps (O.contents output.old) (O.contents output.new)) }
+{
+    match kind {
+        Kind::Export => {
+            let bytes = read_file(rt, file)?;
+            verify_export(rt.alloc(), bytes.as_slice(), output)
+        }
+        Kind::File => verify_file(rt.alloc(), open_file(rt, file)?, output),
+    }
+}
+
+/// Prints how the bytes read as an export stream.
+fn verify_export<'a, O: Write>(
+    alloc: Global,
+    bytes: &[u8],
+    output: &mut O,
+) -> Result<Status, Failure<'a>>
+    ensures told { IfOk result (λ status. TellsBytes Kind.Export bytes.now status (O.contents output.old)
+        (O.contents output.new)) }
+    ensures failed { IfErr result (λ failure. (failure ≡ Failure.WriteFailed) ⊎ (failure ≡ Failure.OutOfMemory)) }
+    ensures untouched { IfErr result (λ failure. failure ≢ Failure.WriteFailed
+        → Keeps (O.contents output.old) (O.contents output.new)) }
+{
+    let reading = read_all(alloc, bytes, &Limits::default())?;
+    tell(reading.entries.len() as u64, reading.end, output)
+}
+
+/// Prints how a file reads as a journal file. Where its ranges can't be read it is read whole, up to one byte more than
+/// the limit of a file, which tells as much as all of it.
+fn verify_file<'a, F: Read + Seek + OpenFile + Drop, O: Write>(
+    alloc: Global,
+    file: F,
+    output: &mut O,
+) -> Result<Status, Failure<'a>>
+    ensures told { IfOk result (λ status. (count : ℕ) × (ending : Ending)
+        × TellsReading count ending status (O.contents output.old) (O.contents output.new)) }
+    ensures failed { IfErr result (λ failure. (failure ≡ Failure.ReadFailed) ⊎ (failure ≡ Failure.WriteFailed)
+        ⊎ (failure ≡ Failure.OutOfMemory)) }
+    ensures untouched { IfErr result (λ failure. failure ≢ Failure.WriteFailed
+        → Keeps (O.contents output.old) (O.contents output.new)) }
+{
+    if !is_regular(&file) {
+        let bytes = read_front(alloc, file, Limits::default().file + 1)?;
+        return verify_space(alloc, SliceSpace { bytes: &bytes }, output);
+    }
+    match FileSpace::new(file) {
+        Ok(space) => verify_space(alloc, PagedSpace::new(alloc, space)?, output),
+        Err(_) => Err(Failure::ReadFailed),
+    }
+}
+
+/// Prints how the bytes of a space read as a journal file.
+fn verify_space<'a, B: ByteSpace + Drop, O: Write>(
+    alloc: Global,
+    space: B,
+    output: &mut O,
+) -> Result<Status, Failure<'a>>
+    ensures told { IfOk result (λ status. (count : ℕ) × (ending : Ending)
+        × TellsReading count ending status (O.contents output.old) (O.contents output.new)) }
+    ensures bytes { (bytes : List ℕ) → B.bytes space ≡ Some bytes → IfOk result (λ status.
+        TellsBytes Kind.File bytes status (O.contents output.old) (O.contents output.new)) }
+    ensures failed { IfErr result (λ failure. (failure ≡ Failure.ReadFailed) ⊎ (failure ≡ Failure.WriteFailed)
+        ⊎ (failure ≡ Failure.OutOfMemory)) }
+    ensures untouched { IfErr result (λ failure. failure ≢ Failure.WriteFailed
+        → Keeps (O.contents output.old) (O.contents output.new)) }
+{
+    let mut entries = FileEntries::new(alloc, space, Limits::default());
+    let (count, ending) = count_entries(&mut entries)?;
+    tell(count, ending, output)
+}
+
+/// Prints a verdict, and answers its status.
+fn tell<'a, O: Write>(count: u64, ending: Ending, output: &mut O) -> Result<Status, Failure<'a>>
+    ensures told { IfOk result (λ status. TellsReading count ending status (O.contents output.old) (O.contents output.new)) }
+    ensures failed { IfErr result (λ failure. failure ≡ Failure.WriteFailed) }
+{
+    let verdict = Verdict { count, ending };
+    let written = writeln!(output, "{verdict}");
+    printed(written, output)?;
+    Ok(verdict.status())
+}
