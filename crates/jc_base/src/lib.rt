@@ -35,6 +35,3 @@ pub use stream::ByteStream;
 pub use text::is_text;
 pub use to_write::ToWrite;
 pub use vec_sink::VecSink;
-
-#[cfg(test)]
-mod tests;

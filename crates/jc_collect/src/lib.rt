@@ -15,6 +15,3 @@ pub use collect::collect_one;
 pub use delivery::Delivery;
 pub use law::{one_answer, one_journal_stored, one_saying, one_set_accepted};
 pub use runs::{RunEnd, run};
-
-#[cfg(test)]
-mod tests;

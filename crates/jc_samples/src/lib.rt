@@ -2,11 +2,13 @@
 #![tactic(auto)]
 
 mod answer;
+mod devices;
 mod entry;
 mod file;
 mod upload;
 
 pub use answer::answer_lines;
+pub use devices::{Pieces, Slow, bytewise};
 pub use entry::{
     BINARY_FRONT, BOOT_FIELD, CHANGED_ENTRY, ENTRY, ENTRY_2, ENTRY_3, HI, HO, LAST_ENTRY, METADATA,
     METADATA_2, METADATA_3, METADATA_LINES, SEQNUM_ID, SHOWN, numbered_entry,

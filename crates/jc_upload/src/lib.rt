@@ -5,8 +5,6 @@ mod answer;
 mod head;
 mod line;
 mod resume;
-#[cfg(test)]
-mod tests;
 mod uploader;
 
 pub use answer::{Answer, one_answer};

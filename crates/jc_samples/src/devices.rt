@@ -1,0 +1,59 @@
+//! Devices that take small steps.
+
+ghost use Rattle.std.specs.Prelude.{◌<◌, ◌≡◌};
+
+use jc_base::{ByteSink, ByteStream, ReadFailed, SliceStream, WriteFailed};
+
+/// A stream that gives at most so many bytes of another one at each read.
+#[derive(Drop)]
+pub struct Pieces<R> {
+    pub inner: R,
+    pub most: usize,
+    ghost some: { 0 < most },
+}
+
+impl<R: ByteStream> ByteStream for Pieces<R> {
+    ghost to_come = { λ s. R.to_come s.inner };
+
+    ghost bound = { λ s. R.bound s.inner };
+
+    ghost failures = { λ s. R.failures s.inner };
+
+    ghost lent = { λ s. R.lent s.inner };
+
+    ghost small = { λ s. R.small s.inner };
+
+    fn read(&mut self, out: &mut [u8]) -> Result<usize, ReadFailed> {
+        let end = out.len().min(self.most);
+        self.inner.read(&mut out[..end])
+    }
+}
+
+/// A sink that takes one byte at each write.
+#[derive(Drop)]
+pub struct Slow<W> {
+    pub inner: W,
+}
+
+impl<W: ByteSink> ByteSink for Slow<W> {
+    ghost written = { λ s. W.written s.inner };
+
+    ghost failures = { λ s. W.failures s.inner };
+
+    ghost lent = { λ s. W.lent s.inner };
+
+    fn write(&mut self, piece: &[u8]) -> Result<usize, WriteFailed> {
+        let end = piece.len().min(1);
+        self.inner.write(&piece[..end])
+    }
+}
+
+/// A stream over bytes that gives one at each read.
+pub fn bytewise(bytes: &[u8]) -> Pieces<SliceStream<'_>>
+    ensures { result.most ≡ 1 }
+{
+    Pieces {
+        inner: SliceStream::new(bytes),
+        most: 1,
+    }
+}

@@ -1,0 +1,133 @@
+//! Empty journals, over each kind of keeper, and what is stored in one.
+
+use jc_base::{Id128, Key};
+use jc_export::canonical;
+use jc_samples::SEQNUM_ID;
+use jc_store::{Keeper, MapKeeper, SqlKeeper};
+use sqlite::{Alter, Connection, MemStore};
+use std::alloc::Global;
+use std::test::Fail;
+
+/// Makes keepers of empty journals.
+pub(super) trait Journals {
+    type Kept: Keeper + Drop;
+
+    fn empty(&mut self) -> Result<Self::Kept, Fail>;
+}
+
+/// Journals in maps.
+#[derive(Drop)]
+pub(super) struct Maps(pub(super) Global);
+
+impl Journals for Maps {
+    type Kept = MapKeeper;
+
+    fn empty(&mut self) -> Result<MapKeeper, Fail> {
+        Ok(MapKeeper::new(self.0))
+    }
+}
+
+/// Opens databases of one kind.
+pub(super) trait Databases {
+    type Store: Alter + Drop;
+
+    /// From now on a new database is opened.
+    fn begin(&mut self);
+
+    /// A connection to that database.
+    fn open(&self) -> Result<Connection<Self::Store>, Fail>;
+
+    /// Whether a database is there once its connection is closed.
+    fn stays(&self) -> bool;
+}
+
+/// Databases in memory.
+#[derive(Drop)]
+pub(super) struct Memories(pub(super) Global);
+
+impl Databases for Memories {
+    type Store = MemStore;
+
+    fn begin(&mut self) {}
+
+    fn open(&self) -> Result<Connection<MemStore>, Fail> {
+        Ok(Connection::open_in_memory(self.0)?)
+    }
+
+    fn stays(&self) -> bool {
+        false
+    }
+}
+
+/// Journals in tables, each in a database of its own.
+#[derive(Drop)]
+pub(super) struct Tables<D> {
+    pub(super) alloc: Global,
+    pub(super) databases: D,
+}
+
+impl Tables<Memories> {
+    pub(super) fn in_memory(alloc: Global) -> Tables<Memories> {
+        Tables {
+            alloc,
+            databases: Memories(alloc),
+        }
+    }
+}
+
+impl<D: Databases> Tables<D> {
+    /// A connection to a new database.
+    pub(super) fn connection(&mut self) -> Result<Connection<D::Store>, Fail> {
+        self.databases.begin();
+        self.databases.open()
+    }
+
+    /// A keeper of the same journal, which was made last: it is closed and taken up again where its database stays.
+    pub(super) fn again(
+        &mut self,
+        keeper: SqlKeeper<D::Store>,
+    ) -> Result<SqlKeeper<D::Store>, Fail> {
+        let mut conn = keeper.into_connection();
+        if self.databases.stays() {
+            drop(conn);
+            conn = self.databases.open()?;
+        }
+        match SqlKeeper::adopt(self.alloc, conn) {
+            Ok(keeper) => Ok(keeper),
+            Err(_) => Err("not adopted")?,
+        }
+    }
+}
+
+impl<D: Databases> Journals for Tables<D> {
+    type Kept = SqlKeeper<D::Store>;
+
+    fn empty(&mut self) -> Result<SqlKeeper<D::Store>, Fail> {
+        let conn = self.connection()?;
+        match SqlKeeper::create(self.alloc, conn) {
+            Ok(keeper) => Ok(keeper),
+            Err(_) => Err("not created")?,
+        }
+    }
+}
+
+/// The canonical texts of the entries that are stored under the numbers 1 to 4, one after the other.
+fn stored<K: Keeper>(alloc: Global, keeper: &mut K) -> Result<Vec<u8>, Fail> {
+    let seqnum_id = Id128(SEQNUM_ID);
+    let mut text = Vec::new(alloc);
+    for seqnum in 1..=4u64 {
+        if let Some(entry) = keeper.get(&Key { seqnum_id, seqnum })? {
+            text.extend_from_slice(&canonical(alloc, &entry)?)?;
+        }
+    }
+    Ok(text)
+}
+
+/// Whether the entries with these canonical texts are stored under the numbers 1 to 4, and no others.
+pub(super) fn keeps<K: Keeper>(
+    alloc: Global,
+    keeper: &mut K,
+    texts: &[&[u8]],
+) -> Result<bool, Fail> {
+    Ok(stored(alloc, keeper)? == texts.concat(alloc)?)
+}
