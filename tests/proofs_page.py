@@ -3,8 +3,9 @@
 
 The page has a section for each crate. A claim there names a function in bold, and its clauses in brackets after it; `(unnamed)`
 is one clause without a name. `impl TRAIT for TYPE` in bold stands for a contract that the trait has. "`NAME` in `specs/FILE`" is a
-definition. Each of these has to be in the sources of that crate, and each public function of a library on the page. The list of what the
-main theorem rests on has to have all definitions that its own file uses, and what these use.
+definition. Each of these has to be in the sources of that crate, and each public function of a library on the page. What the section on
+contracts of tests claims has to be in the tests of some crate. The list of what the main theorem rests on has to have all definitions
+that its own file uses, and what these use.
 """
 import re
 import sys
@@ -12,6 +13,8 @@ from pathlib import Path
 from typing import NamedTuple
 
 ROOT = Path(__file__).resolve().parent.parent
+TESTS = "Contracts of tests"
+THEOREM = "What the main theorem rests on"
 CLAIM = re.compile(r"\*\*`([^`]+)`\*\*(?: \(([^)]*)\))?")
 DEFINITION = re.compile(r"`(\w+)` in `(specs/[\w/]+\.antt)`")
 USED = re.compile(r"^use Rattle\.(jc_\w+)\.specs\.([A-Z][\w.]*?)\.\{", re.MULTILINE)
@@ -37,14 +40,13 @@ def plain(name):
     return re.sub(r"<.*", "", name).split("::")[-1].split(":")[0].strip()
 
 
-class Crate:
-    """The functions of a crate with their clauses, and its implementations of traits."""
+class Sources:
+    """The functions of some files with their clauses, and the implementations of traits there."""
 
-    def __init__(self, folder):
-        self.folder = folder
+    def __init__(self, paths):
         self.functions = []
         self.implementations = {}
-        for path in sorted(folder.glob("src/**/*.rt")):
+        for path in sorted(paths):
             self.read(path)
 
     def read(self, path):
@@ -72,9 +74,8 @@ class Crate:
         found = [function.clauses for function in self.functions if function.path == name]
         return set().union(*found) if found else None
 
-    def public(self):
-        """The functions with a contract that other crates can call."""
-        library = self.folder / "src/lib.rt"
+    def public(self, library):
+        """The functions with a contract that other crates can call, by the library's table of contents."""
         if not library.exists():
             return set()
         text = library.read_text()
@@ -105,17 +106,10 @@ def listed_definitions(text):
             for name in re.findall(r"`([\w.]+)`", names)}
 
 
-def mistakes_in(title, text):
-    """What a section says that its crate has not, and what it leaves out."""
-    folder = ROOT / "crates" / title
-    if not folder.is_dir():
-        yield f"{title}: there is no such crate"
-        return
-    crate = Crate(folder)
-    named = set()
+def mistaken_claims(title, text, sources):
+    """What a section says of functions that the sources have not."""
     for name, brackets in CLAIM.findall(text):
-        named.add(name)
-        known = crate.clauses(name)
+        known = sources.clauses(name)
         if known is None:
             yield f"{title}: there is no {name}"
             continue
@@ -123,11 +117,22 @@ def mistakes_in(title, text):
         if not clauses and not name.startswith("impl "):
             yield f"{title}: {name} stands without its clauses"
         yield from (f"{title}: {name} has no clause {clause}" for clause in sorted(clauses - known))
+
+
+def mistakes_in(title, text):
+    """What a section says that its crate has not, and what it leaves out."""
+    folder = ROOT / "crates" / title
+    if not folder.is_dir():
+        yield f"{title}: there is no such crate"
+        return
+    sources = Sources(folder.glob("src/**/*.rt"))
+    yield from mistaken_claims(title, text, sources)
     for name, path in DEFINITION.findall(text):
         file = folder / path
         if not file.exists() or not re.search(rf"^\s*(?:\w+ )*{name}\b.* :", file.read_text(), re.MULTILINE):
             yield f"{title}: there is no {name} in {path}"
-    yield from (f"{title}: {name} isn't on the page" for name in sorted(crate.public() - named))
+    named = {name for name, _ in CLAIM.findall(text)}
+    yield from (f"{title}: {name} isn't on the page" for name in sorted(sources.public(folder / "src/lib.rt") - named))
 
 
 def main():
@@ -137,9 +142,11 @@ def main():
     crates = {path.name for path in (ROOT / "crates").glob("jc_*") if (path / "specs").is_dir()}
     mistakes = [mistake for title, text in about.items() for mistake in mistakes_in(title, text)]
     mistakes += [f"{crate} has no section" for crate in sorted(crates - set(about))]
+    tests = Sources([*ROOT.glob("crates/*/src/**/tests.rt"), *ROOT.glob("crates/*/src/**/tests/**/*.rt")])
+    mistakes += mistaken_claims(TESTS, " ".join(found[TESTS].split()), tests)
     rests_on = set()
     definitions_below("jc_collect", "Run", rests_on)
-    differing = rests_on ^ listed_definitions(found["What the main theorem rests on"])
+    differing = rests_on ^ listed_definitions(found[THEOREM])
     mistakes += [f"the main theorem's list: {crate}, {name}" for crate, name in sorted(differing)]
     for mistake in mistakes:
         print(mistake, file=sys.stderr)
