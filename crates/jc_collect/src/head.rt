@@ -50,7 +50,7 @@ impl Unread {
     }
 }
 
-/// Reads the header that a stream begins with, and no byte behind it.
+/// Reads the header that a stream begins with, and no byte after it.
 pub(crate) fn read_head<R: ByteStream>(device: &mut R) -> Result<UploadHead, Unread>
     ensures begins { BeginsUpload (R.to_come device.old) (R.to_come device.new) result }
     ensures never_falls { R.failures device.old ≤ R.failures device.new }
@@ -77,7 +77,7 @@ pub(crate) fn read_head_at<B: ByteSpace>(space: &mut B) -> Result<UploadHead, Un
     head_in(&bytes, came)
 }
 
-/// The header that these bytes are, where so many came; where fewer came, the upload has no more.
+/// The header that these bytes are. If fewer came than a header has, the upload has no more.
 fn head_in(bytes: &[u8; 48], came: u64) -> Result<UploadHead, Unread>
     ensures begins { (upload behind : Option (List ℕ)) → HasCome bytes.now came upload behind
         → BeginsUpload upload behind result }

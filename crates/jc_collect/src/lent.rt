@@ -1,4 +1,4 @@
-//! Devices that are only lent.
+//! Devices that are only borrowed.
 
 ghost use Rattle.std.specs.Prelude.{◌≡◌, ◌∷◌, ◌+◌, ◌≤◌, ◌<◌, ◌^◌};
 ghost use Rattle.jc_collect.specs.Part.{known_from, length_from};
@@ -6,7 +6,7 @@ ghost use Rattle.jc_collect.specs.Part.{known_from, length_from};
 use jc_base::{ByteStream, ReadFailed};
 use jc_file::ByteSpace;
 
-/// A stream that is lent.
+/// A stream that is borrowed.
 #[derive(Drop)]
 pub(crate) struct LentStream<'a, R> {
     pub(crate) device: &'a mut R,
@@ -28,7 +28,7 @@ impl<R: ByteStream> ByteStream for LentStream<'_, R> {
     }
 }
 
-/// A space that is lent from a place on.
+/// A space that is borrowed from a place on.
 #[derive(Drop)]
 pub(crate) struct LentPart<'a, B: ByteSpace> {
     pub(crate) space: &'a mut B,
@@ -70,7 +70,7 @@ impl<B: ByteSpace> ByteSpace for LentPart<'_, B> {
     }
 }
 
-/// Takes back what was lent, as it was left. A proof knows what became of it by its being used once more.
+/// Takes back what was borrowed, as it was left. A proof knows what became of it by its being used once more.
 pub(crate) fn take_back<D>(device: &mut D)
     ensures { device.new ≡ device.old }
 {}

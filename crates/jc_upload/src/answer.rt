@@ -10,7 +10,7 @@ use jc_base::Id128;
 /// What the collector answers to an upload, on one line.
 #[derive(Clone, Copy, Debug, PartialEq, Eq)]
 pub enum Answer {
-    /// The upload was taken.
+    /// The upload's complete entries are stored.
     Ack {
         source: Id128,
         /// As the upload's header has it.
@@ -19,12 +19,12 @@ pub enum Answer {
         count: u64,
         /// Those of them that weren't there before.
         new: u64,
-        /// Bytes behind the last complete entry that belong to one that isn't complete.
+        /// Bytes after the last complete entry that belong to one that isn't complete.
         left: u64,
     },
-    /// The upload was refused and changed nothing.
+    /// The upload was refused and changed nothing; or reading it, the store or memory failed.
     No {
-        /// The source and the start; `None` where the header couldn't be read.
+        /// The source and the start; `None` if the header couldn't be read.
         of: Option<(Id128, u64)>,
         /// What is wrong.
         code: u16,
@@ -65,7 +65,7 @@ impl Answer {
         line
     }
 
-    /// The answer whose line this is; `None` where it is no answer's. Takes no memory.
+    /// The answer whose line this is; `None` if it isn't one. Takes no memory.
     pub fn read(line: &[u8]) -> Option<Answer>
         ensures found { IfSome result (λ answer. IsAnswer answer × (line.now ≡ answer_text answer)) }
         ensures only { (answer : Answer) → IsAnswer answer → line.now ≡ answer_text answer

@@ -55,7 +55,7 @@ pub struct UploadHead {
 const MAGIC: [u8; 8] = *b"JCUPLD01";
 
 impl UploadHead {
-    /// The header that these bytes are. The first check that fails is told: `BadMagic` at 0, `BadKind` at 8,
+    /// The header that these bytes are. The first check that fails is reported: `BadMagic` at 0, `BadKind` at 8,
     /// `BadReserved` at 9 or at 40. Takes no memory.
     pub fn read(bytes: &[u8; 48]) -> Result<UploadHead, Fault>
         ensures found { IfOk result (λ head. IsHead head × (bytes.now ≡ head_text head)) }

@@ -126,7 +126,7 @@ impl<'a> Words<'a> {
         self.rest.is_empty()
     }
 
-    /// The bytes before the next byte `end`, which is taken too; `None` where there is none.
+    /// The bytes before the next byte `end`, which is taken too; `None` if there is none.
     #[tactic(auto, unfolding(crate::specs::Reading::word_at))]
     pub(crate) fn word(&mut self, end: u8) -> Option<&'a [u8]>
         ensures { GivesBytes result self.new.rest.now (word_at end self.old.rest.now) }
@@ -155,7 +155,7 @@ impl<'a> Words<'a> {
         id_of(word)
     }
 
-    /// An id and a number; `Some(None)` where there is a dash for each.
+    /// An id and a number; `Some(None)` if there is a dash for each.
     #[tactic(auto, unfolding(crate::specs::Reading::pair_at))]
     pub(crate) fn pair(&mut self, end: u8) -> Option<Option<(Id128, u64)>>
         ensures { Gives result self.new.rest.now (pair_at end self.old.rest.now) }

@@ -12,8 +12,8 @@ use std::marker::Model;
 /// One more than the greatest sequence number of an entry. (own)
 const SEQNUMS: u64 = 1 << 63;
 
-/// How many of a source's entries are done with, and the key of the last of them, which is a lawful entry's. There is
-/// none exactly at position 0, which is the default.
+/// How many of a source's entries are acknowledged, and the key of the last of them, which is a lawful entry's. There is
+/// no such key exactly at position 0, which is the default.
 #[derive(Clone, Copy, Debug, PartialEq, Eq)]
 pub struct Resume {
     position: u64,
@@ -46,7 +46,7 @@ impl Resume {
         self.last
     }
 
-    /// The point behind this entry, which is the source's `position`-th, counted from 1.
+    /// The point after this entry, which is the source's `position`-th, counted from 1.
     pub(crate) fn behind(entry: &Entry, position: u64) -> Resume
         requires { 0 < position }
         ensures { result ≡ record { position = position; last = Some entry.now.key } }
@@ -69,7 +69,7 @@ impl Resume {
         Ok(Vec::from_slice(alloc, line.bytes())?)
     }
 
-    /// The point whose text this is; `None` where it is no point's. Takes no memory.
+    /// The point whose text this is; `None` if it isn't one. Takes no memory.
     pub fn read(text: &[u8]) -> Option<Resume>
         ensures found { IfSome result (λ point. IsPoint point × (text.now ≡ resume_text point)) }
         ensures only { (point : Point) → IsPoint point → text.now ≡ resume_text point

@@ -19,7 +19,7 @@ use std::marker::Model;
 /// Why there is no next upload.
 #[derive(Clone, Copy, Debug, PartialEq, Eq)]
 pub enum UploadFault {
-    /// The source no longer has the entries that are done with.
+    /// The source no longer has the entries that are acknowledged.
     SourceChanged,
     OutOfMemory,
 }
@@ -71,7 +71,7 @@ impl Uploader {
         &self.resume
     }
 
-    /// Whether the source still has the entries that are done with: there are as many, and the last of them has the
+    /// Whether the source still has the entries that are acknowledged: there are as many, and the last of them has the
     /// kept key. Takes no memory.
     pub fn agrees(&self, entries: &[Entry]) -> bool
         ensures { IsTrue result ↔ Agrees self.now.point entries.now }
@@ -81,7 +81,7 @@ impl Uploader {
     }
 
     /// The next upload: a header that starts at the resume point, and the canonical texts of the entries from there,
-    /// the first `limit` of them where more remain. `SourceChanged` exactly where the source doesn't agree.
+    /// the first `limit` of them if more remain. `SourceChanged` exactly if the source doesn't agree.
     pub fn next_upload(
         &self,
         alloc: Global,
@@ -105,8 +105,8 @@ impl Uploader {
         Ok(export_upload(alloc, &head, &remaining[..count])?)
     }
 
-    /// Takes an answer. The resume point moves on to the last entry that an ack of this source tells, where the source
-    /// still agrees, the ack begins at or before the point and ends behind it, and the source has as many entries.
+    /// Takes an answer. The resume point moves on to the last entry that an ack of this source counts, if the
+    /// source still agrees, the ack begins at or before the point and ends after it, and the source has as many entries.
     /// Otherwise it answers false and changes nothing. Takes no memory.
     pub fn on_answer(&mut self, entries: &[Entry], answer: &Answer) -> bool
         ensures when { IsTrue result ↔ Advances self.old entries.now answer.now }
@@ -148,7 +148,7 @@ impl Uploader {
     }
 }
 
-/// The point behind the first entries, as many as `position` says.
+/// The point after the first entries, as many as `position` says.
 fn point_behind(entries: &[Entry], position: usize) -> Resume
     requires { position ≤ length entries.now }
     ensures { result ≡ point_behind entries.now position }
