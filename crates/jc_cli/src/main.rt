@@ -18,7 +18,7 @@ fn main(rt: HostRuntime) -> ExitCode {
     ExitCode::from(number)
 }
 
-/// The words of the command line, the program's name first.
+/// The arguments of the command line, the program's name first.
 fn given_words(rt: &HostRuntime) -> Result<Vec<String>, Failure<'static>> {
     let words = env::args(rt).map_err(|refusal| match refusal.kind() {
         io::ErrorKind::OutOfMemory => Failure::OutOfMemory,

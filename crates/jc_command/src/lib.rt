@@ -1,4 +1,4 @@
-//! The program's commands as one function: its words, its streams and its status.
+//! The program's commands as one function: its arguments, its streams and its status.
 #![tactic(auto)]
 
 mod run;

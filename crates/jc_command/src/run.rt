@@ -15,10 +15,11 @@ use jc_words::{Request, parse};
 use std::io::{Read, Write};
 use std::rt::Files;
 
-/// Does what the words ask for and answers the status to end with. The first word is the program's name.
+/// Does what the arguments ask for and answers the status to end with. The first argument is the program's name.
 ///
-/// What is asked for goes to `output`. A failure, or what is wrong with the words, goes to `errors`. With status 3
-/// something failed, and then nothing is said of either. Answers of the collector come from `input`.
+/// What is asked for goes to `output`. A failure, or what is wrong with the arguments, goes to `errors`. With status 3
+/// something failed, and no clause says what went to either. `input` has the answers for `ack`, and the upload for
+/// `collect` if none is named.
 pub fn command<R: Databases + Files + AllocGlobal, I: Read, O: Write, E: Write>(
     rt: &R,
     words: Vec<String>,
@@ -40,7 +41,7 @@ pub fn command<R: Databases + Files + AllocGlobal, I: Read, O: Write, E: Write>(
     }
 }
 
-/// Does what the words ask for, up to a failure.
+/// Does what the arguments ask for, up to a failure.
 fn answered<'a, R: Databases + Files + AllocGlobal, I: Read, O: Write, E: Write>(
     rt: &R,
     words: &'a [String],
@@ -119,7 +120,7 @@ fn answer_words<'a, O: Write, E: Write>(
         return Err(Failure::OutOfMemory);
     }
     if answer.use_stderr() {
-        // Where this fails too there is nowhere left to say it.
+        // If this fails too there is nowhere left to say it.
         let _ = write!(errors, "{answer}");
         return Ok(Status::Misused);
     }

@@ -14,19 +14,19 @@ use std::io::Write;
 /// Why a command stops short. Its text is one line on standard error. (own)
 #[derive(Debug, Drop)]
 pub enum Failure<'a> {
-    /// A source's bytes have a fault, or a database has, whose place is the number of a row, from 0.
+    /// A source's bytes have a fault, or a database has, with the number of a row, from 0, as its place.
     Bad(Fault),
     /// A source's entries no longer go on from its resume point.
     SourceChanged,
-    /// A resume file has no resume point's text.
+    /// A resume file has something else in it than a resume point's text.
     BadResume,
-    /// The line of this number, from 1, is no answer's.
+    /// The line with this number, from 1, isn't an answer.
     BadAnswer(u64),
-    /// An id is not 32 hexadecimal digits.
+    /// An id isn't 32 hexadecimal digits.
     BadId,
     /// A database's name begins with `:` or with `file:`.
     BadDatabaseName,
-    /// The file of this path cannot be opened.
+    /// The file with this path can't be opened.
     CannotOpen(&'a str),
     /// A file failed while it was read.
     ReadFailed,
@@ -36,7 +36,7 @@ pub enum Failure<'a> {
     StoreFailed,
     /// Memory was refused.
     OutOfMemory,
-    /// A word of the command line is not UTF-8.
+    /// An argument isn't UTF-8.
     WordsAreNoText,
 }
 
@@ -53,7 +53,7 @@ impl Failure<'_> {
         }
     }
 
-    /// Prints the line. Where that fails too there is nowhere left to say it, and the status stands.
+    /// Prints the line. If that fails too there is nowhere left to say it, and the status stands.
     pub fn tell<E: Write>(&self, errors: &mut E) -> Status
         ensures { result ≡ status_of self.now }
     {

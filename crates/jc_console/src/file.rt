@@ -33,7 +33,7 @@ pub fn is_regular<F: OpenFile>(file: &F) -> bool {
     file.metadata().is_ok_and(|metadata| metadata.is_file())
 }
 
-/// The first `most` bytes of a reader, or all of them where it has no more.
+/// The first `most` bytes of a reader, or all of them if it has no more.
 pub fn read_front<'a, F: Read + Drop>(
     alloc: Global,
     file: F,

@@ -1,4 +1,4 @@
-//! Ids, as a command line spells them.
+//! Ids, as a command line has them.
 
 ghost use Rattle.std.specs.Prelude.{◌≡◌, IfOk, IfErr};
 ghost use Rattle.jc_console.specs.Ids.{IsIdOf, IsIdText};

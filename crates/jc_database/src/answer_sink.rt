@@ -15,7 +15,7 @@ use jc_console::Status;
 use std::io::Write;
 use std::snapshot::Snapshot;
 
-/// Passes answer lines on to a writer, each of them as one piece, flushes it behind each, and keeps what was printed.
+/// Passes answer lines on to a writer, each of them as one piece, flushes it after each, and keeps what was printed.
 /// Once it has failed it takes no more.
 #[derive(Drop)]
 pub struct AnswerSink<'a, O: Write> {
@@ -45,7 +45,7 @@ impl<'a, O: Write> AnswerSink<'a, O> {
         }
     }
 
-    /// The writer, and the status by the answers that were printed; `None` where the sink has failed.
+    /// The writer, and the status by the answers that were printed; `None` if the sink has failed.
     pub fn end(self) -> (&'a mut O, Option<Status>)
         ensures lent { result.0.ghost_name ∷ [] ≡ ⟦<AnswerSink<'a, O> as ByteSink>⟧.lent self.entry }
         ensures told { IfSome result.1 (λ status. (before : Option (List ℕ)) (answers : List Answer) → All IsAnswer answers

@@ -7,7 +7,7 @@ use jc_base::{Code, Fault};
 use jc_console::Failure;
 use jc_store::{AdoptFault, KeepStop, OutStop};
 
-/// Why a database has become no keeper's.
+/// Why a database wasn't taken as a keeper's.
 pub fn why_refused<'a>(fault: AdoptFault) -> Failure<'a>
     ensures { result ≡ adopt_failure fault.code fault.row }
 {

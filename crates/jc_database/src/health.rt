@@ -17,9 +17,9 @@ use std::rt::Files;
 /// What `check` prints of a database.
 #[derive(Clone, Copy)]
 pub enum Health {
-    /// It keeps so many entries.
+    /// It keeps this many entries.
     Whole(u64),
-    /// It has no journal, or one with a row that is no entry's; the place is that row's number, from 0.
+    /// It has no journal, or one with a row that isn't an entry; the place is that row's number, from 0.
     Bad(Fault),
 }
 

@@ -25,7 +25,7 @@ pub fn status_of_lines(lines: &[u8]) -> Status
     status
 }
 
-/// The status of a run that printed a line behind others, which gave the status `before`.
+/// The status of a run that printed a line after others, which gave the status `before`.
 fn status_behind(before: Status, line: &[u8]) -> Status
     ensures { (answer : AnswerValue) → IsAnswer answer → line.now ≡ answer_text answer → result ≡ status_with before answer }
 {
@@ -35,7 +35,7 @@ fn status_behind(before: Status, line: &[u8]) -> Status
     }
 }
 
-/// The status of a run that printed an answer behind others, which gave the status `before`.
+/// The status of a run that printed an answer after others, which gave the status `before`.
 fn status_with(before: Status, answer: &Answer) -> Status
     ensures { result ≡ status_with before answer.now }
 {

@@ -9,7 +9,7 @@ use jc_console::{Failure, is_regular, open_file};
 use jc_file::{FileSpace, PagedSpace};
 use std::rt::Files;
 
-/// An UPLOAD file: read by ranges where it is a regular one, and else as a stream.
+/// An UPLOAD file: read by ranges if it is a regular one, and otherwise as a stream.
 pub type Upload<F> = Delivery<FromRead<F>, PagedSpace<FileSpace<F>>>;
 
 /// Opens the files at these paths, in order.

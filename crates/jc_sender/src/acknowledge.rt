@@ -37,7 +37,7 @@ pub fn ack<'a, R: Files + AllocGlobal, I: Read, O: Write>(
     tell_point(&moved, output)
 }
 
-/// The resume point that the answers on standard input move a source with these bytes on to.
+/// The resume point to which the answers on standard input move a source with these bytes.
 fn moved_by<'a, I: Read>(
     alloc: Global,
     kind: Kind,
@@ -55,7 +55,7 @@ fn moved_by<'a, I: Read>(
     moved_point(alloc, id, resume, &entries, &text)
 }
 
-/// The resume point that these lines of answers move a source on to.
+/// The resume point to which these lines of answers move a source.
 fn moved_point<'a>(
     alloc: Global,
     id: Id128,

@@ -10,7 +10,8 @@ use jc_console::{Failure, line_length};
 use jc_upload::{Answer, Uploader};
 use std::alloc::Global;
 
-/// The answers whose lines the text is. The first line that is none is told by its number, from 1.
+/// The answers whose lines the text is. If a line isn't an answer's, the failure has the number of the first such line,
+/// from 1.
 pub fn read_answers<'a>(alloc: Global, text: &[u8]) -> Result<Vec<Answer>, Failure<'a>>
     ensures all { IfOk result (λ answers. AreAnswers answers.items text.now) }
     ensures failed { IfErr result (WhyNoAnswers text.now) }

@@ -1,4 +1,4 @@
-//! Resume files: how far a source is with its uploads.
+//! Resume files: how many of a source's entries are acknowledged.
 
 ghost use Rattle.std.specs.Prelude.{◌≡◌, ◌≢◌, ◌⊎◌, IfOk, IfErr, IfSome, OnOk, take};
 ghost use Rattle.std.specs.Io.KnownBytes.{Appends};
@@ -15,7 +15,7 @@ use std::{fs, io};
 /// More bytes than a resume point's text has.
 const TEXT: u64 = 129;
 
-/// The resume point in the file at `path`: position 0 where there is no such file.
+/// The resume point in the file at `path`: position 0 if there is no such file.
 pub fn read_resume<'a, R: Files + AllocGlobal>(rt: &R, path: &'a str) -> Result<Resume, Failure<'a>>
     ensures lawful { IfOk result IsPoint }
     ensures failed { IfErr result (λ failure. (failure ≡ Failure.CannotOpen path.entry) ⊎ (failure ≡ Failure.ReadFailed)
@@ -60,7 +60,7 @@ pub fn write_resume<'a, R: Files + AllocGlobal>(
         || file.sync_all().is_err()
         || fs::rename(rt, beside.as_str(), path).is_err()
     {
-        // Where it can't be taken away either, the old file is still whole.
+        // If it can't be taken away either, the old file is still whole.
         let _ = fs::remove_file(rt, beside.as_str());
         return Err(Failure::WriteFailed);
     }

@@ -13,8 +13,8 @@ use jc_words::{Kind, Source};
 use std::alloc::Global;
 use std::rt::Files;
 
-/// The bytes of a source's file. Of a journal file no more are read than one byte over the limit of a file, which tell as
-/// much as all of them.
+/// The bytes of a source's file. A journal file is read up to one byte over the limit of a file: more would change
+/// nothing.
 pub fn read_source<'a, R: Files + AllocGlobal>(
     rt: &R,
     source: Source<'a>,
@@ -64,7 +64,7 @@ fn file_entries<'a>(alloc: Global, bytes: &[u8]) -> Result<Vec<Entry>, Failure<'
     }
 }
 
-/// Fails where these bytes have a fault as a journal file. No entry is kept.
+/// Fails if these bytes have a fault as a journal file. No entry is kept.
 pub fn check_file<'a>(alloc: Global, bytes: &[u8]) -> Result<(), Failure<'a>>
     ensures well { OnOk result ((reading : Reading) × ReadsWell Kind.File bytes.now reading) }
     ensures failed { IfErr result (WhyNoEntries Kind.File bytes.now) }

@@ -85,8 +85,8 @@ fn verify_export<'a, O: Write>(
     tell(reading.entries.len() as u64, reading.end, output)
 }
 
-/// Prints how a file reads as a journal file. Where its ranges can't be read it is read whole, up to one byte more than
-/// the limit of a file, which tells as much as all of it.
+/// Prints how a file reads as a journal file. If its ranges can't be read it is read up to one byte over the limit of a
+/// file: more would change nothing.
 fn verify_file<'a, F: Read + Seek + OpenFile + Drop, O: Write>(
     alloc: Global,
     file: F,

@@ -11,10 +11,10 @@ use crate::request::{Kind, Request, Source};
 use clap::ArgMatches;
 use std::alloc::{AllocError, Global};
 
-/// How many entries an upload has at most where no limit is given.
+/// How many entries an upload has at most if no limit is given.
 const ENTRIES: u64 = 1000;
 
-/// What the matches ask for; `None` where they lack what a command requires.
+/// What the matches ask for; `None` if they lack what a command requires.
 pub(crate) fn requested<'a>(
     alloc: Global,
     matches: &ArgMatches<'a>,
@@ -127,7 +127,7 @@ fn source_given<'a>(given: &ArgMatches<'a>) -> Option<Source<'a>>
     })
 }
 
-/// The number that is an argument's value, or another where it has none.
+/// The number that is an argument's value, or another if it has none.
 fn number_given(given: &ArgMatches<'_>, name: &str, unless_given: u64) -> Option<u64>
     ensures { MatchOption result
         ((number : ℕ) → ¬ IsNumberOr unless_given (first_of name.now (given_rows given.now)) number)
@@ -139,7 +139,7 @@ fn number_given(given: &ArgMatches<'_>, name: &str, unless_given: u64) -> Option
     }
 }
 
-/// The number that a word is.
+/// The number that an argument is.
 fn number_of(word: &str) -> Option<u64>
     ensures { MatchOption result ((number : ℕ) → ¬ IsNumberOr 0 (Some word.now) number) (IsNumberOr 0 (Some word.now)) }
 {
@@ -171,7 +171,7 @@ fn text_given<'a>(given: &ArgMatches<'a>, name: &str) -> Option<&'a str>
     given.get_str(name)
 }
 
-/// All values of an argument, in the order of the words.
+/// All values of an argument, in the order of the command line.
 fn texts_given<'a>(
     alloc: Global,
     given: &ArgMatches<'a>,

@@ -1,4 +1,4 @@
-//! The command line: what its words ask for, and what help says of it.
+//! The command line: what its arguments ask for, and what help says of it.
 #![tactic(auto)]
 
 mod arguments;

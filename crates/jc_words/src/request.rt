@@ -3,7 +3,7 @@
 /// What the command line asks for. Texts are as they were given.
 #[derive(Debug, Drop)]
 pub enum Request<'a> {
-    /// Uploads taken into the journal of a database, in this order; where none is named, the one on standard input.
+    /// Uploads taken into the journal of a database, in this order; if none is named, the one on standard input.
     Collect {
         database: &'a str,
         uploads: Vec<&'a str>,
@@ -29,7 +29,7 @@ pub enum Request<'a> {
         kind: Kind,
         file: &'a str,
     },
-    /// The next upload of a source, of so many entries at most.
+    /// The next upload of a source, of at most this many entries.
     Upload {
         source: Source<'a>,
         limit: u64,

@@ -1,4 +1,4 @@
-//! What words ask for, and which are a mistake, where memory is ample.
+//! What arguments ask for, and which are a mistake, with ample memory.
 
 use crate::parse;
 use clap::error::ErrorKind;
@@ -8,7 +8,7 @@ use std::test::Fail;
 /// An id of 32 hexadecimal digits.
 const SOURCE: &str = "a0a1a2a3a4a5a6a7a8a9aaabacadaeaf";
 
-/// The words of a command line, the program's name first.
+/// The arguments of a command line, the program's name first.
 fn command_line<R: AllocGlobal>(rt: &R, words: &[&str]) -> Result<Vec<String>, Fail> {
     let alloc = rt.alloc();
     let mut line = vec![in alloc; String::from_str(alloc, "journal-collect")?]?;
@@ -18,7 +18,7 @@ fn command_line<R: AllocGlobal>(rt: &R, words: &[&str]) -> Result<Vec<String>, F
     Ok(line)
 }
 
-/// The words ask for what this text says.
+/// The arguments ask for what this text says.
 fn expect_request<R: AllocGlobal + Abort>(rt: &R, words: &[&str], asked: &str) -> Result<(), Fail> {
     let line = command_line(rt, words)?;
     let request = parse(rt.alloc(), line.as_slice())?;
@@ -27,7 +27,7 @@ fn expect_request<R: AllocGlobal + Abort>(rt: &R, words: &[&str], asked: &str) -
     Ok(())
 }
 
-/// The words are answered with this kind of error.
+/// The arguments are answered with this kind of error.
 fn expect_kind<R: AllocGlobal + Abort>(
     rt: &R,
     words: &[&str],

@@ -1,4 +1,4 @@
-//! The words of a command line, and what they ask for.
+//! The arguments of a command line, and what they ask for.
 
 ghost use Rattle.std.specs.Prelude.{◌≡◌, ◌⊎◌, IfOk, IfErr, map, string_bytes};
 ghost use Rattle.clap.specs.Words.{kind_of};
@@ -11,8 +11,8 @@ use clap::Error;
 use clap::error::ErrorKind;
 use std::alloc::Global;
 
-/// Reads the words, the program's name first. The error is a mistake in them, a request for help or for the
-/// version, or want of memory.
+/// Reads the arguments, the program's name first. The error is a mistake in them, a request for help or for the
+/// version, or refused memory.
 pub fn parse<'a>(alloc: Global, words: &'a [String]) -> Result<Request<'a>, Error>
     ensures request { IfOk result (AskFor (map string_bytes words.entry.now)) }
     ensures answer { IfErr result (λ e. (kind_of e ≡ ErrorKind.OutOfMemory)

@@ -77,7 +77,7 @@ fn run_ack(
     run_over(rt, &words, input)
 }
 
-/// The text of the resume point behind the sample entry of this number, which is that of the position too.
+/// The text of the resume point after the sample entry of this number, which is that of the position too.
 fn point(rt: &HostRuntime, position: u64) -> Result<String, Fail> {
     let alloc = rt.alloc();
     let text = match position {
@@ -116,7 +116,7 @@ fn an_ack_moves_on_where_it_begins_at_or_before_the_point(rt: HostRuntime) -> Re
         machine.ack(&rt, &["ack S 4 2 2 0\n"], "resume 4\n", "", 0)?;
         machine.expect_point(&rt, 4)?;
     }
-    // behind the point, and of another source
+    // after the point, and of another source
     fs::write(&rt, machine.resume.as_path(), point(&rt, 2)?.as_bytes())?;
     let others = [
         "ack S 3 2 2 0\n",
@@ -150,7 +150,7 @@ fn without_answers_the_point_is_kept_as_it_is(rt: HostRuntime) -> Result<(), Fai
     let machine = machine_of_five(&rt, "no-answers", 5)?;
     machine.ack(&rt, &[], "resume 5\n", "", 0)?;
     machine.expect_point(&rt, 5)?;
-    // the file is made where there is none
+    // the file is made if there is none
     fs::remove_file(&rt, machine.resume.as_path())?;
     machine.ack(&rt, &[], "resume 0\n", "", 0)?;
     machine.expect_point(&rt, 0)?;

@@ -1,4 +1,4 @@
-//! `check`: journals, tables that are none, and files that are no database.
+//! `check`: journals, tables that aren't a journal, and files that aren't a database.
 
 use super::runs::{
     expect, expect_over, expect_refusals, expect_run, new_folder, run_into, run_over, write_parts,
@@ -106,7 +106,7 @@ fn a_verdict_that_cannot_be_written_is_told(rt: HostRuntime) -> Result<(), Fail>
     expect_full(&rt, &changed(&rt, "full-bad", ENTRY, statement)?)
 }
 
-/// Where standard output takes less than a line, `check` of the database in the folder tells so.
+/// If standard output takes less than a line, `check` of the database in the folder reports that.
 fn expect_full(rt: &HostRuntime, folder: &PathBuf) -> Result<(), Fail> {
     let alloc = rt.alloc();
     let database = folder.join(alloc, "db")?;

@@ -85,7 +85,7 @@ fn expect_export(rt: &HostRuntime, database: &PathBuf, exported: &[u8]) -> Resul
     expect_over(rt, &["export", database.as_str()], b"", exported, "", 0)
 }
 
-/// Parts, one behind the other.
+/// Parts, one after the other.
 fn joined(rt: &HostRuntime, parts: &[&[u8]]) -> Result<Vec<u8>, Fail> {
     let mut bytes = Vec::new(rt.alloc());
     for part in parts {
@@ -280,13 +280,13 @@ fn uploads_are_opened_before_the_database(rt: HostRuntime) -> Result<(), Fail> {
     expect(&rt, &words, "", line.as_str(), 3)?;
     assert!(rt; !fs::exists(&rt, database.as_path())?);
 
-    // a name that is no path's is told before that
+    // a name that isn't taken for a path is reported before that
     expect_bad_names(&rt, missing.as_str(), &[":memory:", ":", "file:db"])?;
     fs::remove_dir_all(&rt, folder.as_path())?;
     Ok(())
 }
 
-/// `collect` of an upload into databases of these names tells that they are none.
+/// `collect` of an upload into databases of these names reports that they aren't names of databases.
 fn expect_bad_names(rt: &HostRuntime, upload: &str, names: &[&str]) -> Result<(), Fail> {
     for name in names {
         let words = ["collect", *name, upload];
@@ -356,7 +356,7 @@ fn nothing_is_collected_behind_a_line_that_cannot_be_written(rt: HostRuntime) ->
     Ok(())
 }
 
-/// Where standard output takes so many bytes, a run over two uploads stops, and its database has this text.
+/// If standard output takes only this many bytes, a run over two uploads stops, and its database has this text.
 fn expect_stop(
     rt: &HostRuntime,
     folder: &PathBuf,

@@ -89,7 +89,7 @@ fn show_prints_the_least_message(rt: HostRuntime) -> Result<(), Fail> {
     Ok(())
 }
 
-/// An id that is none is told before anything is said of the database.
+/// An id that isn't one is reported before anything is said of the database.
 fn expect_bad_id(rt: &HostRuntime, database: &str, id: &str) -> Result<(), Fail> {
     let words = ["show", database, "--id", id];
     expect(rt, &words, "", "bad id\n", 2)?;
@@ -132,7 +132,7 @@ fn a_listing_that_cannot_be_written_is_told(rt: HostRuntime) -> Result<(), Fail>
     Ok(())
 }
 
-/// Where standard output takes so many bytes, neither listing can be written.
+/// If standard output takes only this many bytes, neither listing can be written.
 fn expect_full(rt: &HostRuntime, database: &str, room: usize) -> Result<(), Fail> {
     let ran = run_into(rt, &["export", database], room)?;
     expect_run(ran, b"", "write failed\n", 3)?;

@@ -14,7 +14,7 @@ pub struct Ran {
     pub status: u8,
 }
 
-/// A run with these words after the program's name.
+/// A run with these arguments after the program's name.
 pub fn run(rt: &HostRuntime, words: &[&str]) -> Result<Ran, Fail> {
     run_over(rt, words, b"")
 }
@@ -33,7 +33,7 @@ pub fn run_over(rt: &HostRuntime, words: &[&str], input: &[u8]) -> Result<Ran, F
     })
 }
 
-/// The same without input, into a standard output that takes so many bytes and keeps none.
+/// The same without input, into a standard output that takes only this many bytes and keeps none.
 pub fn run_into(rt: &HostRuntime, words: &[&str], room: usize) -> Result<Ran, Fail> {
     let alloc = rt.alloc();
     let (output, mut errors) = (Vec::new(alloc), Vec::new(alloc));
@@ -46,7 +46,7 @@ pub fn run_into(rt: &HostRuntime, words: &[&str], room: usize) -> Result<Ran, Fa
     })
 }
 
-/// These words after the program's name.
+/// These arguments after the program's name.
 fn given_words(rt: &HostRuntime, words: &[&str]) -> Result<Vec<String>, Fail> {
     let alloc = rt.alloc();
     let mut given = vec![in alloc; String::from_str(alloc, "journal-collect")?]?;
@@ -56,7 +56,7 @@ fn given_words(rt: &HostRuntime, words: &[&str]) -> Result<Vec<String>, Fail> {
     Ok(given)
 }
 
-/// A run with these words prints so, and ends so.
+/// A run with these arguments prints this, and ends with this status.
 pub fn expect(
     rt: &HostRuntime,
     words: &[&str],
@@ -67,7 +67,7 @@ pub fn expect(
     expect_over(rt, words, b"", output.as_bytes(), errors, status)
 }
 
-/// The same with these bytes on standard input, where standard output may be no text.
+/// The same with these bytes on standard input. What is printed need not be text.
 pub fn expect_over(
     rt: &HostRuntime,
     words: &[&str],
@@ -82,7 +82,7 @@ pub fn expect_over(
     expect_status(ran.status, status, words)
 }
 
-/// Each of these commands over a database prints nothing but this line on standard error, and ends so.
+/// Each of these commands over a database prints nothing but this line on standard error, and ends with this status.
 pub fn expect_refusals(
     rt: &HostRuntime,
     commands: &[&str],
@@ -96,7 +96,7 @@ pub fn expect_refusals(
     Ok(())
 }
 
-/// A run printed this, and ended so.
+/// A run printed this, and ended with this status.
 pub fn expect_run(ran: Ran, output: &[u8], errors: &str, status: u8) -> Result<(), Fail> {
     expect_text("standard output", &ran.output, output, &[])?;
     expect_text("standard error", &ran.errors, errors.as_bytes(), &[])?;
@@ -128,7 +128,7 @@ pub fn new_folder(rt: &HostRuntime, name: &str) -> Result<PathBuf, Fail> {
     Ok(path)
 }
 
-/// A file of these parts, one behind the other.
+/// A file of these parts, one after the other.
 pub fn write_parts(rt: &HostRuntime, file: &PathBuf, parts: &[&[u8]]) -> Result<(), Fail> {
     let mut writer = fs::create(rt, file.as_path())?;
     for part in parts {
@@ -137,7 +137,7 @@ pub fn write_parts(rt: &HostRuntime, file: &PathBuf, parts: &[&[u8]]) -> Result<
     Ok(())
 }
 
-/// The first bytes, so many.
+/// The first `size` bytes.
 pub fn front_of(rt: &HostRuntime, bytes: &[u8], size: usize) -> Result<Vec<u8>, Fail> {
     let (front, _) = bytes.split_at(size.min(bytes.len()));
     Ok(Vec::from_slice(rt.alloc(), front)?)

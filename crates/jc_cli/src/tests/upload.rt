@@ -75,7 +75,7 @@ fn entries(rt: &HostRuntime, first: u64, last: u64) -> Result<String, Fail> {
 #[test]
 fn an_upload_has_the_entries_behind_the_resume_point(rt: HostRuntime) -> Result<(), Fail> {
     let paths = new_paths(&rt, "upload")?;
-    // no resume file: position 0, and what is behind the last complete entry is left out
+    // no resume file: position 0, and what is after the last complete entry is left out
     write_parts(&rt, &paths.file, &[ENTRY, b"_"])?;
     paths.expect_upload(&rt, "export", None, &head(1, 0), ENTRY)?;
     let three = entries(&rt, 1, 3)?;

@@ -1,4 +1,4 @@
-//! `verify export`: streams that are counted, and the faults that are told of them.
+//! `verify export`: streams that are counted, and the faults that are reported of them.
 
 use super::runs::{expect, expect_run, new_folder, run_into, write_parts};
 use jc_samples::{ENTRY, METADATA, METADATA_LINES};
@@ -88,7 +88,7 @@ fn verify_export_tells_the_smallest_fault_of_metadata(rt: HostRuntime) -> Result
 
 #[test]
 fn verify_export_tells_which_line_of_metadata_is_wrong(rt: HostRuntime) -> Result<(), Fail> {
-    // the number of a line, what stands in its place, and what is printed
+    // the number of a line, what is in its place, and what is printed
     let rows: [(usize, &[u8], &str); 14] = [
         (0, b"", "bad 21 0\n"),
         (1, b"", "bad 22 0\n"),

@@ -36,7 +36,7 @@ fn files_are_counted_and_their_faults_told(rt: HostRuntime) -> Result<(), Fail> 
         (&[(256, 1 << 63)], "bad 25 240"),
         (&[(256, (1 << 63) - 1)], "ok 1 0"),
         (&[(256, 0)], "bad 27 240"),
-        // an arena that ends behind the file
+        // an arena that ends after the file
         (&[(96, 193)], "bad 38 96"),
     ];
     file_rows(&rt, file.as_str(), rows.as_slice())?;

@@ -1,4 +1,4 @@
-//! Words: help, the version, and wrong command lines.
+//! Arguments: help, the version, and wrong command lines.
 
 use super::runs::{Ran, expect, run};
 use jc_samples::SOURCE;
