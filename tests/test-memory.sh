@@ -1,5 +1,6 @@
 #!/usr/bin/env bash
-# Memory is refused at every place of every command, one request after another, and with it all later ones.
+# Memory is refused to every command at one request after another, alone and with all later ones; in a long row of requests
+# of one size, at some of them.
 # The library that refuses is preloaded, and compiled here by the compiler of the toolchain.
 set -uo pipefail
 . "$(dirname "$0")/expect.sh"
