@@ -4,7 +4,7 @@ ghost use Rattle.std.specs.Prelude.{◌<◌, ◌≡◌};
 
 use jc_base::{ByteSink, ByteStream, ReadFailed, SliceStream, WriteFailed};
 
-/// A stream that gives at most so many bytes of another one at each read.
+/// A stream that gives at most this many bytes of another one at each read.
 #[derive(Drop)]
 pub struct Pieces<R> {
     pub inner: R,

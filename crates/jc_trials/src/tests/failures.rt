@@ -26,7 +26,7 @@ fn goes_on<K: Keeper>(
     Ok(())
 }
 
-/// The answer if the read after so many fails, one byte being read at a time.
+/// The answer if this many reads pass and the next one fails, one byte being read at a time.
 fn told(passes: u64) -> Answer {
     if passes < 48 {
         unread(61, 0)

@@ -1,4 +1,4 @@
-//! Uploads that are cut: each front of one into an empty journal.
+//! Uploads that are cut: each beginning of one into an empty journal.
 
 use super::answers::{ack, collect_space, collect_stream, no, unread};
 use jc_base::SliceStream;

@@ -1,4 +1,4 @@
-//! What is said of a run over a database in memory, where nothing is left to suppose of the keeper.
+//! What is proved of a run over a database in memory: no premise on the keeper is left.
 
 ghost use Rattle.std.specs.Prelude.{◌≡◌, ℕ, List, Some, map, IfSome};
 ghost use Rattle.std.specs.FinMap as finite;

@@ -19,7 +19,7 @@ type Row<'a> = (&'a [&'a [u8]], &'a str);
 /// The upload of one entry.
 const FIRST: Row<'static> = (&[&EXPORT, ENTRY], "ack S 0 1 1 0");
 
-/// How uploads are delivered: as streams that give so many bytes at each read, at most, or as spaces.
+/// How uploads are delivered: as streams that give at most this many bytes at each read, or as spaces.
 #[derive(Clone, Copy, Debug)]
 enum Way {
     Pieces(usize),
