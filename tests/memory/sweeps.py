@@ -67,17 +67,17 @@ class Sweep:
         """One run: how many requests were refused, and whether that was seen."""
         folder = self.trial.folder()
         words = [PROGRAM, *self.prepare(folder)]
-        told = refusal.run(self.trial.library, first, last, words, self.stdin)
+        told, sizes = refusal.run(self.trial.library, first, last, words, self.stdin)
         alone = "alone" if first == last else "and all later"
-        seen = self.judge(f"{self.name}, request {first} {alone}", folder, told[:3])
+        seen = self.judge(f"{self.name}, request {first} {alone}", folder, told)
         shutil.rmtree(folder)
-        return len(told.sizes), seen
+        return len(sizes), seen
 
     def all_sizes(self):
         """The sizes of all requests of an undisturbed run, which has to print what is usual."""
-        told = refusal.run(self.trial.library, 0, 0, [PROGRAM, *self.prepare(self.trial.folder())], self.stdin)
-        self.trial.expect(f"{self.name}, undisturbed", told[:3], self.usual)
-        return told.sizes
+        told, sizes = refusal.run(self.trial.library, 0, 0, [PROGRAM, *self.prepare(self.trial.folder())], self.stdin)
+        self.trial.expect(f"{self.name}, undisturbed", told, self.usual)
+        return sizes
 
     def sweep(self, pool):
         sizes = self.all_sizes()

@@ -1,0 +1,33 @@
+"""Small libraries that are preloaded into the program: compiled by the toolchain's own compiler, and told what to do by variables."""
+import os
+import shutil
+import subprocess
+import tempfile
+from typing import NamedTuple
+
+
+class Told(NamedTuple):
+    """What a run printed, its status, and what the library noted."""
+    output: bytes
+    errors: str
+    status: int
+    noted: bytes
+
+
+def built(source, folder):
+    """The library of a source, compiled into a folder. No other compiler, linker or header is needed."""
+    toolchain = os.path.join(os.path.dirname(os.path.realpath(shutil.which("rt"))), "..", "toolchain", "bin")
+    library = os.path.join(folder, os.path.basename(source) + ".so")
+    subprocess.run([os.path.join(toolchain, "clang"), "-fuse-ld=lld", "-O1", "-fPIC", "-shared", "-nostdlib", "-fno-builtin",
+                    "-Wall", "-Werror", "-o", library, source], check=True)
+    return library
+
+
+def run(library, prefix, settings, words, stdin=b"", **options):
+    """A run with the library, whose variables have a prefix; PREFIX_NOTE is the descriptor that it notes to."""
+    with tempfile.TemporaryFile() as note:
+        variables = {f"{prefix}_{name}": str(value) for name, value in {**settings, "NOTE": note.fileno()}.items()}
+        told = subprocess.run(words, input=stdin, stdout=subprocess.PIPE, stderr=subprocess.PIPE, check=False, timeout=60,
+                              env=dict(os.environ, LD_PRELOAD=library, **variables), pass_fds=[note.fileno()], **options)
+        note.seek(0)
+        return Told(told.stdout, told.stderr.decode(errors="replace"), told.returncode, note.read())

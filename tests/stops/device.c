@@ -1,0 +1,194 @@
+/* Preloaded into a program, this counts its calls that read and change files, and interferes with some of them: those numbered from
+ * DEVICE_FIRST to DEVICE_LAST, counted from 1 as the program starts. DEVICE_MODE says how:
+ *   k  the program is killed before the call
+ *   h  half of what a call writes is written, and then the program is killed
+ *   f  the call fails with EIO, and does nothing
+ *   n  none is interfered with, and each that changes a file is noted
+ * Reads are counted in mode f where DEVICE_READS is 1, and not in the other modes. Each call that was interfered with, and in mode n each
+ * change, is written to the descriptor DEVICE_NOTE: an operation and a file as two bytes, an offset and a length as eight bytes each,
+ * and then as many bytes. The files are d, a path that ends in "/db", l, one that ends in "/db-wal", and o, any other; 1 is standard
+ * output. Standard output and standard error never fail.
+ * It is compiled without headers, so what it needs of the C library is declared here. */
+typedef __SIZE_TYPE__ size_t;
+typedef __PTRDIFF_TYPE__ ssize_t;
+typedef long off_t;
+typedef int (*call_with_path)(const char *, ...);
+
+void *dlsym(void *handle, const char *name);
+char *getenv(const char *name);
+int *__errno_location(void);
+int raise(int signal);
+size_t strlen(const char *text);
+int strcmp(const char *left, const char *right);
+
+#define NEXT(name) dlsym((void *)-1L, name)
+
+enum { IO_ERROR = 5, KILL = 9, CREATES = 0100, DESCRIPTORS = 1024 };
+
+static unsigned long first, last, made;
+static int note, reads;
+static char mode = '-', kinds[DESCRIPTORS];
+
+static unsigned long number_in(const char *name)
+{
+    const char *digits = getenv(name);
+    unsigned long number = 0;
+    while (digits && *digits >= '0' && *digits <= '9')
+        number = number * 10 + (unsigned long)(*digits++ - '0');
+    return number;
+}
+
+__attribute__((constructor)) static void begin(void)
+{
+    const char *asked = getenv("DEVICE_MODE");
+    first = number_in("DEVICE_FIRST");
+    last = number_in("DEVICE_LAST");
+    reads = (int)number_in("DEVICE_READS");
+    note = (int)number_in("DEVICE_NOTE");
+    kinds[1] = '1';
+    made = 0;
+    mode = asked ? *asked : '-';
+}
+
+static ssize_t put(int descriptor, const void *bytes, size_t size)
+{
+    return ((ssize_t(*)(int, const void *, size_t))NEXT("write"))(descriptor, bytes, size);
+}
+
+static char kind_of(int descriptor)
+{
+    char kind = descriptor >= 0 && descriptor < DESCRIPTORS ? kinds[descriptor] : 0;
+    return kind ? kind : 'o';
+}
+
+static void tell(char operation, char kind, off_t offset, size_t size, const void *bytes)
+{
+    struct __attribute__((packed)) {
+        char operation, kind;
+        off_t offset;
+        size_t size;
+    } head = {operation, kind, offset, size};
+    put(note, &head, sizeof head);
+    if (bytes)
+        put(note, bytes, size);
+}
+
+/* Whether a call has to fail. Where the program is to be killed within it this does not return but for mode h, where `half` is set. */
+static int interferes(char operation, char kind, off_t offset, size_t size, const void *bytes, int *half)
+{
+    int is_read = operation == 'r';
+    if (mode == '-' || (is_read && !(mode == 'f' && reads)) || (mode == 'f' && kind == '1'))
+        return 0;
+    made++;
+    if (mode == 'n') {
+        tell(operation, kind, offset, size, bytes);
+        return 0;
+    }
+    if (made < first || made > last)
+        return 0;
+    tell(operation, kind, offset, 0, 0);
+    if (mode == 'h' && half && size > 1) {
+        *half = 1;
+        return 0;
+    }
+    if (mode != 'f')
+        raise(KILL);
+    *__errno_location() = IO_ERROR;
+    return 1;
+}
+
+static int ends_in(const char *path, const char *end)
+{
+    size_t length = strlen(path), part = strlen(end);
+    return length >= part && strcmp(path + length - part, end) == 0;
+}
+
+static char kind_at(const char *path)
+{
+    return ends_in(path, "/db") ? 'd' : ends_in(path, "/db-wal") ? 'l' : 'o';
+}
+
+int open(const char *path, int flags, unsigned mode_of_file)
+{
+    char kind = kind_at(path);
+    int descriptor;
+    if (interferes(flags & CREATES ? 'c' : 'r', kind, 0, 0, 0, 0))
+        return -1;
+    descriptor = ((call_with_path)NEXT("open"))(path, flags, mode_of_file);
+    if (descriptor >= 0 && descriptor < DESCRIPTORS)
+        kinds[descriptor] = kind;
+    return descriptor;
+}
+
+ssize_t read(int descriptor, void *bytes, size_t size)
+{
+    if (interferes('r', kind_of(descriptor), 0, size, 0, 0))
+        return -1;
+    return ((ssize_t(*)(int, void *, size_t))NEXT("read"))(descriptor, bytes, size);
+}
+
+ssize_t pread(int descriptor, void *bytes, size_t size, off_t offset)
+{
+    if (interferes('r', kind_of(descriptor), offset, size, 0, 0))
+        return -1;
+    return ((ssize_t(*)(int, void *, size_t, off_t))NEXT("pread"))(descriptor, bytes, size, offset);
+}
+
+ssize_t write(int descriptor, const void *bytes, size_t size)
+{
+    int half = 0;
+    ssize_t written;
+    if (descriptor != 2 && interferes('w', kind_of(descriptor), -1, size, bytes, &half))
+        return -1;
+    written = put(descriptor, bytes, half ? size / 2 : size);
+    if (half)
+        raise(KILL);
+    return written;
+}
+
+ssize_t pwrite(int descriptor, const void *bytes, size_t size, off_t offset)
+{
+    int half = 0;
+    ssize_t written;
+    if (interferes('w', kind_of(descriptor), offset, size, bytes, &half))
+        return -1;
+    written = ((ssize_t(*)(int, const void *, size_t, off_t))NEXT("pwrite"))(descriptor, bytes, half ? size / 2 : size, offset);
+    if (half)
+        raise(KILL);
+    return written;
+}
+
+int ftruncate(int descriptor, off_t length)
+{
+    if (interferes('t', kind_of(descriptor), length, 0, 0, 0))
+        return -1;
+    return ((int (*)(int, off_t))NEXT("ftruncate"))(descriptor, length);
+}
+
+int fsync(int descriptor)
+{
+    if (interferes('s', kind_of(descriptor), 0, 0, 0, 0))
+        return -1;
+    return ((int (*)(int))NEXT("fsync"))(descriptor);
+}
+
+int fdatasync(int descriptor)
+{
+    if (interferes('s', kind_of(descriptor), 0, 0, 0, 0))
+        return -1;
+    return ((int (*)(int))NEXT("fdatasync"))(descriptor);
+}
+
+int rename(const char *from, const char *to)
+{
+    if (interferes('m', kind_at(to), 0, 0, 0, 0))
+        return -1;
+    return ((int (*)(const char *, const char *))NEXT("rename"))(from, to);
+}
+
+int unlink(const char *path)
+{
+    if (interferes('u', kind_at(path), 0, 0, 0, 0))
+        return -1;
+    return ((int (*)(const char *))NEXT("unlink"))(path);
+}

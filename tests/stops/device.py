@@ -1,0 +1,102 @@
+"""The program over a device that stops, fails, or notes what is written: a small library that is preloaded counts the calls."""
+import os
+import struct
+from typing import NamedTuple
+
+import preload
+
+HEAD = struct.Struct("<ccqQ")
+SECTOR = 512
+
+
+class Call(NamedTuple):
+    """A call on a file: its operation, the file's kind, a place or a length, and the bytes that it writes."""
+    operation: bytes
+    kind: bytes
+    place: int
+    data: bytes
+
+
+def built(folder):
+    """The library, compiled into a folder."""
+    return preload.built(os.path.join(os.path.dirname(os.path.abspath(__file__)), "device.c"), folder)
+
+
+def run(library, mode, first, last, words, stdin=b"", reads=False):
+    """A run in which the calls from one number to another are interfered with, as device.c says of the mode. What it prints, its
+    status, and those calls; all of them, where the mode is to note them."""
+    settings = {"MODE": mode, "FIRST": first, "LAST": last, "READS": int(reads)}
+    *told, noted = preload.run(library, "DEVICE", settings, words, stdin)
+    return tuple(told), list(calls_in(noted, mode == "n"))
+
+
+def calls_in(noted, with_data):
+    at = 0
+    while at < len(noted):
+        operation, kind, place, size = HEAD.unpack_from(noted, at)
+        at += HEAD.size
+        data = b""
+        if operation == b"w" and with_data:
+            data = noted[at:at + size]
+            at += size
+        yield Call(operation, kind, place, data)
+
+
+class Disk:
+    """What a device has of one file: its bytes as they were last synced, and each change since then."""
+
+    def __init__(self):
+        self.is_there = False
+        self.synced = b""
+        self.changes = []
+
+    def hold(self, path):
+        """Begins with a file as it is."""
+        self.is_there = True
+        with open(path, "rb") as file:
+            self.synced = file.read()
+
+    def take(self, call):
+        """A call changes the file, or syncs it."""
+        if call.operation == b"c":
+            self.is_there = True
+        elif call.operation == b"s":
+            self.synced, self.changes = self.seen(), []
+        elif call.operation in (b"w", b"t"):
+            self.changes.append(call)
+
+    def seen(self):
+        data = bytearray(self.synced)
+        for call in self.changes:
+            change(data, call, range(len(call.data)), bytes)
+        return bytes(data)
+
+    def after_loss(self, dice):
+        """What a loss of power may leave: of each change nothing, all, a beginning, or some of its sectors. What lies past the end
+        that was synced and wasn't written is zeros or anything."""
+        fill = dice.choice((bytes, dice.randbytes))
+        data = bytearray(self.synced)
+        for call in self.changes:
+            length = len(call.data)
+            kept = dice.choice(("none", "all", "front", "sectors"))
+            if kept == "all" or (kept != "none" and length == 0):
+                change(data, call, range(length), fill)
+            elif kept == "front":
+                change(data, call, range(dice.randrange(length)), fill)
+            elif kept == "sectors":
+                first = call.place // SECTOR
+                lost = [dice.random() < 0.5 for _ in range(first, (call.place + length) // SECTOR + 1)]
+                change(data, call, [at for at in range(length) if not lost[(call.place + at) // SECTOR - first]], fill)
+        return bytes(data)
+
+
+def change(data, call, part, fill):
+    """Makes a part of a change."""
+    if call.operation == b"t":
+        del data[call.place:]
+        data.extend(bytes(call.place - len(data)))
+    elif part:
+        end = call.place + part[-1] + 1
+        data.extend(fill(max(0, end - len(data))))
+        for at in part:
+            data[call.place + at] = call.data[at]

@@ -1,0 +1,79 @@
+"""Power is lost between any two calls that change a file: what wasn't synced is gone, or there in part.
+
+What a run writes is noted, and from that the files are made as a device may have them: of each change since a file was last synced
+nothing, all, a beginning or some sectors, each sector old or new below the end that was synced, and anything past it. Every upload that
+was acknowledged before the loss has its entries in the journal then, beside these there are none or all of the next one, and the same
+uploads complete it. All this rests on a device that keeps what it said is synced, finishes each sector that it begins, and changes none
+that it wasn't asked to.
+"""
+import os
+from concurrent.futures import ThreadPoolExecutor
+
+import device
+import samples
+from collecting import Collecting
+from make import Machine
+from trial import Trial
+
+# How often power is lost at one place, each time with other changes kept.
+LOSSES = 6
+
+
+def states(scenario, calls):
+    """The disks after none of the calls, after the first, and so on, with the number of lines printed so far."""
+    disks = {kind: device.Disk() for kind in (b"d", b"l")}
+    if scenario.base:
+        for kind, end in ((b"d", ""), (b"l", "-wal")):
+            disks[kind].hold(scenario.base + end)
+    answered = 0
+    yield disks, answered
+    for call in calls:
+        if call.kind in disks:
+            disks[call.kind].take(call)
+        answered += call.kind == b"1" and call.data.endswith(b"\n")
+        yield disks, answered
+
+
+def lost(scenario, dice, calls):
+    """The files that losses of power leave, each with a name and with the number of lines that were printed."""
+    for number, (disks, answered) in enumerate(states(scenario, calls)):
+        there = [disks[kind].is_there for kind in (b"d", b"l")]
+        for time in range(LOSSES if any(disk.changes for disk in disks.values()) else 1):
+            files = [disks[kind].after_loss(dice) for kind in (b"d", b"l")]
+            yield f"{scenario.name}, power lost after {number} calls, {time}", answered, there, files
+
+
+def judge(scenario, what, answered, there, files):
+    database = scenario.trial.database()
+    for end, is_there, data in zip(("", "-wal"), there, files):
+        if is_there:
+            with open(database + end, "wb") as file:
+                file.write(data)
+    scenario.left(what, database, answered)
+
+
+def sweep(scenario, pool):
+    told, calls = scenario.run("n", 0, 0)[1:]
+    scenario.trial.expect(f"{scenario.name}: undisturbed", told, scenario.usual)
+    cases = list(lost(scenario, scenario.trial.dice, calls))
+    list(pool.map(lambda case: judge(scenario, *case), cases))
+    print(f"losses: {scenario.name}: {len(cases)} losses of power at {len(calls) + 1} places")
+    return len(cases)
+
+
+def main():
+    with Trial("losses") as trial, ThreadPoolExecutor(os.cpu_count()) as pool:
+        trial.library = device.built(trial.base)
+        row, rest = samples.stream(samples.E1), samples.stream(samples.E2, samples.E3)
+        machine = Machine(trial.dice, 60)
+        scenarios = [
+            Collecting(trial, "an upload without entries", [samples.head(1)]),
+            Collecting(trial, "two uploads", [row, rest]),
+            Collecting(trial, "two uploads into a journal", [rest, samples.head(2) + samples.FILE], [row]),
+            Collecting(trial, "many entries", [machine.stream(0, 40), machine.file(50), machine.stream(30, 60)]),
+        ]
+        trial.finish(f"{sum(sweep(scenario, pool) for scenario in scenarios)} losses of power")
+
+
+if __name__ == "__main__":
+    main()

@@ -1,0 +1,153 @@
+"""The program is stopped at each call that changes a file, and within each write; and a device fails at each of its calls, alone and with
+all later ones.
+
+Every upload that was acknowledged has its entries in the journal afterwards. Beside these there are all or none of the first upload that
+wasn't answered, or was answered by a failure of the store, and nothing else. The same uploads sent again complete the journal. A resume
+file is the old or the new one whole.
+"""
+import os
+import shutil
+import signal
+from concurrent.futures import ThreadPoolExecutor
+
+import device
+import samples
+from collecting import NEVER, Collecting
+from make import Machine
+from trial import PROGRAM, Trial, run, status_of
+
+KILLED = ("", -signal.SIGKILL)
+RESUME = ("--source", samples.SOURCE.hex(), "--resume")
+
+
+def stopped(scenario, mode, number):
+    """The program ends at a call; answers whether it did."""
+    what = f"{scenario.name}, stopped {'before' if mode == 'k' else 'within'} call {number}"
+    database, told, calls = scenario.run(mode, number, NEVER)
+    output = told[0]
+    if calls:
+        scenario.trial.expect(what, (scenario.usual[0].startswith(output), *told[1:]), (True, *KILLED))
+    else:
+        scenario.trial.expect(what, told, scenario.usual)
+    scenario.left(what, database, output.count(b"\n"))
+    return bool(calls)
+
+
+def failing(scenario, number, last, reads):
+    """A device fails from one call to another; answers whether it did."""
+    trial = scenario.trial
+    what = f"{scenario.name}, calls {number} to {last} fail{', reads too' if reads else ''}"
+    database, (output, errors, status), calls = scenario.run("f", number, last, reads)
+    lines = output.decode().splitlines()
+    if lines:
+        trial.expect(f"{what}: number of lines", len(lines), len(scenario.uploads))
+        trial.expect(f"{what}: {errors!r}", errors in ("", "store failed\n"), True)
+        trial.expect(f"{what}: status", status, 3 if errors else status_of(lines))
+    else:
+        may_be = {f"cannot open {name}\n" for name in (database, *scenario.names)} | {"store failed\n", "read failed\n"}
+        trial.expect(f"{what}: {errors!r}", errors in may_be, True)
+        trial.expect(f"{what}: status", status, 3)
+    scenario.holds_one_of(what, database, after_failures(scenario, what, lines))
+    return bool(calls)
+
+
+def after_failures(scenario, what, lines):
+    """The journals that a run with these answers may leave: all that is acknowledged, and with it perhaps the first upload that is
+    answered by a failure of the store."""
+    journal = scenario.journals[0].copy()
+    failed = []
+    for line, upload in zip(lines, scenario.uploads):
+        after = journal.copy()
+        answer = after.take(upload)
+        whose = " ".join(answer.split(" ")[1:3])
+        if line == f"no {whose} 62 0":
+            failed.append(upload)
+        elif line not in (f"no {whose} 61 0", "no - - 61 0"):
+            scenario.trial.expect(f"{what}: line", line, answer)
+            journal = after
+    and_failed = journal.copy()
+    for upload in failed[:1]:
+        and_failed.take(upload)
+    return [journal, and_failed]
+
+
+def upwards(pool, attempt, step=1):
+    """Tries one number after another until an attempt finds nothing to do; answers how many did."""
+    tried = 0
+    while True:
+        numbers = range(1 + tried * step, 1 + (tried + 64) * step, step)
+        found = list(pool.map(attempt, numbers))
+        tried += found.count(True)
+        if not all(found):
+            return tried
+
+
+def collect(trial, pool, scenario, step=1):
+    told, calls = scenario.run("n", 0, 0)[1:]
+    trial.expect(f"{scenario.name}: undisturbed", told, scenario.usual)
+    stops = sum(upwards(pool, lambda number: stopped(scenario, mode, number), step) for mode in "kh")
+    counts = []
+    for reads in (False, True):
+        alone = upwards(pool, lambda number: failing(scenario, number, number, reads), step)
+        later = upwards(pool, lambda number: failing(scenario, number, NEVER, reads), step)
+        counts.append(alone + later)
+    print(f"stops: {scenario.name}: {len(calls)} calls that change a file; {stops} stops, {counts[0]} failures of these calls, "
+          f"{counts[1]} of reads too")
+    return stops + sum(counts)
+
+
+class Acks:
+    """An answer that moves a resume point on."""
+
+    OLD = f"resume 1 {samples.SEQNUM_ID.hex()} 1\n".encode()
+    NEW = f"resume 2 {samples.SEQNUM_ID.hex()} 2\n".encode()
+    ANSWER = f"ack {samples.SOURCE.hex()} 1 1 1 0\n".encode()
+    USUAL = (b"resume 2\n", "", 0)
+
+    def __init__(self, trial):
+        self.trial = trial
+
+    def once(self, mode, number, last, reads=False):
+        what = f"ack, calls {number} to {last}, mode {mode}"
+        trial = self.trial
+        source, resume = trial.put([samples.E1 + samples.E2, self.OLD])
+        words = ["ack", *RESUME, resume, "export", source]
+        told, calls = device.run(trial.library, mode, number, last, [PROGRAM, *words], self.ANSWER, reads)
+        if told != self.USUAL:
+            whys = ("read failed", "write failed", f"cannot open {resume}", f"cannot open {source}")
+            may_be = [(f"{why}\n", 3) for why in whys] if mode == "f" else [KILLED]
+            trial.expect(f"{what}: {told}", told[1:] in may_be and self.USUAL[0].startswith(told[0]), True)
+        with open(resume, "rb") as file:
+            left = file.read()
+        trial.expect(f"{what}: resume file", left in ([self.NEW] if told[0] else [self.OLD, self.NEW]), True)
+        trial.expect(f"{what}: again", run(*words, stdin=self.ANSWER), self.USUAL)
+        trial.expect(f"{what}: what lies beside it", os.listdir(os.path.dirname(resume)).count("upload-1.new"), 0)
+        shutil.rmtree(os.path.dirname(resume))
+        return bool(calls)
+
+    def sweep(self, pool):
+        counts = [upwards(pool, lambda number: self.once(mode, number, NEVER)) for mode in "kh"]
+        for reads in (False, True):
+            counts.append(upwards(pool, lambda number: self.once("f", number, number, reads)))
+            counts.append(upwards(pool, lambda number: self.once("f", number, NEVER, reads)))
+        print(f"stops: ack: {sum(counts[:2])} stops, {sum(counts[2:])} failures")
+        return sum(counts)
+
+
+def main():
+    with Trial("stops") as trial, ThreadPoolExecutor(os.cpu_count()) as pool:
+        trial.library = device.built(trial.base)
+        row, rest = samples.stream(samples.E1), samples.stream(samples.E2, samples.E3)
+        machine = Machine(trial.dice, 60)
+        scenarios = [
+            (Collecting(trial, "an upload without entries", [samples.head(1)]), 1),
+            (Collecting(trial, "two uploads", [row, rest]), 1),
+            (Collecting(trial, "two uploads into a journal", [rest, samples.head(2) + samples.FILE], [row]), 1),
+            (Collecting(trial, "many entries", [machine.stream(0, 40), machine.file(50), machine.stream(30, 60)]), 3),
+        ]
+        tried = sum(collect(trial, pool, *scenario) for scenario in scenarios) + Acks(trial).sweep(pool)
+        trial.finish(f"{tried} runs")
+
+
+if __name__ == "__main__":
+    main()

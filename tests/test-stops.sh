@@ -1,0 +1,17 @@
+#!/usr/bin/env bash
+# The program stopped at each of its writes, over devices that fail, and after power was lost.
+# The library that stops it is preloaded, and compiled here by the compiler of the toolchain.
+set -uo pipefail
+. "$(dirname "$0")/expect.sh"
+
+# files in memory, where there are some: each run makes its database anew
+if [[ -d /dev/shm && -w /dev/shm ]]; then
+    export TMPDIR=/dev/shm
+fi
+# The store takes 8 MB as it opens a database; in large pages that takes the system half of the time.
+export GLIBC_TUNABLES=glibc.malloc.hugetlb=1
+export PROGRAM PYTHONPATH=tests:tests/collect PYTHONDONTWRITEBYTECODE=1
+for part in stops losses; do
+    python3 "tests/stops/$part.py" || differs "tests/stops/$part.py"
+done
+finish
