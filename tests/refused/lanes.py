@@ -7,8 +7,8 @@ import os
 import toolchain
 
 # The most memory that one check takes, and what the others take beside it, in bytes (docs/GATE.md).
-LARGEST = 5_000_000_000
-EACH = 3_000_000_000
+LARGEST = 8_000_000_000
+EACH = 4_000_000_000
 
 
 def lanes() -> int:
