@@ -51,7 +51,7 @@ class Watch:
             if name.isdigit():
                 try:
                     self._note(int(name))
-                except (OSError, ValueError, IndexError):
+                except (OSError, ValueError, IndexError, KeyError):
                     # it has ended meanwhile
                     continue
 
