@@ -6,12 +6,12 @@ use Rattle.std.specs.Io.KnownBytes.{Appends}
 abbrev pub most_failures : ℕ
 most_failures = 2 ^ 64 - 1
 
--- A count of failures has risen, or it stands where it stays.
+-- A count of failures has risen, or it is the greatest and stays.
 pub record Rose (before now : ℕ) : Type 0 where
   pub never_falls : before ≤ now
   pub rises : before < most_failures → before < now
 
--- A call leaves a count of failures: it never falls, and has risen where the call failed.
+-- A call leaves a count of failures: it never falls, and has risen if the call failed.
 pub record CountsFailure {T E : Type 0} (before now : ℕ) (result : Result T E) : Type 0 where
   pub never_falls : before ≤ now
   pub failed : OnErr result (Rose before now)
@@ -20,7 +20,7 @@ pub record CountsFailure {T E : Type 0} (before now : ℕ) (result : Result T E)
 abbrev pub BoundFalls : {E : Type 0} → (before now : ℕ) → Result ℕ E → Type 0
 BoundFalls before now result = MatchResult result (λ count. now + count ≤ before) (λ _. now ≤ before)
 
--- Of a text so many bytes went out, and no more.
+-- This many bytes of a text went out, and no more.
 pub record WentOut (before now : Option (List ℕ)) (text : List ℕ) (count : ℕ) : Type 0 where
   pub within : count ≤ length text
   pub front : Appends before now (take count text)

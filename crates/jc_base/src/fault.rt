@@ -22,7 +22,7 @@ pub enum Code {
     NameTooLong = 11,
     /// 12: a value is longer than the limit.
     ValueTooLong = 12,
-    /// 13: the byte behind a binary value is no newline.
+    /// 13: the byte after a binary value isn't a newline.
     MissingNewline = 13,
     /// 14: an entry has more fields than the limit.
     TooManyFields = 14,
@@ -72,11 +72,11 @@ pub enum Code {
     BadType = 42,
     /// 43: an object's size doesn't fit its type or the arena.
     BadSize = 43,
-    /// 44: an entry array lies before the end of the one before it.
+    /// 44: an entry array begins before the end of the one before it.
     ChainBack = 44,
     /// 45: an object's payload is compressed.
     CompressedObject = 45,
-    /// 46: an object's payload is no name, `=` and value.
+    /// 46: an object's payload isn't a name, `=` and a value.
     BadData = 46,
     /// 47: a journal file is longer than the limit.
     FileTooLong = 47,
@@ -115,7 +115,7 @@ impl fmt::Display for Code {
     }
 }
 
-/// A fault and its place: which count the place is, of bytes, fields or entries, goes with who tells it.
+/// A fault and its place. What the place counts, bytes, fields or entries, depends on what reports the fault.
 #[derive(Clone, Copy, Debug, PartialEq, Eq)]
 pub struct Fault {
     pub code: Code,
@@ -125,7 +125,7 @@ pub struct Fault {
 /// How a source of entries ends.
 #[derive(Clone, Copy, Debug, PartialEq, Eq)]
 pub enum Ending {
-    /// Without a fault, `left` bytes behind the first byte of an entry that isn't complete.
+    /// Without a fault. The last `left` bytes are an unfinished entry.
     End { left: u64 },
     Bad(Fault),
 }

@@ -6,8 +6,7 @@ use crate::failure::count_failure;
 use crate::{ByteStream, ReadFailed};
 use std::io::Read;
 
-/// A stream over a reader. It fails where the reader does, whatever the reader's error, and once 2^64 - 1 bytes have
-/// come.
+/// A stream over a reader. It fails if the reader does, whatever the reader's error, and after 2^64 - 1 bytes.
 #[derive(Debug, Drop)]
 pub struct FromRead<R> {
     reader: R,

@@ -22,7 +22,7 @@ pub struct Limits {
 }
 
 impl Limits {
-    /// These limits; `None` where one is below its least value or above 2^40. Takes no memory.
+    /// These limits; `None` if one is below its least value or above 2^40. Takes no memory.
     pub fn new(name: u64, value: u64, fields: u64, entry: u64, file: u64) -> Option<Limits>
         ensures lawful { IsSome result ↔ AreLimits name value fields entry file }
         ensures values { IfSome result (λ limits. (limits.name ≡ name) × (limits.value ≡ value)

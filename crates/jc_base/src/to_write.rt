@@ -6,8 +6,7 @@ use crate::failure::count_failure;
 use crate::{ByteSink, WriteFailed};
 use std::io::Write;
 
-/// A sink over a writer. It fails where the writer does, and where the writer takes nothing of a piece that isn't
-/// empty.
+/// A sink over a writer. It fails if the writer does, or if the writer takes nothing of a piece that isn't empty.
 #[derive(Debug, Drop)]
 pub struct ToWrite<W> {
     writer: W,
