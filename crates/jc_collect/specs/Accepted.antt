@@ -40,8 +40,8 @@ StoredBefore limits start uploads accepted i e = IsStored start e ⊎ WasAccepte
 abbrev pub NoneDiffer : (LogEntry → Type 0) → Type 0
 NoneDiffer In = (e f : LogEntry) → In e → In f → e.key ≡ f.key → e ≡ f
 
--- An upload is accepted: no failure was told of it, it ends without a fault, and its entries agree with each other and
--- with all that is stored before it.
+-- An upload is accepted: no failure was reported of it, it ends without a fault, and its entries agree with each other
+-- and with all that is stored before it.
 pub record IsAcceptedAt (limits : Limits) (start : Journal) (uploads : List (List ℕ)) (failed accepted : List Bool) (i : ℕ) : Type 0 where
   pub passed : ¬ IsMarked failed i
   pub reading : Reading
@@ -50,7 +50,7 @@ pub record IsAcceptedAt (limits : Limits) (start : Journal) (uploads : List (Lis
   pub ended : reading.ending ≡ End left
   pub agrees : NoneDiffer (λ e. StoredBefore limits start uploads accepted i e ⊎ Contains reading.entries e)
 
--- The one set of accepted positions, where these positions failed.
+-- The one set of accepted positions, if these positions failed.
 pub record AreAccepted (limits : Limits) (start : Journal) (uploads : List (List ℕ)) (failed accepted : List Bool) : Type 0 where
   pub each : length accepted ≡ length uploads
   pub are : (i : ℕ) → IsMarked accepted i ↔ IsAcceptedAt limits start uploads failed accepted i

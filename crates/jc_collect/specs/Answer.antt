@@ -21,7 +21,7 @@ use Rattle.jc_upload.specs.Head.{IsHeadFault}
 abbrev pub named_by : UploadHead → Id128 × ℕ
 named_by head = (head.source, head.start)
 
--- So many keys of the entries aren't in the journal: by so many keys it grows when they are taken up.
+-- This many keys of the entries aren't in the journal: it grows by as many when they are taken up.
 abbrev pub AreNew : Journal → List LogEntry → ℕ → Type 0
 AreNew journal entries new = (joined : Journal) × HasBoth journal entries joined × (len joined ≡ len journal + new)
 
@@ -36,12 +36,12 @@ pub record IsTaken (limits : Limits) (upload : List ℕ) (journal : Journal) (of
   pub counted : count ≡ length reading.entries
   pub grown : AreNew journal reading.entries new
 
--- A number and a place tell a fault.
+-- A number and a place report a fault.
 pub record Tells (fault : Fault) (code place : ℕ) : Type 0 where
   pub number : code ≡ number_of fault.code
   pub at : place ≡ fault.place
 
--- An entry differs from another one under its key: the first such is told by its number.
+-- An entry differs from another one under its key: the number of the first such entry is reported.
 pub record TellsConflict (journal : Journal) (reading : Reading) (code place : ℕ) : Type 0 where
   pub number : code ≡ number_of Conflict
   pub first : IsFirstConflict journal reading.entries place
@@ -53,7 +53,7 @@ pub record TellsFault (journal : Journal) (reading : Reading) (code place : ℕ)
   pub ended : reading.ending ≡ Bad fault
   pub told : Tells fault code place
 
--- The upload is refused for what its body says. A conflict is told rather than a fault behind it.
+-- The upload is refused for what its body says. A conflict is reported rather than a fault after it.
 pub record IsRefused (limits : Limits) (upload : List ℕ) (journal : Journal) (of : Id128 × ℕ) (code place : ℕ) : Type 0 where
   pub head : UploadHead
   pub reading : Reading
@@ -97,7 +97,7 @@ pub record FailsBefore (code place : ℕ) : Type 0 where
   pub failure : code ≡ number_of ReadFailed
   pub at : place ≡ 0
 
--- A failure is told, with the source and the start where the header was read.
+-- A failure is reported, with the source and the start if the header was read.
 abbrev pub IsFailure : (upload : List ℕ) → Answer → Type 0
 IsFailure upload (Ack source start count new left) = ⊥
 IsFailure upload (No None code place) = FailsBefore code place

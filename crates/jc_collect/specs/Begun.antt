@@ -11,13 +11,13 @@ use Rattle.jc_upload.specs.Head.{IsHead, IsHeadFault, head_text}
 use Rattle.jc_collect.specs.declared.head.Unread.{Unread}
 use Rattle.jc_collect.specs.declared.head.Unread.TheVariants.{Fault, ReadFailed}
 
--- So many bytes of an upload have come: all where they are fewer than a header has, and else the first ones.
+-- This many bytes of an upload have come: all if they are fewer than a header has, and else the first ones.
 pub record HasCome (bytes : List ℕ) (came : ℕ) (upload behind : Option (List ℕ)) : Type 0 where
   pub short : came < 48 → IfSome upload (λ all. length all ≡ came)
   pub long : 48 ≤ came → Consumes upload behind bytes
 
--- The header stands at the beginning of the bytes, and those behind it are left; or the beginning shows a fault. Of a
--- failed read nothing is said.
+-- The bytes begin with the header, and those after it are left; or their beginning shows a fault. Nothing is said of a
+-- failed read.
 abbrev pub BeginsUpload : (before behind : Option (List ℕ)) → Result UploadHead Unread → Type 0
 BeginsUpload before behind (Ok head) = IsHead head × Consumes before behind (head_text head)
 BeginsUpload before behind (Err (Fault fault)) = IsFormatCode fault.code × IfSome before (λ upload. IsHeadFault upload fault)

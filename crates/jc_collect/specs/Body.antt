@@ -18,12 +18,12 @@ use Rattle.jc_upload.specs.declared.head.UploadHead.{UploadHead}
 use Rattle.jc_collect.specs.Answer.{named_by}
 use Rattle.jc_collect.specs.Says.{IsBodyReading}
 
--- a reading that the body may have: any one where its bytes aren't told
+-- a reading that the body may have: any one if its bytes aren't known
 abbrev pub SaysBody : Limits → Kind → (body : Option (List ℕ)) → Reading → Type 0
 SaysBody limits kind None reading = ⊤
 SaysBody limits kind (Some body) reading = IsBodyReading limits kind body reading
 
--- What became of a body is a step over a reading that it has. Where the keeper stopped the journal stays.
+-- What became of a body is a step over a reading that it has. If the keeper stopped, the journal stays.
 abbrev pub AbsorbsBody : (Says : Reading → Type 0) → (before : Journal) → Result Absorbed KeepStop → (after : Journal) → Type 0
 AbsorbsBody Says before (Err stop) after = after ≡ before
 AbsorbsBody Says before (Ok absorbed) after = (reading : Reading) × Says reading × Step before reading absorbed after

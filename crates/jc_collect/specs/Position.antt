@@ -13,7 +13,7 @@ use Rattle.jc_upload.specs.declared.answer.Answer.TheVariants.{Ack, No}
 use Rattle.jc_collect.specs.Says.{Says}
 use Rattle.jc_collect.specs.Answer.{IsAnswer, IsFailure, is_failure}
 
--- A failure is told, or else the answer to the upload.
+-- A failure is reported, or else the answer to the upload.
 abbrev pub Answers : Limits → (upload : List ℕ) → Journal → Answer → Type 0
 Answers limits upload journal answer =
     MatchBool (is_failure answer) (IsFailure upload answer) (IsAnswer limits upload journal answer)
@@ -34,13 +34,13 @@ pub record IsPosition (limits : Limits) (upload : List ℕ) (before : Journal) (
   pub answers : Answers limits upload before answer
   pub leaves : Leaves limits upload before answer after
 
--- The same where the delivery doesn't tell its bytes: what is acknowledged is some reading, taken up whole.
+-- The same if the delivery's bytes aren't known: what is acknowledged is some reading, taken up whole.
 abbrev pub LeavesUntold : (before : Journal) → Answer → (after : Journal) → Type 0
 LeavesUntold before (Ack source start count new left) after =
     (reading : Reading) × TakesAll before reading count new left after
 LeavesUntold before (No of code place) after = after ≡ before
 
--- What a delivery does, by whether it tells its bytes.
+-- What a delivery does, by whether its bytes are known.
 abbrev pub Collects : Limits → (told : Option (List ℕ)) → (before : Journal) → Answer → (after : Journal) → Type 0
 Collects limits None before answer after = LeavesUntold before answer after
 Collects limits (Some upload) before answer after = IsPosition limits upload before answer after
@@ -51,7 +51,7 @@ abbrev pub HasCode : Answer → Code → Type 0
 HasCode (Ack source start count new left) code = ⊥
 HasCode (No of number place) code = number ≡ number_of code
 
--- A failure with this code is told only where the device's count of failures has risen.
+-- A failure with this code is reported only if the device's count of failures has risen.
 pub record HasCause (code : Code) (before now : ℕ) (answer : Answer) : Type 0 where
   pub never_falls : before ≤ now
   pub failed : HasCode answer code → Rose before now

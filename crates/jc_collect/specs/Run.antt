@@ -31,7 +31,7 @@ abbrev pub seen : Journal → ℕ → List ℕ → Option (List ℕ) → Seen
 seen journal store_failures read_failures written =
     record { journal = journal; store_failures = store_failures; read_failures = read_failures; written = written }
 
--- The answer at a position is the one over what is stored before it, or it tells a failure.
+-- The answer at a position is the one over what is stored before it, or it reports a failure.
 pub record AnswersAt (limits : Limits) (start : Journal) (uploads : List (List ℕ)) (accepted : List Bool) (i : ℕ) (answer : Answer) : Type 0 where
   pub upload : List ℕ
   pub at : slice_get uploads i ≡ Some upload
@@ -39,14 +39,14 @@ pub record AnswersAt (limits : Limits) (start : Journal) (uploads : List (List �
   pub stored : IsStoredBefore limits start uploads accepted i journal
   pub answers : Answers limits upload journal answer
 
--- So many entries of the upload at a position are acknowledged, and they are all that it says; they are stored.
+-- This many entries of the upload at a position are acknowledged, and they are all that it says; they are stored.
 pub record AcksStored (limits : Limits) (uploads : List (List ℕ)) (i count : ℕ) (journal : Journal) : Type 0 where
   pub reading : Reading
   pub says : SaysAt limits uploads i reading
   pub all : count ≡ length reading.entries
   pub stored : All (IsStored journal) reading.entries
 
--- A failure with this code is told at no position but where its count has risen.
+-- A failure with this code is reported only at positions whose count has risen.
 abbrev pub AreCaused : Code → List Answer → (Counted : ℕ → Type 0) → Type 0
 AreCaused code answers Counted =
     (i : ℕ) (answer : Answer) → slice_get answers i ≡ Some answer → HasCode answer code → Counted i
@@ -80,7 +80,7 @@ pub record RunsToEnd (limits : Limits) (uploads : List (List ℕ)) (before after
   pub lines : Appends before.written after.written (lines_of answers)
 
 -- The sink failed in the line of the upload with this number, from 0, which was already collected. The lines before it
--- were written, and so many bytes of its own.
+-- were written, and this many bytes of its own.
 pub record StopsAt (limits : Limits) (uploads : List (List ℕ)) (before after : Seen) (done written : ℕ) : Type 0 where
   pub answers : List Answer
   pub last : Answer
@@ -95,16 +95,16 @@ abbrev pub IsRun : Limits → (uploads : List (List ℕ)) → (before : Seen) �
 IsRun limits uploads before Done after = RunsToEnd limits uploads before after
 IsRun limits uploads before (Stopped done written) after = StopsAt limits uploads before after done written
 
--- ---- what is written, whatever the deliveries tell
+-- ---- what is written, whether the deliveries' bytes are known or not
 
--- The lines of so many answers were written, in order.
+-- The lines of this many answers were written, in order.
 pub record AreTold (count : ℕ) (before now : Option (List ℕ)) : Type 0 where
   pub answers : List Answer
   pub number : length answers ≡ count
   pub lawful : All IsAnswer answers
   pub lines : Appends before now (lines_of answers)
 
--- ... and behind them so many bytes of the line of one more.
+-- ... and after them this many bytes of the line of one more.
 pub record AreToldUpTo (count written : ℕ) (before now : Option (List ℕ)) : Type 0 where
   pub answers : List Answer
   pub last : Answer
@@ -113,17 +113,17 @@ pub record AreToldUpTo (count written : ℕ) (before now : Option (List ℕ)) : 
   pub within : written ≤ length (answer_text last)
   pub lines : Appends before now (lines_of answers ++ take written (answer_text last))
 
--- A run over so many deliveries writes a line for each of them, or up to where it stopped.
+-- A run over this many deliveries writes a line for each of them, or up to the place at which it stopped.
 abbrev pub TellsEach : (deliveries : ℕ) → (before now : Option (List ℕ)) → RunEnd → Type 0
 TellsEach deliveries before now Done = AreTold deliveries before now
 TellsEach deliveries before now (Stopped done written) = (done < deliveries) × AreToldUpTo done written before now
 
--- A run stops only where the sink's count of failures has risen.
+-- A run stops only if the sink's count of failures has risen.
 pub record SinkFailed (before now : ℕ) (end : RunEnd) : Type 0 where
   pub never_falls : before ≤ now
   pub rose : (done written : ℕ) → end ≡ Stopped done written → Rose before now
 
--- Deliveries behind the one at which a run stopped are as they were.
+-- Deliveries after the one at which a run stopped are as they were.
 abbrev pub LeavesOthers : {D : Type 0} → (before now : List D) → RunEnd → Type 0
 LeavesOthers before now Done = ⊤
 LeavesOthers before now (Stopped done written) = (i : ℕ) → done < i → slice_get now i ≡ slice_get before i

@@ -11,7 +11,7 @@ use Rattle.jc_upload.specs.declared.head.Kind.{Kind}
 use Rattle.jc_upload.specs.declared.head.Kind.TheVariants.{Export, File}
 use Rattle.jc_upload.specs.declared.head.UploadHead.{UploadHead}
 
--- An upload is this header, and this body behind it.
+-- An upload is this header, and this body after it.
 pub record HasHead (upload : List ℕ) (head : UploadHead) (body : List ℕ) : Type 0 where
   pub lawful : IsHead head
   pub whole : upload ≡ head_text head ++ body

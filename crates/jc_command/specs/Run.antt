@@ -21,9 +21,10 @@ use Rattle.jc_sender.specs.Taken.{TellsSomePoint}
 use Rattle.jc_sender.specs.Verdict.{TellsReading}
 use Rattle.jc_words.specs.Words.{AreWrong, AskFor, AskForHelp}
 
--- What standard output gains where a request is performed, over what standard input gives, and the status: `verify` tells
--- a reading, `upload` an upload, `ack` a resume point, `collect` an answer to each upload, and `check` what there is of a
--- journal. Of a listing nothing is said here, and of answers not which: no contract can name what a database's file holds.
+-- What standard output gains when a request is performed, over what standard input gives, and the status: from `verify` a
+-- reading, from `upload` an upload, from `ack` a resume point, from `collect` an answer to each upload, and from `check`
+-- what there is of a journal. Nothing is said of listings, nor which answers come: no contract can name what a database's
+-- file holds.
 abbrev pub Performs : Request → (given old new : Option (List ℕ)) → Status → Type 0
 Performs (Verify kind file) given old new status = (count : ℕ) × (ending : Ending) × TellsReading count ending status old new
 Performs (Upload source limit) given old new status = (status ≡ Success) × TellsSomeUpload source limit old new
@@ -47,11 +48,11 @@ FailsBy (request.Export database) given failure = DatabaseFailsBy database.now f
 FailsBy (Show database id first last) given failure = ShowFailsBy database.now (option_map (λ digits. digits.now) id) failure
 FailsBy (Check database) given failure = CheckFailsBy database.now failure
 
--- The words ask for something, and it is performed.
+-- The arguments ask for something, and it is performed.
 abbrev pub PerformsAsked : List Text → (given old new : Option (List ℕ)) → Status → Type 0
 PerformsAsked words given old new status = (request : Request) × AskFor words request × Performs request given old new status
 
--- The words ask for something that fails with this status, before anything is printed.
+-- The arguments ask for something that fails with this status, before anything is printed.
 pub record StopsAsked (words : List Text) (given old new : Option (List ℕ)) (status : Status) : Type 0 where
   pub request : Request
   pub asked : AskFor words request
@@ -60,8 +61,8 @@ pub record StopsAsked (words : List Text) (given old new : Option (List ℕ)) (s
   pub judged : status ≡ status_of failure
   pub kept : Keeps old new
 
--- How a run over these words ends by its status, unless something fails that is told on standard error: what it prints on
--- standard output, and that it prints nothing on standard error where all is well.
+-- How a run over these arguments ends, by its status, unless something fails that is reported on standard error: what it
+-- prints on standard output, and that it prints nothing on standard error if all is well.
 abbrev pub Ends : List Text → (given output output' errors errors' : Option (List ℕ)) → Status → Type 0
 Ends words given output output' errors errors' Success =
     Keeps errors errors' × (AskForHelp words ⊎ PerformsAsked words given output output' Success)
@@ -71,7 +72,7 @@ Ends words given output output' errors errors' Misused =
     (AreWrong words × Keeps output output') ⊎ StopsAsked words given output output' Misused
 Ends words given output output' errors errors' Failed = PerformsAsked words given output output' Failed
 
--- Where a run stops short, a device or memory failed, or something was asked for that is refused.
+-- If a run stops short, a device or memory failed, or something was asked for that is refused.
 abbrev pub Stops : List Text → (given output output' : Option (List ℕ)) → Failure → Type 0
 Stops words given output output' failure =
     (status_of failure ≡ Failed) ⊎ StopsAsked words given output output' (status_of failure)

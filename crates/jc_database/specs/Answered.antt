@@ -20,7 +20,7 @@ abbrev pub judged : List Answer → Status
 judged answers =
     if list_any is_failure answers then Failed else (if list_any is_refusal answers then Refused else Success)
 
--- The output gained the lines of so many answers, and the status is theirs.
+-- The output gained the lines of this many answers, and the status is theirs.
 pub record TellsAnswers (count : ℕ) (status : Status) (old new : Option (List ℕ)) : Type 0 where
   pub answers : List Answer
   pub each : length answers ≡ count
@@ -33,7 +33,7 @@ abbrev pub number_of_uploads : (named : ℕ) → ℕ
 number_of_uploads zero = 1
 number_of_uploads (suc others) = suc others
 
--- ---- one answer behind others
+-- ---- one answer after others
 
 -- a refusal's status, by its code
 abbrev pub refusal_status : (code : ℕ) → Status
@@ -45,10 +45,10 @@ status_with before (Ack source start count new left) = before
 status_with Failed (No of code place) = Failed
 status_with before (No of code place) = refusal_status code
 
--- ---- lines behind what is known of a writer
+-- ---- lines after what is known of a writer
 
 -- What is known of a writer, in front of what is printed through it: each of its bytes with one added, and then a 0. So no
--- two of them are the same, whatever stands behind.
+-- two of them are the same, whatever follows.
 abbrev pub begun : Option (List ℕ) → List ℕ → List ℕ
 begun None lines = 0 ∷ lines
 begun (Some bytes) lines = 1 ∷ (map suc bytes ++ 0 ∷ lines)

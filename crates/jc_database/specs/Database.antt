@@ -12,11 +12,11 @@ use Rattle.jc_console.specs.declared.failure.Failure.TheVariants.{Bad, BadDataba
 abbrev pub IsBadName : List ℕ → Type 0
 IsBadName name = (take 1 name ≡ codes ":") ⊎ (take 5 name ≡ codes "file:")
 
--- A database has no journal of this version, which is a fault of no row, or a row that is no entry's.
+-- A database has no journal of this version, which is not the fault of a row, or a row that isn't an entry.
 abbrev pub IsDatabaseFault : Fault → Type 0
 IsDatabaseFault fault = (fault.code ≡ BadRow) ⊎ ((fault.code ≡ NotAJournal) × (fault.place ≡ 0))
 
--- Why the tables of an open database are no journal's, or why they could not be made.
+-- Why the tables of an open database aren't a journal's, or why they couldn't be made.
 abbrev pub WhyNoTables : Failure → Type 0
 WhyNoTables (Bad fault) = IsDatabaseFault fault
 WhyNoTables StoreFailed = ⊤
@@ -32,7 +32,7 @@ WhyNoJournal path failure = WhyNoTables failure
 abbrev pub IsOutFailure : Failure → Type 0
 IsOutFailure failure = (failure ≡ WriteFailed) ⊎ (failure ≡ StoreFailed) ⊎ (failure ≡ OutOfMemory)
 
--- Why a command over a database fails: its name is none, there is no journal, or a device or memory fails.
+-- Why a command over a database fails: its name isn't taken, there is no journal, or a device or memory fails.
 abbrev pub DatabaseFailsBy : (database : List ℕ) → Failure → Type 0
 DatabaseFailsBy database BadDatabaseName = IsBadName database
 DatabaseFailsBy database WriteFailed = ⊤
@@ -51,7 +51,7 @@ CollectFailsBy database uploads (CannotOpen path) = (path.now ≡ database) ⊎ 
 CollectFailsBy database uploads ReadFailed = ⊤
 CollectFailsBy database uploads failure = DatabaseFailsBy database failure
 
--- The id that a listing asks for is the one that the digits spell, where they are given.
+-- The id that a listing asks for is the one that the digits spell, if they are given.
 abbrev pub AsksId : (digits : Option (List ℕ)) → Option Id128 → Type 0
 AsksId None id = id ≡ None
 AsksId (Some digits) None = ⊥
@@ -62,7 +62,7 @@ abbrev pub ShowFailsBy : (database : List ℕ) → (digits : Option (List ℕ)) 
 ShowFailsBy database digits BadId = IsSomeAnd digits (λ text. ¬ IsIdText text)
 ShowFailsBy database digits failure = DatabaseFailsBy database failure
 
--- Why `check` has nothing to tell: what is wrong with the tables of a database it tells.
+-- Why `check` prints nothing. What is wrong with the tables of a database, it prints.
 abbrev pub WhyNoHealth : (path : List ℕ) → Failure → Type 0
 WhyNoHealth path (Bad fault) = ⊥
 WhyNoHealth path failure = WhyNoJournal path failure

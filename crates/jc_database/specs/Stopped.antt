@@ -7,7 +7,7 @@ use Rattle.jc_store.specs.declared.keeper.KeepStop.TheVariants as keep
 use Rattle.jc_console.specs.declared.failure.Failure.{Failure}
 use Rattle.jc_console.specs.declared.failure.Failure.TheVariants.{Bad, OutOfMemory, ReadFailed, StoreFailed, WriteFailed}
 
--- why a database has become no keeper's: its row is the place
+-- why a keeper didn't take a database: the place is the row
 abbrev pub adopt_failure : Code → (row : ℕ) → Failure
 adopt_failure code.StoreFailed row = StoreFailed
 adopt_failure code.OutOfMemory row = OutOfMemory

@@ -8,8 +8,8 @@ use Rattle.jc_sender.specs.Taken.{HasBadLine}
 use Rattle.jc_words.specs.declared.request.Kind.TheVariants.{Export}
 use Rattle.jc_words.specs.declared.request.Source.{Source}
 
--- Why nothing is known of a source: its id is none, one of its two files can't be opened or read, the resume file's text
--- is none, or its bytes have a fault.
+-- Why nothing is known of a source: its id isn't one, one of its two files can't be opened or read, the resume file has
+-- no resume text, or the source's bytes have a fault.
 abbrev pub SourceFailsBy : Source → Failure → Type 0
 SourceFailsBy source BadId = ¬ IsIdText source.id.now
 SourceFailsBy source (CannotOpen path) = (path.now ≡ source.resume.now) ⊎ (path.now ≡ source.file.now)
@@ -25,7 +25,7 @@ abbrev pub UploadFailsBy : Source → Failure → Type 0
 UploadFailsBy source SourceChanged = source.kind ≡ Export
 UploadFailsBy source failure = SourceFailsBy source failure
 
--- ... or, for `ack`, a line of what standard input gives is no answer's.
+-- ... or, for `ack`, a line of what standard input gives isn't an answer.
 abbrev pub AckFailsBy : Source → (given : Option (List ℕ)) → Failure → Type 0
 AckFailsBy source given (BadAnswer line) = IfSome given (HasBadLine line)
 AckFailsBy source given failure = SourceFailsBy source failure

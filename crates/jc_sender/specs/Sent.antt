@@ -17,7 +17,7 @@ use Rattle.jc_words.specs.declared.request.Source.{Source}
 abbrev pub sender_of : Id128 → Point → Sender
 sender_of id point = record { source = id; point = point }
 
--- Of an export stream an upload has the next entries; of a journal file it has all of the bytes, wherever the sender is.
+-- An upload has the next entries of an export stream, or all the bytes of a journal file, wherever the sender is.
 abbrev pub upload_of : Kind → Sender → (limit : ℕ) → List LogEntry → (bytes : List ℕ) → List ℕ
 upload_of Export sender limit entries bytes = next_upload_of sender entries limit
 upload_of File sender limit entries bytes = file_upload_of sender.source bytes

@@ -18,7 +18,7 @@ use Rattle.jc_console.specs.declared.failure.Failure.TheVariants.{Bad, BadAnswer
 use Rattle.jc_words.specs.declared.request.Kind.{Kind}
 use Rattle.jc_words.specs.declared.request.Source.{Source}
 
--- The line of this number, from 1, is the first that is no answer's.
+-- The line of this number, from 1, is the first that isn't an answer.
 pub record HasBadLine (number : ℕ) (text : List ℕ) : Type 0 where
   pub before : List Answer
   pub each : All IsAnswer before
@@ -28,7 +28,7 @@ pub record HasBadLine (number : ℕ) (text : List ℕ) : Type 0 where
   pub none : (answer : Answer) → IsAnswer answer → line ≢ answer_text answer
   pub counted : number ≡ length before + 1
 
--- Why there are no answers: a line is none, or memory was refused.
+-- Why there are no answers: a line isn't one, or memory was refused.
 abbrev pub WhyNoAnswers : (text : List ℕ) → Failure → Type 0
 WhyNoAnswers text (BadAnswer line) = HasBadLine line text
 WhyNoAnswers text OutOfMemory = ⊤
@@ -36,13 +36,13 @@ WhyNoAnswers text _ = ⊥
 
 -- ---- answers
 
--- The sender before an answer and behind it: the answer moves it on, or nothing changes.
+-- The sender before an answer and after it: the answer moves it on, or nothing changes.
 abbrev pub Takes : List LogEntry → Answer → (before after : Sender) → Type 0
 Takes entries answer before after =
     (Advances before entries answer × (after ≡ moved_to before entries (acked_to answer)))
     ⊎ ((¬ Advances before entries answer) × (after ≡ before))
 
--- ... and behind several, in their order.
+-- ... and after several, in their order.
 abbrev pub TakesAll : List LogEntry → List Answer → (before after : Sender) → Type 0
 TakesAll entries [] before after = after ≡ before
 TakesAll entries (answer ∷ answers) before after =
@@ -68,7 +68,7 @@ WhyNoPoint kind bytes given ReadFailed = ⊤
 WhyNoPoint kind bytes given OutOfMemory = ⊤
 WhyNoPoint kind bytes given _ = ⊥
 
--- the line that tells a resume point, without its newline
+-- the line of a resume point, without its newline
 abbrev pub point_line : Point → List ℕ
 point_line point = codes "resume " ++ decimal point.position
 

@@ -47,7 +47,7 @@ HasKind bytes = IsKindByte (slice_index bytes 8)
 abbrev pub AreZero : List ℕ → Type 0
 AreZero bytes = All (λ b. b ≡ 0) bytes
 
--- behind the kind, and at the header's end
+-- after the kind, and at the header's end
 abbrev pub HasFirstZeros : List ℕ → Type 0
 HasFirstZeros bytes = AreZero (slice_range bytes 9 16)
 
@@ -57,7 +57,7 @@ HasLastZeros bytes = AreZero (slice_range bytes 40 48)
 abbrev pub fault_at : Code → ℕ → Fault
 fault_at code place = record { code = code; place = place }
 
--- A fault is told by the first check that doesn't hold: this one, with its fault, or one behind it.
+-- The first check that doesn't hold gives the fault: this one, or one after it.
 abbrev pub Checks : Type 0 → Fault → (Fault → Type 0) → Fault → Type 0
 Checks holds fault behind told = ((¬ holds) × (told ≡ fault)) ⊎ (holds × behind told)
 

@@ -34,7 +34,7 @@ id_from word (Err e) = None
 unfoldable pub id_of : List ℕ → Option Id128
 id_of word = id_from word (decode_of word)
 
--- ---- the word at the front of bytes, which a byte ends, and what is behind that byte
+-- ---- the word at the front of bytes, which a byte ends, and what follows that byte
 
 unfoldable pub word_at : ℕ → List ℕ → Option (List ℕ × List ℕ)
 word_at end bytes = do
@@ -67,7 +67,7 @@ pair_at end bytes = do
 
 -- ---- lines
 
--- what was read, where nothing is behind it
+-- what was read, if nothing follows it
 abbrev pub all_of : {A : Type 0} → A → List ℕ → Option A
 all_of x [] = Some x
 all_of x (b ∷ bytes) = None

@@ -11,7 +11,7 @@ use Rattle.jc_upload.specs.declared.answer.Answer.TheVariants.{Ack, No}
 use Rattle.jc_upload.specs.Head.{head_text}
 use Rattle.jc_upload.specs.Resume.{Point}
 
--- A source's id, and how many of its entries are done with.
+-- A source's id, and how many of its entries are acknowledged.
 pub record Sender : Type 0 where
   pub source : Id128
   pub point : Point
@@ -33,7 +33,7 @@ pub record Agrees (point : Point) (entries : List LogEntry) : Type 0 where
 
 -- ---- uploads
 
--- The canonical texts of the entries from the point on, the first of them where more than the limit remain.
+-- The canonical texts of the entries from the point on, the first of them if more than the limit remain.
 abbrev pub next_upload_of : Sender → List LogEntry → ℕ → List ℕ
 next_upload_of sender entries limit =
     head_text (record { kind = Export; source = sender.source; start = sender.point.position })

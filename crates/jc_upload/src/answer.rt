@@ -19,7 +19,7 @@ pub enum Answer {
         count: u64,
         /// Those of them that weren't there before.
         new: u64,
-        /// Bytes after the last complete entry that belong to one that isn't complete.
+        /// Bytes at the end that are an unfinished entry.
         left: u64,
     },
     /// The upload was refused and changed nothing; or reading it, the store or memory failed.

@@ -1,4 +1,4 @@
--- The program's commands and their arguments, in clap's own words. (own)
+-- The program's commands and their arguments, in clap's own terms. (own)
 use Rattle.std.specs.Prelude.{◌≡◌, ◌^◌, ◌-◌, ◌∷◌, [], List, Some, true, false, codes, map}
 use Rattle.clap.specs.Lexer.{usize_max}
 use Rattle.clap.specs.Words.{App, Rule, Text, app_of, new_app, new_rule, rule_of, with_rule, with_subcommand}
@@ -17,7 +17,7 @@ use Rattle.jc_words.specs.declared.request.Kind.TheVariants.{Export, File}
 abbrev pub place_rule : Text → Rule
 place_rule name = record (new_rule name) { required = true }
 
--- UPLOAD.., values of any number, behind those that have their place
+-- UPLOAD.., any number of values, after those that have their place
 abbrev pub uploads_rule : Rule
 uploads_rule = record (new_rule (codes "UPLOAD")) {
   range = Some (record { start_inclusive = 0; end_inclusive = usize_max });

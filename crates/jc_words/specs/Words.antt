@@ -1,4 +1,4 @@
--- What the words of the command line ask for, in clap's own words. (own)
+-- What the arguments of the command line ask for, in clap's own terms. (own)
 use Rattle.std.specs.Prelude.{◌≡◌, ◌⊎◌, ◌<◌, ◌^◌, ◌-◌, ⊤, ℕ, [], List, Option, Some, None, codes, map, option_map, unwrap_or}
 use Rattle.std.specs.Str.Parse.{IsNumeral, digits_value, without_leading_plus}
 use Rattle.clap.specs.Words.{App, Text, Row, all_of, first_of, fault_of, found_of, IsAmong, rows_of, subcommand_of}
@@ -24,7 +24,7 @@ command_name (Ack source) = codes "ack"
 abbrev pub IsGiven : List Row → (name text : Text) → Type 0
 IsGiven rows name text = first_of name rows ≡ Some text
 
--- the values of an argument, in the order of the words
+-- the values of an argument, in their order on the command line
 abbrev pub all_given : List Row → Text → List Text
 all_given rows name = unwrap_or (all_of name rows) []
 
@@ -35,7 +35,7 @@ pub record NameSource (rows : List Row) (source : Source) : Type 0 where
   pub resume : IsGiven rows (codes "resume") source.resume.now
   pub file : IsGiven rows (codes "IN") source.file.now
 
--- The number that an argument's value is, in decimal digits: one that is known where there is no value.
+-- The number that an argument's value is, in decimal digits; a given one if there is no value.
 abbrev pub IsNumberOr : (unless_given : ℕ) → Option Text → ℕ → Type 0
 IsNumberOr unless_given None number = number ≡ unless_given
 IsNumberOr unless_given (Some text) number =
@@ -72,7 +72,7 @@ abbrev pub AsksNothing : Option (Text × List Row) → Type 0
 AsksNothing None = ⊤
 AsksNothing (Some found) = (request : Request) → ¬ Asks found request
 
--- The words are right, and ask for this.
+-- The arguments are right, and ask for this.
 pub record AskFor (words : List Text) (request : Request) : Type 0 where
   pub app : App
   pub ours : IsGrammar app
@@ -81,17 +81,17 @@ pub record AskFor (words : List Text) (request : Request) : Type 0 where
   pub met : subcommand_of app words ≡ Some found
   pub asked : Asks found request
 
--- The words are refused with a kind of error, or answered with help or the version; a kind is also told where the words
+-- The arguments are refused with a kind of error, or answered with help or the version; a kind is also reported if they
 -- pass and ask for nothing that there is.
 pub record AreAnswered (words : List Text) (kind : ErrorKind) : Type 0 where
   pub app : App
   pub ours : IsGrammar app
   pub why : IsAmong kind (fault_of app words) ⊎ ((kind ≡ MissingSubcommand) × AsksNothing (subcommand_of app words))
 
--- the words ask for help or for the version
+-- the arguments ask for help or for the version
 abbrev pub AskForHelp : List Text → Type 0
 AskForHelp words = (kind : ErrorKind) × IsAskedFor kind × AreAnswered words kind
 
--- the words are a mistake
+-- the arguments are a mistake
 abbrev pub AreWrong : List Text → Type 0
 AreWrong words = (kind : ErrorKind) × ¬ IsAskedFor kind × AreAnswered words kind

@@ -35,7 +35,7 @@ fn told(passes: u64) -> Answer {
     }
 }
 
-/// Two entries, one byte at each read: each read fails in turn, that which tells the end too.
+/// Two entries, one byte at each read: each read fails in turn, also the one that shows the end.
 fn a_stream_fails<J: Journals>(
     rt: &(impl Abort + AllocGlobal),
     journals: &mut J,

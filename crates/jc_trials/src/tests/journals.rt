@@ -82,7 +82,7 @@ impl<D: Databases> Tables<D> {
         self.databases.open()
     }
 
-    /// A keeper of the same journal, which was made last: it is closed and taken up again where its database stays.
+    /// A keeper of the same journal, which was made last: if its database stays, it is closed and taken up again.
     pub(super) fn again(
         &mut self,
         keeper: SqlKeeper<D::Store>,

@@ -45,7 +45,7 @@ fn run_in_memory<R: ByteStream, B: ByteSpace, W: ByteSink>(
     Some((end, keeper))
 }
 
-/// A whole run, of which the contract above tells what it must be.
+/// A whole run, as the contract above says it must be.
 #[test]
 fn a_run_in_memory(rt: HostRuntime) -> Result<(), Fail> {
     let alloc = rt.alloc();
