@@ -1,4 +1,4 @@
-"""Small libraries that are preloaded into the program: compiled by the toolchain's own compiler, and told what to do by variables."""
+"""Small libraries that are preloaded into the program: compiled by the toolchain's own compiler, and set by variables."""
 import os
 import shutil
 import subprocess

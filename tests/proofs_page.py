@@ -107,7 +107,7 @@ def listed_definitions(text):
 
 
 def mistaken_claims(title, text, sources):
-    """What a section says of functions that the sources have not."""
+    """What a section says of functions that isn't in the sources."""
     for name, brackets in CLAIM.findall(text):
         known = sources.clauses(name)
         if known is None:
@@ -115,7 +115,7 @@ def mistaken_claims(title, text, sources):
             continue
         clauses = set(re.findall(r"`(\w+)`", brackets)) or ({"unnamed"} if brackets == "unnamed" else set())
         if not clauses and not name.startswith("impl "):
-            yield f"{title}: {name} stands without its clauses"
+            yield f"{title}: {name} is there without its clauses"
         yield from (f"{title}: {name} has no clause {clause}" for clause in sorted(clauses - known))
 
 

@@ -13,7 +13,7 @@ ack="ack $id 0 1 1 0"
 again="ack $id 0 1 0 0"
 up=$folder/upload
 db=$folder/db
-# the header of an upload of this id, and behind it the sample's one entry
+# the header of an upload of this id, and after it the sample's one entry
 printf 'JCUPLD01\1\0\0\0\0\0\0\0\240\241\242\243\244\245\246\247\250\251\252\253\254\255\256\257' > "$up"
 printf '\0\0\0\0\0\0\0\0\0\0\0\0\0\0\0\0' >> "$up"
 cat examples/one-entry.export >> "$up"
@@ -28,7 +28,7 @@ for command in collect export show check; do
     expect 3 "" "cannot open $folder/none/db" "$PROGRAM" $command "$folder/none/db" < "$up"
     expect 3 "" "cannot open $up/db" "$PROGRAM" $command "$up/db" < "$up"
 done
-[[ -z $(ls "$folder/sub") ]] || differs "something lies in a folder that was no database"
+[[ -z $(ls "$folder/sub") ]] || differs "something is in a folder that isn't a database"
 
 # pipes in place of files
 expect 0 "$again"$'\n'"$again" "" "$PROGRAM" collect "$db" <(cat "$up") "$up"
@@ -39,7 +39,7 @@ expect 3 "" "cannot open $folder/none" "$PROGRAM" collect "$folder/new" "$up" "$
 [[ ! -e $folder/new ]] || differs "a database was made before its uploads were opened"
 expect 3 "no - - 61 0" "" "$PROGRAM" collect "$folder/new" < "$folder/sub"
 
-# standard output that takes nothing: what its line was for is stored, and nothing behind it is collected
+# standard output that takes nothing: what its line was for is stored, and nothing after it is collected
 sed 's/__SEQNUM=1$/__SEQNUM=2/' "$up" > "$folder/second"
 rm -f "$db"*
 expect 3 "" "write failed" bash -c "'$PROGRAM' collect '$db' '$up' '$folder/second' > /dev/full"
@@ -105,7 +105,7 @@ else
     echo "there is no stock sqlite3 of 3.37 or later: databases of other programs aren't tried"
 fi
 
-# files that this user may not read or write; where the superuser tries, it is as nobody
+# files that this user may not read or write; if the superuser tries, it is as nobody
 as_user() {
     if [[ $(id -u) -ne 0 ]]; then
         "$@"

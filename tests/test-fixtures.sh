@@ -36,7 +36,7 @@ exports() {
     cmp exported expected || differs "what $1 exports"
 }
 
-# is_read VERSION NAME COUNT: the stream has so many entries, and is stored
+# is_read VERSION NAME COUNT: the stream has COUNT entries, and is stored
 is_read() {
     expect 0 "ok $3 0" "" "$PROGRAM" verify export stream
     upload export stream > stream.upload || differs "the upload of a stream"

@@ -5,7 +5,7 @@
 set -uo pipefail
 . "$(dirname "$0")/expect.sh"
 
-# files in memory, where there are some: each run makes its database anew
+# files in memory, if the system has some: each run makes its database anew
 if [[ -d /dev/shm && -w /dev/shm ]]; then
     export TMPDIR=/dev/shm
 fi

@@ -1,5 +1,5 @@
 #!/usr/bin/env bash
-# Edits in batches are judged as they must be: a telling edit of a small library is refused, and one that changes nothing,
+# Edits in batches are judged as they must be: an edit of a small library that changes what it does is refused, and one that changes nothing,
 # doesn't apply, doesn't parse or is refused only by arithmetic is reported as a failure.
 set -euo pipefail
 cd "$(dirname "$0")/.."

@@ -12,7 +12,7 @@ resume=$folder/resume
 cp examples/one-entry.export "$in"
 printf 'ack %s 0 1 1 0\n' $id > "$folder/answers"
 printf 'ack %s\n' $id > "$folder/no-answers"
-# the header of an upload of this id, and behind it the one entry
+# the header of an upload of this id, and after it the one entry
 printf 'JCUPLD01\1\0\0\0\0\0\0\0\240\241\242\243\244\245\246\247\250\251\252\253\254\255\256\257' > "$folder/upload"
 printf '\0\0\0\0\0\0\0\0\0\0\0\0\0\0\0\0' >> "$folder/upload"
 cat "$in" >> "$folder/upload"
@@ -42,7 +42,7 @@ rm "$resume"
 expect 3 "" "write failed" bash -c "'$PROGRAM' upload --source $id --resume '$resume' export '$in' > /dev/full"
 [[ ! -e $resume ]] || differs "an upload made a resume file"
 
-# standard input that can't be read, and lines that are no answers
+# standard input that can't be read, and lines that aren't answers
 echo "$point" > "$resume"
 expect 3 "" "read failed" ack export "$in" < "$folder"
 holds "$point"

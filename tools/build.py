@@ -1,4 +1,4 @@
-"""Proves and builds a program and the libraries that it stands on, and nothing else: no test, no edit.
+"""Proves and builds a program and the libraries that it uses, and nothing else: no test, no edit.
 
 usage: python3 tools/build.py PROGRAM
 
@@ -83,7 +83,7 @@ def _estimate(crates: list[Any], processors: int) -> str:
 
 
 def _build_libraries(libraries: list[Any], missing: list[Any], progress: Progress) -> bool:
-    """Builds the missing libraries, each once those below it stand, and keeps other runs of rt out meanwhile."""
+    """Builds the missing libraries, each once those below it are built, and keeps other runs of rt out meanwhile."""
     rt = kit.rt()
     held = rt.rtlib.lock(libraries)
     try:
@@ -123,7 +123,7 @@ def _build_program(program: Any, progress: Progress) -> bool:
 
 
 def _run(folder: str, out: TextIO) -> int:
-    """Has rt prove and build a program. It runs the program too, which here only tells its version."""
+    """Has rt prove and build a program. It runs the program too, which here only prints its version."""
     how = {"cwd": folder, "stdin": subprocess.DEVNULL, "stdout": out, "stderr": subprocess.STDOUT}
     return subprocess.run(["rt", "run", "--", "--version"], check=False, **how).returncode
 

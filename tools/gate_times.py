@@ -92,7 +92,7 @@ def _read(number: int, file: str) -> str:
 
 
 def kind_of(words: list[str], folder: str) -> str:
-    """What a command of the checker is for, by its words and the folder that it works in."""
+    """What a command of the checker is for, by its arguments and the folder that it works in."""
     kept = words[words.index("--incremental") + 1] if "--incremental" in words else ""
     if os.path.basename(kept).startswith("refused-"):
         return "edits in batches"

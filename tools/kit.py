@@ -1,4 +1,4 @@
-"""The toolchain's own command `rt`, loaded as a module, and the reader of functions that stands beside it."""
+"""The toolchain's own command `rt`, loaded as a module, and the reader of functions beside it."""
 
 import functools
 import importlib.machinery
@@ -22,7 +22,7 @@ def _load(name: str, file: str) -> ModuleType:
 
 @functools.cache
 def rt() -> ModuleType:
-    """`rt`, from where the PATH finds it."""
+    """`rt`, as the PATH finds it."""
     found = shutil.which("rt")
     if found is None:
         sys.exit("there is no rt on the PATH: it is the toolchain's command, and all that is built is built by it")

@@ -11,7 +11,7 @@ RACERS = 4
 
 
 def while_one_waits(trial):
-    """A collector has printed its first line and waits for its second upload, while others want the database."""
+    """A collector has printed its first line and waits for its second upload, while others try to open the database."""
     machine = Machine(trial.dice, 30)
     database = trial.database()
     uploads = [machine.stream(0, 10), machine.stream(5, 20), machine.stream(20, 30)]

@@ -1,7 +1,7 @@
 """A collector that is killed: the journal then holds whole uploads only, among them all that were acknowledged, and the
 same uploads sent again complete it.
 
-The moments lie before a run's first line (where the database is made), between any two lines, and behind the last (where
+The moments lie before a run's first line (when the database is made), between any two lines, and after the last (when
 it is closed). A run that is killed leaves its database to the next, until one gets through.
 """
 import resource
@@ -36,7 +36,7 @@ class Task:
             self.journals.append(journal.copy())
 
     def answers(self, before):
-        """The lines of a run over the journal that has so many of the uploads."""
+        """The lines of a run over the journal that has this many of the uploads."""
         journal = self.journals[before].copy()
         return as_output(journal.take(upload) for upload in self.uploads).splitlines(keepends=True)
 
@@ -55,7 +55,7 @@ def pauses(trial, task):
 
 
 def after_kill(trial, what, database, task, before, told):
-    """How many uploads are stored once a run was stopped, that printed these lines over so many that were before it."""
+    """How many uploads are stored after a stopped run that printed these lines, over as many as were there before it."""
     trial.expect(f"{what}: lines", told, task.answers(before)[:len(told)])
     found = trial.left(what, database, task.journals)
     # all that is acknowledged is stored, and beside it at most the upload whose line was still to come

@@ -27,7 +27,7 @@ IS_HERE = HAS_MODULE or tool_version() >= STRICT_SINCE
 
 
 def stock(path, statement):
-    """The answers of a statement, a line for each row; None where it is refused."""
+    """The answers of a statement, a line for each row; None if it is refused."""
     if not HAS_MODULE:
         told = subprocess.run(["sqlite3", path, statement], stdout=subprocess.PIPE, stderr=subprocess.DEVNULL, check=False)
         return told.stdout.decode() if told.returncode == 0 else None

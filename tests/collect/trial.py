@@ -111,7 +111,7 @@ class Trial:
             self.expect(f"{what}: integrity", stock(copied, "PRAGMA integrity_check"), "ok\n")
 
     def left(self, what, database, journals):
-        """Which of these journals the database holds; None where it has no table yet, or where that is a mistake."""
+        """Which of these journals the database holds; None if it has no table yet, or if that is a mistake."""
         copied = self.copy(database)
         told = run("export", copied)
         if told == (b"", f"cannot open {copied}\n", 3):

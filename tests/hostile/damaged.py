@@ -55,7 +55,7 @@ def entries_in(text):
 
 
 def may_be_read(trial, what, stored, database, text):
-    """The journal that an export of a damaged database shows, where it is one that may be shown."""
+    """The journal that an export of a damaged database shows, if it is one that may be shown."""
     entries = entries_in(text)
     journal = Journal(entries or [])
     trial.expect(f"{what}: a canonical export", (entries is not None, text), (True, journal.text()))

@@ -50,7 +50,7 @@ def both_ways(trial, what, uploads, lines=None):
 
 
 def in_batches(trial, what, uploads):
-    """Uploads, so many at once in a journal; each batch is begun anew."""
+    """Uploads, BATCH at a time into one journal; each batch begins a new one."""
     return sum(both_ways(trial, f"{what} {first} on", uploads[first:first + BATCH]) for first in range(0, len(uploads), BATCH))
 
 

@@ -122,7 +122,7 @@ def files():
     yield from numbers(46, 320, 328, 64)
     for edits in ({384: b"="}, {386: b"\n"}, {391: b"X"}):
         yield edited(FILE, edits), "bad 46 320"
-    # two faults at once: the check that comes first tells
+    # two faults at once: the check that comes first reports its own
     yield edited(FILE, {256: 0, 304: 0}), "bad 27 240"
     yield edited(FILE, {256: 0, 264: 2**63}), "bad 25 240"
     yield edited(FILE, {152: 2, 224: 212}), "bad 41 224"

@@ -5,8 +5,8 @@ import struct
 
 import preload
 
-# Requests of one size that follow one another are alike (the pages of the store's cache). Of so long a run of them the first and
-# the last ones are tried, and between them one in so many.
+# Requests of one size that follow one another are alike (the pages of the store's cache). In a run of more than LONG of them the
+# first and the last ENDS are tried, and between them one in STRIDE.
 LONG = 64
 ENDS = 8
 STRIDE = 100
@@ -18,8 +18,8 @@ def built(folder):
 
 
 def run(library, first, last, words, stdin=b"", **options):
-    """A run in which the requests from one number to another are refused; from 0 to 0, where none is. What it prints, its status,
-    and the sizes of the requests that were refused; of all, where none was to be."""
+    """A run in which the requests from one number to another are refused; from 0 to 0, none is. What it prints, its status,
+    and the sizes of the requests that were refused, or of all if none was to be."""
     *told, noted = preload.run(library, "REFUSE", {"FIRST": first, "LAST": last}, words, stdin, **options)
     return tuple(told), struct.unpack(f"<{len(noted) // 8}Q", noted)
 

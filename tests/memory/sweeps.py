@@ -15,7 +15,7 @@ from model import Journal
 from trial import PROGRAM, Trial, as_output, run, status_of
 
 REFUSED = (b"", "out of memory\n", 3)
-# Of the places of a sweep, one in so many is refused together with all later ones.
+# One in this many places of a sweep is refused together with all later ones.
 LATER = 5
 NEVER = 10**12
 # The length of a write-ahead log that has no page.
@@ -24,7 +24,7 @@ SOURCE_WORDS = ["--source", samples.SOURCE.hex(), "--resume"]
 
 
 def content(path):
-    """A file's bytes; None where it isn't there."""
+    """A file's bytes; None if it isn't there."""
     if not os.path.exists(path):
         return None
     with open(path, "rb") as file:
@@ -38,7 +38,7 @@ def put(path, data):
 
 
 class Sweep:
-    """A command that reads files and prints. Its words name no file that it writes."""
+    """A command that reads files and prints. Its arguments name no file that it writes."""
 
     def __init__(self, trial, name, words, usual=None, stdin=b""):
         self.trial = trial
@@ -48,7 +48,7 @@ class Sweep:
         self.stdin = stdin
 
     def prepare(self, folder):
-        """Puts the files that the command works on into a folder, and answers the command's words."""
+        """Puts the files that the command works on into a folder, and answers the command's arguments."""
         return self.words
 
     def judge(self, what, folder, told):
@@ -170,7 +170,7 @@ class Collect(Sweep):
 
 
 def answer_or_refusal(journal, line, upload):
-    """The line that an upload has to get: its answer, or, where the line says so, that memory was refused."""
+    """The line that an upload has to get: its answer, or, if the line says so, that memory was refused."""
     after = journal.copy()
     answer = after.take(upload)
     if line.endswith(" 63 0") and len(upload) >= 48:

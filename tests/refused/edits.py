@@ -13,7 +13,7 @@ from functions import Function, functions_of
 
 @dataclass(frozen=True)
 class Edit:
-    """The body, in bytes of UTF-8, that stands for a function's own."""
+    """The body, in bytes of UTF-8, that takes the place of a function's own."""
 
     name: str
     function: Function
@@ -22,14 +22,14 @@ class Edit:
 
 @dataclass(frozen=True)
 class BadEdit:
-    """A file that is no such edit, and why."""
+    """A file that isn't such an edit, and why."""
 
     name: str
     why: str
 
 
 class Sources:
-    """The functions and the files of a crate, as they stand unedited."""
+    """The functions and the files of a crate, unedited."""
 
     def __init__(self, crate: Any) -> None:
         self.crate = crate

@@ -1,4 +1,4 @@
-"""The functions of a crate: where each stands, and what the checker calls it."""
+"""The functions of a crate: where each is, and what the checker calls it."""
 
 from __future__ import annotations
 
@@ -22,7 +22,7 @@ class Function:
 
     @property
     def proofs(self) -> list[str]:
-        """The folders that what is written of its proof may stand in."""
+        """The folders that may have what is written of its proof."""
         return ["/".join(["proofs", *it.split("::")[1:]]) for it in self.symbols]
 
 
@@ -42,8 +42,8 @@ def _function(crate: str, source: Any, read: Any) -> Function:
 
 
 def _owners(source: Any, read: Any) -> list[tuple[str, ...]]:
-    """The paths that a method's impl may have: of a type, the type's own; of a trait, one named after the type, the
-    trait and the trait's arguments, as `OutOfMemoryFromAllocError`."""
+    """The paths that a method's impl may have: the type's own, or for a trait one named after the type, the trait and
+    the trait's arguments, as `OutOfMemoryFromAllocError`."""
     block = read.block
     if not block.trait:
         [name] = _words(block.ty, block.generics, with_paths=False)

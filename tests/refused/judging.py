@@ -14,7 +14,7 @@ from verdicts import Kind, Report, Ruling
 
 @dataclass(frozen=True)
 class Outcome:
-    """What is told of an edit, or of the crate where it has no edit's name."""
+    """What is reported of an edit, or of the crate if it has no edit's name."""
 
     name: str
     is_well: bool

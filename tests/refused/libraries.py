@@ -1,4 +1,4 @@
-"""The built libraries that a crate stands on."""
+"""The built libraries that a crate uses."""
 
 from __future__ import annotations
 

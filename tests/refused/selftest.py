@@ -79,7 +79,7 @@ PASSED = "NOT REFUSED: it is proved"
 UNREAD = "NOT REFUSED: the checker's words can't be read"
 UNTELLING = "NOT REFUSED: no promise of its own is refused: "
 
-# Of each edit: the text that stands once, what takes its place, and the begin of what must be told of it.
+# For each edit: the text that is there once, what takes its place, and how the report on it must begin.
 EDITS = {
     "another-answer": ("number <= 9", "number <= 8", REFUSED + "returns"),
     "another-answer-of-a-trait": ("3 + 4", "3 + 5", REFUSED + "returns"),
@@ -109,16 +109,16 @@ def main() -> int:
 
 
 def _failures(library: str, edits: dict[str, tuple[str, str, str]], of_crate: str) -> list[str]:
-    """What is told otherwise than it must be of the edits of a library, and of the library without them."""
+    """What is reported otherwise than it must be of the edits of a library, and of the library without them."""
     wanted = {f"{name}.edit": told for name, (_, _, told) in edits.items()} | {"": of_crate}
     told = {it.name: it for it in _outcomes(library, edits)}
-    failures = [f"nothing is told of {it or 'the library'}" for it in wanted.keys() - told.keys()]
-    failures += [f"what is no edit is told: {it}" for it in told.keys() - wanted.keys()]
+    failures = [f"nothing is reported of {it or 'the library'}" for it in wanted.keys() - told.keys()]
+    failures += [f"what isn't an edit is reported: {it}" for it in told.keys() - wanted.keys()]
     for name in wanted.keys() & told.keys():
         outcome = told[name]
         is_well = wanted[name].startswith((REFUSED, "without its edits it is proved"))
         if not outcome.text.startswith(wanted[name]) or outcome.is_well != is_well:
-            failures.append(f"{name or 'the library'}: told {outcome.text!r}, and not {wanted[name]!r}")
+            failures.append(f"{name or 'the library'}: reported {outcome.text!r}, and not {wanted[name]!r}")
     return failures
 
 

@@ -44,11 +44,11 @@ class Collecting:
         return database, *device.run(self.trial.library, mode, first, last, words, reads=reads)
 
     def left(self, what, database, answered):
-        """What a run leaves that ended once so many uploads were answered: all of those, and none or all of the next one."""
+        """What a run leaves that ended after this many answers: all of those uploads, and none or all of the next one."""
         self.holds_one_of(what, database, self.journals[answered:answered + 2])
 
     def holds_one_of(self, what, database, journals):
-        """The database holds one of some journals, and the same uploads complete it. Where there was none before the run, and one may
+        """The database holds one of some journals, and the same uploads complete it. If there was none before the run, and one may
         be empty, there may be none yet."""
         trial = self.trial
         told = run("export", database)

@@ -4,7 +4,7 @@
  *   h  half of what a call writes is written, and then the program is killed
  *   f  the call fails with EIO, and does nothing
  *   n  none is interfered with, and each that changes a file is noted
- * Reads are counted in mode f where DEVICE_READS is 1, and not in the other modes. Each call that was interfered with, and in mode n each
+ * Reads are counted in mode f if DEVICE_READS is 1, and not in the other modes. Each call that was interfered with, and in mode n each
  * change, is written to the descriptor DEVICE_NOTE: an operation and a file as two bytes, an offset and a length as eight bytes each,
  * and then as many bytes. The files are d, a path that ends in "/db", l, one that ends in "/db-wal", and o, any other; 1 is standard
  * output. Standard output and standard error never fail.
@@ -73,7 +73,7 @@ static void tell(char operation, char kind, off_t offset, size_t size, const voi
         put(note, bytes, size);
 }
 
-/* Whether a call has to fail. Where the program is to be killed within it this does not return but for mode h, where `half` is set. */
+/* Whether a call has to fail. If the program is to be killed within it, this returns in mode h alone, with `half` set. */
 static int interferes(char operation, char kind, off_t offset, size_t size, const void *bytes, int *half)
 {
     int is_read = operation == 'r';

@@ -24,7 +24,7 @@ def built(folder):
 
 def run(library, mode, first, last, words, stdin=b"", reads=False):
     """A run in which the calls from one number to another are interfered with, as device.c says of the mode. What it prints, its
-    status, and those calls; all of them, where the mode is to note them."""
+    status, and those calls; all of them, if the mode is to note them."""
     settings = {"MODE": mode, "FIRST": first, "LAST": last, "READS": int(reads)}
     *told, noted = preload.run(library, "DEVICE", settings, words, stdin)
     return tuple(told), list(calls_in(noted, mode == "n"))
