@@ -25,7 +25,7 @@ def found(pattern, path):
 
 
 def versions(program):
-    """The version, by the place that says it."""
+    """The version, by where it stands."""
     told = subprocess.run([program, "--version"], capture_output=True, text=True, check=True).stdout
     return {
         "--version": told.removeprefix("journal-collect ").strip(),

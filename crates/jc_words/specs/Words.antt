@@ -81,7 +81,7 @@ pub record AskFor (words : List Text) (request : Request) : Type 0 where
   pub met : subcommand_of app words ≡ Some found
   pub asked : Asks found request
 
--- The arguments are refused with a kind of error, or answered with help or the version; a kind is also reported if they
+-- The words are refused with a kind of error, or answered with help or the version; a kind is also told where the words
 -- pass and ask for nothing that there is.
 pub record AreAnswered (words : List Text) (kind : ErrorKind) : Type 0 where
   pub app : App
