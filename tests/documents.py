@@ -11,7 +11,8 @@ from pathlib import Path
 ROOT = Path(__file__).resolve().parent.parent
 WIDTH = 120
 README_LINES = 200
-PAGES = ("README.md", "CHANGELOG.md", "docs/FAULTS.md", "docs/FORMATS.md", "docs/LIMITS.md", "docs/PERFORMANCE.md", "docs/PROOFS.md")
+PAGES = ("README.md", "CHANGELOG.md", "docs/DECISIONS.md", "docs/FAULTS.md", "docs/FORMATS.md", "docs/GATE.md", "docs/LIMITS.md",
+         "docs/PERFORMANCE.md", "docs/PROOFS.md")
 
 
 def text_of(path):
