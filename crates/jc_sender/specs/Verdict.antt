@@ -27,7 +27,7 @@ pub record TellsReading (count : ℕ) (ending : Ending) (status : Status) (old n
   pub judged : status ≡ verdict_status ending
   pub printed : Appends old new (verdict_text count ending ++ 10 ∷ [])
 
--- The output gained the line, and the status is the one, of what the bytes say under the default limits.
+-- The output gained the line of what the bytes say under the default limits, and the status is that of this line.
 pub record TellsBytes (kind : Kind) (bytes : List ℕ) (status : Status) (old new : Option (List ℕ)) : Type 0 where
   pub limits : Limits
   pub defaults : AreDefaults limits.name limits.value limits.fields limits.entry limits.file
