@@ -5,8 +5,6 @@ mod arguments;
 mod asked;
 mod grammar;
 mod request;
-#[cfg(test)]
-mod tests;
 mod texts;
 mod words;
 

@@ -1,0 +1,77 @@
+#!/usr/bin/env bash
+# What arguments ask for, by what the program then does: which files it takes, in which order, with which limits. And
+# the mistakes in arguments, by the words that stand for each kind of mistake.
+set -uo pipefail
+. "$(dirname "$0")/expect.sh"
+
+folder=$(mktemp -d)
+trap 'rm -rf "$folder"' EXIT
+id=a0a1a2a3a4a5a6a7a8a9aaabacadaeaf
+most=9223372036854775807
+db=$folder/db
+python3 - "$folder" << 'MADE'
+import sys
+sys.path[:0] = ["tests"]
+from samples import E1, E2, E3, FILE, entry_text, stream
+for name, data in {
+    "a": stream(E1, E2), "b": stream(E3), "-a": stream(entry_text(10)),
+    "in": E1 + E2, "many": b"".join(map(entry_text, range(1, 1002))), "journal": FILE,
+}.items():
+    with open(f"{sys.argv[1]}/{name}", "wb") as file:
+        file.write(data)
+MADE
+
+# the uploads in the order of the arguments, one of them twice; one after `--`; and the one on standard input
+a=$folder/a b=$folder/b
+expect 0 "ack $id 0 1 1 0"$'\n'"ack $id 0 2 2 0"$'\n'"ack $id 0 1 0 0" "" "$PROGRAM" collect "$db" "$b" "$a" "$b"
+expect 0 "ack $id 0 1 1 0" "" env -C "$folder" "$PROGRAM" collect "$db" -- -a
+expect 0 "ack $id 0 2 0 0" "" "$PROGRAM" collect "$db" < "$a"
+expect 0 "ok 4" "" "$PROGRAM" check "$db"
+"$PROGRAM" export "$db" > "$folder/all"
+expect 0 "ok 4 0" "" "$PROGRAM" verify export "$folder/all"
+
+# the numbers of the entries that `show` lists
+shows() {
+    local wanted=$1 told
+    shift
+    told=$("$PROGRAM" show "$@" | cut -d ' ' -f 2 | paste -sd ' ') || differs "show $* fails"
+    [[ $told == "$wanted" ]] || differs "show $* lists '$told', not '$wanted'"
+}
+shows "1 2 3 10" "$db"
+shows "2 3" "$db" --id 000102030405060708090a0b0c0d0e0f --from 2 --to 3
+shows "" --to=0 "$db" "--from=$most"
+shows "1 2 3" --to 007 "$db"
+expect 2 "" "bad id" "$PROGRAM" show "$db" --id "no id" --from 2 --to 3
+
+# what a file holds; at most 1,000 entries unless a limit is given, and a journal file whole whatever the limit
+machine() { "$PROGRAM" "$1" --source "$id" --resume "$folder/resume" "${@:2}"; }
+counts() { tail -c +49 "$folder/told" > "$folder/body" && "$PROGRAM" verify "$1" "$folder/body"; }
+expect 0 "ok 2 0" "" "$PROGRAM" verify export "$folder/in"
+expect 0 "ok 1 0" "" "$PROGRAM" verify file "$folder/journal"
+machine upload export "$folder/many" > "$folder/told"
+expect 0 "ok 1000 0" "" counts export
+machine upload --limit 0 export "$folder/many" > "$folder/told"
+expect 0 "ok 0 0" "" counts export
+machine upload --limit 0 file "$folder/journal" > "$folder/told"
+expect 0 "ok 1 0" "" counts file
+expect 0 "resume 2" "" machine ack export "$folder/in" <<< "ack $id 0 2 2 0"
+expect 0 "resume 2 000102030405060708090a0b0c0d0e0f 2" "" cat "$folder/resume"
+
+# mistakes
+missing="error: the following required arguments were not provided:"
+more="error: unexpected argument 'more' found"
+expect 2 "" "~$missing"$'\n'"  <DB>*" "$PROGRAM" collect
+expect 2 "" "~$missing"$'\n'"  <DB>*" "$PROGRAM" export
+expect 2 "" "~$missing"$'\n'"  <DB>*" "$PROGRAM" show --id 00
+expect 2 "" "~$more*" "$PROGRAM" export db more
+expect 2 "" "~$more*" "$PROGRAM" check db more
+expect 2 "" "~$more*" "$PROGRAM" show db more
+expect 2 "" "~error: the argument '--from <N>' cannot be used multiple times*" "$PROGRAM" show db --from 1 --from 2
+expect 2 "" "~error: invalid value 'x' for '--from <N>': *" "$PROGRAM" show db --from x
+expect 2 "" "~error: invalid value '-1' for '--from <N>': *" "$PROGRAM" show db --from=-1
+expect 2 "" "~error: invalid value '9223372036854775808' for '--to <N>': *" "$PROGRAM" show db --to 9223372036854775808
+expect 2 "" "~error: invalid value '9223372036854775808' for '--limit <N>': *" \
+    machine upload --limit 9223372036854775808 export "$folder/in"
+expect 2 "" "~error: invalid value 'other' for '<KIND>'"$'\n'"  \\[possible values: export, file\\]*" \
+    "$PROGRAM" verify other "$folder/in"
+finish
