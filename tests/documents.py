@@ -1,7 +1,8 @@
 #!/usr/bin/env python3
 """Compares the documents with each other and with the sources: documents.py PROGRAM
 
-One version, one table of codes, a README that stays short, and lines that fit a screen. Prints what differs.
+One version, one table of codes, which the program prints too, a README that stays short, and lines that fit a screen.
+Prints what differs.
 """
 import re
 import subprocess
@@ -10,6 +11,8 @@ from pathlib import Path
 
 ROOT = Path(__file__).resolve().parent.parent
 WIDTH = 120
+# The code that the library alone has: in its place the program prints `write failed`.
+UNPRINTED = (66, "WriteFailed")
 README_LINES = 200
 PAGES = ("README.md", "CHANGELOG.md", "docs/DECISIONS.md", "docs/FAULTS.md", "docs/FORMATS.md", "docs/GATE.md", "docs/LIMITS.md",
          "docs/PERFORMANCE.md", "docs/PROOFS.md")
@@ -25,11 +28,15 @@ def found(pattern, path):
     return match[1] if match else None
 
 
+def printed(program, *words):
+    """What a command prints."""
+    return subprocess.run([program, *words], capture_output=True, text=True, check=True).stdout
+
+
 def versions(program):
     """The version, by where it stands."""
-    told = subprocess.run([program, "--version"], capture_output=True, text=True, check=True).stdout
     return {
-        "--version": told.removeprefix("journal-collect ").strip(),
+        "--version": printed(program, "--version").removeprefix("journal-collect ").strip(),
         "CHANGELOG.md": found(r"^## ([\d.]+)", "CHANGELOG.md"),
         "docs/journal-collect.1": found(r"^\.Os journal-collect ([\d.]+)$", "docs/journal-collect.1"),
         "README.md": found(r"This\s+is\s+version ([\d.]+\d)", "README.md"),
@@ -46,6 +53,25 @@ def codes_of_table():
     return {(int(number), name) for number, name in re.findall(r"^\| (\d+) \| (\w+) \|", table, re.MULTILINE)}
 
 
+def lines_of_table():
+    """The lines that the program has to print: a code that something reports, its name, its meaning."""
+    table = text_of("docs/FORMATS.md").split("\n## Codes\n")[1]
+    rows = re.findall(r"^\| (\d+) \| (\w+) \| [a-z ]+ \| (.*) \|$", table, re.MULTILINE)
+    return "".join(f"{number:<3} {name:<20}{meaning}\n" for number, name, meaning in rows)
+
+
+def printed_codes(program):
+    """Whether `codes` and `help codes` print the table, and which codes in it aren't the sources'."""
+    codes = printed(program, "codes")
+    if codes != lines_of_table():
+        yield "`codes` doesn't print the table of docs/FORMATS.md"
+    if codes.rstrip("\n") not in printed(program, "help", "codes"):
+        yield "`help codes` doesn't have what `codes` prints"
+    known = codes_of_sources() - {UNPRINTED}
+    told = {(int(number), name) for number, name in re.findall(r"^(\d+) +(\w+) ", codes, re.MULTILINE)}
+    yield from (f"code {code} isn't both printed and in the sources" for code in sorted(told ^ known))
+
+
 def long_lines():
     for page in PAGES:
         for number, line in enumerate(text_of(page).splitlines(), 1):
@@ -60,6 +86,7 @@ def differences(program):
     yield from (f"code {code} isn't in both tables" for code in sorted(codes_of_sources() ^ codes_of_table()))
     if len(text_of("README.md").splitlines()) >= README_LINES:
         yield f"README.md has {README_LINES} lines or more"
+    yield from printed_codes(program)
     yield from long_lines()
 
 

@@ -169,6 +169,28 @@ class Collect(Sweep):
         shutil.rmtree(os.path.dirname(copy))
 
 
+class CollectListed(Collect):
+    """Uploads that a list on standard input names. A refusal between two ends the run; answers that are out stay."""
+
+    def __init__(self, trial, name, uploads, base=None, before=()):
+        super().__init__(trial, name, uploads, base, before)
+        self.stdin = "".join(f"{upload}\n" for upload in self.words).encode()
+        self.words = ["--files-from", "-"]
+
+    def judge(self, what, folder, told):
+        output, errors, _ = told
+        journal = self.start()
+        lines = output.decode().splitlines()
+        usual = [answer_or_refusal(journal, line, upload) for line, upload in zip(lines, self.uploads)]
+        if errors == REFUSED[1]:
+            self.trial.expect(what, told, (as_output(usual), *REFUSED[1:]))
+        else:
+            self.trial.expect(what, told, (as_output(usual), "", status_of(usual)))
+            self.trial.expect(f"{what}: number of lines", len(lines), len(self.uploads))
+        self.left(what, os.path.join(folder, "db"), journal, bool(lines))
+        return not self.is_usual(told)
+
+
 def answer_or_refusal(journal, line, upload):
     """The line that an upload has to get: its answer, or, if the line says so, that memory was refused."""
     after = journal.copy()
@@ -233,6 +255,8 @@ def collecting(trial, base):
     yield Collect(trial, "collect of a journal file", [file])
     yield Collect(trial, "collect of a journal file on standard input", [file], by_input=True)
     yield Collect(trial, "collect of several uploads", several)
+    yield CollectListed(trial, "collect of uploads that a list names", several)
+    yield CollectListed(trial, "collect of a list into a journal", [samples.stream(two, three)], base, [row])
 
 
 def reading(trial, base):

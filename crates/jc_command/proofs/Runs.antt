@@ -27,10 +27,6 @@ use Rattle.jc_console.specs.Status.{number_of}
 use Rattle.jc_sender.specs.Verdict.{verdict_status}
 use Rattle.jc_words.specs.Words.{AreAnswered, AskFor}
 
-keeps_itself : (known : Option (List ℕ)) → Keeps known known
-keeps_itself None = tt
-keeps_itself (Some bytes) = refl
-
 -- a reading's status is one of two
 not_misused : (ending : Ending) → Misused ≡ verdict_status ending → ⊥
 not_misused (End left) same = cc
@@ -46,19 +42,24 @@ judged_not_misused false true same = cc
 judged_not_misused false false same = cc
 
 -- what was asked for is performed
-pub performed : (words : List Text) (request : Request) (given output output' errors : Option (List ℕ)) (status : Status)
-    → AskFor words request → Performs request given output output' status → Ends words given output output' errors errors status
-performed words request given output output' errors Success asks does = (keeps_itself errors, inr (request, asks, does))
-performed words request given output output' errors Refused asks does = inl (request, asks, does)
-performed words request given output output' errors Failed asks does = (request, asks, does)
-performed words (Verify k file) given output output' errors Misused asks (count, ending, told) = absurd (not_misused ending told.judged)
-performed words (Upload source limit) given output output' errors Misused asks does = let same : Misused ≡ Success = does.0 in cc
-performed words (Ack source) given output output' errors Misused asks does = let same : Misused ≡ Success = does.0 in cc
-performed words (requests.Collect database uploads) given output output' errors Misused asks does =
+pub performed : (words : List Text) (request : Request) (given output output' errors errors' : Option (List ℕ)) (status : Status)
+    → AskFor words request → Performs request given output output' status → (status ≡ Success → Keeps errors errors')
+    → Ends words given output output' errors errors' status
+performed words request given output output' errors errors' Success asks does quiet = (quiet refl, inr (request, asks, does))
+performed words request given output output' errors errors' Refused asks does quiet = inl (request, asks, does)
+performed words request given output output' errors errors' Failed asks does quiet = (request, asks, does)
+performed words (Verify k file) given output output' errors errors' Misused asks (count, ending, told) quiet = absurd (not_misused ending told.judged)
+performed words (Upload source limit) given output output' errors errors' Misused asks does quiet = let same : Misused ≡ Success = does.0 in cc
+performed words (Ack source) given output output' errors errors' Misused asks does quiet = let same : Misused ≡ Success = does.0 in cc
+performed words (requests.Collect database uploads) given output output' errors errors' Misused asks does quiet =
     absurd (judged_not_misused (list_any is_failure does.answers) (list_any is_refusal does.answers) does.is)
-performed words (requests.Export database) given output output' errors Misused asks does = let same : Misused ≡ Success = does in cc
-performed words (requests.Show database id first last) given output output' errors Misused asks does = let same : Misused ≡ Success = does in cc
-performed words (requests.Check database) given output output' errors Misused asks (health, is, told) = absurd (health_not_misused health told.judged)
+performed words (requests.CollectListed database list) given output output' errors errors' Misused asks does quiet =
+    let told = does.told.told in
+    absurd (judged_not_misused (list_any is_failure told.answers) (list_any is_refusal told.answers) told.is)
+performed words (requests.Export database) given output output' errors errors' Misused asks does quiet = let same : Misused ≡ Success = does in cc
+performed words (requests.Show database id first last) given output output' errors errors' Misused asks does quiet = let same : Misused ≡ Success = does in cc
+performed words requests.ListCodes given output output' errors errors' Misused asks does quiet = let same : Misused ≡ Success = does in cc
+performed words (requests.Check database) given output output' errors errors' Misused asks (health, is, told) quiet = absurd (health_not_misused health told.judged)
 
 -- a failure's status is that of a device or memory, or another one
 device_or_not : (status : Status) → (status ≡ Failed) ⊎ (status ≢ Failed)
@@ -73,6 +74,11 @@ pub unless_failed : {T : Type 0} (r : Result T Failure) (output output' : Option
     → IfErr r (λ failure. status_of failure ≢ Failed → Keeps output output')
 unless_failed (Ok x) output output' keeps = tt
 unless_failed (Err failure) output output' keeps = λ other. keeps (λ is. other (ap status_of is))
+
+pub IfOk-both : {T E : Type 0} (r : Result T E) (P Q R : T → Type 0) → ((x : T) → P x → Q x → R x) → IfOk r P → IfOk r Q
+    → IfOk r R
+IfOk-both (Ok x) P Q R both p q = both x p q
+IfOk-both (Err e) P Q R both p q = tt
 
 pub IfErr-both : {T E : Type 0} (r : Result T E) (P Q R : E → Type 0) → ((e : E) → P e → Q e → R e) → IfErr r P → IfErr r Q
     → IfErr r R

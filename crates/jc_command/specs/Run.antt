@@ -1,5 +1,5 @@
 -- How a run of the program ends. (own)
-use Rattle.std.specs.Prelude.{◌≡◌, ◌⊎◌, ⊤, ℕ, List, Option, length, map, option_map}
+use Rattle.std.specs.Prelude.{◌≡◌, ◌⊎◌, ◌∷◌, [], ⊤, ℕ, List, Option, length, map, option_map}
 use Rattle.std.specs.Io.KnownBytes.{Keeps}
 use Rattle.clap.specs.Words.{Text}
 use Rattle.jc_base.specs.declared.fault.Ending.{Ending}
@@ -9,12 +9,13 @@ use Rattle.jc_console.specs.declared.failure.Failure.TheVariants.{CannotOpen, Ou
 use Rattle.jc_console.specs.declared.status.Status.{Status}
 use Rattle.jc_console.specs.declared.status.Status.TheVariants.{Success, Refused, Misused, Failed}
 use Rattle.jc_words.specs.declared.request.Request.{Request}
-use Rattle.jc_words.specs.declared.request.Request.TheVariants.{Collect, Show, Check, Verify, Upload, Ack}
+use Rattle.jc_words.specs.declared.request.Request.TheVariants.{Collect, CollectListed, Show, Check, Verify, Upload, Ack, ListCodes}
 use Rattle.jc_words.specs.declared.request.Request.TheVariants as request
 use Rattle.jc_database.specs.Answered.{TellsAnswers, number_of_uploads}
 use Rattle.jc_database.specs.Checked.{IsHealth, TellsHealth}
 use Rattle.jc_database.specs.Database.{CheckFailsBy, CollectFailsBy, DatabaseFailsBy, ShowFailsBy}
 use Rattle.jc_console.specs.Failure.{status_of}
+use Rattle.jc_database.specs.Listed.{TellsListed}
 use Rattle.jc_sender.specs.Sent.{TellsSomeUpload}
 use Rattle.jc_sender.specs.Failing.{AckFailsBy, UploadFailsBy}
 use Rattle.jc_sender.specs.Taken.{TellsSomePoint}
@@ -30,9 +31,11 @@ Performs (Verify kind file) given old new status = (count : ℕ) × (ending : En
 Performs (Upload source limit) given old new status = (status ≡ Success) × TellsSomeUpload source limit old new
 Performs (Ack source) given old new status = (status ≡ Success) × TellsSomePoint source given old new
 Performs (Collect database uploads) given old new status = TellsAnswers (number_of_uploads (length uploads.items)) status old new
+Performs (CollectListed database list) given old new status = TellsListed list.now given status old new
 Performs (request.Export database) given old new status = status ≡ Success
 Performs (Show database id first last) given old new status = status ≡ Success
 Performs (Check database) given old new status = (health : Health) × IsHealth health × TellsHealth health status old new
+Performs ListCodes given old new status = status ≡ Success
 
 -- Why a request fails: its own file can't be opened, what it names is refused, or a device or memory fails.
 abbrev pub FailsBy : Request → (given : Option (List ℕ)) → Failure → Type 0
@@ -44,9 +47,11 @@ FailsBy (Verify kind file) given _ = ⊥
 FailsBy (Upload source limit) given failure = UploadFailsBy source failure
 FailsBy (Ack source) given failure = AckFailsBy source given failure
 FailsBy (Collect database uploads) given failure = CollectFailsBy database.now (map (λ path. path.now) uploads.items) failure
+FailsBy (CollectListed database list) given failure = CollectFailsBy database.now (list.now ∷ []) failure
 FailsBy (request.Export database) given failure = DatabaseFailsBy database.now failure
 FailsBy (Show database id first last) given failure = ShowFailsBy database.now (option_map (λ digits. digits.now) id) failure
 FailsBy (Check database) given failure = CheckFailsBy database.now failure
+FailsBy ListCodes given failure = failure ≡ WriteFailed
 
 -- The arguments ask for something, and it is performed.
 abbrev pub PerformsAsked : List Text → (given old new : Option (List ℕ)) → Status → Type 0

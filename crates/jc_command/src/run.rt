@@ -1,7 +1,7 @@
 //! One run of the program.
 
-ghost use Rattle.std.specs.Prelude.{◌≡◌, ◌≢◌, ◌≤◌, ⊤, Ok, Err, IfOk, IfErr, map, string_bytes};
-ghost use Rattle.std.specs.Io.KnownBytes.{Keeps};
+ghost use Rattle.std.specs.Prelude.{◌≡◌, ◌≢◌, ◌≤◌, ⊤, Ok, Err, OnOk, IfOk, IfErr, map, string_bytes};
+ghost use Rattle.std.specs.Io.KnownBytes.{Appends, Keeps};
 ghost use Rattle.clap.specs.Words.{kind_of};
 ghost use Rattle.jc_words.specs.Answer.{IsAskedFor};
 ghost use Rattle.jc_console.specs.Failure.{status_of};
@@ -9,17 +9,17 @@ ghost use Rattle.jc_command.specs.Run.{Ends, FailsBy, Performs, Stops};
 
 use clap::error::ErrorKind;
 use jc_console::{Failure, Status, printed};
-use jc_database::{Databases, check, collect, export, show};
+use jc_database::{Databases, check, collect, collect_listed, export, show};
 use jc_sender::{ack, upload, verify};
-use jc_words::{Request, parse};
+use jc_words::{CODES, Request, parse};
 use std::io::{Read, Write};
 use std::rt::Files;
 
 /// Does what the arguments ask for and answers the status to end with. The first argument is the program's name.
 ///
 /// What is asked for goes to `output`. A failure, or what is wrong with the arguments, goes to `errors`. With status 3
-/// something failed, and no clause says what went to either. `input` has the answers for `ack`, and the upload for
-/// `collect` if none is named.
+/// something failed, and no clause says what went to either. `input` has the answers for `ack`, and for `collect` the
+/// upload if none is named, or their names if the list is `-`.
 pub fn command<R: Databases + Files + AllocGlobal, I: Read, O: Write, E: Write>(
     rt: &R,
     words: Vec<String>,
@@ -55,20 +55,22 @@ fn answered<'a, R: Databases + Files + AllocGlobal, I: Read, O: Write, E: Write>
         (O.contents output.new)) }
 {
     match parse(rt.alloc(), words) {
-        Ok(request) => perform(rt, request, input, output),
+        Ok(request) => perform(rt, request, input, output, errors),
         Err(answer) => answer_words(&answer, output, errors),
     }
 }
 
 #[tactic(auto, using(crate::proofs::Runs::unless_failed))]
-fn perform<'a, R: Databases + Files + AllocGlobal, I: Read, O: Write>(
+fn perform<'a, R: Databases + Files + AllocGlobal, I: Read, O: Write, E: Write>(
     rt: &R,
     request: Request<'a>,
     input: &mut I,
     output: &mut O,
+    errors: &mut E,
 ) -> Result<Status, Failure<'a>>
     ensures performed { IfOk result (Performs request.entry (I.remaining input.old) (O.contents output.old)
         (O.contents output.new)) }
+    ensures quiet { IfOk result (λ status. status ≡ Status.Success → Keeps (E.contents errors.old) (E.contents errors.new)) }
     ensures failed { IfErr result (FailsBy request.entry (I.remaining input.old)) }
     ensures untouched { IfErr result (λ failure. status_of failure ≢ Status.Failed
         → Keeps (O.contents output.old) (O.contents output.new)) }
@@ -86,6 +88,9 @@ fn perform<'a, R: Databases + Files + AllocGlobal, I: Read, O: Write>(
         Request::Collect { database, uploads } => {
             collect(rt, database, uploads.as_slice(), input, output)
         }
+        Request::CollectListed { database, list } => {
+            collect_listed(rt, database, list, input, output, errors)
+        }
         Request::Export { database } => {
             export(rt, database, output)?;
             Ok(Status::Success)
@@ -100,7 +105,20 @@ fn perform<'a, R: Databases + Files + AllocGlobal, I: Read, O: Write>(
             Ok(Status::Success)
         }
         Request::Check { database } => check(rt, database, output),
+        Request::ListCodes => {
+            list_codes(output)?;
+            Ok(Status::Success)
+        }
     }
+}
+
+/// Prints what each code means.
+fn list_codes<'a, O: Write>(output: &mut O) -> Result<(), Failure<'a>>
+    ensures printed { OnOk result (Appends (O.contents output.old) (O.contents output.new) CODES.now) }
+    ensures failed { IfErr result (λ failure. failure ≡ Failure.WriteFailed) }
+{
+    let written = output.write_all(CODES.as_bytes());
+    printed(written, output)
 }
 
 /// Prints what `clap` answers in place of a request.

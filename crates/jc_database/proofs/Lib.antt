@@ -1,4 +1,5 @@
 pub mod AnswerLines
 pub mod Refusals
+pub mod Successive
 pub mod Judging
 pub mod Printing

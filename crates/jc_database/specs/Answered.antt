@@ -9,7 +9,7 @@ use Rattle.jc_upload.specs.Answer.{IsAnswer}
 use Rattle.jc_upload.specs.declared.answer.Answer.{Answer}
 use Rattle.jc_upload.specs.declared.answer.Answer.TheVariants.{Ack, No}
 use Rattle.jc_console.specs.declared.status.Status.{Status}
-use Rattle.jc_console.specs.declared.status.Status.TheVariants.{Success, Refused, Failed}
+use Rattle.jc_console.specs.declared.status.Status.TheVariants.{Success, Refused, Misused, Failed}
 
 abbrev pub is_refusal : Answer → Bool
 is_refusal (Ack source start count new left) = false
@@ -34,6 +34,16 @@ number_of_uploads zero = 1
 number_of_uploads (suc others) = suc others
 
 -- ---- one answer after others
+
+-- The status of two runs: a failure goes before a refusal.
+abbrev pub worse : Status → Status → Status
+worse Failed other = Failed
+worse Success other = other
+worse Misused other = Misused
+worse Refused Failed = Failed
+worse Refused Success = Refused
+worse Refused Misused = Refused
+worse Refused Refused = Refused
 
 -- a refusal's status, by its code
 abbrev pub refusal_status : (code : ℕ) → Status

@@ -1,4 +1,5 @@
 pub mod Stopped
 pub mod Answered
 pub mod Database
+pub mod Listed
 pub mod Checked

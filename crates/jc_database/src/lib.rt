@@ -8,10 +8,12 @@ mod failures;
 mod health;
 mod host;
 mod judged;
+mod listed;
 mod listing;
 mod uploads;
 
 pub use collecting::collect;
 pub use database::{DatabaseStore, Databases};
 pub use health::{Health, check};
+pub use listed::collect_listed;
 pub use listing::{export, show};

@@ -27,7 +27,8 @@ pub fn open_uploads<'a, R: Files + AllocGlobal>(
     Ok(uploads)
 }
 
-fn open_upload<'a, R: Files + AllocGlobal>(
+/// Opens the file at a path.
+pub fn open_upload<'a, R: Files + AllocGlobal>(
     rt: &R,
     path: &'a str,
 ) -> Result<Upload<R::File>, Failure<'a>>

@@ -3,7 +3,7 @@ use Rattle.std.proofs.Common.{◌≡◌, ◌⊎◌, ◌∙◌, ap, refl, sym, su
 use Rattle.std.specs.Prelude.{IsSome, IfSome, IfNone, IfErr, IsErrAnd, Result, Ok, Err}
 use Rattle.clap.specs.Words.{App, Row, Text, HasKind, fault_of, is_simple, is_simple_and_free, kind_of, subcommand_of}
 use Rattle.clap.specs.declared.error.Error.{Error}
-use Rattle.clap.specs.declared.error.kind.ErrorKind.TheVariants.{OutOfMemory, MissingSubcommand}
+use Rattle.clap.specs.declared.error.kind.ErrorKind.TheVariants.{OutOfMemory, ArgumentConflict}
 use Rattle.clap.proofs.OnLiterals.{clap_on_literals}
 use Rattle.clap.specs.declared.builder.value_parser.ValueParser.{ValueParser}
 use Rattle.jc_words.specs.declared.request.Request.{Request}
@@ -52,7 +52,7 @@ asked app words given request rows ours right same is there asks =
 
 -- where the matches ask for nothing, the words do
 pub nothing : (app : App) (words : List Text) (e : Error) (given : Option Request) (rows : Option (Text × List Row)) → IsGrammar app
-    → kind_of e ≡ MissingSubcommand → rows ≡ subcommand_of app words → given ≡ None → IfNone given (AsksNothing rows)
+    → kind_of e ≡ ArgumentConflict → rows ≡ subcommand_of app words → given ≡ None → IfNone given (AsksNothing rows)
     → (kind_of e ≡ OutOfMemory) ⊎ AreAnswered words (kind_of e)
 nothing app words e given rows ours kind same is none =
     let asks = subst (λ (o : Option Request). IfNone o (AsksNothing rows)) is none in

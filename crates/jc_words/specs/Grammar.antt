@@ -45,9 +45,9 @@ number_rule name = record (option_rule name) { parser = Some (Unsigned 0 (2 ^ 63
 abbrev pub database_grammar : Text → App
 database_grammar name = with_rule (new_app name) (place_rule (codes "DB"))
 
--- `collect DB [UPLOAD..]`
+-- `collect DB [--files-from FILE] [UPLOAD..]`
 abbrev pub collect_grammar : App
-collect_grammar = with_rule (database_grammar (codes "collect")) uploads_rule
+collect_grammar = with_rule (with_rule (database_grammar (codes "collect")) uploads_rule) (option_rule (codes "files-from"))
 
 -- `show DB [--id HEX] [--from N] [--to N]`
 abbrev pub show_grammar : App
@@ -85,11 +85,11 @@ collector_grammar =
     with_subcommand (with_subcommand (with_subcommand (with_subcommand top_grammar collect_grammar.top)
     (database_grammar (codes "export")).top) show_grammar.top) (database_grammar (codes "check")).top
 
--- ... and those over files
+-- ... those over files, and `codes`
 abbrev pub grammar : (verify upload ack : ValueParser) → App
 grammar verify upload ack =
-    with_subcommand (with_subcommand (with_subcommand collector_grammar (verify_grammar verify).top) (upload_grammar upload).top)
-    (ack_grammar ack).top
+    with_subcommand (with_subcommand (with_subcommand (with_subcommand collector_grammar (verify_grammar verify).top)
+    (upload_grammar upload).top) (ack_grammar ack).top) (new_app (codes "codes")).top
 
 abbrev pub kind_name : Kind → Text
 kind_name Export = codes "export"

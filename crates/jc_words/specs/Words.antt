@@ -4,21 +4,23 @@ use Rattle.std.specs.Str.Parse.{IsNumeral, digits_value, without_leading_plus}
 use Rattle.clap.specs.Words.{App, Text, Row, all_of, first_of, fault_of, found_of, IsAmong, rows_of, subcommand_of}
 use Rattle.clap.specs.declared.parser.matches.ArgMatches.{ArgMatches}
 use Rattle.clap.specs.declared.error.kind.ErrorKind.{ErrorKind}
-use Rattle.clap.specs.declared.error.kind.ErrorKind.TheVariants.{MissingSubcommand}
+use Rattle.clap.specs.declared.error.kind.ErrorKind.TheVariants.{ArgumentConflict}
 use Rattle.jc_words.specs.Answer.{IsAskedFor}
 use Rattle.jc_words.specs.Grammar.{IsGrammar, kind_name}
 use Rattle.jc_words.specs.declared.request.Request.{Request}
-use Rattle.jc_words.specs.declared.request.Request.TheVariants.{Collect, Export, Show, Check, Verify, Upload, Ack}
+use Rattle.jc_words.specs.declared.request.Request.TheVariants.{Collect, CollectListed, Export, Show, Check, Verify, Upload, Ack, ListCodes}
 use Rattle.jc_words.specs.declared.request.Source.{Source}
 
 abbrev pub command_name : Request → Text
 command_name (Collect database uploads) = codes "collect"
+command_name (CollectListed database list) = codes "collect"
 command_name (Export database) = codes "export"
 command_name (Show database id first last) = codes "show"
 command_name (Check database) = codes "check"
 command_name (Verify kind file) = codes "verify"
 command_name (Upload source limit) = codes "upload"
 command_name (Ack source) = codes "ack"
+command_name ListCodes = codes "codes"
 
 -- the value of an argument is this text
 abbrev pub IsGiven : List Row → (name text : Text) → Type 0
@@ -46,6 +48,9 @@ IsNumberOr unless_given (Some text) number =
 abbrev pub AskBy : List Row → Request → Type 0
 AskBy rows (Collect database uploads) =
     IsGiven rows (codes "DB") database.now × (map (λ upload. upload.now) uploads.items ≡ all_given rows (codes "UPLOAD"))
+    × (first_of (codes "files-from") rows ≡ None)
+AskBy rows (CollectListed database list) =
+    IsGiven rows (codes "DB") database.now × IsGiven rows (codes "files-from") list.now × (all_given rows (codes "UPLOAD") ≡ [])
 AskBy rows (Export database) = IsGiven rows (codes "DB") database.now
 AskBy rows (Show database id first last) =
     IsGiven rows (codes "DB") database.now × (option_map (λ hex. hex.now) id ≡ first_of (codes "id") rows)
@@ -54,6 +59,7 @@ AskBy rows (Check database) = IsGiven rows (codes "DB") database.now
 AskBy rows (Verify kind file) = IsGiven rows (codes "KIND") (kind_name kind) × IsGiven rows (codes "FILE") file.now
 AskBy rows (Upload source limit) = NameSource rows source × IsNumberOr 1000 (first_of (codes "limit") rows) limit
 AskBy rows (Ack source) = NameSource rows source
+AskBy rows ListCodes = ⊤
 
 -- ... or for nothing that this command does.
 abbrev pub AsksNone : List Row → Text → Type 0
@@ -81,12 +87,12 @@ pub record AskFor (words : List Text) (request : Request) : Type 0 where
   pub met : subcommand_of app words ≡ Some found
   pub asked : Asks found request
 
--- The words are refused with a kind of error, or answered with help or the version; a kind is also told where the words
--- pass and ask for nothing that there is.
+-- The words are refused with a kind of error, or answered with help or the version; they are in conflict too if clap
+-- passes them and they ask for nothing that there is, as words that name uploads in both ways.
 pub record AreAnswered (words : List Text) (kind : ErrorKind) : Type 0 where
   pub app : App
   pub ours : IsGrammar app
-  pub why : IsAmong kind (fault_of app words) ⊎ ((kind ≡ MissingSubcommand) × AsksNothing (subcommand_of app words))
+  pub why : IsAmong kind (fault_of app words) ⊎ ((kind ≡ ArgumentConflict) × AsksNothing (subcommand_of app words))
 
 -- the arguments ask for help or for the version
 abbrev pub AskForHelp : List Text → Type 0

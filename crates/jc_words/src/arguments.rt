@@ -61,6 +61,12 @@ pub(crate) fn uploads_arg<'a>(alloc: Global) -> Arg<'a>
         .help(texts::UPLOADS_HELP)
 }
 
+pub(crate) fn list_arg<'a>(alloc: Global) -> Arg<'a>
+    ensures { IsRule result (option_rule (codes "files-from")) }
+{
+    option_arg(alloc, "files-from", "FILE", texts::LIST_HELP)
+}
+
 /// A value that has its place, and has to be given.
 pub(crate) fn place_arg<'a>(alloc: Global, name: &'a str, help: &'a str) -> Arg<'a>
     ensures { IsRule result (place_rule name.entry.now) }

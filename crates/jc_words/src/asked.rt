@@ -14,7 +14,7 @@ use std::alloc::{AllocError, Global};
 /// How many entries an upload has at most if no limit is given.
 const ENTRIES: u64 = 1000;
 
-/// What the matches ask for; `None` if they lack what a command requires.
+/// What the matches ask for; `None` if they lack what a command requires, or name uploads in both ways.
 pub(crate) fn requested<'a>(
     alloc: Global,
     matches: &ArgMatches<'a>,
@@ -35,6 +35,7 @@ pub(crate) fn requested<'a>(
         "verify" => Ok(verify_request(given)),
         "upload" => Ok(upload_request(given)),
         "ack" => Ok(ack_request(given)),
+        "codes" => Ok(Some(Request::ListCodes)),
         _ => Ok(None),
     }
 }
@@ -50,7 +51,11 @@ fn collect_request<'a>(
         return Ok(None);
     };
     let uploads = texts_given(alloc, given, "UPLOAD")?;
-    Ok(Some(Request::Collect { database, uploads }))
+    match text_given(given, "files-from") {
+        None => Ok(Some(Request::Collect { database, uploads })),
+        Some(list) if uploads.is_empty() => Ok(Some(Request::CollectListed { database, list })),
+        Some(_) => Ok(None),
+    }
 }
 
 fn export_request<'a>(given: &ArgMatches<'a>) -> Option<Request<'a>>

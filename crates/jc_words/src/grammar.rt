@@ -5,7 +5,9 @@ ghost use Rattle.clap.specs.Words.{app_of, new_app};
 ghost use Rattle.clap.specs.declared.builder.value_parser.ValueParser.{ValueParser};
 ghost use Rattle.jc_words.specs.Grammar.{AreKinds, IsCommand, IsGrammar, ack_grammar, collect_grammar, collector_grammar, database_grammar, show_grammar, top_grammar, upload_grammar, verify_grammar};
 
-use crate::arguments::{kind_arg, number_arg, option_arg, place_arg, uploads_arg, with_source};
+use crate::arguments::{
+    kind_arg, list_arg, number_arg, option_arg, place_arg, uploads_arg, with_source,
+};
 use crate::texts;
 use clap::Command;
 use std::alloc::{AllocError, Global};
@@ -17,7 +19,8 @@ pub(crate) fn program<'a>(alloc: Global) -> Result<Command<'a>, AllocError>
     collector(alloc)?
         .subcommand(verify_command(alloc)?)?
         .subcommand(upload_command(alloc)?)?
-        .subcommand(ack_command(alloc)?)
+        .subcommand(ack_command(alloc)?)?
+        .subcommand(codes_command(alloc))
 }
 
 /// The program with the commands over a database.
@@ -45,10 +48,12 @@ fn top<'a>(alloc: Global) -> Result<Command<'a>, AllocError>
     Ok(command)
 }
 
-fn collect_command<'a>(alloc: Global) -> Result<Command<'a>, AllocError>
+pub(crate) fn collect_command<'a>(alloc: Global) -> Result<Command<'a>, AllocError>
     ensures { IfOk result (λ command. IsCommand command collect_grammar) }
 {
-    database_command(alloc, "collect", texts::COLLECT, texts::COLLECT_MORE)?.arg(uploads_arg(alloc))
+    database_command(alloc, "collect", texts::COLLECT, texts::COLLECT_MORE)?
+        .arg(uploads_arg(alloc))?
+        .arg(list_arg(alloc))
 }
 
 fn export_command<'a>(alloc: Global) -> Result<Command<'a>, AllocError>
@@ -96,6 +101,12 @@ fn ack_command<'a>(alloc: Global) -> Result<Command<'a>, AllocError>
 {
     let command = new_command(alloc, "ack", texts::ACK, texts::ACK_MORE);
     with_source(alloc, command)
+}
+
+fn codes_command<'a>(alloc: Global) -> Command<'a>
+    ensures { IsCommand result (new_app (codes "codes")) }
+{
+    new_command(alloc, "codes", texts::CODES_ABOUT, texts::CODES)
 }
 
 /// A command over a database.

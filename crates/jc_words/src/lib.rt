@@ -9,4 +9,5 @@ mod texts;
 mod words;
 
 pub use request::{Kind, Request, Source};
+pub use texts::CODES;
 pub use words::parse;

@@ -8,6 +8,11 @@ pub enum Request<'a> {
         database: &'a str,
         uploads: Vec<&'a str>,
     },
+    /// The same of the uploads that the lines of a file name; `-` is standard input.
+    CollectListed {
+        database: &'a str,
+        list: &'a str,
+    },
     /// All entries of the journal of a database, as an export stream.
     Export {
         database: &'a str,
@@ -38,6 +43,8 @@ pub enum Request<'a> {
     Ack {
         source: Source<'a>,
     },
+    /// What each code means.
+    ListCodes,
 }
 
 /// A machine's journal as a source of uploads.

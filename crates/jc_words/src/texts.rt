@@ -27,6 +27,13 @@ Example: a machine's new entries go into the database logs.db, and the machine k
 pub(crate) const COLLECT: &str =
     "Stores the entries of uploads in a database and answers each upload with one line";
 
+/// The name of the command in usage lines.
+pub(crate) const COLLECT_NAME: &str = "journal-collect collect";
+
+/// The mistake in arguments that name uploads in both ways, in the words that `clap` has for such mistakes.
+pub(crate) const TWO_LISTS: &str =
+    "the argument '--files-from <FILE>' cannot be used with '[UPLOAD]...'";
+
 pub(crate) const COLLECT_MORE: &str =
     "The database is made if it is missing or empty. Prints one line for each upload, in their order:
   ack SOURCE START COUNT NEW LEFT  all COUNT complete entries are stored, and NEW of them weren't there before;
@@ -35,10 +42,16 @@ pub(crate) const COLLECT_MORE: &str =
                                    entries (after 60: at which entry, counted from 0);
                                    after 62, the database failed, it may be stored whole: send it again
   no - - CODE PLACE                the same, if the header of the upload can't be read
-FORMATS.md, in share/doc/journal-collect, says what each code means.
+`journal-collect help codes` lists the codes.
+
+With --files-from, each upload is opened when its turn comes, and answered before the next name is read. One that can't
+be opened is answered `no - - 61 0`, and the next one is taken.
 
 Example: the uploads of two machines, and the answers to send back to them
-  journal-collect collect logs.db web.upload mail.upload > answers";
+  journal-collect collect logs.db web.upload mail.upload > answers
+
+Example: all uploads below the folder incoming
+  find incoming -name '*.upload' | journal-collect collect --files-from - logs.db > answers";
 
 pub(crate) const EXPORT: &str = "Writes all stored entries to standard output, as an export stream";
 
@@ -75,7 +88,7 @@ pub(crate) const VERIFY: &str =
 pub(crate) const VERIFY_MORE: &str = "Prints one line:
   ok COUNT LEFT   COUNT complete entries were read; the last LEFT bytes are an unfinished entry
   bad CODE PLACE  what is wrong, and at which byte, counted from 0
-FORMATS.md, in share/doc/journal-collect, says what each code means.
+`journal-collect help codes` lists the codes.
 
 Example: how many entries the stream today.export has
   journal-collect verify export today.export";
@@ -100,10 +113,61 @@ Example: the collector's answers to the uploads of today.export
   journal-collect ack --source a0a1a2a3a4a5a6a7a8a9aaabacadaeaf --resume today.resume \\
     export today.export < today.answers";
 
+pub(crate) const CODES_ABOUT: &str = "Prints what the codes in answers and in `bad` lines mean";
+
+/// What each code means, a line for each: number, name and meaning, as the table in docs/FORMATS.md has them.
+pub const CODES: &str = "1   ShortHeader         an upload has fewer bytes than a header
+2   BadMagic            an upload doesn't begin with `JCUPLD01`
+3   BadKind             the kind of an upload is unknown
+4   BadReserved         reserved bytes in an upload's header aren't zero
+10  EmptyName           a field begins with `=`
+11  NameTooLong         a name is over its limit
+12  ValueTooLong        a value is over its limit
+13  MissingNewline      no newline after a binary value
+14  TooManyFields       an entry has too many fields
+15  EntryTooLong        an entry has too many bytes
+20  DuplicateMeta       a known metadata name is there twice
+21  NoRealtime          `__REALTIME_TIMESTAMP` is missing
+22  NoMonotonic         `__MONOTONIC_TIMESTAMP` is missing
+23  NoSeqnum            `__SEQNUM` is missing
+24  NoSeqnumId          `__SEQNUM_ID` is missing
+25  BadNumber           a number is malformed or over 2^63 - 1
+26  BadId               the sequence id isn't 32 hexadecimal digits
+27  ZeroSeqnum          the sequence number is 0
+30  FileShort           a journal file has fewer bytes than a header
+31  BadSignature        a journal file doesn't begin with `LPKSHHRH`
+32  BadHeaderSize       the header size of a journal file is too small, or isn't a multiple of 8
+33  Compressed          a journal file has compressed objects
+34  Compact             a journal file is in the compact layout
+35  UnknownIncompatible a journal file has an unknown incompatible flag
+36  Sealed              a journal file is sealed
+37  BadState            the state of a journal file is unknown
+38  Truncated           a journal file ends before its arena does
+39  TooManyEntries      the arena has no room for the number of entries
+40  ChainEnds           the chain of entry arrays ends before the last entry
+41  BadOffset           an offset isn't that of an object in the arena
+42  BadType             an object has another type than its place asks for
+43  BadSize             an object's size doesn't fit its type or the arena
+44  ChainBack           an entry array begins before the end of the one before it
+45  CompressedObject    an object's payload is compressed
+46  BadData             a payload isn't name, `=` and value
+47  FileTooLong         a journal file is over its limit
+60  Conflict            an entry differs from another one under the same key; the place is its number, from 0
+61  ReadFailed          the upload couldn't be read
+62  StoreFailed         the database failed; the upload may be stored whole
+63  OutOfMemory         memory was refused
+64  NotAJournal         a database has no journal of this version
+65  BadRow              a row isn't an entry; the place is its number in the order of keys, from 0
+70  SourceChanged       a source's entries no longer go on from the resume point
+";
+
 pub(crate) const DATABASE_HELP: &str = "The SQLite database with the entries";
 
 pub(crate) const UPLOADS_HELP: &str =
     "The files with the uploads, taken in this order; standard input if none is named";
+
+pub(crate) const LIST_HELP: &str =
+    "A file that names the uploads in place of UPLOAD, one on each line; `-` is standard input";
 
 pub(crate) const ID_HELP: &str = "Only entries with this sequence id, 32 hexadecimal digits";
 

@@ -5,11 +5,12 @@ ghost use Rattle.clap.specs.Words.{kind_of};
 ghost use Rattle.jc_words.specs.Words.{AreAnswered, AskFor};
 
 use crate::asked::requested;
-use crate::grammar::program;
+use crate::grammar::{collect_command, program};
 use crate::request::Request;
+use crate::texts;
 use clap::Error;
 use clap::error::ErrorKind;
-use std::alloc::Global;
+use std::alloc::{AllocError, Global};
 
 /// Reads the arguments, the program's name first. The error is a mistake in them, a request for help or for the
 /// version, or refused memory.
@@ -23,6 +24,15 @@ pub fn parse<'a>(alloc: Global, words: &'a [String]) -> Result<Request<'a>, Erro
     let asked = requested(alloc, &matches)?;
     match asked {
         Some(request) => Ok(request),
-        None => Err(program.error(ErrorKind::MissingSubcommand, "a command is missing")?),
+        None => Err(two_lists(alloc)?),
     }
+}
+
+/// The mistake of a `collect` whose uploads are named in both ways, as `clap` puts it. All else that a command requires
+/// is there once `clap` has passed the arguments.
+fn two_lists(alloc: Global) -> Result<Error, AllocError>
+    ensures { IfOk result (λ e. kind_of e ≡ ErrorKind.ArgumentConflict) }
+{
+    let mut collect = collect_command(alloc)?.bin_name(texts::COLLECT_NAME)?;
+    collect.error(ErrorKind::ArgumentConflict, texts::TWO_LISTS)
 }

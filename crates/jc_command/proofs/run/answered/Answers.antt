@@ -1,20 +1,20 @@
 -- A request is performed; what clap answers in place of one is printed.
 use Rattle.std.proofs.Common.{sym, subst, inl, inr, map, string_bytes}
 use Rattle.std.specs.Prelude.{IfOk, Result}
-use Rattle.std.proofs.lemmas.Result.{IfOk-weaker}
 use Rattle.clap.specs.Words.{kind_of}
 use Rattle.jc_console.specs.declared.failure.Failure.{Failure}
 use Rattle.jc_console.specs.declared.status.Status.{Status}
 use Rattle.jc_command.specs.Run.{Ends}
-use Rattle.jc_command.proofs.Runs.{failed, performed, told, told_stops, IfErr-both}
+use Rattle.jc_command.proofs.Runs.{failed, performed, told, told_stops, IfErr-both, IfOk-both}
 use Rattle.jc_command.proofs.run.answered.Goals as goal
 
 pub returns-in-Ok-clause-ended : goal.returns-in-Ok-clause-ended
 returns-in-Ok-clause-ended g c =
-    IfOk-weaker c.perform.result _ _
-    (λ status does. performed (map string_bytes c.args.words.now) c.in-Ok.request (g.I.Read.remaining c.args.input.now) (g.O.Write.contents c.args.output.now)
-    (g.O.Write.contents c.perform.new.output) (g.E.Write.contents c.args.errors.now) status c.in-Ok.ensures.request does)
-    c.perform.ensures.performed
+    IfOk-both c.perform.result _ _ _
+    (λ status does quiet. performed (map string_bytes c.args.words.now) c.in-Ok.request (g.I.Read.remaining c.args.input.now)
+    (g.O.Write.contents c.args.output.now) (g.O.Write.contents c.perform.new.output) (g.E.Write.contents c.args.errors.now)
+    (g.E.Write.contents c.perform.new.errors) status c.in-Ok.ensures.request does quiet)
+    c.perform.ensures.performed c.perform.ensures.quiet
 
 pub returns-in-Ok-clause-stopped : goal.returns-in-Ok-clause-stopped
 returns-in-Ok-clause-stopped g c =

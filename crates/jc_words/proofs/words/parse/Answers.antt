@@ -28,6 +28,6 @@ pub returns-clause-answer : goal.returns-clause-answer
 returns-clause-answer c =
     let app = app_of c.in_ok-program.program in
     let ours = c.in_ok-program.ensures in
-    nothing app (map string_bytes c.args.words.now) c.in_ok-error-in-None.field-0 c.in_ok-asked.asked
+    nothing app (map string_bytes c.args.words.now) c.in_ok-two_lists-in-None.field-0 c.in_ok-asked.asked
     (subcommand_rows_of c.in_ok-matches.matches) ours
-    c.in_ok-error-in-None.ensures.kind (c.in_ok-matches.ensures.ok.2 (simple app ours)).1 c.in-None.is c.in_ok-asked.ensures.none
+    c.in_ok-two_lists-in-None.ensures (c.in_ok-matches.ensures.ok.2 (simple app ours)).1 c.in-None.is c.in_ok-asked.ensures.none
