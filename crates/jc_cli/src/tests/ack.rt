@@ -217,5 +217,5 @@ holds @resume "resume 1 000102030405060708090a0b0c0d0e0f 1\n"
 
 #[test]
 fn what_answers_do_to_a_resume_point(rt: HostRuntime) -> Result<(), Fail> {
-    Ok(run_script(&rt, "ack", SCRIPT)?)
+    run_script(&rt, "ack", SCRIPT)
 }

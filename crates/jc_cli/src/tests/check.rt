@@ -135,5 +135,5 @@ fails 3 write failed
 
 #[test]
 fn what_check_says_of_a_database(rt: HostRuntime) -> Result<(), Fail> {
-    Ok(run_script(&rt, "check", SCRIPT)?)
+    run_script(&rt, "check", SCRIPT)
 }

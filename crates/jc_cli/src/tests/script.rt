@@ -21,17 +21,39 @@
 //! | `holds PATH PIECES` | the file has these bytes |
 //! | `missing PATH` | there is no such file |
 //!
-//! Of what isn't said, nothing may be printed and the status has to be 0. `PIECES` are those of `bytes_of`. `@` stands for the
-//! script's folder and a `/`, as in `@db`, and `SOURCE` for the id of a source.
+//! Of what isn't said, nothing may be printed and the status has to be 0. `pieces.rt` has the form of `PIECES`. `@`
+//! stands for the script's folder and a `/`, as in `@db`, and `SOURCE` for the id of a source.
 
-use super::pieces::{bytes_of, number, small};
+use super::pieces::{add, add_pieces, bad_line};
 use super::room::Room;
-use super::wrong::{Why, Wrong, compared};
 use crate::command;
+use jc_database::{DatabaseStore, Databases};
 use jc_samples::SOURCE;
-use sqlite::Connection;
-use std::alloc::{AllocError, Global};
+use std::alloc::Global;
+use std::fmt::Write;
+use std::test::Fail;
 use std::{env, fs, io, process, str};
+
+/// Performs a script in a new folder, and fails if anything in it is wrong.
+pub fn run_script(rt: &HostRuntime, name: &str, script: &str) -> Result<(), Fail> {
+    let report = report_of(rt, name, script)?;
+    if report.is_empty() {
+        return Ok(());
+    }
+    eprintln!(rt; "{report}")?;
+    Err(Fail::new("the script fails"))
+}
+
+/// Performs a script in a new folder, which is taken away at the end. The report says at which line the script is
+/// wrong, and how; it is empty if nothing is wrong.
+pub fn report_of(rt: &HostRuntime, name: &str, script: &str) -> io::Result<String> {
+    let folder = new_folder(rt, name)?;
+    let mut session = Session::new(rt.alloc());
+    let text = meant(rt.alloc(), script, folder.as_str())?;
+    let performed = session.perform(rt, folder.as_str(), text.as_str());
+    fs::remove_dir_all(rt, folder.as_str())?;
+    session.report(rt.alloc(), performed)
+}
 
 /// What a run printed, and its status: as they are, or as they have to be.
 #[derive(Drop)]
@@ -44,34 +66,15 @@ struct Ran {
 /// How far a script has come.
 #[derive(Drop)]
 struct Session {
-    /// The front of each path: the folder and a `/`.
-    folder: String,
-    /// The number of the line that is performed, or of the last line on the last run, which is compared before the next one.
+    /// The line that is performed, or the last one on the last run while that is compared.
     line: usize,
     input: Vec<u8>,
     room: usize,
     ran: Ran,
     wanted: Ran,
     has_run: bool,
-}
-
-/// Performs a script in a new folder, which is taken away at the end.
-pub fn run_script(rt: &HostRuntime, name: &str, script: &str) -> Result<(), Wrong> {
-    let mut session = match Session::new(rt, name) {
-        Ok(session) => session,
-        Err(why) => return Err(Wrong { line: 0, why }),
-    };
-    let performed = session.perform(rt, script);
-    let removed = fs::remove_dir_all(rt, session.folder.as_str());
-    let line = session.line;
-    match (performed, removed) {
-        (Err(why), _) => Err(Wrong { line, why }),
-        (Ok(()), Err(error)) => Err(Wrong {
-            line,
-            why: Why::Io(error),
-        }),
-        (Ok(()), Ok(())) => Ok(()),
-    }
+    /// What is, and what should be in its place.
+    difference: String,
 }
 
 impl Ran {
@@ -85,109 +88,99 @@ impl Ran {
 }
 
 impl Session {
-    fn new(rt: &HostRuntime, name: &str) -> Result<Session, Why> {
-        let alloc = rt.alloc();
-        let folder = new_folder(rt, name)?;
-        Ok(Session {
-            folder,
+    fn new(alloc: Global) -> Session {
+        Session {
             line: 0,
             input: Vec::new(alloc),
             room: usize::MAX,
             ran: Ran::nothing(alloc),
             wanted: Ran::nothing(alloc),
             has_run: false,
-        })
+            difference: String::new(alloc),
+        }
     }
 
-    fn perform(&mut self, rt: &HostRuntime, script: &str) -> Result<(), Why> {
+    fn perform(&mut self, rt: &HostRuntime, folder: &str, script: &str) -> io::Result<()> {
         let mut number = 0usize;
         for line in script.lines() {
             number = number.saturating_add(1);
-            let text = meant(rt.alloc(), line, self.folder.as_str())?;
-            self.take(rt, number, text.as_str())?;
+            let (word, rest) = line.split_once(' ').unwrap_or((line, ""));
+            self.take(rt, folder, number, word, rest)?;
         }
-        self.compare(rt.alloc())?;
-        if self.has_run {
-            Ok(())
-        } else {
-            Err(Why::NoRun)
+        self.compare()?;
+        // a script that runs nothing shows nothing
+        if self.has_run { Ok(()) } else { bad_line() }
+    }
+
+    fn report(&self, alloc: Global, performed: io::Result<()>) -> io::Result<String> {
+        let (line, difference) = (self.line, self.difference.as_str());
+        match performed {
+            Ok(()) => Ok(String::new(alloc)),
+            Err(error) => Ok(format!(in alloc; "line {line}: {error}{difference}")?),
         }
     }
 
-    /// Performs one line.
-    fn take(&mut self, rt: &HostRuntime, number: usize, line: &str) -> Result<(), Why> {
-        let (word, rest) = line.split_once(' ').unwrap_or((line, ""));
-        let is_wanted = matches!(
-            word,
-            ">" | "prints" | "has" | "fails" | "misused" | "status"
-        );
-        if is_wanted {
-            self.line = number;
-            return self.want(rt, word, rest);
+    /// Performs one line. Before a line that isn't on the last run, that run is compared.
+    fn take(
+        &mut self,
+        rt: &HostRuntime,
+        folder: &str,
+        number: usize,
+        word: &str,
+        rest: &str,
+    ) -> io::Result<()> {
+        let is_wanted = is_on_the_last_run(word);
+        if !is_wanted {
+            self.compare()?;
         }
-        self.compare(rt.alloc())?;
         self.line = number;
-        self.act(rt, word, rest)
+        if is_wanted {
+            self.want(rt, word, rest)
+        } else if word == "run" {
+            self.run(rt, rest)
+        } else {
+            self.act(rt, folder, word, rest)
+        }
     }
 
     /// A line on what the last run has to do.
-    fn want(&mut self, rt: &HostRuntime, word: &str, rest: &str) -> Result<(), Why> {
+    fn want(&mut self, rt: &HostRuntime, word: &str, rest: &str) -> io::Result<()> {
         match word {
-            ">" => push_line(&mut self.wanted.output, rest),
-            "prints" => Ok(self.wanted.output.extend_from_slice(&bytes_of(rt, rest)?)?),
+            ">" => add_line(&mut self.wanted.output, rest),
+            "prints" => add_pieces(rt, rest, &mut self.wanted.output),
             "has" => self.want_part(rt, rest),
-            "fails" => {
-                let (status, line) = rest.split_once(' ').ok_or(Why::BadLine)?;
-                self.wanted.status = small(number(status)?)?;
-                push_line(&mut self.wanted.errors, line)
-            }
-            "misused" => self.want_misuse(rt.alloc(), rest),
-            _ => {
-                self.wanted.status = small(number(rest)?)?;
-                Ok(())
-            }
+            "fails" => self.want_failure(rest),
+            "misused" => self.want_misuse(rest),
+            _ => self.want_status(rest),
         }
     }
 
-    /// A line that does something.
-    fn act(&mut self, rt: &HostRuntime, word: &str, rest: &str) -> Result<(), Why> {
+    /// A line that does something, other than a run.
+    fn act(&mut self, rt: &HostRuntime, folder: &str, word: &str, rest: &str) -> io::Result<()> {
+        let (path, others) = rest.split_once(' ').unwrap_or((rest, ""));
         match word {
             "" | "#" => Ok(()),
-            "case" => self.begin_anew(rt),
-            "file" => write_file(rt, rest),
-            "directory" => Ok(fs::create_dir(rt, rest)?),
-            "remove" => Ok(fs::remove_file(rt, rest)?),
-            "statement" => execute(rt, rest),
-            "<" => push_line(&mut self.input, rest),
-            "input" => Ok(self.input.extend_from_slice(&bytes_of(rt, rest)?)?),
-            "room" => {
-                self.room = number(rest)? as usize;
-                Ok(())
-            }
-            "run" => self.run(rt, rest),
-            "holds" => expect_file(rt, rest),
-            "missing" => expect_missing(rt, rest),
-            _ => Err(Why::BadLine),
+            "case" => begin_anew(rt, folder),
+            "file" => write_file(rt, path, others),
+            "directory" => fs::create_dir(rt, path),
+            "remove" => fs::remove_file(rt, path),
+            "statement" => execute(rt, path, others),
+            "<" => add_line(&mut self.input, rest),
+            "input" => add_pieces(rt, rest, &mut self.input),
+            "room" => self.make_room(rest),
+            "holds" => self.expect_file(rt, path, others),
+            "missing" => self.expect_missing(rt, path),
+            _ => bad_line(),
         }
-    }
-
-    fn begin_anew(&mut self, rt: &HostRuntime) -> Result<(), Why> {
-        fs::remove_dir_all(rt, self.folder.as_str())?;
-        Ok(fs::create_dir(rt, self.folder.as_str())?)
     }
 
     /// A run with these arguments.
-    fn run(&mut self, rt: &HostRuntime, arguments: &str) -> Result<(), Why> {
+    fn run(&mut self, rt: &HostRuntime, arguments: &str) -> io::Result<()> {
         let alloc = rt.alloc();
         let words = given_words(alloc, arguments)?;
         let (mut output, mut errors) = (Room::new(alloc, self.room), Vec::new(alloc));
-        let status = command(
-            rt,
-            words,
-            &mut self.input.as_slice(),
-            &mut output,
-            &mut errors,
-        );
+        let mut input = self.input.as_slice();
+        let status = command(rt, words, &mut input, &mut output, &mut errors);
         self.ran = Ran {
             output: output.kept,
             errors,
@@ -201,70 +194,145 @@ impl Session {
     }
 
     /// Fails unless the last run did what was said of it.
-    fn compare(&self, alloc: Global) -> Result<(), Why> {
+    fn compare(&mut self) -> io::Result<()> {
         let (ran, wanted) = (&self.ran, &self.wanted);
-        if let Some(output) = compared(alloc, &ran.output, &wanted.output)? {
-            return Err(Why::Output(output));
-        }
-        if let Some(errors) = compared(alloc, &ran.errors, &wanted.errors)? {
-            return Err(Why::Errors(errors));
-        }
-        if ran.status != wanted.status {
-            return Err(Why::Status {
-                printed: ran.status,
-                wanted: wanted.status,
-            });
-        }
-        Ok(())
+        let difference = &mut self.difference;
+        expect_same(difference, "standard output", &ran.output, &wanted.output)?;
+        expect_same(difference, "standard error", &ran.errors, &wanted.errors)?;
+        expect_same_status(difference, ran.status, wanted.status)
     }
 
     /// Standard output has these bytes somewhere: then it is as it has to be.
-    fn want_part(&mut self, rt: &HostRuntime, pieces: &str) -> Result<(), Why> {
-        let part = bytes_of(rt, pieces)?;
-        let (output, part) = (str::from_utf8(&self.ran.output)?, str::from_utf8(&part)?);
-        if !output.contains(part) {
-            return Err(Why::LacksPart);
+    fn want_part(&mut self, rt: &HostRuntime, pieces: &str) -> io::Result<()> {
+        let mut part = Vec::new(rt.alloc());
+        add_pieces(rt, pieces, &mut part)?;
+        if !contains(&self.ran.output, &part) {
+            return expect_same(&mut self.difference, "a part", &self.ran.output, &part);
         }
-        self.wanted.output = Vec::from_slice(rt.alloc(), &self.ran.output)?;
-        Ok(())
+        self.wanted.output.clear();
+        add(&mut self.wanted.output, &self.ran.output)
+    }
+
+    fn want_failure(&mut self, rest: &str) -> io::Result<()> {
+        let (status, line) = rest.split_once(' ').unwrap_or((rest, ""));
+        self.want_status(status)?;
+        add_line(&mut self.wanted.errors, line)
     }
 
     /// Standard error begins with this text: then it is as it has to be.
-    fn want_misuse(&mut self, alloc: Global, text: &str) -> Result<(), Why> {
+    fn want_misuse(&mut self, text: &str) -> io::Result<()> {
+        self.wanted.status = 2;
         let errors = &self.ran.errors;
         if errors.is_empty() || !errors.starts_with(text.as_bytes()) {
-            return Err(Why::NoMisuse);
+            return bad_line();
         }
-        self.wanted.errors = Vec::from_slice(alloc, errors)?;
-        self.wanted.status = 2;
+        add(&mut self.wanted.errors, errors)
+    }
+
+    fn want_status(&mut self, digits: &str) -> io::Result<()> {
+        match digits.parse::<u8>() {
+            Ok(status) => {
+                self.wanted.status = status;
+                Ok(())
+            }
+            Err(_) => bad_line(),
+        }
+    }
+
+    fn make_room(&mut self, digits: &str) -> io::Result<()> {
+        match digits.parse::<usize>() {
+            Ok(room) => {
+                self.room = room;
+                Ok(())
+            }
+            Err(_) => bad_line(),
+        }
+    }
+
+    fn expect_file(&mut self, rt: &HostRuntime, path: &str, pieces: &str) -> io::Result<()> {
+        let mut wanted = Vec::new(rt.alloc());
+        add_pieces(rt, pieces, &mut wanted)?;
+        let held = fs::read(rt, path)?;
+        expect_same(&mut self.difference, "the file", &held, &wanted)
+    }
+
+    fn expect_missing(&mut self, rt: &HostRuntime, path: &str) -> io::Result<()> {
+        if fs::exists(rt, path)? {
+            return expect_same(&mut self.difference, "the file", b"there", b"missing");
+        }
         Ok(())
     }
 }
 
-/// A new folder of this process, below the system's folder for such, and a `/`.
-fn new_folder(rt: &HostRuntime, name: &str) -> Result<String, Why> {
-    let alloc = rt.alloc();
+/// Whether a line with this first word says what the last run has to do.
+fn is_on_the_last_run(word: &str) -> bool {
+    matches!(
+        word,
+        ">" | "prints" | "has" | "fails" | "misused" | "status"
+    )
+}
+
+/// Fails with a difference unless the two are equal.
+fn expect_same(
+    difference: &mut String,
+    what: &str,
+    printed: &[u8],
+    wanted: &[u8],
+) -> io::Result<()> {
+    if printed == wanted {
+        return Ok(());
+    }
+    let (printed, wanted) = (str::from_utf8(printed), str::from_utf8(wanted));
+    write!(difference, ": {what} is {printed:?} and not {wanted:?}")?;
+    Err(io::Error::from(io::ErrorKind::InvalidData))
+}
+
+fn expect_same_status(difference: &mut String, status: u8, wanted: u8) -> io::Result<()> {
+    if status == wanted {
+        return Ok(());
+    }
+    write!(difference, ": the status is {status} and not {wanted}")?;
+    Err(io::Error::from(io::ErrorKind::InvalidData))
+}
+
+/// Whether a text has another one somewhere. What isn't UTF-8 has none.
+fn contains(text: &[u8], part: &[u8]) -> bool {
+    match (str::from_utf8(text), str::from_utf8(part)) {
+        (Ok(text), Ok(part)) => text.contains(part),
+        _ => false,
+    }
+}
+
+/// The path of a new folder of this process, below the system's folder for such, with a `/` at its end.
+fn new_folder(rt: &HostRuntime, name: &str) -> io::Result<String> {
     let id = process::id(rt.process());
-    let path = env::temp_dir(rt)?.join(alloc, format!(in alloc; "journal-collect-{id}-{name}/")?)?;
-    fs::create_dir(rt, path.as_path())?;
-    Ok(String::from_str(alloc, path.as_str())?)
+    let path = env::temp_dir(rt)?;
+    let all = path.as_str();
+    let folder = format!(in rt.alloc(); "{all}/journal-collect-{id}-{name}/")?;
+    fs::create_dir(rt, folder.as_str())?;
+    Ok(folder)
 }
 
-/// A line of a script with the folder in the place of each `@` and the id in that of `SOURCE`.
-fn meant(alloc: Global, line: &str, folder: &str) -> Result<String, AllocError> {
-    line.replace(alloc, "@", folder)?
-        .as_str()
-        .replace(alloc, "SOURCE", SOURCE)
+fn begin_anew(rt: &HostRuntime, folder: &str) -> io::Result<()> {
+    fs::remove_dir_all(rt, folder)?;
+    fs::create_dir(rt, folder)
 }
 
-fn push_line(text: &mut Vec<u8>, line: &str) -> Result<(), Why> {
-    text.extend_from_slice(line.as_bytes())?;
-    Ok(text.push(b'\n')?)
+/// A script with the folder in the place of each `@` and the id in that of `SOURCE`.
+fn meant(alloc: Global, script: &str, folder: &str) -> io::Result<String> {
+    let named = script.replace(alloc, "SOURCE", SOURCE)?;
+    Ok(named.as_str().replace(alloc, "@", folder)?)
+}
+
+fn add_line(text: &mut Vec<u8>, line: &str) -> io::Result<()> {
+    add(text, line.as_bytes())?;
+    add(text, b"\n")
 }
 
 /// The name of the program and these arguments.
-fn given_words(alloc: Global, arguments: &str) -> Result<Vec<String>, Why> {
-    let mut words = vec![in alloc; String::from_str(alloc, "journal-collect")?]?;
+fn given_words(alloc: Global, arguments: &str) -> io::Result<Vec<String>> {
+    let mut words = Vec::new(alloc);
+    words.push(String::from_str(alloc, "journal-collect")?)?;
     for argument in arguments.split_whitespace() {
         let text = if argument == "\"\"" { "" } else { argument };
         words.push(String::from_str(alloc, text)?)?;
@@ -272,36 +340,22 @@ fn given_words(alloc: Global, arguments: &str) -> Result<Vec<String>, Why> {
     Ok(words)
 }
 
-/// A path, and the bytes of the pieces after it.
-fn path_and_bytes<'a>(rt: &HostRuntime, rest: &'a str) -> Result<(&'a str, Vec<u8>), Why> {
-    let (path, pieces) = rest.split_once(' ').unwrap_or((rest, ""));
-    Ok((path, bytes_of(rt, pieces)?))
+fn write_file(rt: &HostRuntime, path: &str, pieces: &str) -> io::Result<()> {
+    let mut bytes = Vec::new(rt.alloc());
+    add_pieces(rt, pieces, &mut bytes)?;
+    fs::write(rt, path, &bytes)
 }
 
-fn write_file(rt: &HostRuntime, rest: &str) -> Result<(), Why> {
-    let (path, bytes) = path_and_bytes(rt, rest)?;
-    Ok(fs::write(rt, path, &bytes)?)
-}
-
-fn expect_file(rt: &HostRuntime, rest: &str) -> Result<(), Why> {
-    let (path, wanted) = path_and_bytes(rt, rest)?;
-    match compared(rt.alloc(), &fs::read(rt, path)?, &wanted)? {
-        Some(difference) => Err(Why::File(difference)),
-        None => Ok(()),
+/// Runs a statement on a database. It is generic, so that its proof doesn't see how databases are stored.
+fn execute<R: Databases>(rt: &R, path: &str, statement: &str) -> io::Result<()> {
+    let Ok(mut conn) = rt.open_database(path) else {
+        return bad_line();
+    };
+    let is_run = conn.execute_batch(statement).is_ok();
+    let is_closed = conn.into_store().close_database().is_ok();
+    if is_run && is_closed {
+        Ok(())
+    } else {
+        bad_line()
     }
-}
-
-fn expect_missing(rt: &HostRuntime, path: &str) -> Result<(), Why> {
-    if fs::exists(rt, path)? {
-        return Err(Why::NotMissing);
-    }
-    Ok(())
-}
-
-/// Runs a statement on a database.
-fn execute(rt: &HostRuntime, rest: &str) -> Result<(), Why> {
-    let (path, statement) = rest.split_once(' ').unwrap_or((rest, ""));
-    let mut conn = Connection::open(rt, path)?;
-    conn.execute_batch(statement)?;
-    Ok(conn.close()?)
 }

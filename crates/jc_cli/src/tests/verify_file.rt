@@ -67,5 +67,5 @@ run verify file @in
 
 #[test]
 fn what_verify_says_of_journal_files(rt: HostRuntime) -> Result<(), Fail> {
-    Ok(run_script(&rt, "verify_file", SCRIPT)?)
+    run_script(&rt, "verify_file", SCRIPT)
 }
