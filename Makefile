@@ -6,9 +6,10 @@ PREFIX ?= /usr/local
 BIN := $(DESTDIR)$(PREFIX)/bin
 MAN := $(DESTDIR)$(PREFIX)/share/man/man1
 DOC := $(DESTDIR)$(PREFIX)/share/doc/journal-collect
+LIB := $(DESTDIR)$(PREFIX)/lib
 
 .DELETE_ON_ERROR:
-.PHONY: build help demo install uninstall test gate-times bench clean always
+.PHONY: build help demo install uninstall deb test gate-times bench clean always
 
 build: $(PROGRAM) ## prove and build the program: the first goal, and make without one
 
@@ -18,15 +19,20 @@ help: ## this listing
 demo: $(PROGRAM) ## the main job on samples: uploads of two machines are collected, shown and exported
 	@bash examples/demo.sh $(PROGRAM)
 
-install: $(PROGRAM) ## journal-collect, its man page and its documents, below PREFIX (/usr/local)
+install: $(PROGRAM) ## journal-collect, its man page, its documents and deploy/, below PREFIX (/usr/local)
 	install -d "$(BIN)" "$(MAN)" "$(DOC)"
 	install -m 755 $(PROGRAM) "$(BIN)/journal-collect"
 	install -m 644 docs/journal-collect.1 "$(MAN)/journal-collect.1"
 	install -m 644 docs/GUIDE.md docs/FORMATS.md docs/LIMITS.md "$(DOC)/"
+	@deploy/install.sh "$(DESTDIR)" "$(PREFIX)"
 
-uninstall: ## what install put there
-	rm -f "$(BIN)/journal-collect" "$(MAN)/journal-collect.1"
-	rm -rf "$(DOC)"
+deb: $(PROGRAM) ## a Debian package of all that is installed, in build/
+	@deploy/build-deb.sh build
+
+uninstall: ## what install put there, but for the configuration in /etc/journal-collect
+	rm -f "$(BIN)/journal-collect" "$(MAN)/journal-collect.1" "$(LIB)/sysusers.d/journal-collect.conf"
+	rm -rf "$(DOC)" "$(LIB)/journal-collect"
+	rm -f $(patsubst deploy/%,"$(LIB)/systemd/system/%",$(wildcard deploy/*.service deploy/*.timer))
 
 test: ## the gate: every proof from nothing, the edits, the tests, the scripts; the last line is `N passed, M failed`
 	@tests/run.sh
