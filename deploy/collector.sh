@@ -6,7 +6,7 @@ configure() {
     FOLDER=/var/lib/journal-collect DATABASE_NAME=%Y-%m-%dT%H DATABASE_BYTES=1073741824 KEEP_DAYS=30 KEEP_ANSWERS_DAYS=90
     UPLOAD_BYTES=67108864 UPLOADS_WAITING=64 FREE_BYTES=1073741824 POLL_SECONDS=2
     # shellcheck source=deploy/collector.conf
-    . "$(realpath "${1:-/etc/journal-collect/collector.conf}")" || exit 2
+    . "${1:-/etc/journal-collect/collector.conf}" || exit 2
     umask 077
     mkdir --parents "$FOLDER"/{incoming,batch,answers,databases} && cd "$FOLDER" || exit 3
 }
@@ -16,7 +16,7 @@ is_machine() {
     [[ $1 =~ ^[A-Za-z0-9][A-Za-z0-9._-]{0,63}$ ]]
 }
 
-# source_of FILE, start_of FILE: the source's id and the start in an upload's header; `start_of` is empty if the header is cut off.
+# source_of FILE, start_of FILE: the source's id and the start in an upload's header.
 source_of() {
     od --address-radix=n --format=x1 --skip-bytes=16 --read-bytes=16 "$1" | tr -d ' \n'
 }
