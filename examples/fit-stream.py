@@ -1,5 +1,6 @@
 #!/usr/bin/env python3
 """Makes an export stream one that journal-collect takes: fit-stream.py [--leave-out-large] < STREAM > FITTED
+or makes several streams of it, of each of which systemd-journal-remote makes a journal file: fit-stream.py --split FOLDER < STREAM
 
 An entry without `__SEQNUM` and `__SEQNUM_ID`, as journalctl before systemd 254 writes it, gets both from its
 `__CURSOR`. With --leave-out-large an entry over the limits is left out and named on standard error. All else is
@@ -7,6 +8,8 @@ written as it was. Lengths are followed, so no line of a message is taken for a 
 stream is cut off within an entry, can't be followed, or can't be written.
 """
 import argparse
+import os
+import re
 import sys
 
 NAME, VALUE, FIELDS, ENTRY = 1_024, 16_777_216, 4_096, 33_554_432
@@ -70,20 +73,62 @@ def is_large(fields):
             or sum(len(name) + len(value) for name, value in counted) > ENTRY)
 
 
+class Split:
+    """Writes the entries of each sequence to a stream of its own, FOLDER/ID.export, and to a further one when the time goes back:
+    journalctl finds a time in a journal file only if the times in it never do."""
+
+    def __init__(self, folder):
+        self.folder = folder
+        self.last = {}
+        self.name = self.file = None
+
+    def write(self, text, fields):
+        values = {name: value for name, value, _ in fields if name.startswith(b"__")}
+        number_id = values[b"__SEQNUM_ID"].decode(errors="replace")
+        time = int(values[b"__REALTIME_TIMESTAMP"])
+        if not re.fullmatch("[0-9a-fA-F]{32}", number_id):
+            sys.exit("a sequence id isn't 32 hexadecimal digits")
+        number, last = self.last.get(number_id, (1, 0))
+        number += time < last
+        self.last[number_id] = number, time
+        self.use(f"{number_id}-{number}.export" if number > 1 else f"{number_id}.export")
+        self.file.write(text)
+
+    def use(self, name):
+        if name != self.name:
+            self.close()
+            self.name, self.file = name, open(os.path.join(self.folder, name), "ab")
+
+    def close(self):
+        if self.file:
+            self.file.close()
+
+
+class One:
+    """Writes all entries to standard output."""
+
+    def write(self, text, fields):
+        sys.stdout.buffer.write(text)
+
+    def close(self):
+        sys.stdout.buffer.flush()
+
+
 def main():
     parser = argparse.ArgumentParser(description="Makes an export stream one that journal-collect takes.")
     parser.add_argument("--leave-out-large", action="store_true", help="leave out entries over the limits")
-    leave_out = parser.parse_args().leave_out_large
-    out = sys.stdout.buffer
+    parser.add_argument("--split", metavar="FOLDER", help="write the entries of each sequence to a stream in FOLDER")
+    arguments = parser.parse_args()
+    out = Split(arguments.split) if arguments.split else One()
     try:
         for fields in entries(sys.stdin.buffer):
             key = key_lines(fields)
-            if leave_out and is_large(fields):
+            if arguments.leave_out_large and is_large(fields):
                 named = key or b"".join(line for name, _, line in fields if name in (b"__SEQNUM", b"__SEQNUM_ID"))
                 print("left out:", *named.decode(errors="replace").split(), file=sys.stderr)
                 continue
-            out.write(key + b"".join(line for _, _, line in fields) + b"\n")
-        out.flush()
+            out.write(key + b"".join(line for _, _, line in fields) + b"\n", fields)
+        out.close()
     except OSError as error:
         sys.exit(f"write failed: {error}")
 
