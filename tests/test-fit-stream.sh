@@ -35,4 +35,16 @@ for bytes in 20 170 195; do
 done
 expect 1 "~*" "an entry has neither a sequence number nor a cursor that has it" "${fit[@]}" < <(printf '%s\n' "$times")
 expect 1 "" "~write failed: *" bash -c "python3 examples/fit-stream.py < '$folder/old' > /dev/full"
+
+# --split: a stream for each sequence, and a further one when its times go back
+entry() { printf '__REALTIME_TIMESTAMP=%s\n__MONOTONIC_TIMESTAMP=1\n__SEQNUM=%s\n__SEQNUM_ID=%s\nMESSAGE=%s\n\n' "$@"; }
+one=11111111111111111111111111111111 two=22222222222222222222222222222222
+mkdir "$folder/split"
+{ entry 5 1 $one a; entry 7 2 $one b; entry 6 3 $one c; entry 1 1 $two d; entry 8 4 $one e; } > "$folder/both"
+"${fit[@]}" --split "$folder/split" < "$folder/both" || differs "a stream that is split"
+{ entry 5 1 $one a; entry 7 2 $one b; } | cmp - "$folder/split/$one.export" || differs "the first sequence"
+{ entry 6 3 $one c; entry 8 4 $one e; } | cmp - "$folder/split/$one-2.export" || differs "after its time went back"
+entry 1 1 $two d | cmp - "$folder/split/$two.export" || differs "the second sequence"
+[[ $(ls "$folder/split" | wc -l) -eq 3 ]] || differs "other files"
+expect 1 "" "a sequence id isn't 32 hexadecimal digits" "${fit[@]}" --split "$folder/split" < <(entry 1 1 ../two f)
 finish

@@ -1,0 +1,117 @@
+#!/usr/bin/env bash
+# The commands of the guide and of the man page, as they are printed: each block of the guide that is marked as shell, and each example of
+# the page, in its order. Paths below /etc, /usr and /var lie below a folder of the test, and what changes a system is a stand-in.
+set -uo pipefail
+. "$(dirname "$0")/expect.sh"
+
+folder=$(mktemp -d)
+trap 'rm -rf "$folder"' EXIT
+here=$PWD
+root=$folder/root
+library=$root/usr/lib/journal-collect
+deploy/install.sh "$root" /usr || differs "the programs aren't installed"
+mkdir -p "$folder/bin" "$folder/home" "$root/var/lib"
+ln -s "$PROGRAM" "$folder/bin/journal-collect"
+export HOME=$folder/home PATH=$folder/bin:$PATH JOURNAL=$folder/journal SYSTEMD=254 FAULT=none:0:0 CALLS=$folder/calls
+export FORCED_COMMAND="$library/serve web $root/etc/journal-collect/collector.conf"
+echo "FOLDER=$root/var/lib/journal-collect" >> "$root/etc/journal-collect/collector.conf"
+printf 'FOLDER=%s\n' "$root/var/lib/journal-send" >> "$root/etc/journal-collect/machine.conf"
+
+# Stand-ins. A journal that is asked for by its folder is one for the real journalctl, if there is one.
+stand_in() {
+    cat > "$folder/bin/$1"
+    chmod 755 "$folder/bin/$1"
+}
+real_journalctl=$(command -v journalctl || true)
+stand_in journalctl << END
+#!/bin/sh
+case "\$*" in
+    --version) echo "systemd 254" ;;
+    --directory=*) exec $real_journalctl --no-pager --quiet --output=cat "\$@" ;;
+    *) exec python3 -IS $here/tests/deploy/journalctl.py "\$@" ;;
+esac
+END
+stand_in systemctl << END
+#!/bin/sh
+echo "\$*" >> $folder/units
+case "\$*" in
+    *journal-collect-send.service) exec $library/send $root/etc/journal-collect/machine.conf ;;
+    *journal-collect-incoming.service) exec $library/collect-incoming --once $root/etc/journal-collect/collector.conf ;;
+esac
+END
+stand_in ssh < tests/deploy/ssh
+stand_in systemd-sysusers <<< '#!/bin/sh'
+stand_in chown <<< '#!/bin/sh'
+stand_in hostname <<< $'#!/bin/sh\necho web'
+stand_in ssh-keyscan <<< $'#!/bin/sh\necho "$1 ssh-ed25519 AAAA"'
+stand_in ssh-keygen <<< $'#!/bin/sh\nfor file; do :; done\n: > "$file"\n: > "$file.pub"'
+stand_in systemd-id128 <<< $'#!/bin/sh\ntr -d - < /proc/sys/kernel/random/uuid'
+
+# The blocks, each in a file of its own.
+awk -v to="$folder/guide" '/^```sh$/ { n++; on = 1; next } /^```$/ { on = 0 } on { print > (to "-" n) }' docs/GUIDE.md
+awk -v to="$folder/page" '/^\.Bd -literal/ { n++; on = 1; next } /^\.Ed$/ { on = 0 } on { gsub(/\\e/, "\\"); print > (to "-" n) }' \
+    docs/journal-collect.1
+[[ $(find "$folder" -name 'guide-*' | wc -l) -eq 8 ]] || differs "a block of the guide isn't tried"
+[[ $(find "$folder" -name 'page-*' | wc -l) -eq 5 ]] || differs "an example of the man page isn't tried"
+blocks() {
+    sed -E "s#(^|[^a-z/])/(etc/journal-collect|usr/lib/journal-collect|var/lib/journal-)#\1$root/\2#g" "$folder/$1" | bash -e
+}
+# the journal: three sequences at one time
+python3 - > "$JOURNAL" << 'END'
+for number in range(100):
+    for letter in "abc":
+        time = 1_700_000_000_000_000 + (number * 3 + "abc".index(letter)) * 1_000_000
+        print(letter * 32, number + 1, time, number * 3_000_000, "4" * 32, f"{letter}{number}")
+END
+
+# the collector, and then a machine that sends all it has
+mkdir "$folder/empty"
+cd "$folder/empty" || exit 1
+expect 0 "" "" blocks guide-1
+expect 0 "" "" blocks guide-2
+grep -q "^command=\"$library/serve web\",restrict ssh-ed25519 " "$root/var/lib/journal-collect/.ssh/authorized_keys" ||
+    differs "the line of a key"
+expect 0 "" "" blocks guide-3
+grep -q '^logs.example.org ' "$root/etc/journal-collect/known_hosts" || differs "the collector's key"
+expect 0 "" "" blocks guide-4
+expect 0 "" "" "$library/collect-incoming" --once "$root/etc/journal-collect/collector.conf"
+expect 0 "~ok 300"$'\n'"aaaaaaaaaaaaaaaaaaaaaaaaaaaaaaaa 1 1700000000000000 0 a0"$'\n'"*" "" blocks guide-5
+expect 0 "ok 300 0" "" journal-collect verify export "$HOME"/*.export
+expect 0 "" "" blocks guide-4
+[[ $(find "$root/var/lib" -name '*.upload') == "" ]] || differs "something is sent a second time"
+
+# by hand, and journals for journalctl
+expect 0 "ok 300 0"$'\n'"resume 300" "" blocks guide-7
+expect 0 "ok 300" "" journal-collect check logs.db
+if [[ -n $real_journalctl && -x /lib/systemd/systemd-journal-remote ]]; then
+    blocks guide-6 > "$folder/told" 2> "$folder/errors" || differs "the journals for journalctl: $(cat "$folder/errors")"
+    [[ $(sort "$folder/told" | uniq | wc -l) -eq 300 ]] || differs "what --since shows: $(wc -l < "$folder/told") lines"
+else
+    echo "there is no systemd-journal-remote: no journals are made for journalctl"
+fi
+
+# an entry that is too large
+{
+    cat stream
+    printf '__REALTIME_TIMESTAMP=1\n__MONOTONIC_TIMESTAMP=1\n__SEQNUM=7\n__SEQNUM_ID=%032d\nMESSAGE=' 1
+    head -c 16777217 /dev/zero | tr '\0' x
+    printf '\n\n'
+} > large
+mv large stream
+expect 1 "~bad 12 *" "" journal-collect verify export stream
+expect 0 "" "~left out: *" blocks guide-8
+expect 0 "ok 300 0" "" journal-collect verify export stream
+
+# the man page
+mkdir "$folder/page" "$folder/page/incoming"
+cd "$folder/page" || exit 1
+expect 0 "" "" blocks page-1
+cp upload incoming/web.upload
+expect 0 "" "" blocks page-2
+expect 0 "resume 300" "" blocks page-3
+expect 0 "" "" blocks page-4
+if [[ -n $real_journalctl && -x /lib/systemd/systemd-journal-remote ]]; then
+    blocks page-5 > "$folder/told" 2> "$folder/errors" || differs "the page's journals: $(cat "$folder/errors")"
+    [[ $(sort "$folder/told" | uniq | wc -l) -eq 300 ]] || differs "what the page's --since shows: $(wc -l < "$folder/told") lines"
+fi
+finish
