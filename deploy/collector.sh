@@ -3,7 +3,7 @@
 
 # configure [FILE]: sets the collector's values, and goes to its folder, which others can't look into.
 configure() {
-    FOLDER=/var/lib/journal-collect DATABASE_NAME=%Y-%m-%dT%H DATABASE_BYTES=1073741824 KEEP_DAYS=30 KEEP_ANSWERS_DAYS=90
+    FOLDER=/var/lib/journal-collect DATABASE_NAME=%Y-%m-%dT%H DATABASE_BYTES=1073741824 KEEP_DAYS=30 KEEP_ANSWERS_DAYS=30
     UPLOAD_BYTES=67108864 UPLOADS_WAITING=64 FREE_BYTES=1073741824 POLL_SECONDS=2
     # shellcheck source=deploy/collector.conf
     . "${1:-/etc/journal-collect/collector.conf}" || exit 2

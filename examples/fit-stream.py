@@ -105,13 +105,16 @@ class Split:
 
 
 class One:
-    """Writes all entries to standard output."""
+    """Writes all entries to standard output. The buffer is its own, for a write without one may be cut short and say nothing."""
+
+    def __init__(self):
+        self.file = open(1, "wb", closefd=False)
 
     def write(self, text, fields):
-        sys.stdout.buffer.write(text)
+        self.file.write(text)
 
     def close(self):
-        sys.stdout.buffer.flush()
+        self.file.flush()
 
 
 def main():

@@ -47,4 +47,9 @@ mkdir "$folder/split"
 entry 1 1 $two d | cmp - "$folder/split/$two.export" || differs "the second sequence"
 [[ $(ls "$folder/split" | wc -l) -eq 3 ]] || differs "other files"
 expect 1 "" "a sequence id isn't 32 hexadecimal digits" "${fit[@]}" --split "$folder/split" < <(entry 1 1 ../two f)
+
+# a disk that is full within the last entry, whatever Python is told of its buffers
+entry 1 1 $one "$(printf '%01100d' 0)" > "$folder/long"
+expect 1 "" "~write failed: *" bash -c "trap '' XFSZ; ulimit -f 1
+    PYTHONUNBUFFERED=1 python3 examples/fit-stream.py < '$folder/long' > '$folder/cut'"
 finish

@@ -18,7 +18,8 @@ HERE = os.path.dirname(os.path.abspath(__file__))
 sys.path.insert(0, os.path.join(HERE, "..", "collect"))
 from deployments import MACHINES, OldScripts, Programs  # noqa: E402
 from journal import Journal  # noqa: E402
-from trial import PROGRAM, Trial  # noqa: E402
+from stock import IS_HERE, stock  # noqa: E402
+from trial import PROGRAM, TABLES, Trial  # noqa: E402
 
 BROKEN = ("unbound variable", "syntax error", "expected", "command not found", "Traceback", "integer")
 JOURNALCTL = """#!/bin/sh
@@ -113,11 +114,11 @@ class World(Trial):
         dice = self.dice
         self.change_journals()
         runs = []
-        for name in dice.sample(MACHINES, dice.choice((1, 2))):
-            for _ in range(dice.choice((1, 1, 1, 2))):
+        for name in dice.sample(MACHINES, dice.choice((1, 1, 2))):
+            for _ in range(dice.choice((1, 1, 1, 1, 2))):
                 began = self.begin_gathering(name)
                 runs += [(run, began) for run in self.deployment.send(name, self.disturb([*self.deployment.COUNT][:-1]))]
-        for _ in range(dice.choice((0, 0, 1, 1, 2))):
+        for _ in range(dice.choice((0, 0, 0, 1, 1, 2))):
             disturbance = self.disturb([*self.deployment.COUNT][-1:])
             runs += [(run, None) for run in self.deployment.collect(disturbance if dice.random() < 0.8 else ("term", None))]
         if dice.random() < 0.3:
@@ -163,7 +164,9 @@ class World(Trial):
         entries = []
         for database in self.deployment.databases():
             told = subprocess.run([PROGRAM, "export", database], capture_output=True, check=False)
-            self.expect(f"export {database}: {told.stderr}", told.returncode, 0)
+            if told.stderr == f"cannot open {database}\n".encode() and not (IS_HERE and stock(database, TABLES)):
+                continue  # a run was stopped while it made this one
+            self.expect(f"{told.stderr}: a database that can't be exported", told.returncode, 0)
             entries += list(read(told.stdout))
         return entries
 
