@@ -135,16 +135,44 @@ class World(Trial):
                 self.end(run, began)
         self.look_at_modes()
 
+    def stop_at_each_command(self, name):
+        """Stops the programs of a machine and of the collector before each of their commands, one run after the other. Others have
+        brought an upload before the collector is stopped."""
+        ends = dict.fromkeys(self.deployment.COUNT)
+        number = 0
+        while None in ends.values():
+            number += 1
+            self.journals[name].grow(2)
+            for program in [program for program, end in ends.items() if not end]:
+                disturbance = ("stop", (program, number))
+                if program == [*ends][-1]:
+                    self.send_alone(name, ("none", None))
+                    run = self.collect_alone(disturbance)
+                else:
+                    run = self.send_alone(name, disturbance)
+                was_stopped = "Killed" in self.last[run.name] or run.process.returncode == -signal.SIGKILL
+                if not was_stopped:
+                    ends[program] = number
+        return ends
+
+    def send_alone(self, name, disturbance):
+        """A machine's run while nothing else goes on; the last one that was started."""
+        began = self.begin_gathering(name)
+        for run in self.deployment.send(name, disturbance):
+            self.end(run, began)
+        return run
+
+    def collect_alone(self, disturbance):
+        for run in self.deployment.collect(disturbance):
+            self.end(run, None)
+        return run
+
     def quiet_round(self):
         """An undisturbed round; whether an upload was sent."""
         calls = 0
         for name in MACHINES:
-            began = self.begin_gathering(name)
-            for run in self.deployment.send(name, ("none", None)):
-                self.end(run, began)
-                calls += run.calls()
-        for run in self.deployment.collect(("none", None)):
-            self.end(run, None)
+            calls += self.send_alone(name, ("none", None)).calls()
+        self.collect_alone(("none", None))
         return calls > len(MACHINES)
 
     # What has to hold
@@ -220,16 +248,17 @@ def main():
     parser.add_argument("programs")
     parser.add_argument("--old", action="store_true")
     parser.add_argument("--rounds", type=int, default=300)
-    words = parser.parse_args()
-    with World(words.old, os.path.abspath(words.programs)) as world:
-        for _ in range(words.rounds):
+    arguments = parser.parse_args()
+    with World(arguments.old, os.path.abspath(arguments.programs)) as world:
+        for _ in range(arguments.rounds):
             world.round()
+        commands = "" if arguments.old else world.stop_at_each_command(MACHINES[0])
         world.calm()
         entries = world.look()
         if world.mistakes:
             print("mistakes:", dict(world.kinds), "what the last runs said:", world.last, file=sys.stderr)
-        world.finish(f"{words.rounds} rounds of {len(MACHINES)} machines", f"{world.runs} runs", f"{world.killed} killed",
-                     f"{world.gaps} gaps", f"{entries} entries")
+        world.finish(f"{arguments.rounds} rounds of {len(MACHINES)} machines", f"{world.runs} runs", f"{world.killed} killed",
+                     f"before each of their commands {commands}", f"{world.gaps} gaps", f"{entries} entries")
 
 
 if __name__ == "__main__":
