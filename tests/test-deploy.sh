@@ -85,8 +85,8 @@ expect 0 "" "" "$library/collect-incoming" --once "$folder/later.conf"
 # whole schedules
 world() { python3 -B tests/deploy/world.py "$@"; }
 world "$library" --rounds 300 || differs "tests/deploy/world.py"
-if world tests/deploy/old --old --rounds 20 > "$folder/told" 2>&1; then differs "the scripts that the guide had before pass"; fi
-for mistake in "readable by others" "entries that wait"; do
+if world tests/deploy/old --old --rounds 60 > "$folder/told" 2>&1; then differs "the scripts that the guide had before pass"; fi
+for mistake in "readable by others" "entries that are in no database" "entries that wait"; do
     grep -q "$mistake" "$folder/told" || differs "the scripts that the guide had before: $mistake"
 done
 

@@ -114,7 +114,7 @@ class World(Trial):
         dice = self.dice
         self.change_journals()
         runs = []
-        for name in dice.sample(MACHINES, dice.choice((1, 1, 2))):
+        for name in dice.sample(MACHINES, dice.choice((1, 1, 1, 2))):
             for _ in range(dice.choice((1, 1, 1, 1, 2))):
                 began = self.begin_gathering(name)
                 runs += [(run, began) for run in self.deployment.send(name, self.disturb([*self.deployment.COUNT][:-1]))]
@@ -142,7 +142,9 @@ class World(Trial):
         number = 0
         while None in ends.values():
             number += 1
-            self.journals[name].grow(2)
+            self.journals[name].grow(1)
+            if number % 8 == 0:
+                self.collect_alone(("none", None))
             for program in [program for program, end in ends.items() if not end]:
                 disturbance = ("stop", (program, number))
                 if program == [*ends][-1]:
