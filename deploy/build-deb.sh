@@ -1,5 +1,6 @@
 #!/bin/bash
-# build-deb.sh FOLDER: a Debian package of what `make install` installs, in this folder. It has to stand beside a program that is built.
+# build-deb.sh FOLDER: a Debian package of what `make install` installs, in this folder. It has to stand beside a
+# program that is built.
 set -euo pipefail
 folder=$(realpath -m "$1")
 cd "$(dirname "$0")/.."
@@ -25,6 +26,7 @@ install -m 755 deploy/debian/{postinst,prerm,postrm} "$tree/DEBIAN"
 printf '/etc/journal-collect/%s\n' machine.conf collector.conf > "$tree/DEBIAN/conffiles"
 (cd "$tree" && find usr -type f -exec md5sum {} +) > "$tree/DEBIAN/md5sums"
 size=$(du --summarize --block-size=1K --apparent-size "$tree" | cut -f 1)
-sed "s/@version@/$version/; s/@libc@/${libc#GLIBC_}/; s/@architecture@/$architecture/; s/@size@/$size/" deploy/debian/control > "$tree/DEBIAN/control"
+sed "s/@version@/$version/; s/@libc@/${libc#GLIBC_}/; s/@architecture@/$architecture/; s/@size@/$size/" \
+    deploy/debian/control > "$tree/DEBIAN/control"
 dpkg-deb --root-owner-group --build "$tree" "$folder/journal-collect_${version}_$architecture.deb"
 rm -rf "$tree"

@@ -1,6 +1,6 @@
 #!/bin/bash
-# install.sh DESTDIR PREFIX: puts the programs of a deployment, their units and their configuration in their places below DESTDIR.
-# A configuration that is there stays as it is.
+# install.sh DESTDIR PREFIX: puts the programs of a deployment, their units and their configuration in their places
+# below DESTDIR. A configuration that is there stays as it is.
 set -euo pipefail
 cd "$(dirname "$0")/.."
 

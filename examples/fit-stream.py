@@ -1,6 +1,6 @@
 #!/usr/bin/env python3
 """Makes an export stream one that journal-collect takes: fit-stream.py [--leave-out-large] < STREAM > FITTED
-or makes several streams of it, of each of which systemd-journal-remote makes a journal file: fit-stream.py --split FOLDER < STREAM
+or several streams, each of which systemd-journal-remote makes one journal file of: fit-stream.py --split FOLDER < STREAM
 
 An entry without `__SEQNUM` and `__SEQNUM_ID`, as journalctl before systemd 254 writes it, gets both from its
 `__CURSOR`. With --leave-out-large an entry over the limits is left out and named on standard error. All else is
@@ -74,8 +74,8 @@ def is_large(fields):
 
 
 class Split:
-    """Writes the entries of each sequence to a stream of its own, FOLDER/ID.export, and to a further one when the time goes back:
-    journalctl finds a time in a journal file only if the times in it never do."""
+    """Writes the entries of each sequence to a stream of its own, FOLDER/ID.export, and to a further one when the time
+    goes back: journalctl finds a time in a journal file only if the times in it never do."""
 
     def __init__(self, folder):
         self.folder = folder
@@ -105,7 +105,8 @@ class Split:
 
 
 class One:
-    """Writes all entries to standard output. The buffer is its own, for a write without one may be cut short and say nothing."""
+    """Writes all entries to standard output. The buffer is its own, for a write without one may be cut short and say
+    nothing."""
 
     def __init__(self):
         self.file = open(1, "wb", closefd=False)

@@ -1,5 +1,6 @@
 #!/usr/bin/env bash
-# The Debian package: what is in it, what lintian says, and that it is installed and removed, in a root of its own, with its logs kept.
+# The Debian package: what is in it, what lintian says, and that it is installed and removed, in a root of its own,
+# with its logs kept.
 set -uo pipefail
 . "$(dirname "$0")/expect.sh"
 

@@ -1,9 +1,11 @@
 #!/usr/bin/env bash
-# What machines and the collector run (deploy/): what each program refuses and reports, and whole schedules over stand-ins for journalctl and
-# ssh. The scripts that the guide had before have to fail the same schedules.
+# What machines and the collector run (deploy/): what each program refuses and reports, and whole schedules over
+# stand-ins for journalctl and ssh. The scripts that the guide had before have to fail the same schedules.
 set -uo pipefail
 . "$(dirname "$0")/expect.sh"
 
+# the usual one, which the programs have to do better than
+umask 022
 if [[ -d /dev/shm && -w /dev/shm ]]; then
     export TMPDIR=/dev/shm
 fi
@@ -28,7 +30,8 @@ collector=$folder/collector
 receive() { "$library/receive" "$1" "$folder/collector.conf"; }
 # so many uploads, which differ in their source
 for letter in a b c d e f; do
-    journal-collect upload --source "${id//a/$letter}" --resume "$folder/none" export examples/web.export > "$folder/$letter"
+    journal-collect upload --source "${id//a/$letter}" --resume "$folder/none" export examples/web.export \
+        > "$folder/$letter"
 done
 
 for name in "" . .. ../web .web web/x "web x" "web@x" "web*" $'web\nx' "$(printf '%065d' 0)"; do
@@ -56,7 +59,8 @@ expect 0 "ack ${id//a/d} 0 2 2 0" "" answers mail
 expect 0 "" "" answers other
 [[ -z $(find "$collector" -name '*.upload') ]] || differs "an upload is left"
 
-# an upload that the machine sends again since it doesn't know the answer isn't stored a second time, whatever the database
+# an upload that the machine sends again since it doesn't know the answer isn't stored a second time, whatever the
+# database
 rm -f "$collector"/databases/*
 expect 0 "" "" receive web < "$folder/a"
 expect 0 "" "" "$library/collect-incoming" --once "$folder/collector.conf"
@@ -68,7 +72,8 @@ expect 0 "$a"$'\n'"$b" "" answers web
 # a refusal is kept as an answer; a database that is none is set aside; what is old is deleted
 rm -f "$collector"/databases/*
 expect 0 "" "" receive web < <(sed 's/^__SEQNUM=102$/__SEQNUM=0/' "$folder/e")
-expect 1 "" "~*refused: web@${id//a/e}: no ${id//a/e} 0 27 *" "$library/collect-incoming" --once "$folder/collector.conf"
+expect 1 "" "~*refused: web@${id//a/e}: no ${id//a/e} 0 27 *" \
+    "$library/collect-incoming" --once "$folder/collector.conf"
 [[ $(answers web) == *"no ${id//a/e} 0 27 "* ]] || differs "the answer that refuses"
 for name in now later; do
     printf 'DATABASE_NAME=%s\n' $name | cat "$folder/collector.conf" - > "$folder/$name.conf"
@@ -85,7 +90,9 @@ expect 0 "" "" "$library/collect-incoming" --once "$folder/later.conf"
 # whole schedules
 world() { python3 -B tests/deploy/world.py "$@"; }
 world "$library" --rounds 300 || differs "tests/deploy/world.py"
-if world tests/deploy/old --old --rounds 60 > "$folder/told" 2>&1; then differs "the scripts that the guide had before pass"; fi
+if world tests/deploy/old --old --rounds 60 > "$folder/told" 2>&1; then
+    differs "the scripts that the guide had before pass"
+fi
 for mistake in "readable by others" "entries that are in no database" "entries that wait"; do
     grep -q "$mistake" "$folder/told" || differs "the scripts that the guide had before: $mistake"
 done
@@ -101,8 +108,8 @@ else
     echo "there is no systemd-analyze: the units aren't verified"
 fi
 if command -v shellcheck > "$folder/told"; then
-    expect 0 "" "" shellcheck --external-sources --source-path=. deploy/{send,serve,receive,answers,collect-incoming} deploy/*.sh \
-        deploy/debian/{postinst,prerm,postrm}
+    expect 0 "" "" shellcheck --external-sources --source-path=. deploy/{send,serve,receive,answers,collect-incoming} \
+        deploy/*.sh deploy/debian/{postinst,prerm,postrm}
 else
     echo "there is no shellcheck: the scripts aren't checked"
 fi

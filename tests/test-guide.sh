@@ -1,6 +1,7 @@
 #!/usr/bin/env bash
-# The commands of the guide and of the man page, as they are printed: each block of the guide that is marked as shell, and each example of
-# the page, in its order. Paths below /etc, /usr and /var lie below a folder of the test, and what changes a system is a stand-in.
+# The commands of the guide and of the man page, as they are printed: each block of the guide that is marked as shell,
+# and each example of the page, in its order. Paths below /etc, /usr and /var lie below a folder of the test, and what
+# changes a system is a stand-in.
 set -uo pipefail
 . "$(dirname "$0")/expect.sh"
 

@@ -35,9 +35,10 @@ class Deployment:
         self.folders, self.confs = {}, {}
         for name in MACHINES:
             folder = self.folders[name] = os.path.join(world.folder(), "machine")
-            self.confs[name] = [self.conf(MACHINE_CONF.format(
-                folder=folder, stream_bytes=dice.choice((2000, 6000)), entries=dice.choice((10, 40)), upload_bytes=dice.choice((3000, 10**6)),
-                folder_bytes=size)) for size in (10**9, 5000)]
+            bounds = {"stream_bytes": dice.choice((2000, 6000)), "entries": dice.choice((10, 40)),
+                      "upload_bytes": dice.choice((3000, 10**6))}
+            self.confs[name] = [self.conf(MACHINE_CONF.format(folder=folder, folder_bytes=size, **bounds))
+                                for size in (10**9, 5000)]
 
     def conf(self, text):
         path = os.path.join(self.world.folder(), "conf")
@@ -47,7 +48,8 @@ class Deployment:
 
     def waiting(self):
         """Uploads at the collector, and parts of some that no connection writes to any more."""
-        return [name for part in ("incoming", "batch") for _, _, names in os.walk(os.path.join(self.collector, part)) for name in names]
+        return [name for part in ("incoming", "batch")
+                for _, _, names in os.walk(os.path.join(self.collector, part)) for name in names]
 
 
 class Programs(Deployment):
@@ -61,12 +63,13 @@ class Programs(Deployment):
         kind, value = disturbance
         conf = self.confs[name][kind == "cap"]
         forced = f"{self.programs}/serve {name} {self.collector_conf}"
-        return [Run(self.world, name, [f"{self.programs}/send", conf], {**self.world.journal_of(name), "FORCED_COMMAND": forced},
-                    disturbance)]
+        environment = {**self.world.journal_of(name), "FORCED_COMMAND": forced}
+        return [Run(self.world, name, [f"{self.programs}/send", conf], environment, disturbance)]
 
     def collect(self, disturbance):
         once = [] if disturbance[0] == "term" else ["--once"]
-        return [Run(self.world, "collector", [f"{self.programs}/collect-incoming", *once, self.collector_conf], {}, disturbance)]
+        command = [f"{self.programs}/collect-incoming", *once, self.collector_conf]
+        return [Run(self.world, "collector", command, {}, disturbance)]
 
     @staticmethod
     def gathered(status, errors):

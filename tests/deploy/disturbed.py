@@ -29,8 +29,9 @@ class Run:
         if kind == "fault":
             environment["FAULT"] = value
         self.errors = open(os.path.join(world.folder(), "errors"), "w+", encoding="utf-8")
-        self.process = subprocess.Popen(words, env=environment, stdin=subprocess.DEVNULL, stdout=self.errors, stderr=self.errors,
-                                        start_new_session=True, preexec_fn=full(value) if kind == "full" else None)
+        self.process = subprocess.Popen(words, env=environment, stdin=subprocess.DEVNULL, stdout=self.errors,
+                                        stderr=self.errors, start_new_session=True,
+                                        preexec_fn=full(value) if kind == "full" else None)
         self.end = time.monotonic() + value[1] if kind == "kill" else None
 
     def calls(self):

@@ -1,4 +1,4 @@
-"""A machine's journal for the stand-in journalctl: it grows, is rotated, begins new sequences, and loses its oldest entries."""
+"""A machine's journal for the stand-in journalctl: it grows, begins new sequences, and loses its oldest entries."""
 import os
 
 MESSAGES = ["ready", "größer", "a\n__CURSOR=s=1;i=2\n\nb", "x" * 700, "=", "tab\there"]
@@ -10,6 +10,7 @@ class Journal:
         self.path = path
         self.realtime = 1_700_000_000_000_000
         self.entries = []
+        self.made = set()
         self.new_sequence()
         self.write()
 
@@ -23,6 +24,7 @@ class Journal:
             self.realtime += self.dice.randint(1, 10**6)
             message = f"{self.seqnum} {self.dice.choice(MESSAGES)}"
             self.entries.append((self.seqnum_id, self.seqnum, self.realtime, message, self.boot_id))
+        self.made |= self.keys()
         self.write()
 
     def vacuum(self, entries):

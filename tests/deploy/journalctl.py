@@ -1,8 +1,9 @@
 """A stand-in for journalctl, over a journal that is one file: JOURNAL names it, and SYSTEMD is the release.
 
-Each line of it is an entry: its sequence id, number, realtime, monotonic time, boot id and message, with escapes. Of journalctl it has
-what the programs use, and two habits: the cursor moves on where the output can't be written, and before systemd 254 a cursor
-whose entry was removed makes it pass over the next one too.
+Each line of it is an entry: its sequence id, number, realtime, monotonic time, boot id and message, with escapes. It
+has what the programs use of journalctl, and two habits: the cursor moves on also if the output can't be written; and
+before systemd 254 a cursor whose entry was removed makes it pass over the next one too, also if that is the last one:
+then nothing is shown, and the cursor moves to it.
 """
 import os
 import sys
@@ -35,7 +36,8 @@ class Entry:
 
 
 def place(entries, cursor):
-    """The index of the entry that a cursor names, or of the next one; and whether it is the one named."""
+    """The index of the entry that a cursor names, or of the next one, past the end if there is none; and whether it is
+    the one named."""
     parts = dict(part.split("=") for part in cursor.split(";"))
     seqnum, realtime = int(parts["i"], 16), int(parts["t"], 16)
     for index, entry in enumerate(entries):
@@ -44,7 +46,7 @@ def place(entries, cursor):
     for index, entry in enumerate(entries):
         if entry.realtime >= realtime:
             return index, False
-    return len(entries), False
+    return len(entries) + 1, False
 
 
 def first(entries):
@@ -74,9 +76,10 @@ def main():
         os._exit(141)
     except OSError:
         pass
-    if shown and "cursor-file" in OPTIONS:
+    last = shown[-1:] or entries[begin - 1:begin]
+    if last and "cursor-file" in OPTIONS:
         with open(OPTIONS["cursor-file"], "w", encoding="ascii") as file:
-            file.write(shown[-1].cursor() + "\n")
+            file.write(last[0].cursor() + "\n")
 
 
 try:

@@ -1,4 +1,5 @@
-# For BASH_ENV: kills the program STOP_PROGRAM before its command of the number STOP_AT, counted in each of its subshells.
+# For BASH_ENV: kills the program STOP_PROGRAM before its command of the number STOP_AT, counted in each of its
+# subshells.
 if [[ ${0##*/} == "${STOP_PROGRAM-}" ]]; then
     stop_left=$STOP_AT
     set -o functrace

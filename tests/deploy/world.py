@@ -1,10 +1,12 @@
-"""Machines and a collector over stand-ins for journalctl and ssh, in rounds of random events: world.py PROGRAMS [--old] [ROUNDS]
+"""Machines and a collector over stand-ins for journalctl and ssh, in rounds of random events.
 
-In each round journals grow and lose entries, some machines send and the collector collects, at the same time. Some of these runs are
-stopped by SIGKILL, at a random moment or before one of their commands; find a full disk; lose their connection; or are started twice.
-Afterwards some undisturbed rounds follow. Then each entry that a journal still had when a gathering ran to its end is in the
-databases, once; each machine has its newest stream alone, with nothing to send; the collector has nothing that waits; and no file
-was ever one that others may read.
+usage: python3 world.py PROGRAMS [--old] [--rounds ROUNDS]
+
+In each round journals grow and lose entries, some machines send and the collector collects, at the same time. Some of
+these runs are stopped by SIGKILL, at a random moment or before one of their commands; find a full disk; lose their
+connection; or are started twice. Afterwards some undisturbed rounds follow. Then each entry that a journal still had
+when a gathering ran to its end is in the databases, once; each machine has its newest stream alone, with nothing to
+send; the collector has nothing that waits; and no file was ever one that others may read.
 """
 import argparse
 import collections
@@ -78,7 +80,8 @@ class World(Trial):
             ("stop", (program, dice.randint(1, self.deployment.COUNT[program]))),
             ("stop", (program, dice.randint(1, self.deployment.COUNT[program]))),
             ("full", dice.choice((0, 100, dice.randrange(2000), dice.randrange(40000)))),
-            ("fault", f"{dice.choice(('refused', 'cut', 'half', 'lost'))}:{dice.randint(1, 3)}:{dice.choice((20, dice.randrange(3000)))}")])
+            ("fault", ":".join((dice.choice(("refused", "cut", "half", "lost")), str(dice.randint(1, 3)),
+                                str(dice.choice((20, dice.randrange(3000)))))))])
 
     def change_journals(self):
         for journal in self.journals.values():
@@ -89,11 +92,12 @@ class World(Trial):
                 journal.vacuum(self.dice.randrange(len(journal.entries) + 1))
 
     def begin_gathering(self, name):
-        """What the journal has when a run begins, and whether the entry that was gathered last is gone and others are there."""
+        """What the journal has when a run begins, and whether the entry that was gathered last is gone and others
+        are there."""
         journal, last = self.journals[name].keys(), self.deployment.last_gathered(name)
         return journal, bool(last and journal and last not in {entry[:2] for entry in journal})
 
-    def end(self, run, began):
+    def end(self, run, began, alone=True):
         status, errors = run.wait()
         self.last[run.name] = errors
         self.runs += 1
@@ -101,33 +105,40 @@ class World(Trial):
         if isinstance(self.deployment, Programs):
             what = f"{run.name}: {run.disturbance}: {errors}"
             self.expect(f"{what}: an error of the script", any(word in errors for word in BROKEN), False)
-            self.expect(f"{what}: status", status in (0, 1, 3, 75, -signal.SIGKILL), True)
+            wanted = (0, 1, 3, 75, -signal.SIGKILL, *[-signal.SIGTERM] * (run.disturbance[0] == "term"))
+            self.expect(f"{what}: status", status in wanted, True)
         if run.name in self.journals and self.deployment.gathered(status, errors):
             journal, gap = began
             # what was removed while the run went on need not have been gathered
-            self.expected |= journal & self.journals[run.name].keys()
+            kept = journal & self.journals[run.name].keys()
+            self.expected |= kept
             self.gaps += gap
-            if gap and run.disturbance[0] == "none":
+            # another run may have reported it, and a journal that became empty shows none
+            if gap and kept and alone and run.disturbance[0] == "none":
                 self.expect(f"{run.name}: a gap is reported", "a gap" in errors, True)
 
     def round(self):
         dice = self.dice
         self.change_journals()
         runs = []
+        twice = set()
         for name in dice.sample(MACHINES, dice.choice((1, 1, 1, 2))):
             for _ in range(dice.choice((1, 1, 1, 1, 2))):
+                if any(run.name == name for run, _ in runs):
+                    twice.add(name)
                 began = self.begin_gathering(name)
-                runs += [(run, began) for run in self.deployment.send(name, self.disturb([*self.deployment.COUNT][:-1]))]
+                disturbance = self.disturb([*self.deployment.COUNT][:-1])
+                runs += [(run, began) for run in self.deployment.send(name, disturbance)]
         for _ in range(dice.choice((0, 0, 0, 1, 1, 2))):
-            disturbance = self.disturb([*self.deployment.COUNT][-1:])
-            runs += [(run, None) for run in self.deployment.collect(disturbance if dice.random() < 0.8 else ("term", None))]
+            disturbance = self.disturb([*self.deployment.COUNT][-1:]) if dice.random() < 0.8 else ("term", None)
+            runs += [(run, None) for run in self.deployment.collect(disturbance)]
         if dice.random() < 0.3:
             self.change_journals()
         for run, _ in sorted(runs, key=lambda run: run[0].end or 0):
             run.kill_in_time()
         for run, began in runs:
             if run.disturbance[0] != "term":
-                self.end(run, began)
+                self.end(run, began, run.name not in twice)
         for run, began in runs:
             if run.disturbance[0] == "term":
                 time.sleep(0.1)
@@ -136,8 +147,8 @@ class World(Trial):
         self.look_at_modes()
 
     def stop_at_each_command(self, name):
-        """Stops the programs of a machine and of the collector before each of their commands, one run after the other. Others have
-        brought an upload before the collector is stopped."""
+        """Stops the programs of a machine and of the collector before each of their commands, one run after the
+        other. Others have brought an upload before the collector is stopped."""
         ends = dict.fromkeys(self.deployment.COUNT)
         number = 0
         while None in ends.values():
@@ -203,21 +214,24 @@ class World(Trial):
     def look(self):
         stored = self.stored()
         self.expect("entries that are in no database", len(self.expected - set(stored)), 0)
-        self.expect("entries that no machine had", len(set(entry[:2] for entry in stored)) - len(set(stored)), 0)
+        made = set().union(*(journal.made for journal in self.journals.values()))
+        self.expect("entries that no machine had", set(stored) - made, set())
         self.expect("entries that are in two databases", len(stored) - len(set(stored)), 0)
         self.expect("uploads that wait", self.deployment.waiting(), [])
         for name in MACHINES:
             streams = self.deployment.streams(name)
             self.expect(f"{name}: streams beside the newest", streams[:-1], [])
             stream = os.path.join(streams[-1], "stream")
-            told = subprocess.run([PROGRAM, "upload", "--source", "0" * 32, "--resume", f"{streams[-1]}/resume", "export", stream],
-                                  capture_output=True, check=False)
+            told = subprocess.run([PROGRAM, "upload", "--source", "0" * 32, "--resume", f"{streams[-1]}/resume", "export",
+                                   stream], capture_output=True, check=False)
             self.expect(f"{name}: {told.stderr}: entries that wait", len(told.stdout), 48)
-            self.expect(f"{name}: a stream that grows", os.path.exists(stream) and os.path.getsize(stream) > 30000, False)
+            size = os.path.getsize(stream) if os.path.exists(stream) else 0
+            self.expect(f"{name}: a stream that grows", size > 30000, False)
         return len(set(stored))
 
     def calm(self):
-        """Undisturbed rounds, until all that can be expected has come. A part of an upload is deleted once it is old."""
+        """Undisturbed rounds, until all that can be expected has come. A part of an upload is deleted once it is
+        old."""
         rounds = 0
         while self.quiet_round() and rounds < self.deployment.QUIET:
             rounds += 1
@@ -259,8 +273,9 @@ def main():
         entries = world.look()
         if world.mistakes:
             print("mistakes:", dict(world.kinds), "what the last runs said:", world.last, file=sys.stderr)
-        world.finish(f"{arguments.rounds} rounds of {len(MACHINES)} machines", f"{world.runs} runs", f"{world.killed} killed",
-                     f"before each of their commands {commands}", f"{world.gaps} gaps", f"{entries} entries")
+        world.finish(f"{arguments.rounds} rounds of {len(MACHINES)} machines", f"{world.runs} runs",
+                     f"{world.killed} killed", f"before each of their commands {commands}", f"{world.gaps} gaps",
+                     f"{entries} entries")
 
 
 if __name__ == "__main__":
