@@ -15,7 +15,7 @@ configure() {
     KEEP_DAYS=30 KEEP_ANSWERS_DAYS=30
     UPLOAD_BYTES=67108864 UPLOADS_WAITING=64 FREE_BYTES=1073741824 POLL_SECONDS=2
     # shellcheck source=deploy/collector.conf
-    . "${1:-/etc/journal-collect/collector.conf}" || exit 2
+    . "$(realpath "${1:-/etc/journal-collect/collector.conf}")" || exit 2
     local name
     for name in DATABASE_BYTES KEEP_DAYS KEEP_ANSWERS_DAYS UPLOAD_BYTES UPLOADS_WAITING FREE_BYTES; do
         [[ ${!name} =~ ^(0|[1-9][0-9]{0,17})$ ]] || refuse_settings "$name isn't a number: ${!name}"
