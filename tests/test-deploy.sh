@@ -83,9 +83,25 @@ expect 0 "" "" receive web < "$folder/f"
 expect 3 "" "~*databases/now.db was refused*" "$library/collect-incoming" --once "$folder/now.conf"
 expect 0 "" "" "$library/collect-incoming" --once "$folder/now.conf"
 expect 0 "ok 2" "" journal-collect check "$collector/databases/now-2.db"
+# a database is as old as what is newest of it and its log
+touch -d '5 days ago' "$collector/databases/now-2.db"
+expect 0 "" "" "$library/collect-incoming" --once "$folder/later.conf"
+expect 0 "ok 2" "" journal-collect check "$collector/databases/now-2.db"
 touch -d '5 days ago' "$collector"/databases/now-2.db*
 expect 0 "" "" "$library/collect-incoming" --once "$folder/later.conf"
 [[ ! -e $collector/databases/now-2.db && -e $collector/databases/now.db ]] || differs "what is kept of the databases"
+
+# settings that can't be
+for line in UPLOADS=8x UPLOAD_ENTRIES=0 STREAM_BYTES=16M FOLDER_BYTES= UPLOAD_BYTES=010; do
+    printf 'COLLECTOR=here\nFOLDER=%s\n%s\n' "$folder/machine" "$line" > "$folder/wrong.conf"
+    expect 2 "" "~send: *wrong.conf: ${line%%=*} is*" "$library/send" "$folder/wrong.conf"
+done
+expect 2 "" "~send: *names no COLLECTOR" "$library/send" /dev/null
+for line in KEEP_DAYS=-1 DATABASE_BYTES=1G DATABASE_NAME=../%H DATABASE_NAME=; do
+    printf 'FOLDER=%s\n%s\n' "$folder/wrong" "$line" > "$folder/wrong.conf"
+    expect 2 "" "~collect-incoming: *${line%%=*}*" "$library/collect-incoming" --once "$folder/wrong.conf"
+done
+[[ ! -e $folder/machine && ! -e $folder/wrong ]] || differs "wrong settings made a folder"
 
 # whole schedules
 world() { python3 -B tests/deploy/world.py "$@"; }
