@@ -124,8 +124,8 @@ else
     echo "there is no systemd-analyze: the units aren't verified"
 fi
 if command -v shellcheck > "$folder/told"; then
-    expect 0 "" "" shellcheck --external-sources --source-path=. deploy/{send,serve,receive,answers,collect-incoming} \
-        deploy/*.sh deploy/debian/{postinst,prerm,postrm}
+    expect 0 "" "" shellcheck --severity=warning --external-sources --source-path=. \
+        deploy/{send,serve,receive,answers,collect-incoming} deploy/*.sh deploy/debian/{postinst,prerm,postrm}
 else
     echo "there is no shellcheck: the scripts aren't checked"
 fi
