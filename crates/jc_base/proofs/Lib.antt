@@ -4,4 +4,5 @@ pub mod KeptLemmas
 pub mod WentOutLemmas
 pub mod TurnLemmas
 pub mod TextLemmas
-pub mod FieldOrder
+pub mod First
+pub mod EntryTexts

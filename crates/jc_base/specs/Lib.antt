@@ -1,10 +1,15 @@
 pub mod Number
 pub mod Pair
 pub mod Text
+pub mod Spelled
+pub mod SpelledLaws
+pub mod PairsBack
 pub mod Fault
 pub mod LimitBounds
 pub mod Limit
 pub mod LogEntry
+pub mod EntryText
+pub mod FirstField
 pub mod FromPairs
 pub mod Reading
 pub mod Journal

@@ -1,6 +1,6 @@
 //! Devices that fail once, for tests of what stands on them.
 
-ghost use Rattle.std.specs.Prelude.{◌≡◌, ◌<◌, ◌↔◌, Some, IsTrue, IsErr, IfOk, length};
+ghost use Rattle.std.specs.Prelude.{◌≡◌, ◌<◌, ◌↔◌, Some, IsTrue, IsErr, IfOk, OnOk, length};
 ghost use Rattle.std.specs.Io.{ReadsAtMost, WritesAtMost};
 ghost use Rattle.std.specs.Io.KnownBytes.{ReadConsumes, WriteAppends};
 ghost use Rattle.jc_base.specs.Device.{CountsFailure, BoundFalls};
@@ -47,6 +47,8 @@ impl<R: ByteStream> ByteStream for FailStream<R> {
         ensures bound { BoundFalls (R.bound self.old.inner) (R.bound self.new.inner) result }
         ensures failures { CountsFailure (count_with (R.failures self.old.inner) self.old.passes)
             (count_with (R.failures self.new.inner) self.new.passes) result }
+        ensures stays { OnOk result (count_with (R.failures self.new.inner) self.new.passes
+            ≡ count_with (R.failures self.old.inner) self.old.passes) }
         ensures lent { R.lent self.new.inner ≡ R.lent self.old.inner }
 
         // The call that fails is the one behind those that are passed on, and it reaches no inner stream.
@@ -95,6 +97,8 @@ impl<W: ByteSink> ByteSink for FailSink<W> {
         ensures bytes { WriteAppends (W.written self.old.inner) (W.written self.new.inner) result piece.now }
         ensures failures { CountsFailure (count_with (W.failures self.old.inner) self.old.passes)
             (count_with (W.failures self.new.inner) self.new.passes) result }
+        ensures stays { OnOk result (count_with (W.failures self.new.inner) self.new.passes
+            ≡ count_with (W.failures self.old.inner) self.old.passes) }
         ensures lent { W.lent self.new.inner ≡ W.lent self.old.inner }
 
         // The call that fails is the one behind those that are passed on, and it reaches no inner sink.

@@ -25,6 +25,7 @@ pub trait ByteSink {
         ensures takes { IfOk result (λ count. 0 < length piece.now → 0 < count) }
         ensures bytes { WriteAppends (written self.old) (written self.new) result piece.now }
         ensures failures { CountsFailure (failures self.old) (failures self.new) result }
+        ensures stays { OnOk result (failures self.new ≡ failures self.old) }
         ensures lent { lent self.new ≡ lent self.old };
 }
 
@@ -41,6 +42,7 @@ pub fn write_all<W: ByteSink>(sink: &mut W, text: &[u8]) -> Result<(), Written>
     ensures ok { OnOk result (Appends (W.written sink.old) (W.written sink.new) text.now) }
     ensures err { IfErr result (λ out. WentOut (W.written sink.old) (W.written sink.new) text.now out.bytes) }
     ensures failures { CountsFailure (W.failures sink.old) (W.failures sink.new) result }
+    ensures stays { OnOk result (W.failures sink.new ≡ W.failures sink.old) }
     ensures lent { W.lent sink.new ≡ W.lent sink.old }
 {
     let mut at = 0;

@@ -1,6 +1,6 @@
 //! Streams of bytes.
 
-ghost use Rattle.std.specs.Prelude.{◌≡◌, ◌<◌, ◌^◌, List, ℕ, [], Option, None};
+ghost use Rattle.std.specs.Prelude.{◌≡◌, ◌<◌, ◌^◌, List, ℕ, [], Option, None, OnOk};
 ghost use Rattle.std.specs.Io.{ReadsAtMost};
 ghost use Rattle.std.specs.Io.KnownBytes.{ReadConsumes};
 ghost use Rattle.std.specs.Borrow.{GName};
@@ -29,6 +29,7 @@ pub trait ByteStream {
         ensures bytes { ReadConsumes (to_come self.old) (to_come self.new) result out.new }
         ensures bound { BoundFalls (bound self.old) (bound self.new) result }
         ensures failures { CountsFailure (failures self.old) (failures self.new) result }
+        ensures stays { OnOk result (failures self.new ≡ failures self.old) }
         ensures lent { lent self.new ≡ lent self.old };
 
     ghost small: { (s : Self) → bound s < 2 ^ 64 };

@@ -28,7 +28,7 @@ pub(super) fn entry(alloc: Global, seqnum: u64) -> Result<Entry, Fail> {
         seqnum,
     };
     let fields = fields(alloc, &[(b"MESSAGE", b"hi")])?;
-    match Entry::from_pairs(key, 1_000_000, 5, fields, &Limits::default()) {
+    match Entry::from_pairs(alloc, key, 1_000_000, 5, fields, &Limits::default())? {
         Ok(entry) => Ok(entry),
         Err(_) => Err("refused")?,
     }
@@ -112,11 +112,10 @@ fn an_entry_is_a_set_of_its_fields(rt: HostRuntime) -> Result<(), Fail> {
             (b"B", b"2"),
         ],
     )?;
-    let made = Entry::from_pairs(key, 7, 8, given, &limits)
+    let made = Entry::from_pairs(alloc, key, 7, 8, given, &limits)?
         .ok()
         .ok_or("refused")?;
-    let wanted = fields(alloc, &[(b"A", b"1"), (b"A", b"2"), (b"B", b"2")])?;
-    assert_eq!(rt; made.fields() == wanted.as_slice(), true);
+    assert_eq!(rt; made.fields_text() == b"A=1\nA=2\nB=2\n".as_slice(), true);
     assert_eq!(rt;
         made.key() == key && made.realtime() == 7 && made.monotonic() == 8,
         true
@@ -124,6 +123,48 @@ fn an_entry_is_a_set_of_its_fields(rt: HostRuntime) -> Result<(), Fail> {
     assert_eq!(rt; made.fits(&limits), true);
     assert_eq!(rt; made.try_clone()?.same(&made), true);
     assert_eq!(rt; made.same(&entry(alloc, 1)?), false);
+    Ok(())
+}
+
+#[test]
+fn an_entry_gives_its_fields_in_order(rt: HostRuntime) -> Result<(), Fail> {
+    let entry = entry_of_text(rt.alloc(), b"A=1\nB\n\x02\0\0\0\0\0\0\0\n=\n")?;
+    let pairs: [(&[u8], &[u8]); 2] = [(b"A", b"1"), (b"B", b"\n=")];
+    let mut fields = entry.fields();
+    for (name, value) in pairs {
+        let field = fields.next().ok_or("too few fields")?;
+        assert_eq!(rt; field.name() == name && field.value() == value, true);
+        assert_eq!(rt; field.is_metadata(), false);
+    }
+    assert_eq!(rt; fields.next().is_none(), true);
+    Ok(())
+}
+
+fn entry_of_text(alloc: Global, text: &[u8]) -> Result<Entry, Fail> {
+    let key = Key {
+        seqnum_id: ID,
+        seqnum: 1,
+    };
+    Ok(Entry::from_text(alloc, key, 7, 8, text)?.ok_or("no fields")?)
+}
+
+#[test]
+fn fields_are_gathered_in_any_order(rt: HostRuntime) -> Result<(), Fail> {
+    let alloc = rt.alloc();
+    let given = fields(alloc, &[(b"B", b"2"), (b"A", b"\n")])?;
+    let mut list = FieldList::new(alloc);
+    for field in &given {
+        list = list.with(&FieldRef::of(field))?;
+    }
+    let borrowed = list.borrowed()?;
+    assert_eq!(rt; borrowed.len(), 2);
+    let key = Key {
+        seqnum_id: ID,
+        seqnum: 1,
+    };
+    let made = Entry::from_fields(key, 7, 8, borrowed)?;
+    let wanted = b"A\n\x01\0\0\0\0\0\0\0\n\nB=2\n";
+    assert_eq!(rt; made.same(&entry_of_text(alloc, wanted)?), true);
     Ok(())
 }
 
@@ -154,7 +195,7 @@ fn the_first_fault_is_told(rt: HostRuntime) -> Result<(), Fail> {
             seqnum_id: ID,
             seqnum,
         };
-        let made = Entry::from_pairs(key, 0, 0, fields(alloc, pairs)?, &limits);
+        let made = Entry::from_pairs(alloc, key, 0, 0, fields(alloc, pairs)?, &limits)?;
         assert_eq!(rt; made.err() == Some(Fault { code, place }), true);
     }
     assert_eq!(rt; Code::ZeroSeqnum.number(), 27);

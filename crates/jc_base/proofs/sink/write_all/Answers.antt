@@ -1,4 +1,4 @@
-use Rattle.std.proofs.Common.{arith}
+use Rattle.std.proofs.Common.{◌∙◌}
 use Rattle.std.proofs.lemmas.List.{take_rest}
 use Rattle.jc_base.proofs.WentOutLemmas.{went_out_more}
 use Rattle.jc_base.proofs.sink.write_all.Goals as goal
@@ -10,6 +10,6 @@ loop-at-preserved g c =
     let wrote = c.in-Ok.ensures in
     record {
       out = went_out_more _ _ _ text at c.in-Ok.count c.loop-at.invariant.out (rw (take_rest text at) at wrote.within) (rw (take_rest text at) at wrote.bytes);
-      count = omega (arith, c.loop-at.invariant.count, wrote.failures.never_falls);
+      stays = wrote.stays ∙ c.loop-at.invariant.stays;
       lent = cc (wrote.lent, c.loop-at.invariant.lent);
     }

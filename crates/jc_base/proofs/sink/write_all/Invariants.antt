@@ -1,4 +1,4 @@
-use Rattle.std.proofs.Common.{◌≡◌, ◌-◌, ◌≤◌, length}
+use Rattle.std.proofs.Common.{◌≡◌, ◌-◌, length}
 use Rattle.jc_base.specs.Device.{WentOut}
 use Rattle.jc_base.proofs.sink.write_all.Given as goal
 
@@ -6,7 +6,7 @@ use Rattle.jc_base.proofs.sink.write_all.Given as goal
 abbrev pub invariant-loop-at : goal.invariant-loop-at
 invariant-loop-at g l = record {
   out : WentOut (g.W.ByteSink.written l.fn.sink) (g.W.ByteSink.written l.sink) l.text l.at;
-  count : g.W.ByteSink.failures l.fn.sink ≤ g.W.ByteSink.failures l.sink;
+  stays : g.W.ByteSink.failures l.sink ≡ g.W.ByteSink.failures l.fn.sink;
   lent : g.W.ByteSink.lent l.sink ≡ g.W.ByteSink.lent l.fn.sink;
 }
 
