@@ -3,7 +3,6 @@ use Rattle.std.proofs.Common.{◌≡◌, ℕ, ◌^◌, ◌<◌, ◌&&◌, ltb, e
 use Rattle.std.specs.Prelude.{codes, IfSome}
 use Rattle.std.proofs.lemmas.Bool.{and_parts, eqb-true, lt-ltb, ltb-true}
 use Rattle.std.proofs.lemmas.Option.{cond_some}
-use Rattle.jc_base.specs.Number.{IsId}
 use Rattle.jc_base.specs.declared.id.Id128.{Id128}
 use Rattle.jc_base.specs.declared.id.Key.{Key}
 use Rattle.jc_upload.specs.Answer.{IsPair}
@@ -30,7 +29,7 @@ of_found : (position : ℕ) (pair : Option (Id128 × ℕ)) (point : Point) → p
 of_found position None point small ok e =
     let taken = cond_some (eqb position 0) (point_with position None) point e in
     subst (IsText position None) taken.1
-    (record { has_last = eqb-true position 0 taken.0; position_in = small; id = tt }, refl)
+    (record { has_last = eqb-true position 0 taken.0; position_in = small }, refl)
 of_found position (Some pair) point small ok e =
     let behind = ltb 0 position in
     let positive = ltb 0 pair.1 in
@@ -40,9 +39,8 @@ of_found position (Some pair) point small ok e =
     let first = and_parts behind positive parts.0 in
     subst (IsText position (Some pair)) taken.1 (
       record {
-        has_last = (ltb-true 0 position first.0, record { positive = ltb-true 0 pair.1 first.1; small = ltb-true pair.1 (2 ^ 63) parts.1 });
+        has_last = (ltb-true 0 position first.0, record { id = ok.id; positive = ltb-true 0 pair.1 first.1; small = ltb-true pair.1 (2 ^ 63) parts.1 });
         position_in = small;
-        id = ok.id;
       },
       refl,
     )
@@ -88,29 +86,29 @@ high_resume =
     (high_more 109 (codes "e") (omega arith)
     (high_more 101 [] (omega arith) high_none)))))
 
-point_again : (position : ℕ) (last : Option Key) → position < 2 ^ 64 → HasLast position last → IfSome last (λ key. IsId key.seqnum_id.0)
+point_again : (position : ℕ) (last : Option Key) → position < 2 ^ 64 → HasLast position last
     → resume_at (resume_text (point_with position last)) ≡ Some (point_with position last)
 unfolding resume_at point_at
-point_again position None small lawful ok =
+point_again position None small lawful =
     rw (
       word_again 32 (codes "resume") (point_rest position None) (omega arith) high_resume,
       number_at_again 32 position (45 ∷ 32 ∷ 45 ∷ 10 ∷ []) (omega arith) small,
       pair_again 10 None [] (omega arith) tt,
       lawful,
     ) refl
-point_again position (Some key) small lawful ok =
+point_again position (Some key) small lawful =
     let pair : Id128 × ℕ = (key.seqnum_id, key.seqnum) in
     rw (
       word_again 32 (codes "resume") (point_rest position (Some pair)) (omega arith) high_resume,
       number_at_again 32 position (pair_then (Some pair) 10 []) (omega arith) small,
-      pair_again 10 (Some pair) [] (omega arith) (record { id = ok; number = omega (arith, lawful.1.small) }),
+      pair_again 10 (Some pair) [] (omega arith) (record { id = lawful.1.id; number = omega (arith, lawful.1.small) }),
       lt-ltb 0 position lawful.0,
       lt-ltb 0 key.seqnum lawful.1.positive,
       lt-ltb key.seqnum (2 ^ 63) lawful.1.small,
     ) refl
 
 pub resume_again : (point : Point) → IsPoint point → resume_at (resume_text point) ≡ Some point
-resume_again point ok = point_again point.position point.last ok.position_in ok.has_last ok.id
+resume_again point ok = point_again point.position point.last ok.position_in ok.has_last
 
 pub same_point : (a b : Point) → IsPoint a → IsPoint b → resume_text a ≡ resume_text b → a ≡ b
 same_point a b ok fine e = some_is a b (sym (resume_again a ok) ∙ ap resume_at e ∙ resume_again b fine)

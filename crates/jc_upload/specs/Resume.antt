@@ -1,6 +1,5 @@
 -- Resume points, and their texts. (own)
-use Rattle.std.specs.Prelude.{ℕ, ◌≡◌, ◌<◌, ◌^◌, List, ◌∷◌, codes, decimal, Option, Some, None, IfSome}
-use Rattle.jc_base.specs.Number.{IsId}
+use Rattle.std.specs.Prelude.{ℕ, ◌≡◌, ◌<◌, ◌^◌, List, ◌∷◌, codes, decimal, Option, Some, None}
 use Rattle.jc_base.specs.LogEntry.{IsKey}
 use Rattle.jc_base.specs.declared.id.Id128.{Id128}
 use Rattle.jc_base.specs.declared.id.Key.{Key}
@@ -35,4 +34,3 @@ resume_text point = line_of (codes "resume" ∷ decimal point.position ∷ last_
 pub record IsPoint (point : Point) : Type 0 where
   pub has_last : HasLast point.position point.last
   pub position_in : point.position < 2 ^ 64
-  pub id : IfSome point.last (λ key. IsId key.seqnum_id.0)

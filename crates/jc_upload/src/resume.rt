@@ -125,6 +125,8 @@ fn point_of(position: u64, last: Option<(Id128, u64)>) -> Option<Resume>
     match last {
         None if position == 0 => Some(Resume::default()),
         Some((seqnum_id, seqnum)) if position > 0 && seqnum > 0 && seqnum < SEQNUMS => {
+            // That an id is 16 bytes is known by this call's contract.
+            let _bytes = seqnum_id.as_bytes();
             let last = Some(Key { seqnum_id, seqnum });
             Some(Resume { position, last })
         }
