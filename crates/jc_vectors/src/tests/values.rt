@@ -1,6 +1,8 @@
 //! Ids, pairs, texts, limits and entries.
 
-use jc_base::{Code, Entry, Fault, Field, Id128, Key, Limits, is_text, split_pair};
+use jc_base::{
+    Code, Entry, Fault, Field, FieldList, FieldRef, Id128, Key, Limits, is_text, split_pair,
+};
 use jc_samples::SEQNUM_ID;
 use std::alloc::Global;
 use std::test::Fail;
