@@ -1,9 +1,6 @@
 //! The program `journal-collect`.
 #![tactic(auto)]
 
-#[cfg(test)]
-mod tests;
-
 pub use jc_command::command;
 use jc_console::Failure;
 use std::process::ExitCode;

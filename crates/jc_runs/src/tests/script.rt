@@ -26,7 +26,7 @@
 
 use super::pieces::{add, add_pieces, bad_line};
 use super::room::Room;
-use crate::command;
+use jc_command::command;
 use jc_database::{DatabaseStore, Databases};
 use jc_samples::SOURCE;
 use std::alloc::Global;

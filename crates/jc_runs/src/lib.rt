@@ -1,0 +1,5 @@
+//! Runs of every command, as scripts.
+#![tactic(auto)]
+
+#[cfg(test)]
+mod tests;
