@@ -1,10 +1,13 @@
 //! The same rows over database files. Only this module sees the store of a file.
 
+use super::conflicts::readings;
 use super::journals::{Databases, Tables};
 use super::listings::check_listings;
+use super::other_tables::every_table;
 use super::rows::worked_runs;
 use sqlite::{Connection, File, FileStore};
 use std::path::PathBuf;
+use std::process::Abort;
 use std::test::Fail;
 use std::{env, fs, process};
 
@@ -42,6 +45,17 @@ impl DatabaseFiles<'_> {
     }
 }
 
+/// The rows over databases of one kind. The kind is known to its caller alone, and so is the store.
+fn every_row<D: Databases>(
+    rt: &(impl Abort + AllocGlobal),
+    tables: &mut Tables<D>,
+) -> Result<(), Fail> {
+    readings(rt, tables)?;
+    worked_runs(rt, tables)?;
+    check_listings(rt, tables)?;
+    every_table(rt, tables)
+}
+
 #[test]
 fn rows_over_database_files(rt: HostRuntime) -> Result<(), Fail> {
     let alloc = rt.alloc();
@@ -55,8 +69,7 @@ fn rows_over_database_files(rt: HostRuntime) -> Result<(), Fail> {
         made: 0,
     };
     let mut tables = Tables { alloc, databases };
-    worked_runs(&rt, &mut tables)?;
-    check_listings(&rt, &mut tables)?;
+    every_row(&rt, &mut tables)?;
     fs::remove_dir_all(&rt, folder.as_path())?;
     Ok(())
 }
