@@ -31,25 +31,25 @@ impl<R: ByteStream> FailStream<R> {
 }
 
 impl<R: ByteStream> ByteStream for FailStream<R> {
-    ghost to_come = { λ s. R.to_come s.inner };
+    ghost remaining = { λ s. R.remaining s.inner };
 
     ghost bound = { λ s. R.bound s.inner };
 
     ghost failures = { λ s. count_with (R.failures s.inner) s.passes };
 
-    ghost lent = { λ s. R.lent s.inner };
+    ghost borrowed_device = { λ s. R.borrowed_device s.inner };
 
     ghost small = { λ s. R.small s.inner };
 
     fn read(&mut self, out: &mut [u8]) -> Result<usize, ReadFailed>
         ensures within { ReadsAtMost result out.new }
-        ensures bytes { ReadConsumes (R.to_come self.old.inner) (R.to_come self.new.inner) result out.new }
+        ensures bytes { ReadConsumes (R.remaining self.old.inner) (R.remaining self.new.inner) result out.new }
         ensures bound { BoundFalls (R.bound self.old.inner) (R.bound self.new.inner) result }
         ensures failures { CountsFailure (count_with (R.failures self.old.inner) self.old.passes)
             (count_with (R.failures self.new.inner) self.new.passes) result }
         ensures stays { OnOk result (count_with (R.failures self.new.inner) self.new.passes
             ≡ count_with (R.failures self.old.inner) self.old.passes) }
-        ensures lent { R.lent self.new.inner ≡ R.lent self.old.inner }
+        ensures borrowed_device { R.borrowed_device self.new.inner ≡ R.borrowed_device self.old.inner }
 
         // The call that fails is the one behind those that are passed on, and it reaches no inner stream.
         ensures turn { TakesTurn self.old.passes self.new.passes }
@@ -89,7 +89,7 @@ impl<W: ByteSink> ByteSink for FailSink<W> {
 
     ghost failures = { λ s. count_with (W.failures s.inner) s.passes };
 
-    ghost lent = { λ s. W.lent s.inner };
+    ghost borrowed_device = { λ s. W.borrowed_device s.inner };
 
     fn write(&mut self, piece: &[u8]) -> Result<usize, WriteFailed>
         ensures within { WritesAtMost result piece.now }
@@ -99,7 +99,7 @@ impl<W: ByteSink> ByteSink for FailSink<W> {
             (count_with (W.failures self.new.inner) self.new.passes) result }
         ensures stays { OnOk result (count_with (W.failures self.new.inner) self.new.passes
             ≡ count_with (W.failures self.old.inner) self.old.passes) }
-        ensures lent { W.lent self.new.inner ≡ W.lent self.old.inner }
+        ensures borrowed_device { W.borrowed_device self.new.inner ≡ W.borrowed_device self.old.inner }
 
         // The call that fails is the one behind those that are passed on, and it reaches no inner sink.
         ensures turn { TakesTurn self.old.passes self.new.passes }

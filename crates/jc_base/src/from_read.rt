@@ -17,7 +17,7 @@ pub struct FromRead<R> {
 
 impl<R: Read> FromRead<R> {
     pub fn new(reader: R) -> FromRead<R>
-        ensures bytes { ⟦<FromRead<R> as ByteStream>⟧.to_come result ≡ R.remaining reader }
+        ensures bytes { ⟦<FromRead<R> as ByteStream>⟧.remaining result ≡ R.remaining reader }
         ensures failures { ⟦<FromRead<R> as ByteStream>⟧.failures result ≡ 0 }
     {
         FromRead {
@@ -29,7 +29,7 @@ impl<R: Read> FromRead<R> {
 }
 
 impl<R: Read> ByteStream for FromRead<R> {
-    ghost to_come = { λ s. R.remaining s.reader };
+    ghost remaining = { λ s. R.remaining s.reader };
 
     ghost bound = { λ s. s.left };
 

@@ -17,7 +17,7 @@ pub trait ByteSink {
     ghost failures: { Self → ℕ };
 
     /// The borrowed device behind it, where it is only lent.
-    ghost lent: { Self → List GName } = { λ _. [] };
+    ghost borrowed_device: { Self → List GName } = { λ _. [] };
 
     /// Takes a front of the piece and answers its length: at least one byte of a piece that isn't empty.
     fn write(&mut self, piece: &[u8]) -> Result<usize, WriteFailed>
@@ -26,7 +26,7 @@ pub trait ByteSink {
         ensures bytes { WriteAppends (written self.old) (written self.new) result piece.now }
         ensures failures { CountsFailure (failures self.old) (failures self.new) result }
         ensures stays { OnOk result (failures self.new ≡ failures self.old) }
-        ensures lent { lent self.new ≡ lent self.old };
+        ensures borrowed_device { borrowed_device self.new ≡ borrowed_device self.old };
 }
 
 /// How many bytes of a text went out before a sink failed.
@@ -43,7 +43,7 @@ pub fn write_all<W: ByteSink>(sink: &mut W, text: &[u8]) -> Result<(), Written>
     ensures err { IfErr result (λ out. WentOut (W.written sink.old) (W.written sink.new) text.now out.bytes) }
     ensures failures { CountsFailure (W.failures sink.old) (W.failures sink.new) result }
     ensures stays { OnOk result (W.failures sink.new ≡ W.failures sink.old) }
-    ensures lent { W.lent sink.new ≡ W.lent sink.old }
+    ensures borrowed_device { W.borrowed_device sink.new ≡ W.borrowed_device sink.old }
 {
     let mut at = 0;
     while at < text.len() {

@@ -13,14 +13,14 @@ pub struct SliceStream<'a> {
 
 impl<'a> SliceStream<'a> {
     pub fn new(bytes: &'a [u8]) -> SliceStream<'a>
-        ensures { ⟦<SliceStream<'a> as ByteStream>⟧.to_come result ≡ Some bytes.now }
+        ensures { ⟦<SliceStream<'a> as ByteStream>⟧.remaining result ≡ Some bytes.now }
     {
         SliceStream { rest: bytes }
     }
 }
 
 impl ByteStream for SliceStream<'_> {
-    ghost to_come = { λ s. Some s.rest.now };
+    ghost remaining = { λ s. Some s.rest.now };
 
     ghost bound = { λ s. length s.rest.now };
 

@@ -11,7 +11,7 @@ use crate::ReadFailed;
 /// A stream of bytes, which is read once and in order.
 pub trait ByteStream {
     /// The bytes still to come, where the stream tells them.
-    ghost to_come: { Self → Option (List ℕ) } = { λ _. None };
+    ghost remaining: { Self → Option (List ℕ) } = { λ _. None };
 
     /// A bound on their number.
     ghost bound: { Self → ℕ };
@@ -20,17 +20,17 @@ pub trait ByteStream {
     ghost failures: { Self → ℕ };
 
     /// The borrowed device behind it, where it is only lent.
-    ghost lent: { Self → List GName } = { λ _. [] };
+    ghost borrowed_device: { Self → List GName } = { λ _. [] };
 
     /// Reads into `out` and answers how many bytes came, as many as the stream likes but at least one. 0 says that
     /// the stream has ended, or that `out` is empty.
     fn read(&mut self, out: &mut [u8]) -> Result<usize, ReadFailed>
         ensures within { ReadsAtMost result out.new }
-        ensures bytes { ReadConsumes (to_come self.old) (to_come self.new) result out.new }
+        ensures bytes { ReadConsumes (remaining self.old) (remaining self.new) result out.new }
         ensures bound { BoundFalls (bound self.old) (bound self.new) result }
         ensures failures { CountsFailure (failures self.old) (failures self.new) result }
         ensures stays { OnOk result (failures self.new ≡ failures self.old) }
-        ensures lent { lent self.new ≡ lent self.old };
+        ensures borrowed_device { borrowed_device self.new ≡ borrowed_device self.old };
 
     ghost small: { (s : Self) → bound s < 2 ^ 64 };
 }

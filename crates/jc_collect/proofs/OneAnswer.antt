@@ -25,7 +25,7 @@ use Rattle.jc_upload.specs.declared.answer.Answer.TheVariants.{Ack, No}
 use Rattle.jc_upload.specs.declared.head.UploadHead.{UploadHead}
 use Rattle.jc_upload.specs.Head.{IsHead, IsHeadFault, head_text}
 use Rattle.jc_collect.specs.Accepted.{IsStoredBefore}
-use Rattle.jc_collect.specs.Answer.{IsAnswer, IsTaken, IsRefused, IsUnread, AreNew, TellsConflict, TellsFault, named_by}
+use Rattle.jc_collect.specs.Answer.{IsAnswerTo, IsTaken, IsRefused, IsUnread, AreNew, TellsConflict, TellsFault, named_by}
 use Rattle.jc_collect.specs.Says.{SaysBehind}
 use Rattle.jc_collect.proofs.Lists.{length_more}
 use Rattle.jc_collect.proofs.OneMore.{SaysOnce, end_not_bad}
@@ -187,7 +187,7 @@ module _
       end_not_bad left w.fault (sym t.ended ∙ ap (λ (r : Reading). r.ending) same ∙ w.ended))
       x.why
 
-  pub answer_once : (x y : Answer) → IsAnswer limits upload m x → IsAnswer limits upload m y → x ≡ y
+  pub answer_once : (x y : Answer) → IsAnswerTo limits upload m x → IsAnswerTo limits upload m y → x ≡ y
   answer_once (Ack s a c e g) (Ack t b d f h) x y = taken_once (s, a) (t, b) c d e f g h x y
   answer_once (Ack s a c e g) (No None b d) x y = absurd (not_unread x.head x.reading b d x.says y)
   answer_once (Ack s a c e g) (No (Some p) b d) x y = absurd (not_refused (s, a) p c e g b d x y)

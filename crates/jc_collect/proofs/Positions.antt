@@ -12,7 +12,7 @@ use Rattle.jc_store.specs.Agree.{Agree, IsStored, StandsIn}
 use Rattle.jc_upload.specs.declared.answer.Answer.{Answer}
 use Rattle.jc_upload.specs.declared.answer.Answer.TheVariants.{Ack, No}
 use Rattle.jc_collect.specs.Accepted.{SaysEntry, WasAccepted, StoredBefore, IsAcceptedAt, IsStoredBefore}
-use Rattle.jc_collect.specs.Answer.{IsAnswer, IsFailure, IsTaken, TellsConflict, TellsFault, is_failure, is_failure_code}
+use Rattle.jc_collect.specs.Answer.{IsAnswerTo, IsFailure, IsTaken, TellsConflict, TellsFault, is_failure, is_failure_code}
 use Rattle.jc_collect.specs.Position.{Answers, Joins, Leaves}
 use Rattle.jc_collect.specs.Says.{Says}
 use Rattle.jc_collect.proofs.Lists.{get_last, get_cases, length_more}
@@ -61,7 +61,7 @@ module _ (once : SaysOnce) (limits : Limits) (uploads : List (List ℕ)) (upload
       agree : (r : Reading) → Says limits upload r → Agree mid r.entries
       agree r says e f in_e in_f = h.agrees e f (stands_in r says e in_e) (stands_in r says f in_f)
 
-      not_refused : (of : Option (Id128 × ℕ)) (code place : ℕ) → ¬ IsAnswer limits upload mid (No of code place)
+      not_refused : (of : Option (Id128 × ℕ)) (code place : ℕ) → ¬ IsAnswerTo limits upload mid (No of code place)
       not_refused None code place a =
           not_faulty (reading [] (Bad a.fault)) a.fault (inl (record { fault = a.fault; shown = a.shown; nothing = refl })) refl
       not_refused (Some of) code place a =
@@ -72,7 +72,7 @@ module _ (once : SaysOnce) (limits : Limits) (uploads : List (List ℕ)) (upload
           a.why
 
     no_accepted : (of : Option (Id128 × ℕ)) (code place : ℕ) (fails mark : Bool)
-        → MatchBool fails (IsFailure upload (No of code place)) (IsAnswer limits upload mid (No of code place)) → ¬ In fails mark
+        → MatchBool fails (IsFailure upload (No of code place)) (IsAnswerTo limits upload mid (No of code place)) → ¬ In fails mark
     no_accepted of code place true mark a h =
         h.passed (ap (λ k. slice_get (failed ++ true ∷ []) k) (sym all) ∙ get_last failed true)
     no_accepted of code place false mark a h = not_refused mark h of code place a

@@ -7,7 +7,7 @@ use Rattle.std.proofs.lemmas.List.Elements.{All-append}
 use Rattle.jc_base.specs.Device.{WentOut}
 use Rattle.jc_upload.specs.Answer.{IsAnswer, answer_text}
 use Rattle.jc_upload.specs.declared.answer.Answer.{Answer}
-use Rattle.jc_collect.specs.Run.{AreTold, AreToldUpTo, lines_of}
+use Rattle.jc_collect.specs.Run.{AreTold, AreToldUpTo, lines_of_answers}
 use Rattle.jc_collect.proofs.Lists.{length_more}
 use Rattle.jc_collect.proofs.UnderWay.{lines_more}
 
@@ -28,7 +28,7 @@ module _ (count : ℕ) (before written now : Option (List ℕ)) (answer : Answer
     number = length_more told.answers answer ∙ ap (λ n. n + 1) told.number;
     lawful = one_more told.answers answer told.lawful lawful;
     lines = subst (λ (l : List ℕ). Appends before now l) (sym (lines_more told.answers answer))
-        (Appends-trans before written now (lines_of told.answers) (answer_text answer) told.lines out);
+        (Appends-trans before written now (lines_of_answers told.answers) (answer_text answer) told.lines out);
   }
 
   pub told_up_to : (bytes : ℕ) → WentOut written now (answer_text answer) bytes → AreToldUpTo count bytes before now
@@ -38,5 +38,5 @@ module _ (count : ℕ) (before written now : Option (List ℕ)) (answer : Answer
     number = told.number;
     lawful = one_more told.answers answer told.lawful lawful;
     within = out.within;
-    lines = Appends-trans before written now (lines_of told.answers) (take bytes (answer_text answer)) told.lines out.front;
+    lines = Appends-trans before written now (lines_of_answers told.answers) (take bytes (answer_text answer)) told.lines out.front;
   }

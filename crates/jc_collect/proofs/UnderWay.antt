@@ -16,7 +16,7 @@ use Rattle.jc_upload.specs.Answer.{answer_text}
 use Rattle.jc_upload.specs.declared.answer.Answer.{Answer}
 use Rattle.jc_upload.specs.declared.answer.Answer.TheVariants.{Ack, No}
 use Rattle.jc_collect.specs.Position.{Collects, HasCode, HasCause}
-use Rattle.jc_collect.specs.Run.{Seen, seen, Collected, RunsToEnd, StopsAt, lines_of}
+use Rattle.jc_collect.specs.Run.{Seen, seen, Collected, RunsToEnd, StopsAt, lines_of_answers}
 use Rattle.jc_collect.proofs.CollectedMore.{collected_none, collected_more}
 use Rattle.jc_collect.proofs.Lists.{get_set_other, index_set_other, index_set, index_map, take_more, told_at, same_length}
 use Rattle.jc_collect.proofs.OneMore.{SaysOnce}
@@ -37,9 +37,9 @@ pub record UnderWay {D : Type 0} (Premise : Type 0) (told : D → Option (List �
   pub kept : Premise → (e : LogEntry) → IsStored before.journal e → IsStored now.journal e
   pub ran : Premise → (uploads : List (List ℕ)) → map told first ≡ map (λ u. Some u) uploads → RunsToEnd limits (take done uploads) before now
 
-pub lines_more : (answers : List Answer) (answer : Answer) → lines_of (answers ++ answer ∷ []) ≡ lines_of answers ++ answer_text answer
+pub lines_more : (answers : List Answer) (answer : Answer) → lines_of_answers (answers ++ answer ∷ []) ≡ lines_of_answers answers ++ answer_text answer
 lines_more answers answer =
-    flat_map-append answer_text answers (answer ∷ []) ∙ ap (λ l. lines_of answers ++ l) (append-nil (answer_text answer))
+    flat_map-append answer_text answers (answer ∷ []) ∙ ap (λ l. lines_of_answers answers ++ l) (append-nil (answer_text answer))
 
 module _ {D : Type 0} (Premise : Type 0) (told : D → Option (List ℕ)) (fails : D → ℕ) (limits : Limits) (first : List D) where
   pub under_way_none : (before : Seen) → UnderWay Premise told limits first before 0 first before
@@ -111,7 +111,7 @@ module _ {D : Type 0} (Premise : Type 0) (told : D → Option (List ℕ)) (fails
         inside = inside;
         collected = one_more;
         within = out.within;
-        lines = Appends-trans before.written written written_now (lines_of ran.answers) (take count (answer_text answer)) ran.lines out.front;
+        lines = Appends-trans before.written written written_now (lines_of_answers ran.answers) (take count (answer_text answer)) ran.lines out.front;
       }
 
       goes_on : Appends written written_now (answer_text answer) → RunsToEnd limits (take (done + 1) uploads) before after
@@ -119,7 +119,7 @@ module _ {D : Type 0} (Premise : Type 0) (told : D → Option (List ℕ)) (fails
         answers = ran.answers ++ answer ∷ [];
         collected = one_more;
         lines = subst (λ (l : List ℕ). Appends before.written written_now l) (sym (lines_more ran.answers answer))
-            (Appends-trans before.written written written_now (lines_of ran.answers) (answer_text answer) ran.lines out);
+            (Appends-trans before.written written written_now (lines_of_answers ran.answers) (answer_text answer) ran.lines out);
       }
 
     pub under_way_more : SaysOnce → (Premise → Collects limits (told was) journal answer left) → Appends written written_now (answer_text answer)

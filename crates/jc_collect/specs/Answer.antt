@@ -68,10 +68,10 @@ pub record IsUnread (upload : List ℕ) (code place : ℕ) : Type 0 where
   pub told : Tells fault code place
 
 -- The answer to an upload over what is stored.
-abbrev pub IsAnswer : Limits → (upload : List ℕ) → Journal → Answer → Type 0
-IsAnswer limits upload journal (Ack source start count new left) = IsTaken limits upload journal (source, start) count new left
-IsAnswer limits upload journal (No None code place) = IsUnread upload code place
-IsAnswer limits upload journal (No (Some of) code place) = IsRefused limits upload journal of code place
+abbrev pub IsAnswerTo : Limits → (upload : List ℕ) → Journal → Answer → Type 0
+IsAnswerTo limits upload journal (Ack source start count new left) = IsTaken limits upload journal (source, start) count new left
+IsAnswerTo limits upload journal (No None code place) = IsUnread upload code place
+IsAnswerTo limits upload journal (No (Some of) code place) = IsRefused limits upload journal of code place
 
 -- ---- a failure in place of the answer
 

@@ -6,17 +6,17 @@ use Rattle.jc_base.specs.Device.{Rose}
 use Rattle.jc_base.specs.Fault.{number_of}
 use Rattle.jc_base.specs.Journal.{Journal}
 use Rattle.jc_base.specs.Reading.{Reading}
-use Rattle.jc_store.specs.Absorb.{TakesAll}
+use Rattle.jc_store.specs.Absorb.{TakesWhole}
 use Rattle.jc_store.specs.Agree.{HasBoth}
 use Rattle.jc_upload.specs.declared.answer.Answer.{Answer}
 use Rattle.jc_upload.specs.declared.answer.Answer.TheVariants.{Ack, No}
 use Rattle.jc_collect.specs.Says.{Says}
-use Rattle.jc_collect.specs.Answer.{IsAnswer, IsFailure, is_failure}
+use Rattle.jc_collect.specs.Answer.{IsAnswerTo, IsFailure, is_failure}
 
 -- A failure is reported, or else the answer to the upload.
 abbrev pub Answers : Limits → (upload : List ℕ) → Journal → Answer → Type 0
 Answers limits upload journal answer =
-    MatchBool (is_failure answer) (IsFailure upload answer) (IsAnswer limits upload journal answer)
+    MatchBool (is_failure answer) (IsFailure upload answer) (IsAnswerTo limits upload journal answer)
 
 -- The journal afterwards has the entries of the one before and of the upload, and no others.
 pub record Joins (limits : Limits) (upload : List ℕ) (before after : Journal) : Type 0 where
@@ -37,7 +37,7 @@ pub record IsPosition (limits : Limits) (upload : List ℕ) (before : Journal) (
 -- The same if the delivery's bytes aren't known: what is acknowledged is some reading, taken up whole.
 abbrev pub LeavesUntold : (before : Journal) → Answer → (after : Journal) → Type 0
 LeavesUntold before (Ack source start count new left) after =
-    (reading : Reading) × TakesAll before reading count new left after
+    (reading : Reading) × TakesWhole before reading count new left after
 LeavesUntold before (No of code place) after = after ≡ before
 
 -- What a delivery does, by whether its bytes are known.

@@ -70,14 +70,14 @@ pub record Collected (limits : Limits) (uploads : List (List ℕ)) (before after
   pub stores : AreCaused StoreFailed answers (λ _. Rose before.store_failures after.store_failures)
 
 -- the lines of answers, in order
-abbrev pub lines_of : List Answer → List ℕ
-lines_of answers = flat_map answer_text answers
+abbrev pub lines_of_answers : List Answer → List ℕ
+lines_of_answers answers = flat_map answer_text answers
 
 -- All uploads were collected, and the line of each answer was written.
 pub record RunsToEnd (limits : Limits) (uploads : List (List ℕ)) (before after : Seen) : Type 0 where
   pub answers : List Answer
   pub collected : Collected limits uploads before after answers
-  pub lines : Appends before.written after.written (lines_of answers)
+  pub lines : Appends before.written after.written (lines_of_answers answers)
 
 -- The sink failed in the line of the upload with this number, from 0, which was already collected. The lines before it
 -- were written, and this many bytes of its own.
@@ -88,7 +88,7 @@ pub record StopsAt (limits : Limits) (uploads : List (List ℕ)) (before after :
   pub inside : done < length uploads
   pub collected : Collected limits (take (done + 1) uploads) before after (answers ++ last ∷ [])
   pub within : written ≤ length (answer_text last)
-  pub lines : Appends before.written after.written (lines_of answers ++ take written (answer_text last))
+  pub lines : Appends before.written after.written (lines_of_answers answers ++ take written (answer_text last))
 
 -- A run over uploads, and how it ended.
 abbrev pub IsRun : Limits → (uploads : List (List ℕ)) → (before : Seen) → RunEnd → (after : Seen) → Type 0
@@ -102,7 +102,7 @@ pub record AreTold (count : ℕ) (before now : Option (List ℕ)) : Type 0 where
   pub answers : List Answer
   pub number : length answers ≡ count
   pub lawful : All IsAnswer answers
-  pub lines : Appends before now (lines_of answers)
+  pub lines : Appends before now (lines_of_answers answers)
 
 -- ... and after them this many bytes of the line of one more.
 pub record AreToldUpTo (count written : ℕ) (before now : Option (List ℕ)) : Type 0 where
@@ -111,7 +111,7 @@ pub record AreToldUpTo (count written : ℕ) (before now : Option (List ℕ)) : 
   pub number : length answers ≡ count
   pub lawful : All IsAnswer (answers ++ last ∷ [])
   pub within : written ≤ length (answer_text last)
-  pub lines : Appends before now (lines_of answers ++ take written (answer_text last))
+  pub lines : Appends before now (lines_of_answers answers ++ take written (answer_text last))
 
 -- A run over this many deliveries writes a line for each of them, or up to the place at which it stopped.
 abbrev pub TellsEach : (deliveries : ℕ) → (before now : Option (List ℕ)) → RunEnd → Type 0

@@ -52,7 +52,7 @@ impl Unread {
 
 /// Reads the header that a stream begins with, and no byte after it.
 pub(crate) fn read_head<R: ByteStream>(device: &mut R) -> Result<UploadHead, Unread>
-    ensures begins { BeginsUpload (R.to_come device.old) (R.to_come device.new) result }
+    ensures begins { BeginsUpload (R.remaining device.old) (R.remaining device.new) result }
     ensures never_falls { R.failures device.old ≤ R.failures device.new }
     ensures cause { result ≡ Err ReadingFailed → Rose (R.failures device.old) (R.failures device.new) }
 {
@@ -99,9 +99,9 @@ fn head_in(bytes: &[u8; 48], came: u64) -> Result<UploadHead, Unread>
 
 /// Reads bytes until they are full or the stream ends, and answers how many came.
 fn fill<R: ByteStream>(device: &mut R, bytes: &mut [u8]) -> Result<usize, ReadFailed>
-    ensures came { IfOk result (λ came. Consumes (R.to_come device.old) (R.to_come device.new) (take came bytes.new)) }
+    ensures came { IfOk result (λ came. Consumes (R.remaining device.old) (R.remaining device.new) (take came bytes.new)) }
     ensures within { IfOk result (λ came. came ≤ length bytes.new) }
-    ensures end { IfOk result (λ came. came < length bytes.new → IsAtEnd (R.to_come device.new)) }
+    ensures end { IfOk result (λ came. came < length bytes.new → IsAtEnd (R.remaining device.new)) }
     ensures failures { CountsFailure (R.failures device.old) (R.failures device.new) result }
 {
     let mut came = 0;

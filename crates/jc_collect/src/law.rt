@@ -6,7 +6,7 @@ ghost use Rattle.jc_base.specs.Journal.{Journal};
 ghost use Rattle.jc_base.specs.Reading.{Reading};
 ghost use Rattle.jc_upload.specs.declared.answer.Answer.{Answer};
 ghost use Rattle.jc_collect.specs.Accepted.{AreAccepted, IsStoredBefore};
-ghost use Rattle.jc_collect.specs.Answer.{IsAnswer};
+ghost use Rattle.jc_collect.specs.Answer.{IsAnswerTo};
 ghost use Rattle.jc_collect.specs.Says.{Says};
 
 /// No upload says two things. Does nothing.
@@ -35,7 +35,7 @@ pub fn one_journal_stored()
 /// Over a journal no upload has two answers. Does nothing.
 pub fn one_answer()
     ensures { (limits : Limits) (upload : List ℕ) (journal : Journal) (a b : Answer) →
-        IsAnswer limits upload journal a → IsAnswer limits upload journal b → a ≡ b }
+        IsAnswerTo limits upload journal a → IsAnswerTo limits upload journal b → a ≡ b }
 {
     one_saying();
     jc_upload::one_head();

@@ -6,7 +6,7 @@ mod collect;
 mod delivery;
 mod head;
 mod law;
-mod lent;
+mod borrowed_device;
 mod runs;
 mod space_stream;
 mod whole;

@@ -20,7 +20,7 @@ pub(crate) struct SpaceStream<B: ByteSpace> {
 impl<B: ByteSpace> SpaceStream<B> {
     pub(crate) fn new(space: B) -> SpaceStream<B>
         ensures space { result.space ≡ space }
-        ensures to_come { ⟦<SpaceStream<B> as ByteStream>⟧.to_come result ≡ B.bytes space }
+        ensures remaining { ⟦<SpaceStream<B> as ByteStream>⟧.remaining result ≡ B.bytes space }
     {
         let len = space.len();
         SpaceStream {
@@ -32,13 +32,13 @@ impl<B: ByteSpace> SpaceStream<B> {
 }
 
 impl<B: ByteSpace> ByteStream for SpaceStream<B> {
-    ghost to_come = { λ s. known_from s.place (B.bytes s.space) };
+    ghost remaining = { λ s. known_from s.place (B.bytes s.space) };
 
     ghost bound = { λ s. s.len - s.place };
 
     ghost failures = { λ s. B.failures s.space };
 
-    ghost lent = { λ s. B.lent s.space };
+    ghost borrowed_device = { λ s. B.borrowed_device s.space };
 
     ghost small = { λ s. small_rest s.len s.place s.small };
 

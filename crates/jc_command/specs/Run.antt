@@ -8,9 +8,9 @@ use Rattle.jc_console.specs.declared.failure.Failure.{Failure}
 use Rattle.jc_console.specs.declared.failure.Failure.TheVariants.{CannotOpen, OutOfMemory, ReadFailed, WriteFailed}
 use Rattle.jc_console.specs.declared.status.Status.{Status}
 use Rattle.jc_console.specs.declared.status.Status.TheVariants.{Success, Refused, Misused, Failed}
-use Rattle.jc_words.specs.declared.request.Request.{Request}
-use Rattle.jc_words.specs.declared.request.Request.TheVariants.{Collect, CollectListed, Show, Check, Verify, Upload, Ack, ListCodes}
-use Rattle.jc_words.specs.declared.request.Request.TheVariants as request
+use Rattle.jc_args.specs.declared.request.Request.{Request}
+use Rattle.jc_args.specs.declared.request.Request.TheVariants.{Collect, CollectListed, Show, Check, Verify, Upload, Ack, ListCodes}
+use Rattle.jc_args.specs.declared.request.Request.TheVariants as request
 use Rattle.jc_database.specs.Answered.{TellsAnswers, number_of_uploads}
 use Rattle.jc_database.specs.Checked.{IsHealth, TellsHealth}
 use Rattle.jc_database.specs.Database.{CheckFailsBy, CollectFailsBy, DatabaseFailsBy, ShowFailsBy}
@@ -20,7 +20,7 @@ use Rattle.jc_sender.specs.Sent.{TellsSomeUpload}
 use Rattle.jc_sender.specs.Failing.{AckFailsBy, UploadFailsBy}
 use Rattle.jc_sender.specs.Taken.{TellsSomePoint}
 use Rattle.jc_sender.specs.Verdict.{TellsReading}
-use Rattle.jc_words.specs.Words.{AreWrong, AskFor, AskForHelp}
+use Rattle.jc_args.specs.Words.{AreWrong, AskFor, AskForHelp}
 
 -- What standard output gains when a request is performed, over what standard input gives, and the status: from `verify` a
 -- reading, from `upload` an upload, from `ack` a resume point, from `collect` an answer to each upload, and from `check`

@@ -3,7 +3,7 @@
 ghost use Rattle.std.specs.Prelude.{◌≡◌, ◌≢◌, ◌≤◌, ⊤, Ok, Err, OnOk, IfOk, IfErr, map, string_bytes};
 ghost use Rattle.std.specs.Io.KnownBytes.{Appends, Keeps};
 ghost use Rattle.clap.specs.Words.{kind_of};
-ghost use Rattle.jc_words.specs.Answer.{IsAskedFor};
+ghost use Rattle.jc_args.specs.Answer.{IsAskedFor};
 ghost use Rattle.jc_console.specs.Failure.{status_of};
 ghost use Rattle.jc_command.specs.Run.{Ends, FailsBy, Performs, Stops};
 
@@ -11,7 +11,7 @@ use clap::error::ErrorKind;
 use jc_console::{Failure, Status, printed};
 use jc_database::{Databases, check, collect, collect_listed, export, show};
 use jc_sender::{ack, upload, verify};
-use jc_words::{CODES, Request, parse};
+use jc_args::{CODES, Request, parse};
 use std::io::{Read, Write};
 use std::rt::Files;
 

@@ -50,7 +50,7 @@ tells_both count count' status status' old mid new one other = record {
   lawful = All-append IsAnswer one.answers other.answers one.lawful other.lawful;
   is = ap₂ worse one.is other.is ∙ sym (judged_both one.answers other.answers);
   printed = subst (λ (l : List ℕ). Appends old new l) (sym (flat_map-append answer_text one.answers other.answers))
-      (Appends-trans old mid new (run.lines_of one.answers) (run.lines_of other.answers) one.printed other.printed);
+      (Appends-trans old mid new (run.lines_of_answers one.answers) (run.lines_of_answers other.answers) one.printed other.printed);
 }
 
 one_lawful : (answer : Answer) → IsAnswer answer → All IsAnswer (answer ∷ [])

@@ -4,7 +4,7 @@ use Rattle.std.specs.Io.KnownBytes.{Appends}
 use Rattle.std.specs.List.{All, list_any}
 use Rattle.std.proofs.Props.{props}
 use Rattle.jc_collect.specs.Answer.{is_failure, is_failure_code}
-use Rattle.jc_collect.specs.Run.{lines_of}
+use Rattle.jc_collect.specs.Run.{lines_of_answers}
 use Rattle.jc_upload.specs.Answer.{IsAnswer}
 use Rattle.jc_upload.specs.declared.answer.Answer.{Answer}
 use Rattle.jc_upload.specs.declared.answer.Answer.TheVariants.{Ack, No}
@@ -26,7 +26,7 @@ pub record TellsAnswers (count : ℕ) (status : Status) (old new : Option (List 
   pub each : length answers ≡ count
   pub lawful : All IsAnswer answers
   pub is : status ≡ judged answers
-  pub printed : Appends old new (lines_of answers)
+  pub printed : Appends old new (lines_of_answers answers)
 
 -- how many uploads there are: those that are named, or the one on standard input
 abbrev pub number_of_uploads : (named : ℕ) → ℕ

@@ -5,7 +5,7 @@ ghost use Rattle.std.specs.Io.KnownBytes.{Appends};
 ghost use Rattle.std.specs.List.{All};
 ghost use Rattle.jc_base.specs.Device.{Rose};
 ghost use Rattle.jc_database.specs.Answered.{Appends-prop, begun, judged};
-ghost use Rattle.jc_collect.specs.Run.{lines_of};
+ghost use Rattle.jc_collect.specs.Run.{lines_of_answers};
 ghost use Rattle.jc_upload.specs.Answer.{IsAnswer};
 ghost use Rattle.jc_upload.specs.declared.answer.Answer.{Answer};
 
@@ -34,7 +34,7 @@ impl<'a, O: Write> AnswerSink<'a, O> {
     pub fn new(output: &'a mut O, lines: &'a mut Vec<u8>) -> AnswerSink<'a, O>
         requires { lines.old.items ≡ [] }
         ensures written { ⟦<AnswerSink<'a, O> as ByteSink>⟧.written result ≡ Some (begun (O.contents output.old) []) }
-        ensures lent { ⟦<AnswerSink<'a, O> as ByteSink>⟧.lent result ≡ output.entry.ghost_name ∷ [] }
+        ensures borrowed_device { ⟦<AnswerSink<'a, O> as ByteSink>⟧.borrowed_device result ≡ output.entry.ghost_name ∷ [] }
     {
         AnswerSink {
             before: Snapshot::of(output),
@@ -47,10 +47,10 @@ impl<'a, O: Write> AnswerSink<'a, O> {
 
     /// The writer, and the status by the answers that were printed; `None` if the sink has failed.
     pub fn end(self) -> (&'a mut O, Option<Status>)
-        ensures lent { result.0.ghost_name ∷ [] ≡ ⟦<AnswerSink<'a, O> as ByteSink>⟧.lent self.entry }
+        ensures borrowed_device { result.0.ghost_name ∷ [] ≡ ⟦<AnswerSink<'a, O> as ByteSink>⟧.borrowed_device self.entry }
         ensures told { IfSome result.1 (λ status. (before : Option (List ℕ)) (answers : List Answer) → All IsAnswer answers
-            → ⟦<AnswerSink<'a, O> as ByteSink>⟧.written self.entry ≡ Some (begun before (lines_of answers))
-            → (status ≡ judged answers) × Appends before (O.contents result.0.now) (lines_of answers)) }
+            → ⟦<AnswerSink<'a, O> as ByteSink>⟧.written self.entry ≡ Some (begun before (lines_of_answers answers))
+            → (status ≡ judged answers) × Appends before (O.contents result.0.now) (lines_of_answers answers)) }
     {
         let AnswerSink {
             output,
@@ -73,7 +73,7 @@ impl<O: Write> ByteSink for AnswerSink<'_, O> {
 
     ghost failures = { λ s. s.failures };
 
-    ghost lent = { λ s. s.output.ghost_name ∷ [] };
+    ghost borrowed_device = { λ s. s.output.ghost_name ∷ [] };
 
     #[tactic(auto, using(crate::proofs::Printing::goes_on))]
     fn write(&mut self, line: &[u8]) -> Result<usize, WriteFailed> {

@@ -13,13 +13,13 @@ pub struct Pieces<R> {
 }
 
 impl<R: ByteStream> ByteStream for Pieces<R> {
-    ghost to_come = { λ s. R.to_come s.inner };
+    ghost remaining = { λ s. R.remaining s.inner };
 
     ghost bound = { λ s. R.bound s.inner };
 
     ghost failures = { λ s. R.failures s.inner };
 
-    ghost lent = { λ s. R.lent s.inner };
+    ghost borrowed_device = { λ s. R.borrowed_device s.inner };
 
     ghost small = { λ s. R.small s.inner };
 
@@ -40,7 +40,7 @@ impl<W: ByteSink> ByteSink for Slow<W> {
 
     ghost failures = { λ s. W.failures s.inner };
 
-    ghost lent = { λ s. W.lent s.inner };
+    ghost borrowed_device = { λ s. W.borrowed_device s.inner };
 
     fn write(&mut self, piece: &[u8]) -> Result<usize, WriteFailed> {
         let end = piece.len().min(1);

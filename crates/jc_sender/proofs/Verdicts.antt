@@ -12,11 +12,11 @@ use Rattle.jc_sender.specs.Reads.{ReadsAs}
 use Rattle.jc_sender.specs.Verdict.{TellsBytes, TellsReading}
 use Rattle.jc_console.specs.declared.failure.Failure.{Failure}
 use Rattle.jc_console.specs.declared.status.Status.{Status}
-use Rattle.jc_words.specs.declared.request.Kind.{Kind}
-use Rattle.jc_words.specs.declared.request.Kind.TheVariants.{File}
+use Rattle.jc_args.specs.declared.request.InputKind.{InputKind}
+use Rattle.jc_args.specs.declared.request.InputKind.TheVariants.{File}
 
 -- the line that was told is that of the bytes' reading
-pub tells_bytes : (kind : Kind) (bytes : List ℕ) (limits : Limits) (reading : Reading) (count : ℕ) (ending : Ending)
+pub tells_bytes : (kind : InputKind) (bytes : List ℕ) (limits : Limits) (reading : Reading) (count : ℕ) (ending : Ending)
     (r : Result Status Failure) (old new : Option (List ℕ))
     → AreDefaults limits.name limits.value limits.fields limits.entry limits.file → ReadsAs kind limits bytes reading
     → count ≡ length reading.entries → ending ≡ reading.ending

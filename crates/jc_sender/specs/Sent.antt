@@ -10,27 +10,27 @@ use Rattle.jc_upload.specs.Upload.{Agrees, Sender, file_upload_of, next_upload_o
 use Rattle.jc_sender.specs.Source.{HasFault, ReadsWell}
 use Rattle.jc_console.specs.declared.failure.Failure.{Failure}
 use Rattle.jc_console.specs.declared.failure.Failure.TheVariants.{Bad, OutOfMemory, SourceChanged}
-use Rattle.jc_words.specs.declared.request.Kind.{Kind}
-use Rattle.jc_words.specs.declared.request.Kind.TheVariants.{Export, File}
-use Rattle.jc_words.specs.declared.request.Source.{Source}
+use Rattle.jc_args.specs.declared.request.InputKind.{InputKind}
+use Rattle.jc_args.specs.declared.request.InputKind.TheVariants.{Export, File}
+use Rattle.jc_args.specs.declared.request.Source.{Source}
 
 abbrev pub sender_of : Id128 → Point → Sender
 sender_of id point = record { source = id; point = point }
 
 -- An upload has the next entries of an export stream, or all the bytes of a journal file, wherever the sender is.
-abbrev pub upload_of : Kind → Sender → (limit : ℕ) → List LogEntry → (bytes : List ℕ) → List ℕ
+abbrev pub upload_of : InputKind → Sender → (limit : ℕ) → List LogEntry → (bytes : List ℕ) → List ℕ
 upload_of Export sender limit entries bytes = next_upload_of sender entries limit
 upload_of File sender limit entries bytes = file_upload_of sender.source bytes
 
 -- The upload of a source with these bytes, which have no fault; an export stream still agrees with the resume point.
-pub record MakesUpload (kind : Kind) (sender : Sender) (limit : ℕ) (bytes upload : List ℕ) : Type 0 where
+pub record MakesUpload (kind : InputKind) (sender : Sender) (limit : ℕ) (bytes upload : List ℕ) : Type 0 where
   pub reading : Reading
   pub well : ReadsWell kind bytes reading
   pub agrees : kind ≡ Export → Agrees sender.point reading.entries
   pub made : upload ≡ upload_of kind sender limit reading.entries bytes
 
 -- The output gained that upload.
-pub record TellsUpload (kind : Kind) (sender : Sender) (limit : ℕ) (bytes : List ℕ) (old new : Option (List ℕ)) : Type 0 where
+pub record TellsUpload (kind : InputKind) (sender : Sender) (limit : ℕ) (bytes : List ℕ) (old new : Option (List ℕ)) : Type 0 where
   pub upload : List ℕ
   pub makes : MakesUpload kind sender limit bytes upload
   pub printed : Appends old new upload
@@ -43,7 +43,7 @@ pub record HasChanged (sender : Sender) (bytes : List ℕ) : Type 0 where
 
 -- Why there is no next upload of a source with these bytes: they have a fault, or they have changed, or memory was
 -- refused.
-abbrev pub WhyNoUpload : Kind → Sender → (bytes : List ℕ) → Failure → Type 0
+abbrev pub WhyNoUpload : InputKind → Sender → (bytes : List ℕ) → Failure → Type 0
 WhyNoUpload kind sender bytes (Bad fault) = HasFault kind bytes fault
 WhyNoUpload kind sender bytes SourceChanged = (kind ≡ Export) × HasChanged sender bytes
 WhyNoUpload kind sender bytes OutOfMemory = ⊤

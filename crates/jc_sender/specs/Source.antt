@@ -10,20 +10,20 @@ use Rattle.jc_base.specs.declared.limits.Limits.{Limits}
 use Rattle.jc_sender.specs.Reads.{ReadsAs}
 use Rattle.jc_console.specs.declared.failure.Failure.{Failure}
 use Rattle.jc_console.specs.declared.failure.Failure.TheVariants as failure
-use Rattle.jc_words.specs.declared.request.Kind.{Kind}
+use Rattle.jc_args.specs.declared.request.InputKind.{InputKind}
 
 abbrev pub IsEnd : Ending → Type 0
 IsEnd ending = (left : ℕ) × (ending ≡ End left)
 
 -- The bytes read so under the default limits, without a fault.
-pub record ReadsWell (kind : Kind) (bytes : List ℕ) (reading : Reading) : Type 0 where
+pub record ReadsWell (kind : InputKind) (bytes : List ℕ) (reading : Reading) : Type 0 where
   pub limits : Limits
   pub defaults : AreDefaults limits.name limits.value limits.fields limits.entry limits.file
   pub reads : ReadsAs kind limits bytes reading
   pub ends : IsEnd reading.ending
 
 -- Under the default limits the bytes have this fault.
-pub record HasFault (kind : Kind) (bytes : List ℕ) (fault : Fault) : Type 0 where
+pub record HasFault (kind : InputKind) (bytes : List ℕ) (fault : Fault) : Type 0 where
   pub limits : Limits
   pub defaults : AreDefaults limits.name limits.value limits.fields limits.entry limits.file
   pub reading : Reading
@@ -31,11 +31,11 @@ pub record HasFault (kind : Kind) (bytes : List ℕ) (fault : Fault) : Type 0 wh
   pub ends : reading.ending ≡ Bad fault
 
 -- The bytes have no fault, and these complete entries.
-abbrev pub HasEntriesOf : Kind → List ℕ → List LogEntry → Type 0
+abbrev pub HasEntriesOf : InputKind → List ℕ → List LogEntry → Type 0
 HasEntriesOf kind bytes entries = (reading : Reading) × ReadsWell kind bytes reading × (entries ≡ reading.entries)
 
 -- Why nothing is read of these bytes: they have a fault, or memory was refused.
-abbrev pub WhyNoEntries : Kind → List ℕ → Failure → Type 0
+abbrev pub WhyNoEntries : InputKind → List ℕ → Failure → Type 0
 WhyNoEntries kind bytes (failure.Bad fault) = HasFault kind bytes fault
 WhyNoEntries kind bytes failure.OutOfMemory = ⊤
 WhyNoEntries kind bytes _ = ⊥

@@ -15,8 +15,8 @@ use Rattle.jc_sender.specs.Sent.{sender_of}
 use Rattle.jc_sender.specs.Source.{HasFault, ReadsWell}
 use Rattle.jc_console.specs.declared.failure.Failure.{Failure}
 use Rattle.jc_console.specs.declared.failure.Failure.TheVariants.{Bad, BadAnswer, OutOfMemory, ReadFailed}
-use Rattle.jc_words.specs.declared.request.Kind.{Kind}
-use Rattle.jc_words.specs.declared.request.Source.{Source}
+use Rattle.jc_args.specs.declared.request.InputKind.{InputKind}
+use Rattle.jc_args.specs.declared.request.Source.{Source}
 
 -- The line of this number, from 1, is the first that isn't an answer.
 pub record HasBadLine (number : ℕ) (text : List ℕ) : Type 0 where
@@ -37,31 +37,31 @@ WhyNoAnswers text _ = ⊥
 -- ---- answers
 
 -- The sender before an answer and after it: the answer moves it on, or nothing changes.
-abbrev pub Takes : List LogEntry → Answer → (before after : Sender) → Type 0
-Takes entries answer before after =
+abbrev pub TakesAnswer : List LogEntry → Answer → (before after : Sender) → Type 0
+TakesAnswer entries answer before after =
     (Advances before entries answer × (after ≡ moved_to before entries (acked_to answer)))
     ⊎ ((¬ Advances before entries answer) × (after ≡ before))
 
 -- ... and after several, in their order.
-abbrev pub TakesAll : List LogEntry → List Answer → (before after : Sender) → Type 0
-TakesAll entries [] before after = after ≡ before
-TakesAll entries (answer ∷ answers) before after =
-    (middle : Sender) × Takes entries answer before middle × TakesAll entries answers middle after
+abbrev pub TakesAnswers : List LogEntry → List Answer → (before after : Sender) → Type 0
+TakesAnswers entries [] before after = after ≡ before
+TakesAnswers entries (answer ∷ answers) before after =
+    (middle : Sender) × TakesAnswer entries answer before middle × TakesAnswers entries answers middle after
 
 -- These lines of answers move the resume point of a source with these entries on to another, or leave it.
 pub record MovesPoint (id : Id128) (point : Point) (entries : List LogEntry) (text : List ℕ) (moved : Point) : Type 0 where
   pub answers : List Answer
   pub are : AreAnswers answers text
-  pub takes : TakesAll entries answers (sender_of id point) (sender_of id moved)
+  pub takes : TakesAnswers entries answers (sender_of id point) (sender_of id moved)
 
 -- The same of a source with these bytes, which have no fault.
-pub record MovesBy (kind : Kind) (id : Id128) (point : Point) (bytes text : List ℕ) (moved : Point) : Type 0 where
+pub record MovesBy (kind : InputKind) (id : Id128) (point : Point) (bytes text : List ℕ) (moved : Point) : Type 0 where
   pub reading : Reading
   pub well : ReadsWell kind bytes reading
   pub moves : MovesPoint id point reading.entries text moved
 
 -- Why no resume point comes of these bytes and of what standard input gives.
-abbrev pub WhyNoPoint : Kind → (bytes : List ℕ) → (given : Option (List ℕ)) → Failure → Type 0
+abbrev pub WhyNoPoint : InputKind → (bytes : List ℕ) → (given : Option (List ℕ)) → Failure → Type 0
 WhyNoPoint kind bytes given (Bad fault) = HasFault kind bytes fault
 WhyNoPoint kind bytes given (BadAnswer line) = IfSome given (HasBadLine line)
 WhyNoPoint kind bytes given ReadFailed = ⊤

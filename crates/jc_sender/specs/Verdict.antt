@@ -11,7 +11,7 @@ use Rattle.jc_base.specs.declared.limits.Limits.{Limits}
 use Rattle.jc_sender.specs.Reads.{ReadsAs}
 use Rattle.jc_console.specs.declared.status.Status.{Status}
 use Rattle.jc_console.specs.declared.status.Status.TheVariants.{Success, Refused}
-use Rattle.jc_words.specs.declared.request.Kind.{Kind}
+use Rattle.jc_args.specs.declared.request.InputKind.{InputKind}
 
 -- `ok <count> <left>` or `bad <code> <place>`, without the newline
 abbrev pub verdict_text : ℕ → Ending → List ℕ
@@ -28,7 +28,7 @@ pub record TellsReading (count : ℕ) (ending : Ending) (status : Status) (old n
   pub printed : Appends old new (verdict_text count ending ++ 10 ∷ [])
 
 -- The output gained the line of what the bytes say under the default limits, and the status is that of this line.
-pub record TellsBytes (kind : Kind) (bytes : List ℕ) (status : Status) (old new : Option (List ℕ)) : Type 0 where
+pub record TellsBytes (kind : InputKind) (bytes : List ℕ) (status : Status) (old new : Option (List ℕ)) : Type 0 where
   pub limits : Limits
   pub defaults : AreDefaults limits.name limits.value limits.fields limits.entry limits.file
   pub reading : Reading

@@ -11,7 +11,7 @@ use crate::source::{entries_of, read_source};
 use jc_base::{Entry, Id128};
 use jc_console::{Failure, printed, read_whole, source_id};
 use jc_upload::{Resume, Uploader};
-use jc_words::{Kind, Source};
+use jc_args::{InputKind, Source};
 use std::alloc::Global;
 use std::io::{Read, Write};
 use std::rt::Files;
@@ -40,7 +40,7 @@ pub fn ack<'a, R: Files + AllocGlobal, I: Read, O: Write>(
 /// The resume point to which the answers on standard input move a source with these bytes.
 fn moved_by<'a, I: Read>(
     alloc: Global,
-    kind: Kind,
+    kind: InputKind,
     id: Id128,
     resume: Resume,
     bytes: &[u8],

@@ -3,7 +3,7 @@
 ghost use Rattle.std.specs.Prelude.{◌≡◌, IfOk, IfErr};
 ghost use Rattle.jc_upload.specs.Upload.{Sender};
 ghost use Rattle.jc_console.specs.Lines.{AreAnswers};
-ghost use Rattle.jc_sender.specs.Taken.{Takes, TakesAll, WhyNoAnswers};
+ghost use Rattle.jc_sender.specs.Taken.{TakesAnswer, TakesAnswers, WhyNoAnswers};
 
 use jc_base::Entry;
 use jc_console::{Failure, line_length};
@@ -31,7 +31,7 @@ pub fn read_answers<'a>(alloc: Global, text: &[u8]) -> Result<Vec<Answer>, Failu
 
 /// Takes answers in their order.
 pub fn take_answers(uploader: &mut Uploader, entries: &[Entry], answers: &[Answer])
-    ensures { TakesAll entries.now answers.now uploader.old uploader.new }
+    ensures { TakesAnswers entries.now answers.now uploader.old uploader.new }
 {
     for answer in answers {
         take_answer(uploader, entries, answer);
@@ -39,7 +39,7 @@ pub fn take_answers(uploader: &mut Uploader, entries: &[Entry], answers: &[Answe
 }
 
 fn take_answer(uploader: &mut Uploader, entries: &[Entry], answer: &Answer)
-    ensures { Takes entries.now answer.now uploader.old uploader.new }
+    ensures { TakesAnswer entries.now answer.now uploader.old uploader.new }
 {
     uploader.on_answer(entries, answer);
 }

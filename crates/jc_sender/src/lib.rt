@@ -3,13 +3,13 @@
 
 mod acknowledge;
 mod answers;
-mod gather;
+mod entries;
 mod next_upload;
 mod resume_file;
 mod source;
 mod verdict;
 
 pub use acknowledge::ack;
-pub use gather::{all_entries, count_entries};
+pub use entries::{all_entries, count_entries};
 pub use next_upload::upload;
 pub use verdict::verify;

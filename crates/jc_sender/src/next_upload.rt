@@ -11,7 +11,7 @@ use crate::source::{check_file, export_entries, read_source};
 use jc_base::Id128;
 use jc_console::{Failure, printed, source_id};
 use jc_upload::{Resume, Uploader, file_upload};
-use jc_words::{Kind, Source};
+use jc_args::{InputKind, Source};
 use std::alloc::Global;
 use std::io::Write;
 use std::rt::Files;
@@ -37,7 +37,7 @@ pub fn upload<'a, R: Files + AllocGlobal, O: Write>(
 /// Prints the next upload of a source with these bytes.
 fn tell_upload<'a, O: Write>(
     alloc: Global,
-    kind: Kind,
+    kind: InputKind,
     id: Id128,
     resume: Resume,
     limit: u64,
@@ -58,7 +58,7 @@ fn tell_upload<'a, O: Write>(
 /// The next upload of a source with these bytes.
 fn made_upload<'a>(
     alloc: Global,
-    kind: Kind,
+    kind: InputKind,
     id: Id128,
     resume: Resume,
     limit: u64,
@@ -68,8 +68,8 @@ fn made_upload<'a>(
     ensures failed { IfErr result (WhyNoUpload kind (sender_of id resume) bytes.now) }
 {
     match kind {
-        Kind::Export => export_upload(alloc, id, resume, limit, bytes),
-        Kind::File => journal_upload(alloc, id, bytes),
+        InputKind::Export => export_upload(alloc, id, resume, limit, bytes),
+        InputKind::File => journal_upload(alloc, id, bytes),
     }
 }
 
@@ -80,8 +80,8 @@ fn export_upload<'a>(
     limit: u64,
     bytes: &[u8],
 ) -> Result<Vec<u8>, Failure<'a>>
-    ensures made { IfOk result (λ upload. MakesUpload Kind.Export (sender_of id resume) limit bytes.now upload.items) }
-    ensures failed { IfErr result (WhyNoUpload Kind.Export (sender_of id resume) bytes.now) }
+    ensures made { IfOk result (λ upload. MakesUpload InputKind.Export (sender_of id resume) limit bytes.now upload.items) }
+    ensures failed { IfErr result (WhyNoUpload InputKind.Export (sender_of id resume) bytes.now) }
 {
     let entries = export_entries(alloc, bytes)?;
     let upload = Uploader::new(id, resume).next_upload(alloc, &entries, limit)?;
@@ -90,8 +90,8 @@ fn export_upload<'a>(
 
 fn journal_upload<'a>(alloc: Global, id: Id128, bytes: &[u8]) -> Result<Vec<u8>, Failure<'a>>
     ensures made { IfOk result (λ upload. (point : Point) (limit : ℕ)
-        → MakesUpload Kind.File (sender_of id point) limit bytes.now upload.items) }
-    ensures failed { IfErr result (λ failure. (point : Point) → WhyNoUpload Kind.File (sender_of id point) bytes.now failure) }
+        → MakesUpload InputKind.File (sender_of id point) limit bytes.now upload.items) }
+    ensures failed { IfErr result (λ failure. (point : Point) → WhyNoUpload InputKind.File (sender_of id point) bytes.now failure) }
 {
     check_file(alloc, bytes)?;
     Ok(file_upload(alloc, id, bytes)?)

@@ -4,12 +4,12 @@ ghost use Rattle.std.specs.Prelude.{◌≡◌, ◌⊎◌, IfOk, IfErr, OnOk};
 ghost use Rattle.jc_base.specs.Reading.{Reading};
 ghost use Rattle.jc_sender.specs.Source.{HasEntriesOf, ReadsWell, WhyNoEntries};
 
-use crate::gather::{all_entries, count_entries};
+use crate::entries::{all_entries, count_entries};
 use jc_base::{Ending, Entry, Limits};
 use jc_console::{Failure, open_file, read_front, read_whole};
 use jc_export::read_all;
 use jc_file::{FileEntries, SliceSpace};
-use jc_words::{Kind, Source};
+use jc_args::{InputKind, Source};
 use std::alloc::Global;
 use std::rt::Files;
 
@@ -24,26 +24,26 @@ pub fn read_source<'a, R: Files + AllocGlobal>(
 {
     let mut file = open_file(rt, source.file)?;
     match source.kind {
-        Kind::Export => read_whole(rt.alloc(), &mut file),
-        Kind::File => read_front(rt.alloc(), file, Limits::default().file + 1),
+        InputKind::Export => read_whole(rt.alloc(), &mut file),
+        InputKind::File => read_front(rt.alloc(), file, Limits::default().file + 1),
     }
 }
 
 /// The complete entries of these bytes, which have no fault.
-pub fn entries_of<'a>(alloc: Global, kind: Kind, bytes: &[u8]) -> Result<Vec<Entry>, Failure<'a>>
+pub fn entries_of<'a>(alloc: Global, kind: InputKind, bytes: &[u8]) -> Result<Vec<Entry>, Failure<'a>>
     ensures entries { IfOk result (λ entries. HasEntriesOf kind bytes.now entries.items) }
     ensures failed { IfErr result (WhyNoEntries kind bytes.now) }
 {
     match kind {
-        Kind::Export => export_entries(alloc, bytes),
-        Kind::File => file_entries(alloc, bytes),
+        InputKind::Export => export_entries(alloc, bytes),
+        InputKind::File => file_entries(alloc, bytes),
     }
 }
 
 /// The same of an export stream.
 pub fn export_entries<'a>(alloc: Global, bytes: &[u8]) -> Result<Vec<Entry>, Failure<'a>>
-    ensures entries { IfOk result (λ entries. HasEntriesOf Kind.Export bytes.now entries.items) }
-    ensures failed { IfErr result (WhyNoEntries Kind.Export bytes.now) }
+    ensures entries { IfOk result (λ entries. HasEntriesOf InputKind.Export bytes.now entries.items) }
+    ensures failed { IfErr result (WhyNoEntries InputKind.Export bytes.now) }
 {
     let reading = read_all(alloc, bytes, &Limits::default())?;
     match reading.end {
@@ -53,8 +53,8 @@ pub fn export_entries<'a>(alloc: Global, bytes: &[u8]) -> Result<Vec<Entry>, Fai
 }
 
 fn file_entries<'a>(alloc: Global, bytes: &[u8]) -> Result<Vec<Entry>, Failure<'a>>
-    ensures entries { IfOk result (λ entries. HasEntriesOf Kind.File bytes.now entries.items) }
-    ensures failed { IfErr result (WhyNoEntries Kind.File bytes.now) }
+    ensures entries { IfOk result (λ entries. HasEntriesOf InputKind.File bytes.now entries.items) }
+    ensures failed { IfErr result (WhyNoEntries InputKind.File bytes.now) }
 {
     let mut source = FileEntries::new(alloc, SliceSpace { bytes }, Limits::default());
     let (entries, ending) = all_entries(alloc, &mut source)?;
@@ -66,8 +66,8 @@ fn file_entries<'a>(alloc: Global, bytes: &[u8]) -> Result<Vec<Entry>, Failure<'
 
 /// Fails if these bytes have a fault as a journal file. No entry is kept.
 pub fn check_file<'a>(alloc: Global, bytes: &[u8]) -> Result<(), Failure<'a>>
-    ensures well { OnOk result ((reading : Reading) × ReadsWell Kind.File bytes.now reading) }
-    ensures failed { IfErr result (WhyNoEntries Kind.File bytes.now) }
+    ensures well { OnOk result ((reading : Reading) × ReadsWell InputKind.File bytes.now reading) }
+    ensures failed { IfErr result (WhyNoEntries InputKind.File bytes.now) }
 {
     let mut source = FileEntries::new(alloc, SliceSpace { bytes }, Limits::default());
     let (_, ending) = count_entries(&mut source)?;

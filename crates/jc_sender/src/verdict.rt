@@ -4,12 +4,12 @@ ghost use Rattle.std.specs.Prelude.{◌≡◌, ◌≢◌, ◌⊎◌, ℕ, List, 
 ghost use Rattle.std.specs.Io.KnownBytes.{Keeps};
 ghost use Rattle.jc_sender.specs.Verdict.{verdict_text, verdict_status, TellsReading, TellsBytes};
 
-use crate::gather::count_entries;
+use crate::entries::count_entries;
 use jc_base::{Ending, Limits};
 use jc_console::{Failure, Status, is_regular, open_file, printed, read_file, read_front};
 use jc_export::read_all;
 use jc_file::{ByteSpace, FileEntries, FileSpace, PagedSpace, SliceSpace};
-use jc_words::Kind;
+use jc_args::InputKind;
 use std::alloc::Global;
 use std::fmt;
 use std::fs::OpenFile;
@@ -49,7 +49,7 @@ impl fmt::Display for Verdict {
 /// Prints how the file reads, under the default limits.
 pub fn verify<'a, R: Files + AllocGlobal, O: Write>(
     rt: &R,
-    kind: Kind,
+    kind: InputKind,
     file: &'a str,
     output: &mut O,
 ) -> Result<Status, Failure<'a>>
@@ -61,11 +61,11 @@ pub fn verify<'a, R: Files + AllocGlobal, O: Write>(
         → Keeps (O.contents output.old) (O.contents output.new)) }
 {
     match kind {
-        Kind::Export => {
+        InputKind::Export => {
             let bytes = read_file(rt, file)?;
             verify_export(rt.alloc(), bytes.as_slice(), output)
         }
-        Kind::File => verify_file(rt.alloc(), open_file(rt, file)?, output),
+        InputKind::File => verify_file(rt.alloc(), open_file(rt, file)?, output),
     }
 }
 
@@ -75,7 +75,7 @@ fn verify_export<'a, O: Write>(
     bytes: &[u8],
     output: &mut O,
 ) -> Result<Status, Failure<'a>>
-    ensures told { IfOk result (λ status. TellsBytes Kind.Export bytes.now status (O.contents output.old)
+    ensures told { IfOk result (λ status. TellsBytes InputKind.Export bytes.now status (O.contents output.old)
         (O.contents output.new)) }
     ensures failed { IfErr result (λ failure. (failure ≡ Failure.WriteFailed) ⊎ (failure ≡ Failure.OutOfMemory)) }
     ensures untouched { IfErr result (λ failure. failure ≢ Failure.WriteFailed
@@ -118,7 +118,7 @@ fn verify_space<'a, B: ByteSpace + Drop, O: Write>(
     ensures told { IfOk result (λ status. (count : ℕ) × (ending : Ending)
         × TellsReading count ending status (O.contents output.old) (O.contents output.new)) }
     ensures bytes { (bytes : List ℕ) → B.bytes space ≡ Some bytes → IfOk result (λ status.
-        TellsBytes Kind.File bytes status (O.contents output.old) (O.contents output.new)) }
+        TellsBytes InputKind.File bytes status (O.contents output.old) (O.contents output.new)) }
     ensures failed { IfErr result (λ failure. (failure ≡ Failure.ReadFailed) ⊎ (failure ≡ Failure.WriteFailed)
         ⊎ (failure ≡ Failure.OutOfMemory)) }
     ensures untouched { IfErr result (λ failure. failure ≢ Failure.WriteFailed

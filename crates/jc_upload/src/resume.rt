@@ -10,7 +10,7 @@ use std::alloc::Global;
 use std::marker::Model;
 
 /// One more than the greatest sequence number of an entry. (own)
-const SEQNUMS: u64 = 1 << 63;
+const NUMBER_END: u64 = 1 << 63;
 
 /// How many of a source's entries are acknowledged, and the key of the last of them, which is a lawful entry's. There is
 /// no such key exactly at position 0, which is the default.
@@ -124,7 +124,7 @@ fn point_of(position: u64, last: Option<(Id128, u64)>) -> Option<Resume>
 {
     match last {
         None if position == 0 => Some(Resume::default()),
-        Some((seqnum_id, seqnum)) if position > 0 && seqnum > 0 && seqnum < SEQNUMS => {
+        Some((seqnum_id, seqnum)) if position > 0 && seqnum > 0 && seqnum < NUMBER_END => {
             // That an id is 16 bytes is known by this call's contract.
             let _bytes = seqnum_id.as_bytes();
             let last = Some(Key { seqnum_id, seqnum });

@@ -26,7 +26,7 @@ fn run_in_memory<R: ByteStream, B: ByteSpace, W: ByteSink>(
     limits: &Limits,
 ) -> Option<(RunEnd, SqlKeeper<MemStore>)>
     ensures run { IfSome result (λ r. (uploads : List (List ℕ))
-        → map (of_delivery R.to_come B.bytes) deliveries.old ≡ map (λ u. Some u) uploads
+        → map (of_delivery R.remaining B.bytes) deliveries.old ≡ map (λ u. Some u) uploads
         → IsRun limits.now uploads
         (seen finite.empty 0 (map (of_delivery R.failures B.failures) deliveries.old) (W.written sink.old))
         r.0

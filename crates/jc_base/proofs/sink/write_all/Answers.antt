@@ -11,5 +11,5 @@ loop-at-preserved g c =
     record {
       out = went_out_more _ _ _ text at c.in-Ok.count c.loop-at.invariant.out (rw (take_rest text at) at wrote.within) (rw (take_rest text at) at wrote.bytes);
       stays = wrote.stays ∙ c.loop-at.invariant.stays;
-      lent = cc (wrote.lent, c.loop-at.invariant.lent);
+      borrowed_device = cc (wrote.borrowed_device, c.loop-at.invariant.borrowed_device);
     }

@@ -10,7 +10,7 @@ pieces-preserved g c =
     let device = g.R.ByteStream in
     record {
       within = grind (arith, common_steps);
-      got = filled_more (device.to_come c.args.device.now) (device.to_come c.pieces.device) (device.to_come c.read.new.self)
+      got = filled_more (device.remaining c.args.device.now) (device.remaining c.pieces.device) (device.remaining c.read.new.self)
           c.pieces.came (length c.pieces.bytes - c.pieces.came) c.in_ok-count.count c.pieces.bytes c.read.new.out
           had.within came.within.0 had.got came.bytes.0;
       count = omega (arith, had.count, came.failures.never_falls);

@@ -8,7 +8,7 @@ invariant-pieces g l =
     let device = g.R.ByteStream in
     record {
       within : l.came ≤ length l.bytes;
-      got : Consumes (device.to_come l.fn.device) (device.to_come l.device) (take l.came l.bytes);
+      got : Consumes (device.remaining l.fn.device) (device.remaining l.device) (take l.came l.bytes);
       count : device.failures l.fn.device ≤ device.failures l.device;
     }
 

@@ -1,7 +1,7 @@
 -- The reading that `read_all` gave, under the default limits, is the one that the line tells.
 use Rattle.std.proofs.Common.{◌≡◌, length, refl, rules}
 use Rattle.jc_sender.proofs.Verdicts.{tells_bytes}
-use Rattle.jc_words.specs.declared.request.Kind.TheVariants.{Export}
+use Rattle.jc_args.specs.declared.request.InputKind.TheVariants.{Export}
 use Rattle.jc_sender.proofs.verdict.verify_export.Goals as goal
 
 pub returns-clause-told : goal.returns-clause-told

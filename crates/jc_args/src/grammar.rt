@@ -1,0 +1,130 @@
+//! The commands, as `clap` has them.
+
+ghost use Rattle.std.specs.Prelude.{◌≡◌, IfOk, codes};
+ghost use Rattle.clap.specs.Words.{app_of, new_app};
+ghost use Rattle.clap.specs.declared.builder.value_parser.ValueParser.{ValueParser};
+ghost use Rattle.jc_args.specs.Grammar.{AreKinds, IsCommand, IsGrammar, ack_grammar, collect_grammar, collector_grammar, database_grammar, show_grammar, top_grammar, upload_grammar, verify_grammar};
+
+use crate::arguments::{
+    kind_arg, list_arg, number_arg, option_arg, place_arg, uploads_arg, with_source,
+};
+use crate::texts;
+use clap::Command;
+use std::alloc::{AllocError, Global};
+
+/// The whole program.
+pub(crate) fn program<'a>(alloc: Global) -> Result<Command<'a>, AllocError>
+    ensures { IfOk result (λ command. IsGrammar (app_of command)) }
+{
+    collector(alloc)?
+        .subcommand(verify_command(alloc)?)?
+        .subcommand(upload_command(alloc)?)?
+        .subcommand(ack_command(alloc)?)?
+        .subcommand(codes_command(alloc))
+}
+
+/// The program with the commands over a database.
+fn collector<'a>(alloc: Global) -> Result<Command<'a>, AllocError>
+    ensures { IfOk result (λ command. app_of command ≡ collector_grammar) }
+{
+    top(alloc)?
+        .subcommand(collect_command(alloc)?)?
+        .subcommand(export_command(alloc)?)?
+        .subcommand(show_command(alloc)?)?
+        .subcommand(check_command(alloc)?)
+}
+
+/// The program without its commands.
+fn top<'a>(alloc: Global) -> Result<Command<'a>, AllocError>
+    ensures { IfOk result (λ command. app_of command ≡ top_grammar) }
+{
+    let command = Command::new(alloc, texts::NAME)
+        .bin_name(texts::NAME)?
+        .version(texts::VERSION)
+        .about(texts::ABOUT)
+        .after_help(texts::MORE)
+        .arg_required_else_help(true)
+        .subcommand_required(true);
+    Ok(command)
+}
+
+pub(crate) fn collect_command<'a>(alloc: Global) -> Result<Command<'a>, AllocError>
+    ensures { IfOk result (λ command. IsCommand command collect_grammar) }
+{
+    database_command(alloc, "collect", texts::COLLECT, texts::COLLECT_MORE)?
+        .arg(uploads_arg(alloc))?
+        .arg(list_arg(alloc))
+}
+
+fn export_command<'a>(alloc: Global) -> Result<Command<'a>, AllocError>
+    ensures { IfOk result (λ command. IsCommand command (database_grammar (codes "export"))) }
+{
+    database_command(alloc, "export", texts::EXPORT, texts::EXPORT_MORE)
+}
+
+fn show_command<'a>(alloc: Global) -> Result<Command<'a>, AllocError>
+    ensures { IfOk result (λ command. IsCommand command show_grammar) }
+{
+    let id = option_arg(alloc, "id", "HEX", texts::ID_HELP);
+    let first = number_arg(alloc, "from", texts::FIRST_HELP);
+    let last = number_arg(alloc, "to", texts::LAST_HELP);
+    database_command(alloc, "show", texts::SHOW, texts::SHOW_MORE)?
+        .arg(id)?
+        .arg(first)?
+        .arg(last)
+}
+
+fn check_command<'a>(alloc: Global) -> Result<Command<'a>, AllocError>
+    ensures { IfOk result (λ command. IsCommand command (database_grammar (codes "check"))) }
+{
+    database_command(alloc, "check", texts::CHECK, texts::CHECK_MORE)
+}
+
+fn verify_command<'a>(alloc: Global) -> Result<Command<'a>, AllocError>
+    ensures { IfOk result (λ command. (kinds : ValueParser) × AreKinds kinds × IsCommand command (verify_grammar kinds)) }
+{
+    new_command(alloc, "verify", texts::VERIFY, texts::VERIFY_MORE)
+        .arg(kind_arg(alloc))?
+        .arg(place_arg(alloc, "FILE", texts::FILE_HELP))
+}
+
+fn upload_command<'a>(alloc: Global) -> Result<Command<'a>, AllocError>
+    ensures { IfOk result (λ command. (kinds : ValueParser) × AreKinds kinds × IsCommand command (upload_grammar kinds)) }
+{
+    let command = new_command(alloc, "upload", texts::UPLOAD, texts::UPLOAD_MORE);
+    let limit = number_arg(alloc, "limit", texts::LIMIT_HELP);
+    with_source(alloc, command)?.arg(limit)
+}
+
+fn ack_command<'a>(alloc: Global) -> Result<Command<'a>, AllocError>
+    ensures { IfOk result (λ command. (kinds : ValueParser) × AreKinds kinds × IsCommand command (ack_grammar kinds)) }
+{
+    let command = new_command(alloc, "ack", texts::ACK, texts::ACK_MORE);
+    with_source(alloc, command)
+}
+
+fn codes_command<'a>(alloc: Global) -> Command<'a>
+    ensures { IsCommand result (new_app (codes "codes")) }
+{
+    new_command(alloc, "codes", texts::CODES_ABOUT, texts::CODES)
+}
+
+/// A command over a database.
+fn database_command<'a>(
+    alloc: Global,
+    name: &'a str,
+    about: &'a str,
+    more: &'a str,
+) -> Result<Command<'a>, AllocError>
+    ensures { IfOk result (λ command. IsCommand command (database_grammar name.entry.now)) }
+{
+    let database = place_arg(alloc, "DB", texts::DATABASE_HELP);
+    new_command(alloc, name, about, more).arg(database)
+}
+
+/// A command without arguments, with the texts at the top and at the end of its help.
+fn new_command<'a>(alloc: Global, name: &'a str, about: &'a str, more: &'a str) -> Command<'a>
+    ensures { IsCommand result (new_app name.entry.now) }
+{
+    Command::new(alloc, name).about(about).after_help(more)
+}

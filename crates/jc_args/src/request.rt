@@ -1,0 +1,69 @@
+//! What a command line asks for.
+
+/// What the command line asks for. Texts are as they were given.
+#[derive(Debug, Drop)]
+pub enum Request<'a> {
+    /// Uploads taken into the journal of a database, in this order; if none is named, the one on standard input.
+    Collect {
+        database: &'a str,
+        uploads: Vec<&'a str>,
+    },
+    /// The same of the uploads that the lines of a file name; `-` is standard input.
+    CollectListed {
+        database: &'a str,
+        list: &'a str,
+    },
+    /// All entries of the journal of a database, as an export stream.
+    Export {
+        database: &'a str,
+    },
+    /// A line for each entry of the journal of a database, with this sequence id if any, and with a number that is at
+    /// least `first` and at most `last`.
+    Show {
+        database: &'a str,
+        id: Option<&'a str>,
+        first: u64,
+        last: u64,
+    },
+    /// How many entries the journal of a database has, or what is wrong with it.
+    Check {
+        database: &'a str,
+    },
+    /// How the file reads.
+    Verify {
+        kind: InputKind,
+        file: &'a str,
+    },
+    /// The next upload of a source, of at most this many entries.
+    Upload {
+        source: Source<'a>,
+        limit: u64,
+    },
+    /// How far answers move a source on.
+    Ack {
+        source: Source<'a>,
+    },
+    /// What each code means.
+    ListCodes,
+}
+
+/// A machine's journal as a source of uploads.
+#[derive(Clone, Copy, Debug)]
+pub struct Source<'a> {
+    pub kind: InputKind,
+    /// Its id, as it was given.
+    pub id: &'a str,
+    /// The file that keeps how far its uploads have come.
+    pub resume: &'a str,
+    /// The file with its entries.
+    pub file: &'a str,
+}
+
+/// What a file holds.
+#[derive(Clone, Copy, Debug)]
+pub enum InputKind {
+    /// An export stream.
+    Export,
+    /// A journal file.
+    File,
+}
