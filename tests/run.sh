@@ -29,7 +29,7 @@ count() {
 }
 
 given=${RT_JOBS:-}
-RT_JOBS=$(python3 -ESB tests/refused/lanes.py)
+RT_JOBS=$(python3 -ESB tests/refused/parallel.py)
 export RT_JOBS
 memory=$(awk '/^MemAvailable/ { print int($2 / 1e6) }' /proc/meminfo)
 echo "RT_JOBS=$RT_JOBS${given:+, as given}: $(nproc) processors, $memory GB of memory free"

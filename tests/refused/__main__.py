@@ -17,6 +17,7 @@ from __future__ import annotations
 import argparse
 import os
 import sys
+import tempfile
 from concurrent.futures import ThreadPoolExecutor
 from functools import partial
 from typing import Any
@@ -24,8 +25,8 @@ from typing import Any
 import toolchain
 from edits import Sources, read_edits
 from judging import Outcome, Waiting, judge, next_batch
-from lanes import lanes
 from libraries import libraries_stand
+from parallel import checks_at_once
 
 
 def main() -> int:
@@ -39,7 +40,7 @@ def main() -> int:
     toolchain.rt().rtlib.guarded()
     # until this ends, no other run of rt changes these crates or their libraries
     toolchain.rt().rtlib.lock([below for it in crates for below in [*it.below(), it]])
-    with ThreadPoolExecutor(lanes()) as pool:
+    with ThreadPoolExecutor(checks_at_once()) as pool:
         judged = [pool.submit(_judge, it) for it in _largest_first(crates)]
         outcomes = [outcome for it in judged for outcome in it.result()]
     failed = sum(not it.is_well for it in outcomes)
@@ -67,7 +68,8 @@ def _judge(crate: Any) -> list[Outcome]:
     if (lacking := libraries_stand(crate)) is not None:
         outcomes = [Outcome("", False, f"its library {lacking} is NOT BUILT")]
     else:
-        outcomes = judge(crate, say)
+        with tempfile.TemporaryDirectory(prefix="refused-") as kept:
+            outcomes = judge(crate, kept, say)
     for it in outcomes:
         say(f"refused {crate.name}{'/' * bool(it.name)}{it.name}: {it.text}")
     return outcomes

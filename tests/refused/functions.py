@@ -21,6 +21,12 @@ class Function:
     lines: range
 
     @property
+    def asked(self) -> str:
+        """What a check of this function alone is asked for: its name, or its module if it may have two."""
+        [name, *others] = self.symbols
+        return "::".join(name.split("::")[1:-2]) if others else name
+
+    @property
     def proofs(self) -> list[str]:
         """The folders that may have what is written of its proof."""
         return ["/".join(["proofs", *it.split("::")[1:]]) for it in self.symbols]

@@ -2,13 +2,14 @@
 
 from __future__ import annotations
 
-import tempfile
 from collections.abc import Callable
 from dataclasses import dataclass, field, replace
 from typing import Any
 
 import toolchain
 from edits import BadEdit, Edit, Sources, read_edits
+from functions import Function
+from libraries import is_current
 from verdicts import Kind, Report, Ruling
 
 
@@ -49,7 +50,7 @@ def next_batch(waiting: list[Waiting]) -> list[Waiting]:
 
 
 class Judge:
-    """Judges a crate's edits over its libraries as they are built, and keeps the work of its checks in a folder."""
+    """Judges a crate's edits over its libraries as they are built, and keeps the work of its checks in the folder `kept`."""
 
     def __init__(self, crate: Any, kept: str, say: Callable[[str], None] = print) -> None:
         self.crate = crate
@@ -60,6 +61,7 @@ class Judge:
     def outcomes(self, edits: list[Edit]) -> list[Outcome]:
         """An outcome for each edit, and a last one for the crate without them."""
         waiting, outcomes = [Waiting(it) for it in edits], []
+        batch: list[Waiting] = []
         while waiting:
             batch = next_batch(waiting)
             waiting = [it for it in waiting if it not in batch]
@@ -68,11 +70,11 @@ class Judge:
                     waiting.append(it.again(ruling.hidden_by))
                 else:
                     outcomes.append(_outcome(it.edit, ruling))
-        return [*outcomes, self._unedited()] if edits else []
+        return [*outcomes, self._unedited([it.edit.function for it in batch])] if edits else []
 
     def _judged(self, batch: list[Waiting]) -> list[tuple[Waiting, Ruling]]:
         """What one check says of each edit. If the edited crate can't be read, its halves are checked."""
-        report = self._check([it.edit for it in batch])
+        report = self._check([it.edit for it in batch], [it.edit.function for it in batch])
         unread = report.unread()
         if unread is None:
             return [(it, report.ruling(it.edit.function)) for it in batch]
@@ -81,17 +83,20 @@ class Judge:
         half = len(batch) // 2
         return self._judged(batch[:half]) + self._judged(batch[half:])
 
-    def _unedited(self) -> Outcome:
-        """Whether the crate itself is proved over what the edits' checks kept."""
-        report = self._check([])
+    def _unedited(self, functions: list[Function]) -> Outcome:
+        """Whether the crate itself is proved over what the edits' checks kept. If its library is built, which only a
+        proved one is, these functions of it stand for all."""
+        report = self._check([], functions if is_current(self.crate) else [])
         if report.is_proved() and report.unread() is None:
             return Outcome("", True, "without its edits it is proved")
         return Outcome("", False, f"without its edits it is NOT PROVED: {report.lines[-1]}")
 
-    def _check(self, edits: list[Edit]) -> Report:
+    def _check(self, edits: list[Edit], functions: list[Function]) -> Report:
+        """What a check of these functions and what they call says, or one of the whole crate if there are none."""
         self.say(f"{self.crate.name}: a check {f'of {len(edits)} edits' if edits else 'without edits'}")
         texts = self.sources.with_bodies(edits)
-        ran = toolchain.rt().checked(self.crate, texts, ["--jobs", "1"], self.kept)
+        asked = [word for it in functions for word in ("--only", it.asked)]
+        ran = toolchain.rt().checked(self.crate, texts, ["--jobs", "1", *asked], self.kept)
         return Report(ran.returncode, ran.stdout, set(texts))
 
 
@@ -102,12 +107,11 @@ def _outcome(edit: Edit, ruling: Ruling) -> Outcome:
     return Outcome(edit.name, False, f"NOT REFUSED: {ruling.kind.value}" + (f": {goals}" if goals else ""))
 
 
-def judge(crate: Any, say: Callable[[str], None] = print) -> list[Outcome]:
+def judge(crate: Any, kept: str, say: Callable[[str], None] = print) -> list[Outcome]:
     """The outcomes of a crate's folder refused/: one for each file in it, and one for the crate without them."""
-    with tempfile.TemporaryDirectory(prefix="refused-") as kept:
-        it = Judge(crate, kept, say)
-        edits, bad = read_edits(it.sources)
-        return [_bad(edit) for edit in bad] + it.outcomes(edits)
+    it = Judge(crate, kept, say)
+    edits, bad = read_edits(it.sources)
+    return [_bad(edit) for edit in bad] + it.outcomes(edits)
 
 
 def _bad(edit: BadEdit) -> Outcome:

@@ -3,8 +3,10 @@
 from __future__ import annotations
 
 import os
+import shutil
 import sys
 import tempfile
+from typing import Any
 
 import toolchain
 from judging import Outcome, judge
@@ -79,8 +81,10 @@ PASSED = "NOT REFUSED: it is proved"
 UNREAD = "NOT REFUSED: the checker's words can't be read"
 UNTELLING = "NOT REFUSED: no promise of its own is refused: "
 
+Edits = dict[str, tuple[str, str, str]]
+
 # For each edit: the text that is there once, what takes its place, and how the report on it must begin.
-EDITS = {
+EDITS: Edits = {
     "another-answer": ("number <= 9", "number <= 8", REFUSED + "returns"),
     "another-answer-of-a-trait": ("3 + 4", "3 + 5", REFUSED + "returns"),
     "beside-a-refused-function": ("{ Some(number) }", "{ Some(0) }", REFUSED + "returns"),
@@ -95,12 +99,23 @@ EDITS = {
 }
 
 
+ONE = {"another-answer": EDITS["another-answer"]}
+PROVED = "without its edits it is proved"
+# Other texts of the library: one under whose contract the edit's body is proved, and one that isn't proved.
+WEAKER = LIBRARY.replace("IsTrue result ↔ number < 10", "IsTrue result ↔ number < 9").replace("number <= 9", "number <= 8")
+WRONG = LIBRARY.replace("3 + 4", "3 + 3")
+
+
 def main() -> int:
     toolchain.rt().rtlib.guarded()
-    failures = [*_failures(LIBRARY, EDITS, "without its edits it is proved")]
-    wrong = LIBRARY.replace("3 + 4", "3 + 3")
-    one = {"another-answer": EDITS["another-answer"]}
-    failures += _failures(wrong, one, "without its edits it is NOT PROVED")
+    failures = []
+    with tempfile.TemporaryDirectory(prefix="refused-test-") as root:
+        small = Small(root)
+        failures += small.failures("as it is", LIBRARY, EDITS, PROVED)
+        failures += small.failures("over work on another text", LIBRARY, ONE, PROVED, before=WEAKER)
+        small.build(LIBRARY)
+        failures += small.failures("built", LIBRARY, ONE, PROVED)
+        failures += small.failures("changed since it was built", WRONG, ONE, "without its edits it is NOT PROVED")
     for it in failures:
         print(f"tests/refused: {it}")
     if not failures:
@@ -108,29 +123,48 @@ def main() -> int:
     return 1 if failures else 0
 
 
-def _failures(library: str, edits: dict[str, tuple[str, str, str]], of_crate: str) -> list[str]:
-    """What is reported otherwise than it must be of the edits of a library, and of the library without them."""
-    wanted = {f"{name}.edit": told for name, (_, _, told) in edits.items()} | {"": of_crate}
-    told = {it.name: it for it in _outcomes(library, edits)}
-    failures = [f"nothing is reported of {it or 'the library'}" for it in wanted.keys() - told.keys()]
-    failures += [f"what isn't an edit is reported: {it}" for it in told.keys() - wanted.keys()]
-    for name in wanted.keys() & told.keys():
-        outcome = told[name]
-        is_well = wanted[name].startswith((REFUSED, "without its edits it is proved"))
-        if not outcome.text.startswith(wanted[name]) or outcome.is_well != is_well:
-            failures.append(f"{name or 'the library'}: reported {outcome.text!r}, and not {wanted[name]!r}")
-    return failures
+class Small:
+    """The library in a repository of its own."""
 
-
-def _outcomes(library: str, edits: dict[str, tuple[str, str, str]]) -> list[Outcome]:
-    with tempfile.TemporaryDirectory(prefix="refused-test-") as root:
-        crate = os.path.join(root, "crates", "small")
+    def __init__(self, root: str) -> None:
+        self.root = root
+        self.folder = os.path.join(root, "crates", "small")
         _write(os.path.join(root, "crates.txt"), "small:\n")
-        _write(os.path.join(crate, "src", "lib.rt"), library)
+
+    def crate(self, text: str) -> Any:
+        """The library with this text."""
+        _write(os.path.join(self.folder, "src", "lib.rt"), text)
+        [small] = toolchain.rt().rtlib.crates_below(self.root)
+        return small
+
+    def build(self, text: str) -> None:
+        self.crate(text).build_rlib(["--jobs", "1"], anew=False)
+
+    def failures(self, case: str, text: str, edits: Edits, of_crate: str, before: str = "") -> list[str]:
+        """What is reported otherwise than it must be of the edits of the library, and of itself without them, over work
+        on the text `before`, if it is given."""
+        wanted = {f"{name}.edit": told for name, (_, _, told) in edits.items()} | {"": of_crate}
+        told = {it.name: it for it in self._outcomes(self.crate(text), edits, before)}
+        failures = [f"{case}: nothing is reported of {it or 'the library'}" for it in wanted.keys() - told.keys()]
+        failures += [f"{case}: what isn't an edit is reported: {it}" for it in told.keys() - wanted.keys()]
+        for name in wanted.keys() & told.keys():
+            outcome = told[name]
+            is_well = wanted[name].startswith((REFUSED, PROVED))
+            if not outcome.text.startswith(wanted[name]) or outcome.is_well != is_well:
+                of = name or "the library"
+                failures.append(f"{case}: {of}: reported {outcome.text!r}, and not {wanted[name]!r}")
+        return failures
+
+    def _outcomes(self, small: Any, edits: Edits, before: str) -> list[Outcome]:
+        folder = os.path.join(self.folder, "refused")
+        shutil.rmtree(folder, ignore_errors=True)
         for name, (old, new, _) in edits.items():
-            _write(os.path.join(crate, "refused", f"{name}.edit"), f"file: src/lib.rt\nold: {old}\nnew: {new}\n")
-        [small] = toolchain.rt().rtlib.crates_below(root)
-        return judge(small)
+            _write(os.path.join(folder, f"{name}.edit"), f"file: src/lib.rt\nold: {old}\nnew: {new}\n")
+        with tempfile.TemporaryDirectory(prefix="refused-") as kept:
+            if before:
+                ran = toolchain.rt().checked(small, {"src/lib.rt": before}, ["--jobs", "1"], kept)
+                assert "fn small::is_digit: proved\n" in ran.stdout, ran.stdout
+            return judge(small, kept)
 
 
 def _write(file: str, text: str) -> None:

@@ -1,6 +1,7 @@
 """What a check of an edited crate says of each of its functions.
 
-The checker ends with `logic=proved` or `logic=not-proved`, after one line for each function:
+The checker has one line for each function, and ends with `logic=proved` or `logic=not-proved`, or if it was asked for
+some functions alone, with `only=N proved=M`:
 
     fn base::key: proved
     fn base::fits: no proof: expected answers in ./proofs/fits/Answers.antt; `search` did not prove `returns`
@@ -33,6 +34,9 @@ STALE = re.compile(r"has no field|is not in scope|has no `|was not admitted")
 # A goal of the function's own promises: its clauses, a loop's invariant, or what its type always keeps. The other goals
 # are of arithmetic, of bounds, of an end, or of what a call requires.
 PROMISE = re.compile(r"returns(-|$)|invariant_of-|(?!.*-requires(-|$)).*-(init|preserved)(-|$)")
+# The last lines of a check that ended.
+ALL_PROVED = re.compile(r"logic=proved |only=(\d+) proved=\1$")
+SOME_REFUSED = re.compile(r"logic=not-proved|only=\d+ proved=\d+$")
 
 
 class Kind(Enum):
@@ -63,7 +67,7 @@ class Report:
         self.edited = edited
 
     def is_proved(self) -> bool:
-        return self.status == 0 and self.lines[-1].startswith("logic=proved ")
+        return self.status == 0 and bool(ALL_PROVED.match(self.lines[-1]))
 
     def unread(self) -> str | None:
         """The line that shows that the crate wasn't judged, if it wasn't."""
@@ -71,7 +75,7 @@ class Report:
         for line in self.lines:
             if rt.unread(line, self.edited) or rt.rtlib.STALE.search(line):
                 return line
-        if self.is_proved() or (self.status == 1 and self.lines[-1].startswith("logic=not-proved")):
+        if self.is_proved() or (self.status == 1 and SOME_REFUSED.match(self.lines[-1])):
             return None
         return next((it for it in self.lines if "error" in it), self.lines[-1])
 

@@ -11,7 +11,7 @@ LARGEST = 8_000_000_000
 EACH = 4_000_000_000
 
 
-def lanes() -> int:
+def checks_at_once() -> int:
     """RT_JOBS, if it is a number above 0, and otherwise what the machine has processors and free memory for."""
     given = os.environ.get("RT_JOBS", "")
     if given.isdigit() and int(given):
@@ -22,4 +22,4 @@ def lanes() -> int:
 
 
 if __name__ == "__main__":
-    print(lanes())
+    print(checks_at_once())
