@@ -50,7 +50,7 @@ def next_batch(waiting: list[Waiting]) -> list[Waiting]:
 
 
 class Judge:
-    """Judges a crate's edits over its libraries as they are built, and keeps the work of its checks in the folder `kept`."""
+    """Judges a crate's edits over its libraries as they are built, and keeps its checks' work in the folder `kept`."""
 
     def __init__(self, crate: Any, kept: str, say: Callable[[str], None] = print) -> None:
         self.crate = crate

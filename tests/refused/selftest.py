@@ -102,7 +102,7 @@ EDITS: Edits = {
 ONE = {"another-answer": EDITS["another-answer"]}
 PROVED = "without its edits it is proved"
 # Other texts of the library: one under whose contract the edit's body is proved, and one that isn't proved.
-WEAKER = LIBRARY.replace("IsTrue result ↔ number < 10", "IsTrue result ↔ number < 9").replace("number <= 9", "number <= 8")
+WEAKER = LIBRARY.replace("number <= 9", "number <= 8").replace("result ↔ number < 10", "result ↔ number < 9")
 WRONG = LIBRARY.replace("3 + 4", "3 + 3")
 
 
