@@ -84,8 +84,8 @@ class Judge:
         return self._judged(batch[:half]) + self._judged(batch[half:])
 
     def _unedited(self, functions: list[Function]) -> Outcome:
-        """Whether the crate itself is proved over what the edits' checks kept. If its library is built, which only a
-        proved one is, these functions of it stand for all."""
+        """Whether the crate itself is proved over what the edits' checks kept. If its library stands, which is built
+        only if all of it is proved, only these functions of it are checked."""
         report = self._check([], functions if is_current(self.crate) else [])
         if report.is_proved() and report.unread() is None:
             return Outcome("", True, "without its edits it is proved")
