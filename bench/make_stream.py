@@ -1,8 +1,8 @@
 #!/usr/bin/env python3
 """Writes an export stream of about a number of bytes: make_stream.py BYTES > FILE
 
-The entries are like those of a busy machine: some twenty fields, most of them short texts, every tenth entry with a
-message of several lines in the binary spelling. The same size gives the same stream.
+The entries are like those of a busy machine: 24 fields and five of metadata, most of them short texts, every tenth entry with
+a message of several lines in the binary spelling. The same size gives the same stream.
 """
 import struct
 import sys
@@ -21,7 +21,8 @@ def field(name, value):
 
 def entry(number):
     unit = f"service-{number % 37}.service"
-    message = f"request {number} from 192.0.2.{number % 256} took {number * 7919 % 1000} ms"
+    message = f"request {number} from 192.0.2.{number % 256} took {number * 7919 % 1000} ms, status 200, "
+    message += f"{number * 6007 % 100_000} bytes, /api/v1/machines/{number % 997}/reports/{number % 89}"
     if number % 10 == 0:
         message += "\n  at handler\n  at listener"
     pairs = [
@@ -37,12 +38,17 @@ def entry(number):
         ("_UID", "998"),
         ("_GID", "998"),
         ("_PID", str(1000 + number % 30000)),
+        ("_CAP_EFFECTIVE", "0"),
+        ("_SELINUX_CONTEXT", "system_u:system_r:server_t:s0"),
         ("_COMM", "server"),
         ("_EXE", "/usr/bin/server"),
-        ("_CMDLINE", f"/usr/bin/server --unit {unit}"),
+        ("_CMDLINE", f"/usr/bin/server --unit {unit} --config /etc/server/server.conf --listen 192.0.2.1:8443"),
         ("_SYSTEMD_CGROUP", f"/system.slice/{unit}"),
         ("_SYSTEMD_UNIT", unit),
         ("_SYSTEMD_SLICE", "system.slice"),
+        ("_SYSTEMD_INVOCATION_ID", f"{number % 37:02x}" * 16),
+        ("_STREAM_ID", f"{number % 41:02x}" * 16),
+        ("_RUNTIME_SCOPE", "system"),
         ("PRIORITY", str(number % 8)),
         ("SYSLOG_FACILITY", "3"),
         ("SYSLOG_IDENTIFIER", "server"),

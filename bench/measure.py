@@ -13,7 +13,7 @@ ROUNDS = 5
 
 
 class Run:
-    """What one run took: seconds, and its memory at its peak in MiB."""
+    """What one run took: seconds, those in which the process itself computed, and its memory at its peak in MiB."""
 
     def __init__(self, command, output="/dev/null", errors=None, status=0):
         flags = os.O_WRONLY | os.O_CREAT | os.O_TRUNC
@@ -22,6 +22,7 @@ class Run:
         process = os.posix_spawnp(command[0], command, os.environ, file_actions=files)
         _, ended, usage = os.wait4(process, 0)
         self.seconds = time.monotonic() - start
+        self.user = usage.ru_utime
         self.peak = usage.ru_maxrss / 1024
         if os.waitstatus_to_exitcode(ended) != status:
             raise OSError(f"it failed: {' '.join(command[:4])}")
@@ -34,6 +35,7 @@ class Runs:
         self.runs = runs
         best = min(runs, key=lambda run: run.seconds)
         self.seconds = best.seconds
+        self.user = min(run.user for run in runs)
         self.peak = best.peak
 
     def spread(self):

@@ -1,9 +1,10 @@
 #!/usr/bin/env python3
 """Measures how fast the program is: run.py PROGRAM
 
-Reading: `verify export` of streams of 10 MB and of 100 MB, `verify file` of a journal file. Collecting: new databases of 1,000 to
-100,000 entries with 20 fields each, from export uploads and from journal files, the same uploads again, and listings of what is
-stored; each in turn with the C baseline of baseline.c, if it can be built. Each figure is the best of five runs.
+Reading: `verify export` of streams of 10 MB and of 100 MB in turn with the C parser of parser.c, `verify file` of a journal
+file. Collecting: new databases of 1,000 to 100,000 entries with 20 fields each, from export uploads and from journal files, the
+same uploads again, and listings of what is stored; each in turn with the C baseline of baseline.c. What is in C is left out if
+it can't be built. Each figure is the best of five runs.
 """
 import os
 import sys
@@ -15,15 +16,21 @@ ENTRIES = 100_000
 UPLOAD = 1_000
 
 
-def built_baseline():
-    """The baseline, or None if there is no C compiler or no libsqlite3 to build it."""
-    path = os.path.join(OUT, "baseline")
+def built(name, *libraries):
+    """A program in C, or None if there is no C compiler or a library is missing."""
+    path = os.path.join(OUT, name)
     try:
-        Run(["cc", "-O2", "-o", path, os.path.join(HERE, "baseline.c"), "-lsqlite3"], errors="/dev/null")
+        Run(["cc", "-O2", "-o", path, os.path.join(HERE, f"{name}.c"), *libraries], errors="/dev/null")
     except OSError:
-        print("no baseline: cc, sqlite3.h or libsqlite3 isn't here, so there are no ratios")
+        print(f"no {name}: cc or what it needs ({', '.join(['stdio.h', *libraries])}) isn't here, so there are no ratios to it")
         return None
-    print(f"SQLite of the baseline: {output_of([path, 'version'])}")
+    return path
+
+
+def built_baseline():
+    path = built("baseline", "-lsqlite3")
+    if path:
+        print(f"SQLite of the baseline: {output_of([path, 'version'])}")
     return path
 
 
@@ -41,11 +48,16 @@ def ratio(runs, opened=None):
 
 
 def measure_reading(program):
+    parser = built("parser")
     for size in (10, 100):
         path = made(f"{size}MB.export", "make_stream.py", size * 10**6)
-        runs = best([program, "verify", "export", path])
-        print(f"verify export, {size} MB: {runs.seconds:.3f} s (to +{runs.spread():.0f} %), "
-              f"{megabytes([path]) / runs.seconds:.0f} MB/s, {runs.peak:.0f} MiB", flush=True)
+        commands = [[program, "verify", "export", path]] + [[parser, path]] * bool(parser)
+        runs = interleaved(commands)
+        for name, each in zip(("program", "parser"), runs):
+            print(f"verify export, {size} MB, {name}: {each.seconds:.3f} s (to +{each.spread():.0f} %), of them "
+                  f"{each.user:.3f} s the process's own, {megabytes([path]) / each.seconds:.0f} MB/s, {each.peak:.0f} MiB")
+        if parser:
+            print(f"  {ratio(runs)}, of the processes' own time {runs[0].user / runs[1].user:.2f}", flush=True)
     path = made(f"{ENTRIES}.journal", "make_file.py", ENTRIES)
     runs = best([program, "verify", "file", path])
     print(f"verify file, {ENTRIES:,} entries: {rates(runs, ENTRIES, megabytes([path]))}", flush=True)

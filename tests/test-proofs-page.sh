@@ -19,5 +19,5 @@ refuses 's/\*\*`read_fields`\*\* (unnamed)/**`read_fields`**/' "jc_export: read_
 refuses 's/`impl ByteSpace for FileSpace`/`impl ByteSpace for NoSpace`/' "jc_file: there is no impl ByteSpace for NoSpace"
 refuses 's/\*\*`run_in_memory`\*\*/**`run_on_disk`**/' "Contracts of tests: there is no run_on_disk"
 refuses 's/`StreamReading` in/`StreamRiding` in/' "jc_export: there is no StreamRiding in specs/Stream.antt"
-refuses 's/^- jc_store: `Agree`, /- jc_store: /' "the main theorem's list: jc_store, Agree"
+refuses 's/^- jc_keeper: `Agree`, /- jc_keeper: /' "the main theorem's list: jc_keeper, Agree"
 finish

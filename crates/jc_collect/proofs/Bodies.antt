@@ -12,9 +12,9 @@ use Rattle.jc_export.specs.Streaming.{TellsReading}
 use Rattle.jc_file.specs.Check.{first_failing}
 use Rattle.jc_file.specs.Header.{header_checks}
 use Rattle.jc_file.specs.FileReading.{IsFileReading}
-use Rattle.jc_store.specs.declared.keeper.Absorbed.{Absorbed}
-use Rattle.jc_store.specs.declared.keeper.KeepStop.{KeepStop}
-use Rattle.jc_store.specs.Absorb.{Absorbs}
+use Rattle.jc_keeper.specs.declared.keeper.Absorbed.{Absorbed}
+use Rattle.jc_keeper.specs.declared.keeper.KeepStop.{KeepStop}
+use Rattle.jc_keeper.specs.Absorb.{Absorbs}
 use Rattle.jc_upload.specs.declared.head.Kind.{Kind}
 use Rattle.jc_upload.specs.declared.head.Kind.TheVariants.{Export, File}
 use Rattle.jc_collect.specs.Body.{AbsorbsBody, SaysBody}

@@ -19,7 +19,7 @@ use Rattle.jc_base.specs.Fault.{number_of}
 use Rattle.jc_base.specs.Journal.{Journal, key_cmp}
 use Rattle.jc_base.specs.LogEntry.{LogEntry, Body}
 use Rattle.jc_base.specs.Reading.{Reading}
-use Rattle.jc_store.specs.Agree.{Agree, IsStored, StandsIn, IsFirstConflict}
+use Rattle.jc_keeper.specs.Agree.{Agree, IsStored, StandsIn, IsFirstConflict}
 use Rattle.jc_upload.specs.declared.answer.Answer.{Answer}
 use Rattle.jc_upload.specs.declared.answer.Answer.TheVariants.{Ack, No}
 use Rattle.jc_upload.specs.declared.head.UploadHead.{UploadHead}

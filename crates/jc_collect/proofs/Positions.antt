@@ -8,7 +8,7 @@ use Rattle.jc_base.specs.declared.limits.Limits.{Limits}
 use Rattle.jc_base.specs.Journal.{Journal}
 use Rattle.jc_base.specs.LogEntry.{LogEntry}
 use Rattle.jc_base.specs.Reading.{Reading, reading}
-use Rattle.jc_store.specs.Agree.{Agree, IsStored, StandsIn}
+use Rattle.jc_keeper.specs.Agree.{Agree, IsStored, StandsIn}
 use Rattle.jc_upload.specs.declared.answer.Answer.{Answer}
 use Rattle.jc_upload.specs.declared.answer.Answer.TheVariants.{Ack, No}
 use Rattle.jc_collect.specs.Accepted.{SaysEntry, WasAccepted, StoredBefore, IsAcceptedAt, IsStoredBefore}

@@ -10,7 +10,7 @@ use Rattle.jc_base.specs.Fault.{number_of}
 use Rattle.jc_base.specs.Journal.{Journal}
 use Rattle.jc_base.specs.LogEntry.{LogEntry}
 use Rattle.jc_base.specs.Reading.{Reading}
-use Rattle.jc_store.specs.Agree.{Agree, HasBoth, IsFirstConflict}
+use Rattle.jc_keeper.specs.Agree.{Agree, HasBoth, IsFirstConflict}
 use Rattle.jc_upload.specs.declared.answer.Answer.{Answer}
 use Rattle.jc_upload.specs.declared.answer.Answer.TheVariants.{Ack, No}
 use Rattle.jc_upload.specs.declared.head.UploadHead.{UploadHead}

@@ -6,11 +6,11 @@ use Rattle.jc_base.specs.declared.limits.Limits.{Limits}
 use Rattle.jc_base.specs.Fault.{number_of}
 use Rattle.jc_base.specs.Reading.{Reading}
 use Rattle.jc_base.specs.Journal.{Journal}
-use Rattle.jc_store.specs.declared.keeper.Absorbed.{Absorbed}
-use Rattle.jc_store.specs.declared.keeper.Absorbed.TheVariants.{Taken, Conflict, Bad}
-use Rattle.jc_store.specs.declared.keeper.KeepStop.{KeepStop}
-use Rattle.jc_store.specs.declared.keeper.KeepStop.TheVariants.{ReadFailed, StoreFailed, OutOfMemory}
-use Rattle.jc_store.specs.Absorb.{Step}
+use Rattle.jc_keeper.specs.declared.keeper.Absorbed.{Absorbed}
+use Rattle.jc_keeper.specs.declared.keeper.Absorbed.TheVariants.{Taken, Conflict, Bad}
+use Rattle.jc_keeper.specs.declared.keeper.KeepStop.{KeepStop}
+use Rattle.jc_keeper.specs.declared.keeper.KeepStop.TheVariants.{ReadFailed, StoreFailed, OutOfMemory}
+use Rattle.jc_keeper.specs.Absorb.{Step}
 use Rattle.jc_upload.specs.declared.answer.Answer.{Answer}
 use Rattle.jc_upload.specs.declared.answer.Answer.TheVariants.{Ack, No}
 use Rattle.jc_upload.specs.declared.head.Kind.{Kind}

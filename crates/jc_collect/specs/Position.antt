@@ -6,8 +6,8 @@ use Rattle.jc_base.specs.Device.{Rose}
 use Rattle.jc_base.specs.Fault.{number_of}
 use Rattle.jc_base.specs.Journal.{Journal}
 use Rattle.jc_base.specs.Reading.{Reading}
-use Rattle.jc_store.specs.Absorb.{TakesWhole}
-use Rattle.jc_store.specs.Agree.{HasBoth}
+use Rattle.jc_keeper.specs.Absorb.{TakesWhole}
+use Rattle.jc_keeper.specs.Agree.{HasBoth}
 use Rattle.jc_upload.specs.declared.answer.Answer.{Answer}
 use Rattle.jc_upload.specs.declared.answer.Answer.TheVariants.{Ack, No}
 use Rattle.jc_collect.specs.Says.{Says}

@@ -2,11 +2,11 @@
 #![tactic(auto)]
 
 mod body;
+mod borrowed_device;
 mod collect;
 mod delivery;
 mod head;
 mod law;
-mod borrowed_device;
 mod runs;
 mod space_stream;
 mod whole;

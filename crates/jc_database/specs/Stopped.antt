@@ -2,8 +2,8 @@
 use Rattle.std.specs.Prelude.{ℕ}
 use Rattle.jc_base.specs.declared.fault.Code.{Code}
 use Rattle.jc_base.specs.declared.fault.Code.TheVariants as code
-use Rattle.jc_store.specs.declared.keeper.KeepStop.{KeepStop}
-use Rattle.jc_store.specs.declared.keeper.KeepStop.TheVariants as keep
+use Rattle.jc_keeper.specs.declared.keeper.KeepStop.{KeepStop}
+use Rattle.jc_keeper.specs.declared.keeper.KeepStop.TheVariants as keep
 use Rattle.jc_console.specs.declared.failure.Failure.{Failure}
 use Rattle.jc_console.specs.declared.failure.Failure.TheVariants.{Bad, OutOfMemory, ReadFailed, StoreFailed, WriteFailed}
 

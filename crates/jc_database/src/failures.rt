@@ -5,7 +5,8 @@ ghost use Rattle.jc_database.specs.Stopped.{adopt_failure, keep_failure, out_fai
 
 use jc_base::{Code, Fault};
 use jc_console::Failure;
-use jc_store::{AdoptFault, KeepStop, OutStop};
+use jc_keeper::{KeepStop, OutStop};
+use jc_store::AdoptFault;
 
 /// Why a database wasn't taken as a keeper's.
 pub fn why_refused<'a>(fault: AdoptFault) -> Failure<'a>

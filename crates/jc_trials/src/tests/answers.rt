@@ -3,8 +3,8 @@
 use jc_base::{ByteStream, Id128, Limits, SliceStream};
 use jc_collect::{Delivery, collect_one};
 use jc_file::{ByteSpace, SliceSpace};
+use jc_keeper::Keeper;
 use jc_samples::SOURCE_ID;
-use jc_store::Keeper;
 use jc_upload::Answer;
 use std::alloc::Global;
 

@@ -3,8 +3,8 @@
 use super::journals::{Journals, Maps, Tables, keeps};
 use super::readings::{FAULT, FailingSource, entries, source};
 use jc_base::{EntrySource, Step};
+use jc_keeper::{Absorbed, KeepStop, Keeper};
 use jc_samples::{CHANGED_ENTRY, ENTRY, ENTRY_2, ENTRY_3};
-use jc_store::{Absorbed, KeepStop, Keeper};
 use std::process::Abort;
 use std::test::Fail;
 

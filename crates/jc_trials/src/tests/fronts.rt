@@ -3,8 +3,8 @@
 use super::answers::{ack, collect_space, collect_stream, no, unread};
 use jc_base::SliceStream;
 use jc_file::SliceSpace;
+use jc_keeper::MapKeeper;
 use jc_samples::{BINARY_FRONT, ENTRY, EXPORT, FILE, JOURNAL_FILE, METADATA_2};
-use jc_store::MapKeeper;
 use jc_upload::Answer;
 use std::alloc::Global;
 use std::process::Abort;

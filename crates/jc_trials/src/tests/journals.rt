@@ -2,8 +2,9 @@
 
 use jc_base::{Id128, Key};
 use jc_export::canonical;
+use jc_keeper::{Keeper, MapKeeper};
 use jc_samples::SEQNUM_ID;
-use jc_store::{Keeper, MapKeeper, SqlKeeper};
+use jc_store::SqlKeeper;
 use sqlite::{Alter, Connection, MemStore};
 use std::alloc::Global;
 use std::test::Fail;

@@ -4,11 +4,11 @@ use super::journals::{Journals, Maps, Tables, keeps};
 use jc_base::{ByteStream, Limits, SliceStream, VecSink};
 use jc_collect::{Delivery, RunEnd, run};
 use jc_file::{ByteSpace, SliceSpace};
+use jc_keeper::Keeper;
 use jc_samples::{
     BINARY_FRONT, BOOT_FIELD, CHANGED_ENTRY, ENTRY, ENTRY_2, ENTRY_3, EXPORT, FILE, JOURNAL_FILE,
     LONG_HEADER_FILE, METADATA, METADATA_2, Pieces, answer_lines, put,
 };
-use jc_store::Keeper;
 use std::process::Abort;
 use std::str;
 use std::test::Fail;

@@ -2,7 +2,7 @@ use Rattle.std.proofs.Common.{◌≡◌}
 use Rattle.std.specs.Io.KnownBytes.{Keeps}
 use Rattle.jc_base.specs.LogEntry.{LogEntry}
 use Rattle.jc_console.specs.declared.status.Status.TheVariants.{Success}
-use Rattle.jc_store.specs.Agree.{IsStored}
+use Rattle.jc_keeper.specs.Agree.{IsStored}
 use Rattle.jc_database.proofs.Successive.{IsUnderWay}
 use Rattle.jc_database.proofs.listed.answer_names.Given as goal
 
