@@ -6,6 +6,7 @@ use Rattle.jc_base.specs.declared.id.Key.{Key}
 use Rattle.jc_base.specs.LogEntry.{LogEntry}
 use Rattle.jc_export.specs.Canonical.{canon}
 use Rattle.jc_upload.specs.declared.head.Kind.TheVariants.{Export, File}
+use Rattle.jc_upload.specs.declared.head.UploadHead.{UploadHead}
 use Rattle.jc_upload.specs.declared.answer.Answer.{Answer}
 use Rattle.jc_upload.specs.declared.answer.Answer.TheVariants.{Ack, No}
 use Rattle.jc_upload.specs.Head.{head_text}
@@ -33,14 +34,21 @@ pub record Agrees (point : Point) (entries : List LogEntry) : Type 0 where
 
 -- ---- uploads
 
+-- the header of an upload that starts at the point
+abbrev pub export_head : Sender → UploadHead
+export_head sender = record { kind = Export; source = sender.source; start = sender.point.position }
+
+abbrev pub file_head : Id128 → UploadHead
+file_head source = record { kind = File; source = source; start = 0 }
+
 -- The canonical texts of the entries from the point on, the first of them if more than the limit remain.
 abbrev pub next_upload_of : Sender → List LogEntry → ℕ → List ℕ
 next_upload_of sender entries limit =
-    head_text (record { kind = Export; source = sender.source; start = sender.point.position })
+    head_text (export_head sender)
     ++ flat_map canon (take limit (drop sender.point.position entries))
 
 abbrev pub file_upload_of : Id128 → List ℕ → List ℕ
-file_upload_of source bytes = head_text (record { kind = File; source = source; start = 0 }) ++ bytes
+file_upload_of source bytes = head_text (file_head source) ++ bytes
 
 -- ---- answers
 

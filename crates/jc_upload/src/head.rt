@@ -1,6 +1,6 @@
 //! Headers of uploads.
 
-ghost use Rattle.std.specs.Prelude.{ℕ, ◌≡◌, ◌↔◌, ◌≤◌, ◌++◌, List, length, IsTrue, IfOk, IfErr, MatchOption, MatchResult};
+ghost use Rattle.std.specs.Prelude.{ℕ, ◌≡◌, ◌↔◌, ◌<◌, ◌≤◌, ◌^◌, ◌++◌, List, length, IsTrue, IfOk, IfErr, MatchOption, MatchResult};
 ghost use Rattle.jc_upload.specs.Head.{AreZero, IsHead, IsHeadFault, IsChecked, IsKindByte, fault_at, head_text, kind_byte};
 
 use byteorder::{ByteOrder, LittleEndian};
@@ -75,13 +75,20 @@ impl UploadHead {
 
     /// The header's bytes. Takes no memory.
     pub fn write(&self) -> [u8; 48]
-        ensures { result ≡ head_text self.now }
+        ensures text { result ≡ head_text self.now }
+        ensures lawful { IsHead self.now }
     {
+        let UploadHead {
+            kind,
+            source,
+            start,
+        } = *self;
+        has_64_bits(start);
         let mut bytes = [0; 48];
         bytes[..8].copy_from_slice(&MAGIC);
-        bytes[8] = self.kind.byte();
-        bytes[16..32].copy_from_slice(&self.source.0);
-        LittleEndian::write_u64(&mut bytes[32..40], self.start);
+        bytes[8] = kind.byte();
+        bytes[16..32].copy_from_slice(source.as_bytes());
+        LittleEndian::write_u64(&mut bytes[32..40], start);
         bytes
     }
 }
@@ -97,6 +104,11 @@ pub fn one_head()
     // The header's own bytes decide.
     ensures front { (bytes body : List ℕ) (fault : Fault) → 48 ≤ length bytes
         → IsHeadFault bytes fault → IsHeadFault (bytes ++ body) fault }
+{}
+
+/// That a number is one of 64 bits, as its type says. Does nothing.
+fn has_64_bits(number: u64)
+    ensures { number < 2 ^ 64 }
 {}
 
 /// The kind of a header that passes every check.

@@ -5,8 +5,8 @@ ghost use Rattle.std.specs.Bool.{OnTrue, OnFalse};
 ghost use Rattle.std.specs.Io.KnownBytes.{Appends};
 ghost use Rattle.jc_export.specs.Canonical.{canon};
 ghost use Rattle.jc_upload.specs.declared.uploader.UploadFault.TheVariants as faults;
-ghost use Rattle.jc_upload.specs.Head.{head_text};
-ghost use Rattle.jc_upload.specs.Upload.{Advances, Agrees, acked_to, file_upload_of, moved_to, next_upload_of, point_behind};
+ghost use Rattle.jc_upload.specs.Head.{IsHead, head_text};
+ghost use Rattle.jc_upload.specs.Upload.{Advances, Agrees, acked_to, export_head, file_head, file_upload_of, moved_to, next_upload_of, point_behind};
 
 use crate::{Answer, Kind, Resume, UploadHead};
 use jc_base::{ByteSink, Entry, Id128, OutOfMemory, VecSink, Written, write_all};
@@ -65,6 +65,12 @@ impl Uploader {
         Uploader { source, resume }
     }
 
+    pub fn source(&self) -> Id128
+        ensures { result ≡ self.now.source }
+    {
+        self.source
+    }
+
     pub fn resume(&self) -> &Resume
         ensures { result.now ≡ self.now.point }
     {
@@ -89,6 +95,7 @@ impl Uploader {
         limit: u64,
     ) -> Result<Vec<u8>, UploadFault>
         ensures upload { IfOk result (λ upload. upload.items ≡ next_upload_of self.now entries.now limit) }
+        ensures lawful { OnOk result (IsHead (export_head self.now)) }
         ensures agrees { OnOk result (Agrees self.now.point entries.now) }
         ensures changed { IsErrOf result UploadFault.SourceChanged ↔ ¬ Agrees self.now.point entries.now }
     {
@@ -165,7 +172,8 @@ fn export_upload(
     head: &UploadHead,
     entries: &[Entry],
 ) -> Result<Vec<u8>, OutOfMemory>
-    ensures { IfOk result (λ upload. upload.items ≡ head_text head.now ++ flat_map canon entries.now) }
+    ensures text { IfOk result (λ upload. upload.items ≡ head_text head.now ++ flat_map canon entries.now) }
+    ensures lawful { OnOk result (IsHead head.now) }
 {
     let mut sink = VecSink::new(alloc);
     write_all(&mut sink, &head.write()).map_err(|_| OutOfMemory)?;
@@ -184,7 +192,8 @@ fn write_entries<W: ByteSink>(sink: &mut W, entries: &[Entry]) -> Result<(), Wri
 
 /// The upload of a whole journal file, whatever its bytes are.
 pub fn file_upload(alloc: Global, source: Id128, file: &[u8]) -> Result<Vec<u8>, OutOfMemory>
-    ensures { IfOk result (λ upload. upload.items ≡ file_upload_of source file.now) }
+    ensures upload { IfOk result (λ upload. upload.items ≡ file_upload_of source file.now) }
+    ensures lawful { OnOk result (IsHead (file_head source)) }
 {
     let head = UploadHead {
         kind: Kind::File,
