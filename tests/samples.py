@@ -13,6 +13,10 @@ def entry_text(number, message=b"hi"):
             % (number, SEQNUM_ID.hex().encode(), message))
 
 
+# The bytes of an upload's header.
+HEAD = 48
+
+
 def head(kind, start=0):
     """An upload's header."""
     return b"JCUPLD01" + bytes([kind]) + bytes(7) + SOURCE + struct.pack("<QQ", start, 0)

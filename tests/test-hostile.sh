@@ -9,7 +9,9 @@ if [[ -d /dev/shm && -w /dev/shm ]]; then
 fi
 # less memory than the largest journal file has bytes
 ulimit -v 1000000
+export CALLS=${CALLS:-crates/jc_calls/out/jc_calls}
 export PROGRAM PYTHONPATH=tests:tests/collect PYTHONDONTWRITEBYTECODE=1
-python3 tests/hostile/uploads.py || differs "tests/hostile/uploads.py"
-python3 tests/hostile/damaged.py || differs "tests/hostile/damaged.py"
+for part in uploads bodies damaged; do
+    python3 "tests/hostile/$part.py" || differs "tests/hostile/$part.py"
+done
 finish

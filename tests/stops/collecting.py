@@ -37,11 +37,11 @@ class Collecting:
                 shutil.copyfile(self.base + end, database + end)
         return database
 
-    def run(self, mode, first, last, reads=False):
+    def run(self, mode, first, last, **how):
         """The database, what the run printed, and the calls."""
         database = self.prepare()
         words = [PROGRAM, "collect", database, *self.names]
-        return database, *device.run(self.trial.library, mode, first, last, words, reads=reads)
+        return database, *device.run(self.trial.library, mode, first, last, words, **how)
 
     def left(self, what, database, answered):
         """What a run leaves that ended after this many answers: all of those uploads, and none or all of the next one."""

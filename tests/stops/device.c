@@ -4,7 +4,8 @@
  *   h  half of what a call writes is written, and then the program is killed
  *   f  the call fails with EIO, and does nothing
  *   n  none is interfered with, and each that changes a file is noted
- * Reads are counted in mode f if DEVICE_READS is 1, and not in the other modes. Each call that was interfered with, and in mode n each
+ * Reads are counted in mode f if DEVICE_READS is 1, and not in the other modes. If DEVICE_ONLY names a file, calls on others are left
+ * alone and not counted. Each call that was interfered with, and in mode n each
  * change, is written to the descriptor DEVICE_NOTE: an operation and a file as two bytes, an offset and a length as eight bytes each,
  * and then as many bytes. The files are d, a path that ends in "/db", l, one that ends in "/db-wal", and o, any other; 1 is standard
  * output. Standard output and standard error never fail.
@@ -27,7 +28,7 @@ enum { IO_ERROR = 5, KILL = 9, CREATES = 0100, DESCRIPTORS = 1024 };
 
 static unsigned long first, last, made;
 static int note, reads;
-static char mode = '-', kinds[DESCRIPTORS];
+static char mode = '-', only, kinds[DESCRIPTORS];
 
 static unsigned long number_in(const char *name)
 {
@@ -40,11 +41,12 @@ static unsigned long number_in(const char *name)
 
 __attribute__((constructor)) static void begin(void)
 {
-    const char *asked = getenv("DEVICE_MODE");
+    const char *asked = getenv("DEVICE_MODE"), *file = getenv("DEVICE_ONLY");
     first = number_in("DEVICE_FIRST");
     last = number_in("DEVICE_LAST");
     reads = (int)number_in("DEVICE_READS");
     note = (int)number_in("DEVICE_NOTE");
+    only = file ? *file : 0;
     kinds[1] = '1';
     made = 0;
     mode = asked ? *asked : '-';
@@ -77,7 +79,7 @@ static void tell(char operation, char kind, off_t offset, size_t size, const voi
 static int interferes(char operation, char kind, off_t offset, size_t size, const void *bytes, int *half)
 {
     int is_read = operation == 'r';
-    if (mode == '-' || (is_read && !(mode == 'f' && reads)) || (mode == 'f' && kind == '1'))
+    if (mode == '-' || (is_read && !(mode == 'f' && reads)) || (mode == 'f' && kind == '1') || (only && kind != only))
         return 0;
     made++;
     if (mode == 'n') {

@@ -22,10 +22,10 @@ def built(folder):
     return preload.built(os.path.join(os.path.dirname(os.path.abspath(__file__)), "device.c"), folder)
 
 
-def run(library, mode, first, last, words, stdin=b"", reads=False):
-    """A run in which the calls from one number to another are interfered with, as device.c says of the mode. What it prints, its
-    status, and those calls; all of them, if the mode is to note them."""
-    settings = {"MODE": mode, "FIRST": first, "LAST": last, "READS": int(reads)}
+def run(library, mode, first, last, words, stdin=b"", reads=False, only=""):
+    """A run in which the calls from one number to another are interfered with, as device.c says of the mode; those on one kind of
+    file, if one is given. What it prints, its status, and those calls; all of them, if the mode is to note them."""
+    settings = {"MODE": mode, "FIRST": first, "LAST": last, "READS": int(reads), "ONLY": only}
     *told, noted = preload.run(library, "DEVICE", settings, words, stdin)
     return tuple(told), list(calls_in(noted, mode == "n"))
 

@@ -18,6 +18,10 @@ from trial import PROGRAM, Trial, run, status_of
 
 KILLED = ("", -signal.SIGKILL)
 RESUME = ("--source", samples.SOURCE.hex(), "--resume")
+# The two files of a database, as device.c calls them.
+FILES = {"database": "d", "log": "l"}
+# So many numbers are tried before it is asked whether there was anything to do at the last of them.
+CHUNK = 16
 
 
 def stopped(scenario, mode, number):
@@ -33,11 +37,11 @@ def stopped(scenario, mode, number):
     return bool(calls)
 
 
-def failing(scenario, number, last, reads):
-    """A device fails from one call to another; answers whether it did."""
+def failing(scenario, number, last, reads, only=""):
+    """A device, or one of the two files alone, fails from one call to another; answers whether it did."""
     trial = scenario.trial
-    what = f"{scenario.name}, calls {number} to {last} fail{', reads too' if reads else ''}"
-    database, (output, errors, status), calls = scenario.run("f", number, last, reads)
+    what = f"{scenario.name}, calls {number} to {last} fail{', reads too' if reads else ''}{only and ', on file ' + only}"
+    database, (output, errors, status), calls = scenario.run("f", number, last, reads=reads, only=only)
     lines = output.decode().splitlines()
     if lines:
         trial.expect(f"{what}: number of lines", len(lines), len(scenario.uploads))
@@ -75,7 +79,7 @@ def upwards(pool, attempt, step=1):
     """Tries one number after another until an attempt finds nothing to do; answers how many did."""
     tried = 0
     while True:
-        numbers = range(1 + tried * step, 1 + (tried + 64) * step, step)
+        numbers = range(1 + tried * step, 1 + (tried + CHUNK) * step, step)
         found = list(pool.map(attempt, numbers))
         tried += found.count(True)
         if not all(found):
@@ -91,9 +95,11 @@ def collect(trial, pool, scenario, step=1):
         alone = upwards(pool, lambda number: failing(scenario, number, number, reads), step)
         later = upwards(pool, lambda number: failing(scenario, number, NEVER, reads), step)
         counts.append(alone + later)
+    fuses = {name: upwards(pool, lambda number: failing(scenario, number, NEVER, True, only), step) for name, only in FILES.items()}
+    alone = " and ".join(f"{count} of the {name} alone" for name, count in fuses.items())
     print(f"stops: {scenario.name}: {len(calls)} calls that change a file; {stops} stops, {counts[0]} failures of these calls, "
-          f"{counts[1]} of reads too")
-    return stops + sum(counts)
+          f"{counts[1]} of reads too, {alone}")
+    return stops + sum(counts) + sum(fuses.values())
 
 
 class Acks:
@@ -125,7 +131,16 @@ class Acks:
         shutil.rmtree(os.path.dirname(resume))
         return bool(calls)
 
+    def in_order(self):
+        """The new text is synced before it takes the file's name, and the folder after that."""
+        source, resume = self.trial.put([samples.E1 + samples.E2, self.OLD])
+        words = [PROGRAM, "ack", *RESUME, resume, "export", source]
+        told, calls = device.run(self.trial.library, "n", 0, 0, words, self.ANSWER)
+        operations = b"".join(call.operation for call in calls if call.kind == b"o")
+        self.trial.expect("ack: calls that change a file", (told, operations), (self.USUAL, b"cwsms"))
+
     def sweep(self, pool):
+        self.in_order()
         counts = [upwards(pool, lambda number: self.once(mode, number, NEVER)) for mode in "kh"]
         for reads in (False, True):
             counts.append(upwards(pool, lambda number: self.once("f", number, number, reads)))

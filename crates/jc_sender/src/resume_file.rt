@@ -64,7 +64,25 @@ pub fn write_resume<'a, R: Files + AllocGlobal>(
         let _ = fs::remove_file(rt, beside.as_str());
         return Err(Failure::WriteFailed);
     }
+    sync_folder(rt, path);
     Ok(())
+}
+
+/// Has the file's new name kept over a loss of power, as far as the system can: a folder may be one that can't be opened or
+/// synced, and the old text is whole too.
+fn sync_folder<R: Files>(rt: &R, path: &str) {
+    if let Ok(folder) = fs::open(rt, folder_of(path)) {
+        let _ = folder.sync_all();
+    }
+}
+
+/// The path of the folder that has the file at `path`.
+fn folder_of(path: &str) -> &str {
+    match path.rsplit_once('/') {
+        Some(("", _)) => "/",
+        Some((folder, _)) => folder,
+        None => ".",
+    }
 }
 
 fn put_text<W: Write>(file: &mut W, text: &[u8]) -> io::Result<()>

@@ -85,6 +85,14 @@ line 2: invalid input parameter
 run --version
 status 256
 ====
+line 3: invalid data: standard error is Ok("write failed\n") and not Ok("")
+flushes 0
+run --version
+> journal-collect 0.1.0
+====
+line 1: invalid input parameter
+flushes once
+====
 line 1: invalid input parameter
 file @in ENTRIES
 ====

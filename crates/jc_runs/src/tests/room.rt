@@ -1,22 +1,24 @@
-//! A standard output that may be full.
+//! A standard output that may be full, or fail once it is flushed.
 
 use std::alloc::Global;
 use std::io;
 use std::io::Write;
 
-/// Keeps what it takes, and takes only so much: a disk that gets full.
+/// Keeps what it takes, takes only so much, and is flushed only so often: a disk that gets full, or one that fails.
 #[derive(Drop)]
 pub struct Room {
     pub kept: Vec<u8>,
     left: usize,
+    flushes: usize,
 }
 
 impl Room {
-    /// A writer that takes this many bytes.
-    pub fn new(alloc: Global, left: usize) -> Room {
+    /// A writer that takes this many bytes, and can be flushed so often.
+    pub fn new(alloc: Global, left: usize, flushes: usize) -> Room {
         Room {
             kept: Vec::new(alloc),
             left,
+            flushes,
         }
     }
 }
@@ -33,6 +35,10 @@ impl Write for Room {
     }
 
     fn flush(&mut self) -> io::Result<()> {
+        if self.flushes < 1 {
+            return Err(io::Error::from(io::ErrorKind::Other));
+        }
+        self.flushes -= 1;
         Ok(())
     }
 }

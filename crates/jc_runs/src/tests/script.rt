@@ -11,6 +11,7 @@
 //! | `< TEXT` | standard input of the next run has this line next |
 //! | `input PIECES` | standard input of the next run has these bytes next |
 //! | `room N` | standard output of the next run takes N bytes and then fails |
+//! | `flushes N` | it can be flushed N times and then fails |
 //! | `run ARGUMENTS` | a run with these arguments; `""` is an empty one |
 //! | `> TEXT` | standard output has this line next |
 //! | `prints PIECES` | standard output has these bytes next |
@@ -70,6 +71,7 @@ struct Session {
     line: usize,
     input: Vec<u8>,
     room: usize,
+    flushes: usize,
     ran: Ran,
     wanted: Ran,
     has_run: bool,
@@ -93,6 +95,7 @@ impl Session {
             line: 0,
             input: Vec::new(alloc),
             room: usize::MAX,
+            flushes: usize::MAX,
             ran: Ran::nothing(alloc),
             wanted: Ran::nothing(alloc),
             has_run: false,
@@ -168,6 +171,7 @@ impl Session {
             "<" => add_line(&mut self.input, rest),
             "input" => add_pieces(rt, rest, &mut self.input),
             "room" => self.make_room(rest),
+            "flushes" => self.allow_flushes(rest),
             "holds" => self.expect_file(rt, path, others),
             "missing" => self.expect_missing(rt, path),
             _ => bad_line(),
@@ -178,7 +182,7 @@ impl Session {
     fn run(&mut self, rt: &HostRuntime, arguments: &str) -> io::Result<()> {
         let alloc = rt.alloc();
         let words = given_words(alloc, arguments)?;
-        let (mut output, mut errors) = (Room::new(alloc, self.room), Vec::new(alloc));
+        let (mut output, mut errors) = (Room::new(alloc, self.room, self.flushes), Vec::new(alloc));
         let mut input = self.input.as_slice();
         let status = command(rt, words, &mut input, &mut output, &mut errors);
         self.ran = Ran {
@@ -189,6 +193,7 @@ impl Session {
         self.wanted = Ran::nothing(alloc);
         self.input.clear();
         self.room = usize::MAX;
+        self.flushes = usize::MAX;
         self.has_run = true;
         Ok(())
     }
@@ -240,13 +245,13 @@ impl Session {
     }
 
     fn make_room(&mut self, digits: &str) -> io::Result<()> {
-        match digits.parse::<usize>() {
-            Ok(room) => {
-                self.room = room;
-                Ok(())
-            }
-            Err(_) => bad_line(),
-        }
+        self.room = number_of(digits)?;
+        Ok(())
+    }
+
+    fn allow_flushes(&mut self, digits: &str) -> io::Result<()> {
+        self.flushes = number_of(digits)?;
+        Ok(())
     }
 
     fn expect_file(&mut self, rt: &HostRuntime, path: &str, pieces: &str) -> io::Result<()> {
@@ -270,6 +275,13 @@ fn is_on_the_last_run(word: &str) -> bool {
         word,
         ">" | "prints" | "has" | "fails" | "misused" | "status"
     )
+}
+
+fn number_of(digits: &str) -> io::Result<usize> {
+    match digits.parse::<usize>() {
+        Ok(number) => Ok(number),
+        Err(_) => Err(io::Error::from(io::ErrorKind::InvalidInput)),
+    }
 }
 
 /// Fails with a difference unless the two are equal.

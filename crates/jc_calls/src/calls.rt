@@ -1,0 +1,102 @@
+//! What the words of the command line call, over one journal in memory.
+//!
+//! | Word and operand | |
+//! |---|---|
+//! | `limits N,N,N,N,N` | the journal is empty again, and has limits: of names, values, fields, entries, files |
+//! | `space PATH` | collects the upload as a space, and says what was asked of it |
+//! | `stream PATH` | collects the upload as a stream in small pieces |
+//! | `run PATH` | collects the upload by a run of one delivery |
+//! | `get ID:NUMBER` | the stored entry under the key |
+//! | `read PATH` | reads the export stream at once |
+//! | `entries PATH` | reads it entry by entry, in small pieces |
+//! | `file PATH` | reads the journal file by ranges, and says what was asked of it |
+//! | `pages PATH` | reads the journal file by pages |
+//! | `copies PATH` | copies and spells each entry of the export stream, in every way there is |
+//! | `upload PATH` | makes the first upload of the export stream's entries |
+//! | `send PATH` | makes an upload of the journal file |
+//! | `resume PATH` | writes the resume point that the file has |
+//!
+//! Where a call answers that memory was refused, `refused` is printed in the place of what it makes.
+
+use crate::told::no_meaning;
+use crate::{collecting, entries, readings};
+use jc_base::Limits;
+use jc_store::MapKeeper;
+use std::alloc::Global;
+use std::{fs, io};
+
+#[derive(Drop)]
+pub struct Calls {
+    alloc: Global,
+    limits: Limits,
+    keeper: MapKeeper,
+    told: Vec<u8>,
+}
+
+impl Calls {
+    pub fn new(alloc: Global) -> Calls {
+        Calls {
+            alloc,
+            limits: Limits::default(),
+            keeper: MapKeeper::new(alloc),
+            told: Vec::new(alloc),
+        }
+    }
+
+    /// What is to be printed.
+    pub fn told(&self) -> &[u8] {
+        &self.told
+    }
+
+    /// Makes the call of a word. A failure is one of the program, and never the call's.
+    pub fn perform(&mut self, rt: &HostRuntime, word: &str, operand: &str) -> io::Result<()> {
+        match word {
+            "limits" => self.limit(operand),
+            "get" => collecting::get(self.alloc, &mut self.keeper, operand, &mut self.told),
+            _ => {
+                let bytes = fs::read(rt, operand)?;
+                self.call(word, &bytes)
+            }
+        }
+    }
+
+    fn limit(&mut self, operand: &str) -> io::Result<()> {
+        match limits_in(operand) {
+            Some(limits) => {
+                self.limits = limits;
+                self.keeper = MapKeeper::new(self.alloc);
+                Ok(())
+            }
+            None => no_meaning(),
+        }
+    }
+
+    fn call(&mut self, word: &str, bytes: &[u8]) -> io::Result<()> {
+        let (alloc, limits, told) = (self.alloc, self.limits, &mut self.told);
+        match word {
+            "space" => collecting::space(alloc, &mut self.keeper, bytes, &limits, told),
+            "stream" => collecting::stream(alloc, &mut self.keeper, bytes, &limits, told),
+            "run" => collecting::run_one(alloc, &mut self.keeper, bytes, &limits, told),
+            "read" => readings::read(alloc, bytes, &limits, told),
+            "entries" => readings::entries(alloc, bytes, limits, told),
+            "file" => readings::file(alloc, bytes, limits, told),
+            "pages" => readings::pages(alloc, bytes, limits, told),
+            "copies" => entries::copies(alloc, bytes, &limits, told),
+            "upload" => entries::upload(alloc, bytes, &limits, told),
+            "send" => entries::send(alloc, bytes, told),
+            "resume" => entries::resume(alloc, bytes, told),
+            _ => no_meaning(),
+        }
+    }
+}
+
+/// The limits that five numbers with commas between them are.
+fn limits_in(operand: &str) -> Option<Limits> {
+    let mut numbers = [0; 5];
+    let mut texts = operand.split(',');
+    for number in &mut numbers {
+        *number = texts.next()?.parse::<u64>().ok()?;
+    }
+    let [name, value, fields, entry, file] = numbers;
+    Limits::new(name, value, fields, entry, file)
+}
