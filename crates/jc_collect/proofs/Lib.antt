@@ -12,3 +12,4 @@ pub mod Reading
 pub mod Heads
 pub mod Bodies
 pub mod Answering
+pub mod Chains

@@ -7,3 +7,4 @@ pub mod Run
 pub mod Part
 pub mod Begun
 pub mod Body
+pub mod Chain

@@ -3,6 +3,7 @@
 
 mod body;
 mod borrowed_device;
+mod chain;
 mod collect;
 mod delivery;
 mod head;
@@ -11,6 +12,7 @@ mod runs;
 mod space_stream;
 mod whole;
 
+pub use chain::chain_stored;
 pub use collect::collect_one;
 pub use delivery::Delivery;
 pub use law::{one_answer, one_journal_stored, one_saying, one_set_accepted};
