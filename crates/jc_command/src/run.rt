@@ -8,10 +8,10 @@ ghost use Rattle.jc_console.specs.Failure.{status_of};
 ghost use Rattle.jc_command.specs.Run.{Ends, FailsBy, Performs, Stops};
 
 use clap::error::ErrorKind;
+use jc_args::{CODES, Request, parse};
 use jc_console::{Failure, Status, printed};
 use jc_database::{Databases, check, collect, collect_listed, export, show};
 use jc_sender::{ack, upload, verify};
-use jc_args::{CODES, Request, parse};
 use std::io::{Read, Write};
 use std::rt::Files;
 

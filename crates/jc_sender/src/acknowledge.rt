@@ -8,10 +8,10 @@ ghost use Rattle.jc_sender.specs.Taken.{MovesBy, MovesPoint, TellsSomePoint, Why
 use crate::answers::{read_answers, take_answers};
 use crate::resume_file::{read_resume, write_resume};
 use crate::source::{entries_of, read_source};
+use jc_args::{InputKind, Source};
 use jc_base::{Entry, Id128};
 use jc_console::{Failure, printed, read_whole, source_id};
 use jc_upload::{Resume, Uploader};
-use jc_args::{InputKind, Source};
 use std::alloc::Global;
 use std::io::{Read, Write};
 use std::rt::Files;

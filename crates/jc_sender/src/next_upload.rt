@@ -8,10 +8,10 @@ ghost use Rattle.jc_sender.specs.Sent.{MakesUpload, TellsSomeUpload, TellsUpload
 
 use crate::resume_file::read_resume;
 use crate::source::{check_file, export_entries, read_source};
+use jc_args::{InputKind, Source};
 use jc_base::Id128;
 use jc_console::{Failure, printed, source_id};
 use jc_upload::{Resume, Uploader, file_upload};
-use jc_args::{InputKind, Source};
 use std::alloc::Global;
 use std::io::Write;
 use std::rt::Files;

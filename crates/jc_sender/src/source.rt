@@ -5,11 +5,11 @@ ghost use Rattle.jc_base.specs.Reading.{Reading};
 ghost use Rattle.jc_sender.specs.Source.{HasEntriesOf, ReadsWell, WhyNoEntries};
 
 use crate::entries::{all_entries, count_entries};
+use jc_args::{InputKind, Source};
 use jc_base::{Ending, Entry, Limits};
 use jc_console::{Failure, open_file, read_front, read_whole};
 use jc_export::read_all;
 use jc_file::{FileEntries, SliceSpace};
-use jc_args::{InputKind, Source};
 use std::alloc::Global;
 use std::rt::Files;
 
@@ -30,7 +30,11 @@ pub fn read_source<'a, R: Files + AllocGlobal>(
 }
 
 /// The complete entries of these bytes, which have no fault.
-pub fn entries_of<'a>(alloc: Global, kind: InputKind, bytes: &[u8]) -> Result<Vec<Entry>, Failure<'a>>
+pub fn entries_of<'a>(
+    alloc: Global,
+    kind: InputKind,
+    bytes: &[u8],
+) -> Result<Vec<Entry>, Failure<'a>>
     ensures entries { IfOk result (λ entries. HasEntriesOf kind bytes.now entries.items) }
     ensures failed { IfErr result (WhyNoEntries kind bytes.now) }
 {

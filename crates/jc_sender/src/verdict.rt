@@ -5,11 +5,11 @@ ghost use Rattle.std.specs.Io.KnownBytes.{Keeps};
 ghost use Rattle.jc_sender.specs.Verdict.{verdict_text, verdict_status, TellsReading, TellsBytes};
 
 use crate::entries::count_entries;
+use jc_args::InputKind;
 use jc_base::{Ending, Limits};
 use jc_console::{Failure, Status, is_regular, open_file, printed, read_file, read_front};
 use jc_export::read_all;
 use jc_file::{ByteSpace, FileEntries, FileSpace, PagedSpace, SliceSpace};
-use jc_args::InputKind;
 use std::alloc::Global;
 use std::fmt;
 use std::fs::OpenFile;
