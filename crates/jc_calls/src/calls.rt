@@ -21,7 +21,7 @@
 use crate::told::no_meaning;
 use crate::{collecting, entries, readings};
 use jc_base::Limits;
-use jc_store::MapKeeper;
+use jc_keeper::MapKeeper;
 use std::alloc::Global;
 use std::{fs, io};
 

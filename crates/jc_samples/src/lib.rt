@@ -5,6 +5,7 @@ mod answer;
 mod devices;
 mod entry;
 mod file;
+mod pieces;
 mod upload;
 
 pub use answer::answer_lines;
@@ -14,4 +15,5 @@ pub use entry::{
     METADATA_2, METADATA_3, METADATA_LINES, SEQNUM_ID, SHOWN, numbered_entry,
 };
 pub use file::{JOURNAL_FILE, LONG_HEADER_FILE, put, put_number};
+pub use pieces::{add_pieces, add_text, add_word};
 pub use upload::{EXPORT, FILE, SOURCE, SOURCE_ID, head};

@@ -1,11 +1,12 @@
-//! The same rows over database files. Only this module sees the store of a file.
+//! The same rows over database files, which are opened as the program's are. No proof here sees how a file is stored.
 
 use super::conflicts::readings;
 use super::journals::{Databases, Tables};
 use super::listings::check_listings;
 use super::other_tables::every_table;
 use super::rows::worked_runs;
-use sqlite::{Connection, File, FileStore};
+use sqlite::Connection;
+use std::alloc::Global;
 use std::path::PathBuf;
 use std::process::Abort;
 use std::test::Fail;
@@ -13,35 +14,29 @@ use std::{env, fs, process};
 
 /// Database files below a folder of this process.
 #[derive(Drop)]
-struct DatabaseFiles<'a> {
-    rt: &'a HostRuntime,
+struct DatabaseFiles<'a, R> {
+    rt: &'a R,
+    alloc: Global,
     folder: PathBuf,
     made: u64,
 }
 
-impl Databases for DatabaseFiles<'_> {
-    type Store = FileStore<File>;
+impl<R: jc_database::Databases> Databases for DatabaseFiles<'_, R> {
+    type Store = R::Store;
 
     fn begin(&mut self) {
         self.made = self.made.saturating_add(1);
     }
 
-    fn open(&self) -> Result<Connection<FileStore<File>>, Fail> {
-        let path = self.path()?;
-        Ok(Connection::open(self.rt, path.as_str())?)
+    fn open(&self) -> Result<Connection<R::Store>, Fail> {
+        let made = self.made;
+        let name = format!(in self.alloc; "{made}.db")?;
+        let path = self.folder.join(self.alloc, name)?;
+        Ok(self.rt.open_database(path.as_str())?)
     }
 
     fn stays(&self) -> bool {
         true
-    }
-}
-
-impl DatabaseFiles<'_> {
-    /// Where the newest file is.
-    fn path(&self) -> Result<PathBuf, Fail> {
-        let alloc = self.rt.alloc();
-        let made = self.made;
-        Ok(self.folder.join(alloc, format!(in alloc; "{made}.db")?)?)
     }
 }
 
@@ -56,6 +51,21 @@ fn every_row<D: Databases>(
     every_table(rt, tables)
 }
 
+/// The rows over databases below a folder.
+fn every_row_below<R: jc_database::Databases + Abort + AllocGlobal>(
+    rt: &R,
+    folder: PathBuf,
+) -> Result<(), Fail> {
+    let alloc = rt.alloc();
+    let databases = DatabaseFiles {
+        rt,
+        alloc,
+        folder,
+        made: 0,
+    };
+    every_row(rt, &mut Tables { alloc, databases })
+}
+
 #[test]
 fn rows_over_database_files(rt: HostRuntime) -> Result<(), Fail> {
     let alloc = rt.alloc();
@@ -63,13 +73,7 @@ fn rows_over_database_files(rt: HostRuntime) -> Result<(), Fail> {
     let name = format!(in alloc; "jc-trials-{id}")?;
     let folder = env::temp_dir(&rt)?.join(alloc, name)?;
     fs::create_dir(&rt, folder.as_path())?;
-    let databases = DatabaseFiles {
-        rt: &rt,
-        folder: folder.to_path_buf(alloc)?,
-        made: 0,
-    };
-    let mut tables = Tables { alloc, databases };
-    every_row(&rt, &mut tables)?;
+    every_row_below(&rt, folder.to_path_buf(alloc)?)?;
     fs::remove_dir_all(&rt, folder.as_path())?;
     Ok(())
 }

@@ -113,7 +113,7 @@ impl<D: Databases> Journals for Tables<D> {
 }
 
 /// The canonical texts of the entries that are stored under the numbers 1 to 4, one after the other.
-fn stored<K: Keeper>(alloc: Global, keeper: &mut K) -> Result<Vec<u8>, Fail> {
+pub(super) fn stored<K: Keeper>(alloc: Global, keeper: &mut K) -> Result<Vec<u8>, Fail> {
     let seqnum_id = Id128(SEQNUM_ID);
     let mut text = Vec::new(alloc);
     for seqnum in 1..=4u64 {

@@ -1,23 +1,23 @@
-//! Worked runs over each keeper: the deliveries as spaces, and as streams in pieces.
+//! Worked runs over each keeper: the deliveries as spaces, and as streams in pieces. A script is lines:
+//!
+//! | Line | |
+//! |---|---|
+//! | `# TEXT` | a comment |
+//! | `upload PIECES => LINE` | the next upload, and its answer's line with `S` for the source's id |
+//! | `stores PIECES` | a run over the uploads that came since the last one, and the texts of the entries stored then |
+//!
+//! `add_pieces` has the form of `PIECES`. Each run begins with an empty journal.
 
-use super::journals::{Journals, Maps, Tables, keeps};
+use super::journals::{Journals, Maps, Tables, stored};
 use jc_base::{ByteStream, Limits, SliceStream, VecSink};
 use jc_collect::{Delivery, RunEnd, run};
 use jc_file::{ByteSpace, SliceSpace};
 use jc_keeper::Keeper;
-use jc_samples::{
-    BINARY_FRONT, BOOT_FIELD, CHANGED_ENTRY, ENTRY, ENTRY_2, ENTRY_3, EXPORT, FILE, JOURNAL_FILE,
-    LONG_HEADER_FILE, METADATA, METADATA_2, Pieces, answer_lines, put,
-};
+use jc_samples::{Pieces, add_pieces, answer_lines};
+use std::alloc::Global;
 use std::process::Abort;
 use std::str;
 use std::test::Fail;
-
-/// An upload in parts, and its line with `S` for the source's id.
-type Row<'a> = (&'a [&'a [u8]], &'a str);
-
-/// The upload of one entry.
-const FIRST: Row<'static> = (&[&EXPORT, ENTRY], "ack S 0 1 1 0");
 
 /// How uploads are delivered: as streams that give at most this many bytes at each read, or as spaces.
 #[derive(Clone, Copy, Debug)]
@@ -26,241 +26,272 @@ enum Way {
     Spaces,
 }
 
+/// What a run leaves behind: the lines that it wrote, and the texts of the entries that are stored.
+#[derive(Drop)]
+struct Left {
+    lines: Vec<u8>,
+    texts: Vec<u8>,
+}
+
+/// How far a script has come.
+#[derive(Drop)]
+struct Rows {
+    line: u64,
+    uploads: Vec<Vec<u8>>,
+    /// The lines that the uploads have to be answered with.
+    lines: String,
+    has_run: bool,
+    /// The rows that are wrong.
+    report: String,
+}
+
 /// Collects, and answers what was written.
 fn written<K: Keeper, R: ByteStream, B: ByteSpace>(
-    rt: &(impl Abort + AllocGlobal),
+    alloc: Global,
     keeper: &mut K,
     deliveries: &mut [Delivery<R, B>],
 ) -> Result<Vec<u8>, Fail> {
-    let mut sink = VecSink::new(rt.alloc());
-    let limits = Limits::default();
-    let end = run(rt.alloc(), keeper, deliveries, &mut sink, &limits);
-    assert_eq!(rt; end, RunEnd::Done);
-    Ok(sink.into_bytes())
+    let mut sink = VecSink::new(alloc);
+    let end = run(alloc, keeper, deliveries, &mut sink, &Limits::default());
+    if end == RunEnd::Done {
+        Ok(sink.into_bytes())
+    } else {
+        Err("the run stopped")?
+    }
 }
 
 fn as_streams<K: Keeper>(
-    rt: &(impl Abort + AllocGlobal),
+    alloc: Global,
     keeper: &mut K,
     uploads: &[Vec<u8>],
     most: usize,
 ) -> Result<Vec<u8>, Fail> {
     let most = most.max(1);
-    let mut deliveries: Vec<Delivery<_, SliceSpace<'_>>> = Vec::new(rt.alloc());
+    let mut deliveries: Vec<Delivery<_, SliceSpace<'_>>> = Vec::new(alloc);
     for upload in uploads {
         let inner = SliceStream::new(upload);
         deliveries.push(Delivery::Stream(Pieces { inner, most }))?;
     }
-    written(rt, keeper, &mut deliveries)
+    written(alloc, keeper, &mut deliveries)
 }
 
 fn as_spaces<K: Keeper>(
-    rt: &(impl Abort + AllocGlobal),
+    alloc: Global,
     keeper: &mut K,
     uploads: &[Vec<u8>],
 ) -> Result<Vec<u8>, Fail> {
-    let mut deliveries: Vec<Delivery<SliceStream<'_>, _>> = Vec::new(rt.alloc());
+    let mut deliveries: Vec<Delivery<SliceStream<'_>, _>> = Vec::new(alloc);
     for upload in uploads {
         deliveries.push(Delivery::Space(SliceSpace { bytes: upload }))?;
     }
-    written(rt, keeper, &mut deliveries)
+    written(alloc, keeper, &mut deliveries)
 }
 
-/// Whether a run over the uploads, into an empty journal, writes their lines and stores the entries with these texts,
-/// however they are delivered.
-fn check<J: Journals>(
-    rt: &(impl Abort + AllocGlobal),
+/// What a run over uploads leaves behind, into an empty journal.
+fn left_by<J: Journals>(
+    alloc: Global,
     journals: &mut J,
-    rows: &[Row<'_>],
-    texts: &[&[u8]],
-) -> Result<(), Fail> {
-    let alloc = rt.alloc();
-    let mut uploads = Vec::new(alloc);
-    let mut shorts = Vec::new(alloc);
-    for (parts, short) in rows {
-        uploads.push(parts.concat(alloc)?)?;
-        shorts.push(*short)?;
+    uploads: &[Vec<u8>],
+    way: Way,
+) -> Result<Left, Fail> {
+    let mut keeper = journals.empty()?;
+    let lines = match way {
+        Way::Pieces(most) => as_streams(alloc, &mut keeper, uploads, most)?,
+        Way::Spaces => as_spaces(alloc, &mut keeper, uploads)?,
+    };
+    let texts = stored(alloc, &mut keeper)?;
+    Ok(Left { lines, texts })
+}
+
+impl Rows {
+    fn take<J: Journals>(
+        &mut self,
+        alloc: Global,
+        journals: &mut J,
+        line: &str,
+    ) -> Result<(), Fail> {
+        let (word, rest) = line.split_once(' ').unwrap_or((line, ""));
+        match word {
+            "" | "#" => Ok(()),
+            "upload" => self.add(alloc, rest),
+            "stores" => self.judge(alloc, journals, rest),
+            _ => self.tell(alloc, "no such word"),
+        }
     }
-    let lines = answer_lines(alloc, &shorts)?;
-    for way in [
-        Way::Pieces(1),
-        Way::Pieces(7),
-        Way::Pieces(65_536),
-        Way::Spaces,
-    ] {
-        let mut keeper = journals.empty()?;
-        let bytes = match way {
-            Way::Pieces(most) => as_streams(rt, &mut keeper, &uploads, most)?,
-            Way::Spaces => as_spaces(rt, &mut keeper, &uploads)?,
+
+    fn add(&mut self, alloc: Global, rest: &str) -> Result<(), Fail> {
+        let Some((pieces, short)) = rest.split_once(" => ") else {
+            return self.tell(alloc, "no answer");
         };
-        assert_eq!(rt; str::from_utf8(&bytes)?, lines.as_str(), "{way:?}");
-        let kept = keeps(alloc, &mut keeper, texts)?;
-        assert_eq!(rt; kept, true, "{way:?} stored for {lines}");
+        let mut upload = Vec::new(alloc);
+        if add_pieces(alloc, pieces, &mut upload).is_err() {
+            return self.tell(alloc, "no pieces");
+        }
+        self.uploads.push(upload)?;
+        let answers = answer_lines(alloc, &[short])?;
+        self.lines.push_str(answers.as_str())?;
+        Ok(())
     }
-    Ok(())
-}
 
-fn one_run<J: Journals>(rt: &(impl Abort + AllocGlobal), journals: &mut J) -> Result<(), Fail> {
-    check(
-        rt,
-        journals,
-        &[
-            (&[&EXPORT, METADATA, b"MESSAGE=hi\n"], "ack S 0 0 0 120"),
-            FIRST,
-            (&[&EXPORT, CHANGED_ENTRY], "no S 0 60 0"),
-            (&[&EXPORT, ENTRY_2, ENTRY_3, CHANGED_ENTRY], "no S 0 60 2"),
-            (&[&EXPORT, ENTRY_2, ENTRY_3], "ack S 0 2 2 0"),
-            (&[&EXPORT, ENTRY_3, ENTRY, ENTRY_3], "ack S 0 3 0 0"),
-        ],
-        &[ENTRY, ENTRY_2, ENTRY_3],
-    )?;
-    check(rt, journals, &[], &[])
-}
-
-fn headers<J: Journals>(rt: &(impl Abort + AllocGlobal), journals: &mut J) -> Result<(), Fail> {
-    for (place, byte, short) in [
-        (0, b'K', "no - - 2 0"),
-        (8, 3, "no - - 3 8"),
-        (12, 1, "no - - 4 9"),
-        (40, 7, "no - - 4 40"),
-    ] {
-        let mut head = EXPORT;
-        put(&mut head, place, &[byte]);
-        check(rt, journals, &[(&[&head, ENTRY], short)], &[])?;
+    /// Whether the uploads leave behind what they should, however they are delivered.
+    fn judge<J: Journals>(
+        &mut self,
+        alloc: Global,
+        journals: &mut J,
+        pieces: &str,
+    ) -> Result<(), Fail> {
+        let mut texts = Vec::new(alloc);
+        if add_pieces(alloc, pieces, &mut texts).is_err() {
+            return self.tell(alloc, "no pieces");
+        }
+        let lines = Vec::from_slice(alloc, self.lines.as_bytes())?;
+        let wanted = Left { lines, texts };
+        for most in [1, 7, 65_536] {
+            let found = left_by(alloc, journals, &self.uploads, Way::Pieces(most))?;
+            self.compare(alloc, &found, &wanted)?;
+        }
+        let found = left_by(alloc, journals, &self.uploads, Way::Spaces)?;
+        self.compare(alloc, &found, &wanted)?;
+        self.uploads.clear();
+        self.lines.clear();
+        self.has_run = true;
+        Ok(())
     }
-    let mut head = EXPORT;
-    head[32] = 3;
-    let started: Row<'_> = (&[&head, ENTRY], "ack S 3 1 1 0");
-    check(rt, journals, &[started], &[ENTRY])?;
-    let short_ones: [Row<'_>; 2] = [(&[], "no - - 1 0"), (&[&EXPORT[..47]], "no - - 1 47")];
-    check(rt, journals, &short_ones, &[])
-}
 
-/// Uploads into an empty journal that leave it empty.
-fn bodies_that_store_nothing<J: Journals>(
-    rt: &(impl Abort + AllocGlobal),
-    journals: &mut J,
-) -> Result<(), Fail> {
-    let rows: [Row<'_>; 7] = [
-        (&[&EXPORT], "ack S 0 0 0 0"),
-        (&[&EXPORT, b"\n\n"], "ack S 0 0 0 0"),
-        (&[&EXPORT, METADATA, b"MESSAGE=hi\n"], "ack S 0 0 0 120"),
-        (
-            &[
-                &EXPORT,
-                METADATA,
-                b"MESSAGE\n\xff\xff\xff\xff\xff\xff\xff\xff",
-            ],
-            "no S 0 12 109",
-        ),
-        (
-            &[&EXPORT, METADATA, b"MESSAGE\n\x02\0\0\0\0\0\0\0hiX"],
-            "no S 0 13 127",
-        ),
-        (&[&EXPORT, ENTRY, CHANGED_ENTRY], "no S 0 60 1"),
-        (&[&EXPORT, ENTRY_2, b"=x"], "no S 0 10 121"),
-    ];
-    for row in rows {
-        check(rt, journals, &[row], &[])?;
+    fn compare(&mut self, alloc: Global, found: &Left, wanted: &Left) -> Result<(), Fail> {
+        if found.lines.as_slice() != wanted.lines.as_slice() {
+            let lines = str::from_utf8(&found.lines)?;
+            return self.tell(alloc, lines);
+        }
+        if found.texts.as_slice() != wanted.texts.as_slice() {
+            return self.tell(alloc, "other entries are stored");
+        }
+        Ok(())
     }
-    Ok(())
+
+    /// Adds to the report.
+    fn tell(&mut self, alloc: Global, what: &str) -> Result<(), Fail> {
+        let line = self.line;
+        let text = format!(in alloc; "line {line}: {what:?}\n")?;
+        self.report.push_str(text.as_str())?;
+        Ok(())
+    }
 }
 
-/// Uploads of one entry into an empty journal.
-fn bodies_of_one_entry<J: Journals>(
-    rt: &(impl Abort + AllocGlobal),
-    journals: &mut J,
-) -> Result<(), Fail> {
-    let short = "ack S 0 1 1 0";
-    check(rt, journals, &[FIRST], &[ENTRY])?;
-    let cut: Row<'_> = (&[&EXPORT, ENTRY, b"_"], "ack S 0 1 1 1");
-    check(rt, journals, &[cut], &[ENTRY])?;
-    let binary = [METADATA_2, BINARY_FRONT, ENTRY, b"\n\n"];
-    let upload: Row<'_> = (&[&EXPORT, METADATA_2, BINARY_FRONT, ENTRY, b"\n\n"], short);
-    check(rt, journals, &[upload], &binary)?;
-    let empty: Row<'_> = (&[&EXPORT, METADATA, b"\n"], short);
-    check(rt, journals, &[empty], &[METADATA, b"\n"])
+/// The rows of a script that are wrong, each with its line. A script that runs nothing is wrong, too, and one that ends
+/// with an upload.
+fn report_of<J: Journals>(alloc: Global, journals: &mut J, script: &str) -> Result<String, Fail> {
+    let mut rows = Rows {
+        line: 0,
+        uploads: Vec::new(alloc),
+        lines: String::new(alloc),
+        has_run: false,
+        report: String::new(alloc),
+    };
+    for line in script.lines() {
+        rows.line = rows.line.saturating_add(1);
+        rows.take(alloc, journals, line)?;
+    }
+    if !rows.has_run || !rows.uploads.is_empty() {
+        rows.tell(alloc, "nothing is run")?;
+    }
+    Ok(rows.report)
 }
 
-/// Each run begins with the upload of one entry.
-fn repeats_and_conflicts<J: Journals>(
-    rt: &(impl Abort + AllocGlobal),
-    journals: &mut J,
-) -> Result<(), Fail> {
-    let first = [ENTRY];
-    let three = [ENTRY, ENTRY_2, ENTRY_3];
-    let late: Row<'_> = (&[&EXPORT, ENTRY_2, ENTRY_3, CHANGED_ENTRY], "no S 0 60 2");
-    let two: Row<'_> = (&[&EXPORT, ENTRY_2, ENTRY_3], "ack S 0 2 2 0");
-    let fault: Row<'_> = (&[&EXPORT, ENTRY_2, b"=x"], "no S 0 10 121");
-    let again: Row<'_> = (&[&EXPORT, ENTRY], "ack S 0 1 0 0");
-    check(rt, journals, &[FIRST, again], &first)?;
-    let other: Row<'_> = (&[&EXPORT, CHANGED_ENTRY], "no S 0 60 0");
-    check(rt, journals, &[FIRST, other], &first)?;
-    check(rt, journals, &[FIRST, late], &first)?;
-    check(rt, journals, &[FIRST, late, two], &three)?;
-    let both: Row<'_> = (&[&EXPORT, CHANGED_ENTRY, b"=x"], "no S 0 60 0");
-    check(rt, journals, &[FIRST, both], &first)?;
-    check(rt, journals, &[FIRST, fault], &first)
-}
+const ROWS: &str = r#"# one run
+upload head:1:0 METADATA "MESSAGE=hi\n" => ack S 0 0 0 120
+upload head:1:0 ENTRY => ack S 0 1 1 0
+upload head:1:0 CHANGED_ENTRY => no S 0 60 0
+upload head:1:0 ENTRY_2 ENTRY_3 CHANGED_ENTRY => no S 0 60 2
+upload head:1:0 ENTRY_2 ENTRY_3 => ack S 0 2 2 0
+upload head:1:0 ENTRY_3 ENTRY ENTRY_3 => ack S 0 3 0 0
+stores ENTRY ENTRY_2 ENTRY_3
+stores ""
 
-/// A field of the entry in a journal file, and two that an entry drops.
-const FIELD: &[u8] = b"MESSAGE=hi\n";
+# headers
+upload head:1:0 set:0:75 ENTRY => no - - 2 0
+stores ""
+upload head:1:0 set:8:3 ENTRY => no - - 3 8
+stores ""
+upload head:1:0 set:12:1 ENTRY => no - - 4 9
+stores ""
+upload head:1:0 set:40:7 ENTRY => no - - 4 40
+stores ""
+upload head:1:3 ENTRY => ack S 3 1 1 0
+stores ENTRY
+upload "" => no - - 1 0
+upload head:1:0 cut:47 => no - - 1 47
+stores ""
 
-const CURSOR: &[u8] = b"__CURSOR=x\n";
+# uploads that leave an empty journal empty
+upload head:1:0 => ack S 0 0 0 0
+stores ""
+upload head:1:0 "\n\n" => ack S 0 0 0 0
+stores ""
+upload head:1:0 METADATA "MESSAGE=hi\n" => ack S 0 0 0 120
+stores ""
+upload head:1:0 METADATA "MESSAGE\n" fill:255:8 => no S 0 12 109
+stores ""
+upload head:1:0 METADATA "MESSAGE\n" number:2 "hiX" => no S 0 13 127
+stores ""
+upload head:1:0 ENTRY CHANGED_ENTRY => no S 0 60 1
+stores ""
+upload head:1:0 ENTRY_2 "=x" => no S 0 10 121
+stores ""
 
-const SKIPPED: &[u8] = b"__X=1\n";
+# uploads of one entry
+upload head:1:0 ENTRY => ack S 0 1 1 0
+stores ENTRY
+upload head:1:0 ENTRY "_" => ack S 0 1 1 1
+stores ENTRY
+upload head:1:0 METADATA_2 BINARY_FRONT ENTRY "\n\n" => ack S 0 1 1 0
+stores METADATA_2 BINARY_FRONT ENTRY "\n\n"
+upload head:1:0 METADATA "\n" => ack S 0 1 1 0
+stores METADATA "\n"
 
-/// A journal file, and the same entry in export streams.
-fn journal_files<J: Journals>(
-    rt: &(impl Abort + AllocGlobal),
-    journals: &mut J,
-) -> Result<(), Fail> {
-    check(
-        rt,
-        journals,
-        &[
-            (&[&FILE, &JOURNAL_FILE], "ack S 0 1 1 0"),
-            (
-                &[&EXPORT, CURSOR, BOOT_FIELD, SKIPPED, FIELD, METADATA, b"\n"],
-                "ack S 0 1 0 0",
-            ),
-            (
-                &[&EXPORT, CURSOR, FIELD, SKIPPED, BOOT_FIELD, METADATA, b"\n"],
-                "ack S 0 1 0 0",
-            ),
-            (&[&EXPORT, ENTRY], "no S 0 60 0"),
-        ],
-        &[METADATA, FIELD, BOOT_FIELD, b"\n"],
-    )
-}
+# repeats and conflicts, after the upload of one entry
+upload head:1:0 ENTRY => ack S 0 1 1 0
+upload head:1:0 ENTRY => ack S 0 1 0 0
+stores ENTRY
+upload head:1:0 ENTRY => ack S 0 1 1 0
+upload head:1:0 CHANGED_ENTRY => no S 0 60 0
+stores ENTRY
+upload head:1:0 ENTRY => ack S 0 1 1 0
+upload head:1:0 ENTRY_2 ENTRY_3 CHANGED_ENTRY => no S 0 60 2
+stores ENTRY
+upload head:1:0 ENTRY => ack S 0 1 1 0
+upload head:1:0 ENTRY_2 ENTRY_3 CHANGED_ENTRY => no S 0 60 2
+upload head:1:0 ENTRY_2 ENTRY_3 => ack S 0 2 2 0
+stores ENTRY ENTRY_2 ENTRY_3
+upload head:1:0 ENTRY => ack S 0 1 1 0
+upload head:1:0 CHANGED_ENTRY "=x" => no S 0 60 0
+stores ENTRY
+upload head:1:0 ENTRY => ack S 0 1 1 0
+upload head:1:0 ENTRY_2 "=x" => no S 0 10 121
+stores ENTRY
 
-/// Uploads of one journal file into an empty journal.
-fn one_journal_file<J: Journals>(
-    rt: &(impl Abort + AllocGlobal),
-    journals: &mut J,
-) -> Result<(), Fail> {
-    let mut compact = LONG_HEADER_FILE;
-    put(&mut compact, 12, &[20]);
-    let cut: Row<'_> = (&[&FILE, &JOURNAL_FILE[..399]], "no S 0 38 96");
-    check(rt, journals, &[cut], &[])?;
-    let whole: Row<'_> = (&[&FILE, &LONG_HEADER_FILE], "ack S 0 1 1 0");
-    let entry = [METADATA, FIELD, BOOT_FIELD, b"\n"];
-    check(rt, journals, &[whole], &entry)?;
-    let refused: Row<'_> = (&[&FILE, &compact], "no S 0 34 12");
-    check(rt, journals, &[refused], &[])
-}
+# a journal file, and the same entry in export streams
+upload head:2:0 JOURNAL_FILE => ack S 0 1 1 0
+upload head:1:0 "__CURSOR=x\n" BOOT_FIELD "__X=1\nMESSAGE=hi\n" METADATA "\n" => ack S 0 1 0 0
+upload head:1:0 "__CURSOR=x\nMESSAGE=hi\n__X=1\n" BOOT_FIELD METADATA "\n" => ack S 0 1 0 0
+upload head:1:0 ENTRY => no S 0 60 0
+stores METADATA "MESSAGE=hi\n" BOOT_FIELD "\n"
+
+# one journal file: cut, with a longer header, and compact
+upload head:2:0 JOURNAL_FILE cut:447 => no S 0 38 96
+stores ""
+upload head:2:0 LONG_HEADER_FILE => ack S 0 1 1 0
+stores METADATA "MESSAGE=hi\n" BOOT_FIELD "\n"
+upload head:2:0 LONG_HEADER_FILE set:60:20 => no S 0 34 12
+stores ""
+"#;
 
 pub(super) fn worked_runs<J: Journals>(
     rt: &(impl Abort + AllocGlobal),
     journals: &mut J,
 ) -> Result<(), Fail> {
-    one_run(rt, journals)?;
-    headers(rt, journals)?;
-    bodies_that_store_nothing(rt, journals)?;
-    bodies_of_one_entry(rt, journals)?;
-    repeats_and_conflicts(rt, journals)?;
-    journal_files(rt, journals)?;
-    one_journal_file(rt, journals)
+    assert_eq!(rt; report_of(rt.alloc(), journals, ROWS)?.as_str(), "");
+    Ok(())
 }
 
 #[test]
@@ -271,4 +302,39 @@ fn worked_runs_over_a_map(rt: HostRuntime) -> Result<(), Fail> {
 #[test]
 fn worked_runs_over_a_database_in_memory(rt: HostRuntime) -> Result<(), Fail> {
     worked_runs(&rt, &mut Tables::in_memory(rt.alloc()))
+}
+
+const WRONG: &str = r#"upload head:1:0 ENTRY => ack S 0 1 0 0
+stores ENTRY
+upload head:1:0 ENTRY => ack S 0 1 1 0
+stores ENTRY_2
+upload head:1:0 ENTRY
+uploads ENTRY
+upload ENTRIES => ack S 0 1 1 0
+stores "ENTRY
+upload head:1:0 ENTRY => ack S 0 1 1 0
+"#;
+
+const REPORT: &str = r#"line 2: "ack a0a1a2a3a4a5a6a7a8a9aaabacadaeaf 0 1 1 0\n"
+line 2: "ack a0a1a2a3a4a5a6a7a8a9aaabacadaeaf 0 1 1 0\n"
+line 2: "ack a0a1a2a3a4a5a6a7a8a9aaabacadaeaf 0 1 1 0\n"
+line 2: "ack a0a1a2a3a4a5a6a7a8a9aaabacadaeaf 0 1 1 0\n"
+line 4: "other entries are stored"
+line 4: "other entries are stored"
+line 4: "other entries are stored"
+line 4: "other entries are stored"
+line 5: "no answer"
+line 6: "no such word"
+line 7: "no pieces"
+line 8: "no pieces"
+line 9: "nothing is run"
+"#;
+
+#[test]
+fn wrong_rows_are_told(rt: HostRuntime) -> Result<(), Fail> {
+    let report = report_of(rt.alloc(), &mut Maps(rt.alloc()), WRONG)?;
+    assert_eq!(rt; report.as_str(), REPORT);
+    let report = report_of(rt.alloc(), &mut Maps(rt.alloc()), "# no rows")?;
+    assert_eq!(rt; report.as_str(), "line 1: \"nothing is run\"\n");
+    Ok(())
 }

@@ -1,5 +1,6 @@
 //! Vectors of the texts, and the sender's part on worked cases.
 
+use super::rows::check_rows;
 use jc_base::{Code, Entry, Fault, Id128, Limits};
 use jc_export::read_all;
 use jc_samples::{ENTRY, EXPORT, SEQNUM_ID, SOURCE_ID, numbered_entry};
@@ -116,50 +117,40 @@ fn the_longest_line(rt: HostRuntime) {
     assert_eq!(rt; Answer::read(longest.line().bytes()), Some(longest));
 }
 
-#[test]
-fn no_answer_lines(rt: HostRuntime) {
-    for line in [
-        "",
-        "\n",
-        "ack a0a1a2a3a4a5a6a7a8a9aaabacadaeaf 00 1 1 0\n",
-        "ack a0a1a2a3a4a5a6a7a8a9aaabacadaeaf 0 1 1 0",
-        "ack A0A1A2A3A4A5A6A7A8A9AAABACADAEAF 0 1 1 0\n",
-        "ack a0a1a2a3a4a5a6a7a8a9aaabacadaeaf 0 1 1 0\n\n",
-        "ack a0a1a2a3a4a5a6a7a8a9aaabacadaeaf 0 1 1  0\n",
-        "ack a0a1a2a3a4a5a6a7a8a9aaabacadaeaf 0 1 1 +0\n",
-        "ack a0a1a2a3a4a5a6a7a8a9aaabacadaeaf 0 1 1\n",
-        "ack a0a1a2a3a4a5a6a7a8a9aaabacadaeaf 0 1 1 18446744073709551616\n",
-        "ack - - 1 1 0\n",
-        "no - 0 1 47\n",
-        "no - - 65536 47\n",
-    ] {
-        assert_eq!(rt; Answer::read(line.as_bytes()), None, "{line}");
-    }
-}
+const ROWS: &str = r#"# no answer's line
+answer "" => none
+answer "\n" => none
+answer "ack a0a1a2a3a4a5a6a7a8a9aaabacadaeaf 00 1 1 0\n" => none
+answer "ack a0a1a2a3a4a5a6a7a8a9aaabacadaeaf 0 1 1 0" => none
+answer "ack A0A1A2A3A4A5A6A7A8A9AAABACADAEAF 0 1 1 0\n" => none
+answer "ack a0a1a2a3a4a5a6a7a8a9aaabacadaeaf 0 1 1 0\n\n" => none
+answer "ack a0a1a2a3a4a5a6a7a8a9aaabacadaeaf 0 1 1  0\n" => none
+answer "ack a0a1a2a3a4a5a6a7a8a9aaabacadaeaf 0 1 1 +0\n" => none
+answer "ack a0a1a2a3a4a5a6a7a8a9aaabacadaeaf 0 1 1\n" => none
+answer "ack a0a1a2a3a4a5a6a7a8a9aaabacadaeaf 0 1 1 18446744073709551616\n" => none
+answer "ack - - 1 1 0\n" => none
+answer "no - 0 1 47\n" => none
+answer "no - - 65536 47\n" => none
+
+# a resume point's text
+resume "resume 0 - -\n" == "resume 0 - -\n"
+resume "resume 1 000102030405060708090a0b0c0d0e0f 1\n" == "resume 1 000102030405060708090a0b0c0d0e0f 1\n"
+resume "resume 18446744073709551615 000102030405060708090a0b0c0d0e0f 9223372036854775807\n" == "resume 18446744073709551615 000102030405060708090a0b0c0d0e0f 9223372036854775807\n"
+
+# no resume point's text
+resume "resume 01 - -\n" => none
+resume "resume 1 - -\n" => none
+resume "resume 0 - -" => none
+resume "resume 0 000102030405060708090a0b0c0d0e0f 1\n" => none
+resume "resume 1 000102030405060708090a0b0c0d0e0f 0\n" => none
+resume "resume 1 000102030405060708090a0b0c0d0e0f 9223372036854775808\n" => none
+resume "resume 1 000102030405060708090A0B0C0D0E0F 1\n" => none
+"#;
 
 #[test]
-fn resume_texts(rt: HostRuntime) -> Result<(), Fail> {
-    for text in [
-        "resume 0 - -\n",
-        "resume 1 000102030405060708090a0b0c0d0e0f 1\n",
-        "resume 18446744073709551615 000102030405060708090a0b0c0d0e0f 9223372036854775807\n",
-    ] {
-        let resume = Resume::read(text.as_bytes()).ok_or("a resume text")?;
-        assert_eq!(rt; resume.text(rt.alloc())?.as_slice(), text.as_bytes());
-    }
+fn lines_and_texts_are_read_as_their_rows_say(rt: HostRuntime) -> Result<(), Fail> {
     assert_eq!(rt; Resume::read(b"resume 0 - -\n"), Some(Resume::default()));
-    for text in [
-        "resume 01 - -\n",
-        "resume 1 - -\n",
-        "resume 0 - -",
-        "resume 0 000102030405060708090a0b0c0d0e0f 1\n",
-        "resume 1 000102030405060708090a0b0c0d0e0f 0\n",
-        "resume 1 000102030405060708090a0b0c0d0e0f 9223372036854775808\n",
-        "resume 1 000102030405060708090A0B0C0D0E0F 1\n",
-    ] {
-        assert_eq!(rt; Resume::read(text.as_bytes()), None, "{text}");
-    }
-    Ok(())
+    check_rows(&rt, ROWS)
 }
 
 #[test]

@@ -1,7 +1,8 @@
 //! Ids, pairs, texts, limits and entries.
 
+use super::rows::check_rows;
 use jc_base::{
-    Code, Entry, Fault, Field, FieldList, FieldRef, Id128, Key, Limits, is_text, split_pair,
+    Code, Entry, Field, FieldList, FieldRef, Id128, Key, Limits, OutOfMemory, split_pair,
 };
 use jc_samples::SEQNUM_ID;
 use std::alloc::Global;
@@ -9,16 +10,21 @@ use std::test::Fail;
 
 const ID: Id128 = Id128(SEQNUM_ID);
 
-fn field(alloc: Global, name: &[u8], value: &[u8]) -> Result<Field, Fail> {
+/// The field of this name and value; `None` if there is none.
+pub(super) fn field(
+    alloc: Global,
+    name: &[u8],
+    value: &[u8],
+) -> Result<Option<Field>, OutOfMemory> {
     let name = Vec::from_slice(alloc, name)?;
     let value = Vec::from_slice(alloc, value)?;
-    Ok(Field::new(name, value).ok_or("no name")?)
+    Ok(Field::new(name, value))
 }
 
 fn fields(alloc: Global, pairs: &[(&[u8], &[u8])]) -> Result<Vec<Field>, Fail> {
     let mut fields = Vec::new(alloc);
     for (name, value) in pairs {
-        fields.push(field(alloc, name, value)?)?;
+        fields.push(field(alloc, name, value)?.ok_or("no name")?)?;
     }
     Ok(fields)
 }
@@ -69,21 +75,32 @@ fn pairs_are_cut_at_the_first_equals_sign(rt: HostRuntime) {
     }
 }
 
+const ROWS: &str = r#"# which values are text
+text "" => yes
+text "a" byte:9 "b" => yes
+text byte:127 => yes
+text "ä€" => yes
+text "a" byte:1 "b" => no
+text "a\nb" => no
+text byte:255 => no
+text byte:237 byte:160 byte:128 => no
+
+# the first fault is told
+limits 64 64 8 1024 208
+entry "A=1\n" fill:120:65 "=\n" => bad 11 1
+entry "A=1\nB=" fill:120:65 "\n" fill:120:65 "=\n" => bad 12 1
+entry "A=1\n" again:4:8 => bad 14 8
+number 0
+entry "A=1\n" again:4:8 => bad 14 8
+number 9223372036854775808
+entry "" => bad 25 0
+number 0
+entry fill:120:64 "=" fill:120:64 "\n" again:130:7 => bad 27 0
+"#;
+
 #[test]
-fn text_is_printable_utf8(rt: HostRuntime) {
-    let values: [(&[u8], bool); 8] = [
-        (b"", true),
-        (b"a\tb", true),
-        (b"\x7f", true),
-        ("\u{e4}\u{20ac}".as_bytes(), true),
-        (b"a\x01b", false),
-        (b"a\nb", false),
-        (b"\xff", false),
-        (b"\xed\xa0\x80", false),
-    ];
-    for (value, text) in values {
-        assert_eq!(rt; is_text(value), text);
-    }
+fn values_and_entries_are_as_their_rows_say(rt: HostRuntime) -> Result<(), Fail> {
+    check_rows(&rt, ROWS)
 }
 
 #[test]
@@ -171,35 +188,14 @@ fn fields_are_gathered_in_any_order(rt: HostRuntime) -> Result<(), Fail> {
 }
 
 #[test]
-fn the_first_fault_is_told(rt: HostRuntime) -> Result<(), Fail> {
-    let alloc = rt.alloc();
-    let limits = Limits::new(64, 64, 8, 1024, 208).ok_or("least")?;
-    let long: &[u8] = &[b'x'; 65];
-    let full: &[u8] = &[b'x'; 64];
-    let one: (&[u8], &[u8]) = (b"A", b"1");
-    let nine: &[(&[u8], &[u8])] = &[one; 9];
-    let heavy: &[(&[u8], &[u8])] = &[(full, full); 8];
-    let cases: [(u64, &[(&[u8], &[u8])], Code, u64); 6] = [
-        (1, &[(b"A", b"1"), (long, b"")], Code::NameTooLong, 1),
-        (
-            1,
-            &[(b"A", b"1"), (b"B", long), (long, b"")],
-            Code::ValueTooLong,
-            1,
-        ),
-        (1, nine, Code::TooManyFields, 8),
-        (0, nine, Code::TooManyFields, 8),
-        (1 << 63, &[], Code::BadNumber, 0),
-        (0, heavy, Code::ZeroSeqnum, 0),
-    ];
-    for (seqnum, pairs, code, place) in cases {
-        let key = Key {
-            seqnum_id: ID,
-            seqnum,
-        };
-        let made = Entry::from_pairs(alloc, key, 0, 0, fields(alloc, pairs)?, &limits)?;
-        assert_eq!(rt; made.err() == Some(Fault { code, place }), true);
+fn codes_have_numbers(rt: HostRuntime) {
+    for (code, number) in [
+        (Code::NameTooLong, 11),
+        (Code::ValueTooLong, 12),
+        (Code::TooManyFields, 14),
+        (Code::BadNumber, 25),
+        (Code::ZeroSeqnum, 27),
+    ] {
+        assert_eq!(rt; code.number(), number);
     }
-    assert_eq!(rt; Code::ZeroSeqnum.number(), 27);
-    Ok(())
 }

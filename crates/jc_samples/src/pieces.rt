@@ -1,0 +1,148 @@
+//! Bytes, as a line of a test names them.
+//!
+//! A text in quotation marks is itself, with `\n` for a newline. Each other word is one of these:
+//!
+//! - the name of a sample, as `ENTRY`
+//! - `head:KIND:START`: the header of an upload
+//! - `entries:FIRST:LAST`: the entries with these numbers
+//! - `byte:N`, `number:N`: one byte, and eight with the least first
+//! - `fill:N:COUNT`: so many bytes, each of them N
+//! - `tail:PLACE`: the journal file from this place on
+//! - `set:PLACE:N`, `put:PLACE:N`: one byte, or eight, in the place of what is there
+//! - `cut:N`: only the first N bytes of all that was named before
+//! - `again:COUNT:N`: the last COUNT bytes of all that was named before, N times more
+
+use super::entry::{
+    BINARY_FRONT, BOOT_FIELD, CHANGED_ENTRY, ENTRY, ENTRY_2, ENTRY_3, LAST_ENTRY, METADATA,
+    METADATA_2, METADATA_3, METADATA_LINES, SHOWN, numbered_entry,
+};
+use super::file::{JOURNAL_FILE, LONG_HEADER_FILE, put, put_number};
+use super::upload::head;
+use std::alloc::Global;
+use std::io;
+
+/// Adds the bytes of the pieces of a line, one after the other. What isn't in the grammar is an input that is invalid.
+pub fn add_pieces(alloc: Global, pieces: &str, bytes: &mut Vec<u8>) -> io::Result<()> {
+    let mut is_text = false;
+    for part in pieces.split('"') {
+        if is_text {
+            add_text(alloc, part, bytes)?;
+        } else {
+            add_words(alloc, part, bytes)?;
+        }
+        is_text = !is_text;
+    }
+    // an odd number of parts: each quotation mark has its other one
+    if is_text { Ok(()) } else { no_piece() }
+}
+
+/// Adds a text that has `\n` for a newline.
+pub fn add_text(alloc: Global, text: &str, bytes: &mut Vec<u8>) -> io::Result<()> {
+    add(bytes, text.replace(alloc, "\\n", "\n")?.as_bytes())
+}
+
+fn add_words(alloc: Global, words: &str, bytes: &mut Vec<u8>) -> io::Result<()> {
+    for word in words.split_whitespace() {
+        add_word(alloc, word, bytes)?;
+    }
+    Ok(())
+}
+
+/// Adds what one word names, or changes what is there.
+pub fn add_word(alloc: Global, word: &str, bytes: &mut Vec<u8>) -> io::Result<()> {
+    match word.split_once(':') {
+        Some((name, numbers)) => add_made(alloc, name, numbers, bytes),
+        None => add_sample(word, bytes),
+    }
+}
+
+/// The failure of what isn't in the grammar.
+fn no_piece() -> io::Result<()> {
+    Err(io::Error::from(io::ErrorKind::InvalidInput))
+}
+
+fn add(bytes: &mut Vec<u8>, more: &[u8]) -> io::Result<()> {
+    Ok(bytes.extend_from_slice(more)?)
+}
+
+fn add_sample(name: &str, bytes: &mut Vec<u8>) -> io::Result<()> {
+    let sample = match name {
+        "ENTRY" => ENTRY,
+        "ENTRY_2" => ENTRY_2,
+        "ENTRY_3" => ENTRY_3,
+        "CHANGED_ENTRY" => CHANGED_ENTRY,
+        "LAST_ENTRY" => LAST_ENTRY,
+        "METADATA" => METADATA,
+        "METADATA_2" => METADATA_2,
+        "METADATA_3" => METADATA_3,
+        "REALTIME" => METADATA_LINES[0],
+        "MONOTONIC" => METADATA_LINES[1],
+        "SEQNUM" => METADATA_LINES[2],
+        "SEQNUM_ID" => METADATA_LINES[3],
+        "BOOT_FIELD" => BOOT_FIELD,
+        "BINARY_FRONT" => BINARY_FRONT,
+        "SHOWN" => SHOWN.as_bytes(),
+        "JOURNAL_FILE" => &JOURNAL_FILE,
+        "LONG_HEADER_FILE" => &LONG_HEADER_FILE,
+        _ => return no_piece(),
+    };
+    add(bytes, sample)
+}
+
+/// Adds what a word with one or two numbers makes, or changes what is there.
+fn add_made(alloc: Global, name: &str, numbers: &str, bytes: &mut Vec<u8>) -> io::Result<()> {
+    let (first, second) = numbers.split_once(':').unwrap_or((numbers, "0"));
+    let (Ok(first), Ok(second)) = (first.parse::<u64>(), second.parse::<u64>()) else {
+        return no_piece();
+    };
+    match name {
+        "set" => put(bytes.as_mut_slice(), first as usize, &[low_byte(second)]),
+        "put" => put_number(bytes.as_mut_slice(), first as usize, second),
+        "cut" => bytes.truncate(first as usize),
+        _ => return make(alloc, name, first, second, bytes),
+    }
+    Ok(())
+}
+
+fn make(alloc: Global, name: &str, first: u64, second: u64, bytes: &mut Vec<u8>) -> io::Result<()> {
+    match name {
+        "head" => add(bytes, &head(low_byte(first), low_byte(second))),
+        "entries" => add_entries(alloc, first, second, bytes),
+        "byte" => add(bytes, &[low_byte(first)]),
+        "number" => add(bytes, &first.to_le_bytes()),
+        "fill" => add_times(&[low_byte(first)], second, bytes),
+        "tail" => add(bytes, tail(&JOURNAL_FILE, first)),
+        "again" => {
+            let start = (bytes.len() as u64).saturating_sub(first);
+            let last = Vec::from_slice(alloc, tail(bytes, start))?;
+            add_times(&last, second, bytes)
+        }
+        _ => no_piece(),
+    }
+}
+
+/// A number below 256 as a byte.
+fn low_byte(number: u64) -> u8 {
+    let [low, ..] = number.to_le_bytes();
+    low
+}
+
+/// What comes from this place on.
+fn tail(bytes: &[u8], place: u64) -> &[u8] {
+    bytes.get(place as usize..).unwrap_or(b"")
+}
+
+fn add_times(more: &[u8], times: u64, bytes: &mut Vec<u8>) -> io::Result<()> {
+    for _ in 0..times {
+        add(bytes, more)?;
+    }
+    Ok(())
+}
+
+/// Adds the entries of these numbers, the first and the last of them among them.
+fn add_entries(alloc: Global, first: u64, last: u64, bytes: &mut Vec<u8>) -> io::Result<()> {
+    for number in first..=last {
+        add(bytes, numbered_entry(alloc, number)?.as_bytes())?;
+    }
+    Ok(())
+}
