@@ -1,5 +1,4 @@
 pub mod Lists
-pub mod Sayings
 pub mod OneMore
 pub mod OneAnswer
 pub mod OneSet

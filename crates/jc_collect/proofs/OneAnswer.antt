@@ -26,7 +26,7 @@ use Rattle.jc_upload.specs.declared.head.UploadHead.{UploadHead}
 use Rattle.jc_upload.specs.Head.{IsHead, IsHeadFault, head_text}
 use Rattle.jc_collect.specs.Accepted.{IsStoredBefore}
 use Rattle.jc_collect.specs.Answer.{IsAnswerTo, IsTaken, IsRefused, IsUnread, AreNew, TellsConflict, TellsFault, named_by}
-use Rattle.jc_collect.specs.Says.{SaysBehind}
+use Rattle.jc_upload.specs.Says.{SaysBehind}
 use Rattle.jc_collect.proofs.Lists.{length_more}
 use Rattle.jc_collect.proofs.OneMore.{SaysOnce, end_not_bad}
 

@@ -10,7 +10,7 @@ use Rattle.jc_base.specs.Reading.{Reading}
 use Rattle.jc_upload.specs.declared.answer.Answer.{Answer}
 use Rattle.jc_upload.specs.declared.answer.Answer.TheVariants.{Ack, No}
 use Rattle.jc_collect.specs.Accepted.{IsMarked, SaysAt, SaysEntry, WasAccepted, StoredBefore, IsAcceptedAt, AreAccepted}
-use Rattle.jc_collect.specs.Says.{Says}
+use Rattle.jc_upload.specs.Says.{Says}
 use Rattle.jc_collect.proofs.Lists.{some_same, get_last, get_more, get_back, get_cases, length_more}
 
 -- an acknowledged upload is the accepted one

@@ -14,7 +14,7 @@ use Rattle.jc_upload.specs.declared.answer.Answer.TheVariants.{Ack, No}
 use Rattle.jc_collect.specs.Accepted.{SaysEntry, WasAccepted, StoredBefore, IsAcceptedAt, IsStoredBefore}
 use Rattle.jc_collect.specs.Answer.{IsAnswerTo, IsFailure, IsTaken, TellsConflict, TellsFault, is_failure, is_failure_code}
 use Rattle.jc_collect.specs.Position.{Answers, Joins, Leaves}
-use Rattle.jc_collect.specs.Says.{Says}
+use Rattle.jc_upload.specs.Says.{Says}
 use Rattle.jc_collect.proofs.Lists.{get_last, get_cases, length_more}
 use Rattle.jc_collect.proofs.OneAnswer.{none_within}
 use Rattle.jc_collect.proofs.OneMore.{SaysOnce, is_ack, end_not_bad, marked_false, says_last, last_says, stored_more, stored_back}

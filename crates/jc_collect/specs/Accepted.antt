@@ -7,7 +7,7 @@ use Rattle.jc_base.specs.Journal.{Journal}
 use Rattle.jc_base.specs.LogEntry.{LogEntry}
 use Rattle.jc_base.specs.Reading.{Reading}
 use Rattle.jc_keeper.specs.Agree.{IsStored}
-use Rattle.jc_collect.specs.Says.{Says}
+use Rattle.jc_upload.specs.Says.{Says}
 
 -- The position is one of a set of positions, which has a mark for each position of a list.
 abbrev pub IsMarked : List Bool → ℕ → Type 0

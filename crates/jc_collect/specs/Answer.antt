@@ -14,7 +14,7 @@ use Rattle.jc_keeper.specs.Agree.{Agree, HasBoth, IsFirstConflict}
 use Rattle.jc_upload.specs.declared.answer.Answer.{Answer}
 use Rattle.jc_upload.specs.declared.answer.Answer.TheVariants.{Ack, No}
 use Rattle.jc_upload.specs.declared.head.UploadHead.{UploadHead}
-use Rattle.jc_collect.specs.Says.{HasHead, SaysBehind}
+use Rattle.jc_upload.specs.Says.{HasHead, SaysBehind}
 use Rattle.jc_upload.specs.Head.{IsHeadFault}
 
 -- the source and the start that a header names

@@ -16,7 +16,7 @@ use Rattle.jc_upload.specs.declared.answer.Answer.TheVariants.{Ack, No}
 use Rattle.jc_upload.specs.declared.head.Kind.{Kind}
 use Rattle.jc_upload.specs.declared.head.UploadHead.{UploadHead}
 use Rattle.jc_collect.specs.Answer.{named_by}
-use Rattle.jc_collect.specs.Says.{IsBodyReading}
+use Rattle.jc_upload.specs.Says.{IsBodyReading}
 
 -- a reading that the body may have: any one if its bytes aren't known
 abbrev pub SaysBody : Limits → Kind → (body : Option (List ℕ)) → Reading → Type 0

@@ -1,4 +1,3 @@
-pub mod Says
 pub mod Answer
 pub mod Accepted
 pub mod Position

@@ -10,7 +10,7 @@ use Rattle.jc_keeper.specs.Absorb.{TakesWhole}
 use Rattle.jc_keeper.specs.Agree.{HasBoth}
 use Rattle.jc_upload.specs.declared.answer.Answer.{Answer}
 use Rattle.jc_upload.specs.declared.answer.Answer.TheVariants.{Ack, No}
-use Rattle.jc_collect.specs.Says.{Says}
+use Rattle.jc_upload.specs.Says.{Says}
 use Rattle.jc_collect.specs.Answer.{IsAnswerTo, IsFailure, is_failure}
 
 -- A failure is reported, or else the answer to the upload.

@@ -5,7 +5,7 @@ ghost use Rattle.jc_base.specs.declared.limits.Limits.{Limits};
 ghost use Rattle.jc_base.specs.Journal.{Journal};
 ghost use Rattle.jc_collect.specs.Chain.{AreTaken, IsChain, Turn};
 
-use crate::one_saying;
+use jc_upload::one_saying;
 
 /// Of deliveries one after the other, whoever made them, exactly the accepted ones are acknowledged, and before each
 /// position there are stored the entries of the start and of the accepted uploads so far. Does nothing.

@@ -3,21 +3,11 @@
 ghost use Rattle.std.specs.Prelude.{◌≡◌, Bool, List, ℕ};
 ghost use Rattle.jc_base.specs.declared.limits.Limits.{Limits};
 ghost use Rattle.jc_base.specs.Journal.{Journal};
-ghost use Rattle.jc_base.specs.Reading.{Reading};
 ghost use Rattle.jc_upload.specs.declared.answer.Answer.{Answer};
 ghost use Rattle.jc_collect.specs.Accepted.{AreAccepted, IsStoredBefore};
 ghost use Rattle.jc_collect.specs.Answer.{IsAnswerTo};
-ghost use Rattle.jc_collect.specs.Says.{Says};
 
-/// No upload says two things. Does nothing.
-pub fn one_saying()
-    ensures { (limits : Limits) (upload : List ℕ) (r s : Reading) →
-        Says limits upload r → Says limits upload s → r ≡ s }
-{
-    jc_upload::one_head();
-    jc_export::one_reading();
-    jc_file::one_reading();
-}
+use jc_upload::one_saying;
 
 /// Over the same journal, uploads and failures no two sets of positions are the accepted ones. Does nothing.
 pub fn one_set_accepted()

@@ -15,5 +15,5 @@ mod whole;
 pub use chain::chain_stored;
 pub use collect::collect_one;
 pub use delivery::Delivery;
-pub use law::{one_answer, one_journal_stored, one_saying, one_set_accepted};
+pub use law::{one_answer, one_journal_stored, one_set_accepted};
 pub use runs::{RunEnd, run};

@@ -111,6 +111,10 @@ behind_start : (kind : ℕ) (source start body : List ℕ) → length source ≡
 behind_start kind source start body len eight =
     sym (drop-drop 8 32 (head_of kind source start ++ body)) ∙ ap (drop 8) (behind_source kind source start body len) ∙ drop_at start _ 8 eight
 
+pub head_length : (h : UploadHead) → IsHead h → length (head_text h) ≡ 48
+unfolding head_text
+head_length h ok = simp (length-append) (omega (arith, ok.source.0))
+
 -- a check that holds tells no fault itself
 passes : (holds : Type 0) (fault : Fault) (behind : Fault → Type 0) → holds → ((told : Fault) → ¬ behind told)
     → (told : Fault) → ¬ Checks holds fault behind told

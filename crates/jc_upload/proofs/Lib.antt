@@ -3,3 +3,5 @@ pub mod WordLemmas
 pub mod PartLemmas
 pub mod AnswerLemmas
 pub mod ResumeLemmas
+pub mod Sayings
+pub mod Fronts

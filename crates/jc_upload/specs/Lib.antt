@@ -4,3 +4,5 @@ pub mod Answer
 pub mod Resume
 pub mod Reading
 pub mod Upload
+pub mod Says
+pub mod Front

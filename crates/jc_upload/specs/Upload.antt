@@ -41,11 +41,13 @@ export_head sender = record { kind = Export; source = sender.source; start = sen
 abbrev pub file_head : Id128 → UploadHead
 file_head source = record { kind = File; source = source; start = 0 }
 
--- The canonical texts of the entries from the point on, the first of them if more than the limit remain.
+-- the entries from the point on, the first of them if more than the limit remain
+abbrev pub sent_of : Sender → List LogEntry → ℕ → List LogEntry
+sent_of sender entries limit = take limit (drop sender.point.position entries)
+
+-- the header, and the canonical texts of these entries
 abbrev pub next_upload_of : Sender → List LogEntry → ℕ → List ℕ
-next_upload_of sender entries limit =
-    head_text (export_head sender)
-    ++ flat_map canon (take limit (drop sender.point.position entries))
+next_upload_of sender entries limit = head_text (export_head sender) ++ flat_map canon (sent_of sender entries limit)
 
 abbrev pub file_upload_of : Id128 → List ℕ → List ℕ
 file_upload_of source bytes = head_text (file_head source) ++ bytes

@@ -3,12 +3,14 @@
 
 mod answer;
 mod head;
+mod law;
 mod line;
 mod resume;
 mod uploader;
 
 pub use answer::{Answer, one_answer};
 pub use head::{Kind, UploadHead, one_head};
+pub use law::{fronts_of_uploads, one_saying};
 pub use line::Line;
 pub use resume::{Resume, one_resume};
 pub use uploader::{UploadFault, Uploader, file_upload};

@@ -1,14 +1,18 @@
 //! The sender's part: which entries an upload carries, and when a resume point moves on.
 
-ghost use Rattle.std.specs.Prelude.{◌≡◌, ◌↔◌, ◌≤◌, ◌++◌, length, flat_map, IsTrue, IfOk, OnOk, IsErrOf, MatchOption};
+ghost use Rattle.std.specs.Prelude.{◌≡◌, ◌↔◌, ◌≤◌, ◌++◌, length, flat_map, IsTrue, IfOk, IfErr, OnOk, IsErrOf, MatchOption};
 ghost use Rattle.std.specs.Bool.{OnTrue, OnFalse};
+ghost use Rattle.std.specs.List.{All};
 ghost use Rattle.std.specs.Io.KnownBytes.{Appends};
+ghost use Rattle.jc_base.specs.LogEntry.{IsEntry};
 ghost use Rattle.jc_export.specs.Canonical.{canon};
+ghost use Rattle.jc_upload.specs.declared.head.Kind.TheVariants as kinds;
 ghost use Rattle.jc_upload.specs.declared.uploader.UploadFault.TheVariants as faults;
+ghost use Rattle.jc_upload.specs.Front.{CutsOfExport, CutsOfFile};
 ghost use Rattle.jc_upload.specs.Head.{IsHead, head_text};
-ghost use Rattle.jc_upload.specs.Upload.{Advances, Agrees, acked_to, export_head, file_head, file_upload_of, moved_to, next_upload_of, point_behind};
+ghost use Rattle.jc_upload.specs.Upload.{Advances, Agrees, acked_to, export_head, file_head, file_upload_of, moved_to, next_upload_of, point_behind, sent_of};
 
-use crate::{Answer, Kind, Resume, UploadHead};
+use crate::{Answer, Kind, Resume, UploadHead, fronts_of_uploads};
 use jc_base::{ByteSink, Entry, Id128, OutOfMemory, VecSink, Written, write_all};
 use jc_export::write_entry;
 use std::alloc::Global;
@@ -97,19 +101,31 @@ impl Uploader {
         ensures upload { IfOk result (λ upload. upload.items ≡ next_upload_of self.now entries.now limit) }
         ensures lawful { OnOk result (IsHead (export_head self.now)) }
         ensures agrees { OnOk result (Agrees self.now.point entries.now) }
+        // A beginning of it is read as some of its entries, the first ones.
+        ensures front { IfOk result (λ upload. CutsOfExport (sent_of self.now entries.now limit) upload.items) }
         ensures changed { IsErrOf result UploadFault.SourceChanged ↔ ¬ Agrees self.now.point entries.now }
     {
-        if !self.agrees(entries) {
-            return Err(UploadFault::SourceChanged);
-        }
+        let sent = self.next_entries(entries, limit)?;
         let head = UploadHead {
             kind: Kind::Export,
             source: self.source,
             start: self.resume.position(),
         };
+        Ok(export_upload(alloc, &head, sent)?)
+    }
+
+    /// The entries that the next upload carries.
+    fn next_entries<'e>(&self, entries: &'e [Entry], limit: u64) -> Result<&'e [Entry], UploadFault>
+        ensures sent { IfOk result (λ sent. sent.now ≡ sent_of self.now entries.now limit) }
+        ensures agrees { OnOk result (Agrees self.now.point entries.now) }
+        ensures changed { IfErr result (λ fault. (fault ≡ faults.SourceChanged) × ¬ Agrees self.now.point entries.now) }
+    {
+        if !self.agrees(entries) {
+            return Err(UploadFault::SourceChanged);
+        }
         let remaining = &entries[self.resume.position() as usize..];
         let count = limit.min(remaining.len() as u64) as usize;
-        Ok(export_upload(alloc, &head, &remaining[..count])?)
+        Ok(&remaining[..count])
     }
 
     /// Takes an answer. The resume point moves on to the last entry that an ack of this source counts, if the
@@ -174,7 +190,10 @@ fn export_upload(
 ) -> Result<Vec<u8>, OutOfMemory>
     ensures text { IfOk result (λ upload. upload.items ≡ head_text head.now ++ flat_map canon entries.now) }
     ensures lawful { OnOk result (IsHead head.now) }
+    ensures front { IfOk result (λ upload. head.now.kind ≡ kinds.Export → CutsOfExport entries.now upload.items) }
 {
+    // Does nothing: from its contract the proof has what a beginning of the upload says.
+    fronts_of_uploads();
     let mut sink = VecSink::new(alloc);
     write_all(&mut sink, &head.write()).map_err(|_| OutOfMemory)?;
     write_entries(&mut sink, entries).map_err(|_| OutOfMemory)?;
@@ -182,9 +201,12 @@ fn export_upload(
 }
 
 fn write_entries<W: ByteSink>(sink: &mut W, entries: &[Entry]) -> Result<(), Written>
-    ensures { OnOk result (Appends (W.written sink.old) (W.written sink.new) (flat_map canon entries.now)) }
+    ensures text { OnOk result (Appends (W.written sink.old) (W.written sink.new) (flat_map canon entries.now)) }
+    ensures lawful { OnOk result (All IsEntry entries.now) }
 {
     for entry in entries {
+        // The proof has from it that the entry is one.
+        let _key = entry.key();
         write_entry(entry, sink)?;
     }
     Ok(())
@@ -194,7 +216,11 @@ fn write_entries<W: ByteSink>(sink: &mut W, entries: &[Entry]) -> Result<(), Wri
 pub fn file_upload(alloc: Global, source: Id128, file: &[u8]) -> Result<Vec<u8>, OutOfMemory>
     ensures upload { IfOk result (λ upload. upload.items ≡ file_upload_of source file.now) }
     ensures lawful { OnOk result (IsHead (file_head source)) }
+    // If the file reads without a fault, a beginning of the upload is read as all of its entries or as none.
+    ensures front { IfOk result (λ upload. CutsOfFile file.now upload.items) }
 {
+    // Does nothing: from its contract the proof has what a beginning of the upload says.
+    fronts_of_uploads();
     let head = UploadHead {
         kind: Kind::File,
         source,

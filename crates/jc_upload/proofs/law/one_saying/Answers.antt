@@ -1,6 +1,6 @@
 use Rattle.std.proofs.Common.{sym, ◌∙◌}
-use Rattle.jc_collect.proofs.Sayings.{says_once}
-use Rattle.jc_collect.proofs.law.one_saying.Goals as goal
+use Rattle.jc_upload.proofs.Sayings.{says_once}
+use Rattle.jc_upload.proofs.law.one_saying.Goals as goal
 
 pub returns : goal.returns
 returns c =

@@ -10,7 +10,7 @@ use Rattle.jc_upload.specs.Head.{IsHead, IsHeadFault, head_text}
 use Rattle.jc_upload.specs.declared.head.Kind.{Kind}
 use Rattle.jc_upload.specs.declared.head.Kind.TheVariants.{Export, File}
 use Rattle.jc_upload.specs.declared.head.UploadHead.{UploadHead}
-use Rattle.jc_collect.specs.Says.{IsBodyReading, SaysBehind, SaysFault, Says}
+use Rattle.jc_upload.specs.Says.{IsBodyReading, SaysBehind, SaysFault, Says}
 
 module _
     (one : (a b : UploadHead) (x y : List ℕ) → IsHead a → IsHead b → head_text a ++ x ≡ head_text b ++ y → (a ≡ b) × (x ≡ y))
