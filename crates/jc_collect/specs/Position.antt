@@ -1,6 +1,8 @@
 -- What one delivery does to a journal, and what is answered. (own)
-use Rattle.std.specs.Prelude.{ℕ, ◌≡◌, ◌≤◌, Option, Some, None, MatchBool, List}
+use Rattle.std.specs.Prelude.{ℕ, ◌≡◌, ◌<◌, ◌≤◌, Option, Some, None, MatchBool, List, length}
+use Rattle.std.specs.Io.KnownBytes.{Consumes}
 use Rattle.jc_base.specs.declared.fault.Code.{Code}
+use Rattle.jc_base.specs.declared.fault.Code.TheVariants.{ReadFailed}
 use Rattle.jc_base.specs.declared.limits.Limits.{Limits}
 use Rattle.jc_base.specs.Device.{Rose}
 use Rattle.jc_base.specs.Fault.{number_of}
@@ -55,3 +57,15 @@ HasCode (No of number place) code = number ≡ number_of code
 pub record HasCause (code : Code) (before now : ℕ) (answer : Answer) : Type 0 where
   pub never_falls : before ≤ now
   pub failed : HasCode answer code → Rose before now
+
+-- Reading failed before there was a header: the answer names no source.
+abbrev pub FailsUnread : Answer → Type 0
+FailsUnread (Ack source start count new left) = ⊥
+FailsUnread (No None code place) = code ≡ number_of ReadFailed
+FailsUnread (No (Some of) code place) = ⊥
+
+-- A stream that tells its bytes has given fewer than this many of them.
+pub record HasGivenFewer (most : ℕ) (before behind : Option (List ℕ)) : Type 0 where
+  pub came : List ℕ
+  pub front : Consumes before behind came
+  pub few : length came < most

@@ -1,10 +1,11 @@
 //! The headers of uploads, read from devices.
 
-ghost use Rattle.std.specs.Prelude.{◌≡◌, ◌≢◌, ◌<◌, ◌≤◌, ℕ, List, Option, Err, OnOk, IfOk, length, take};
+ghost use Rattle.std.specs.Prelude.{◌≡◌, ◌≢◌, ◌<◌, ◌≤◌, ℕ, List, Option, Err, OnOk, OnErr, IfOk, length, take};
 ghost use Rattle.std.specs.Io.KnownBytes.{Consumes, IsAtEnd};
 ghost use Rattle.jc_base.specs.Device.{Rose, CountsFailure};
 ghost use Rattle.jc_collect.specs.Begun.{BeginsUpload, HasCome, answer_unread};
 ghost use Rattle.jc_collect.specs.Part.{known_from};
+ghost use Rattle.jc_collect.specs.Position.{HasGivenFewer};
 ghost use Rattle.jc_collect.specs.declared.head.Unread.TheVariants.{ReadFailed as ReadingFailed};
 
 use jc_base::{ByteStream, Code, Fault, ReadFailed};
@@ -55,6 +56,7 @@ pub(crate) fn read_head<R: ByteStream>(device: &mut R) -> Result<UploadHead, Unr
     ensures begins { BeginsUpload (R.remaining device.old) (R.remaining device.new) result }
     ensures never_falls { R.failures device.old ≤ R.failures device.new }
     ensures cause { result ≡ Err ReadingFailed → Rose (R.failures device.old) (R.failures device.new) }
+    ensures few { result ≡ Err ReadingFailed → HasGivenFewer 48 (R.remaining device.old) (R.remaining device.new) }
 {
     let mut bytes = [0; 48];
     let came = fill(device, &mut bytes)?;
@@ -102,6 +104,7 @@ fn fill<R: ByteStream>(device: &mut R, bytes: &mut [u8]) -> Result<usize, ReadFa
     ensures came { IfOk result (λ came. Consumes (R.remaining device.old) (R.remaining device.new) (take came bytes.new)) }
     ensures within { IfOk result (λ came. came ≤ length bytes.new) }
     ensures end { IfOk result (λ came. came < length bytes.new → IsAtEnd (R.remaining device.new)) }
+    ensures few { OnErr result (HasGivenFewer (length bytes.old) (R.remaining device.old) (R.remaining device.new)) }
     ensures failures { CountsFailure (R.failures device.old) (R.failures device.new) result }
 {
     let mut came = 0;

@@ -1,6 +1,7 @@
-use Rattle.std.proofs.Common.{◌-◌, length, arith}
+use Rattle.std.proofs.Common.{◌-◌, length, arith, rules}
 use Rattle.std.proofs.lemmas.Grind.{common_steps}
-use Rattle.jc_collect.proofs.Filling.{filled_more}
+use Rattle.jc_collect.specs.Position.{HasGivenFewer}
+use Rattle.jc_collect.proofs.Filling.{filled_few, filled_more}
 use Rattle.jc_collect.proofs.head.fill.Goals as goal
 
 pub pieces-preserved : goal.pieces-preserved
@@ -15,3 +16,12 @@ pieces-preserved g c =
           had.within came.within.0 had.got came.bytes.0;
       count = omega (arith, had.count, came.failures.never_falls);
     }
+
+pub returns-in_err-count-clause-few : goal.returns-in_err-count-clause-few
+returns-in_err-count-clause-few g c =
+    let had = c.pieces.invariant in
+    let remaining = g.R.ByteStream.remaining in
+    let few : HasGivenFewer (length c.args.bytes.now) (remaining c.args.device.now) (remaining c.read.new.self) =
+    filled_few (remaining c.args.device.now) (remaining c.pieces.device) (remaining c.read.new.self) c.pieces.came (length c.args.bytes.now)
+    c.pieces.bytes (grind (arith, common_steps)) had.within had.got c.in_err-count.ensures.bytes in
+    search rules
