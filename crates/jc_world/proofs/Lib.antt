@@ -1,0 +1,11 @@
+mod Lists
+mod Points
+mod Growing
+mod Sending
+mod Keeping
+mod Gathering
+mod Distinct
+mod Steps
+mod Giving
+mod Running
+mod Storing

@@ -1,0 +1,21 @@
+-- What contracts see of a world. (own)
+use Rattle.std.specs.Prelude.{map}
+use Rattle.jc_base.specs.Journal.{Journal}
+use Rattle.jc_base.specs.declared.limits.Limits.{Limits}
+use Rattle.jc_world.specs.State.{State}
+use Rattle.jc_world.specs.declared.world.World.{World}
+
+-- its state, by the journal of its keeper
+abbrev pub state_of : {K : Type 0} → (K → Journal) → World K → State
+state_of journal w = record {
+  machines = w.machines.items;
+  uploads = map (λ u. u.items) w.uploads.items;
+  answers = w.answers.items;
+  journal = journal w.keeper;
+}
+
+abbrev pub keeper_of : {K : Type 0} → World K → K
+keeper_of w = w.keeper
+
+abbrev pub limits_of : {K : Type 0} → World K → Limits
+limits_of w = w.limits

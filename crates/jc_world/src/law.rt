@@ -1,0 +1,29 @@
+//! What holds of a world's definitions.
+
+ghost use Rattle.jc_base.specs.declared.id.Id128.{Id128};
+ghost use Rattle.jc_base.specs.declared.limits.Limits.{Limits};
+ghost use Rattle.jc_base.specs.Journal.{Journal};
+ghost use Rattle.std.specs.Prelude.{List};
+ghost use Rattle.jc_world.specs.declared.event.Event.{Event};
+ghost use Rattle.jc_world.specs.Event.{Happens};
+ghost use Rattle.jc_world.specs.Kept.{IsKept};
+ghost use Rattle.jc_world.specs.State.{AreDistinct, State, new_state};
+
+use jc_collect::one_saying;
+use jc_export::canonical_texts_read_back;
+use jc_file::fronts_of_files;
+use jc_upload::one_head;
+
+/// In a new world every resume point is safe, and every event keeps it so: what lies before a resume point or a saved one
+/// is stored as the machine has it. Does nothing.
+pub fn events_keep()
+    ensures begun { (limits : Limits) (ids : List Id128) (journal : Journal) →
+        AreDistinct ids → IsKept limits (new_state ids journal) }
+    ensures kept { (limits : Limits) (s t : State) (event : Event) →
+        IsKept limits s → Happens limits s event t → IsKept limits t }
+{
+    one_saying();
+    one_head();
+    canonical_texts_read_back();
+    fronts_of_files();
+}
