@@ -129,3 +129,10 @@ each_keeps limits P keeps s t (event ∷ events) h was =
 pub each_grows : (limits : Limits) (s t : State) (events : List Event) → TakesEach limits s events t → Grows s t
 each_grows limits s t events h =
     each_keeps limits (Grows s) (λ u v event was does e stored. happens_grows limits u v event does e (was e stored)) s t events h (λ e stored. stored)
+
+pub point_of : (limits : Limits) (s t : State) (events more : List Event) → TakesEach limits s (events ++ more) t
+    → (u : State) × TakesEach limits s events u × TakesEach limits u more t
+point_of limits s t [] more h = (s, refl, h)
+point_of limits s t (event ∷ events) more h =
+    let rest : (u : State) × TakesEach limits h.0 events u × TakesEach limits u more t = point_of limits h.0 t events more h.2 in
+    (rest.0, (h.0, h.1, rest.1), rest.2)

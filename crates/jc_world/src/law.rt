@@ -3,13 +3,14 @@
 ghost use Rattle.jc_base.specs.declared.id.Id128.{Id128};
 ghost use Rattle.jc_base.specs.declared.limits.Limits.{Limits};
 ghost use Rattle.jc_base.specs.Journal.{Journal};
-ghost use Rattle.std.specs.Prelude.{List};
+ghost use Rattle.std.specs.Prelude.{◌++◌, List};
 ghost use Rattle.jc_world.specs.declared.event.Event.{Event};
 ghost use Rattle.jc_world.specs.Event.{Happens};
 ghost use Rattle.jc_world.specs.Kept.{IsKept};
+ghost use Rattle.jc_world.specs.Schedule.{Grows, StoresAccepted, TakesEach};
 ghost use Rattle.jc_world.specs.State.{AreDistinct, State, new_state};
 
-use jc_collect::one_saying;
+use jc_collect::{chain_stored, one_saying};
 use jc_export::canonical_texts_read_back;
 use jc_file::fronts_of_files;
 use jc_upload::one_head;
@@ -26,4 +27,20 @@ pub fn events_keep()
     one_head();
     canonical_texts_read_back();
     fronts_of_files();
+}
+
+/// After any events, in any order, resume points are safe still; what is stored is what was stored before and the entries
+/// of the accepted ones of the events' deliveries, and what was stored before any event is stored after it. Does nothing.
+pub fn schedules_keep()
+    ensures kept { (limits : Limits) (s t : State) (events : List Event) →
+        IsKept limits s → TakesEach limits s events t → IsKept limits t }
+    ensures grows { (limits : Limits) (s t : State) (events : List Event) → TakesEach limits s events t → Grows s t }
+    ensures stored { (limits : Limits) (s t : State) (events : List Event) →
+        TakesEach limits s events t → StoresAccepted limits s events t }
+    // The first ones of events lead to a state from which the rest go on: what is said of the end is said of any point.
+    ensures point { (limits : Limits) (s t : State) (events more : List Event) → TakesEach limits s (events ++ more) t →
+        (u : State) × TakesEach limits s events u × TakesEach limits u more t }
+{
+    events_keep();
+    chain_stored();
 }

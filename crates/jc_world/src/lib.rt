@@ -8,5 +8,5 @@ mod machine;
 mod world;
 
 pub use event::Event;
-pub use law::events_keep;
+pub use law::{events_keep, schedules_keep};
 pub use world::{Progress, World};

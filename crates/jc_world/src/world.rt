@@ -12,9 +12,9 @@ ghost use Rattle.jc_world.specs.World.{keeper_of, limits_of, state_of};
 
 use crate::given::{is_alien, place_of, reads_front};
 use crate::machine::Machine;
-use crate::{Event, events_keep};
+use crate::{Event, events_keep, schedules_keep};
 use jc_base::{Entry, Id128, Limits, OutOfMemory, SliceStream};
-use jc_collect::{Delivery, chain_stored, collect_one};
+use jc_collect::{Delivery, collect_one};
 use jc_file::SliceSpace;
 use jc_keeper::Keeper;
 use jc_upload::{Answer, Resume};
@@ -148,9 +148,8 @@ impl<K: Keeper + Drop> World<K> {
         ensures made { K.made (keeper_of self.old) → K.made (keeper_of self.new) }
         ensures limits { limits_of self.new ≡ limits_of self.old }
     {
-        // Does nothing: from their contracts the proof has what every event keeps, and what deliveries store.
-        events_keep();
-        chain_stored();
+        // Does nothing: from its contract the proof has what holds after any events.
+        schedules_keep();
         self.take_each(events)
     }
 

@@ -1,22 +1,18 @@
 use Rattle.std.proofs.Common.{take}
-use Rattle.jc_world.specs.Kept.{IsKept}
 use Rattle.jc_world.specs.World.{limits_of, state_of}
-use Rattle.jc_world.proofs.Storing.{each_grows, each_keeps, stores}
 use Rattle.jc_world.proofs.world.World.run.Goals as goal
 
 pub returns-clause-kept : goal.returns-clause-kept
-returns-clause-kept g c = λ always made.
-    let limits = limits_of c.args.self.now in
-    each_keeps limits (IsKept limits) (λ s t event kept does. c.events_keep.ensures.kept limits s t event kept does)
-    (state_of g.K.Keeper.journal c.args.self.now) (state_of g.K.Keeper.journal c.take_each.new.self)
-    (take c.take_each.result.taken c.args.events.now) (c.take_each.ensures.each always made)
+returns-clause-kept g c = λ always made kept.
+    c.schedules_keep.ensures.kept (limits_of c.args.self.now) (state_of g.K.Keeper.journal c.args.self.now) (state_of g.K.Keeper.journal c.take_each.new.self)
+    (take c.take_each.result.taken c.args.events.now) kept (c.take_each.ensures.each always made)
 
 pub returns-clause-grows : goal.returns-clause-grows
 returns-clause-grows g c = λ always made.
-    each_grows (limits_of c.args.self.now) (state_of g.K.Keeper.journal c.args.self.now) (state_of g.K.Keeper.journal c.take_each.new.self)
+    c.schedules_keep.ensures.grows (limits_of c.args.self.now) (state_of g.K.Keeper.journal c.args.self.now) (state_of g.K.Keeper.journal c.take_each.new.self)
     (take c.take_each.result.taken c.args.events.now) (c.take_each.ensures.each always made)
 
 pub returns-clause-stored : goal.returns-clause-stored
 returns-clause-stored g c = λ always made.
-    stores c.chain_stored.ensures (limits_of c.args.self.now) (state_of g.K.Keeper.journal c.args.self.now) (state_of g.K.Keeper.journal c.take_each.new.self)
+    c.schedules_keep.ensures.stored (limits_of c.args.self.now) (state_of g.K.Keeper.journal c.args.self.now) (state_of g.K.Keeper.journal c.take_each.new.self)
     (take c.take_each.result.taken c.args.events.now) (c.take_each.ensures.each always made)
