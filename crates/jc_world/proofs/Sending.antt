@@ -25,7 +25,7 @@ use Rattle.jc_upload.specs.declared.head.UploadHead.{UploadHead}
 use Rattle.jc_upload.specs.Head.{IsHead, head_text}
 use Rattle.jc_collect.specs.Answer.{IsTaken}
 use Rattle.jc_collect.specs.Position.{Joins}
-use Rattle.jc_collect.specs.Says.{HasHead, IsBodyReading, Says}
+use Rattle.jc_upload.specs.Says.{HasHead, IsBodyReading, Says}
 use Rattle.jc_file.specs.Cut.{IsCutShort}
 use Rattle.jc_world.specs.Kept.{AreStored, IsExportOf, IsFileOf}
 use Rattle.jc_world.specs.State.{AreDistinct, MachineState, source_of}

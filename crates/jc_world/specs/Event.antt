@@ -13,7 +13,7 @@ use Rattle.jc_upload.specs.Head.{IsHead}
 use Rattle.jc_upload.specs.Resume.{Point}
 use Rattle.jc_upload.specs.Upload.{acked_to, export_head, file_head, file_upload_of, next_upload_of, point_behind}
 use Rattle.jc_collect.specs.Position.{HasCode, IsPosition}
-use Rattle.jc_collect.specs.Says.{HasHead}
+use Rattle.jc_upload.specs.Says.{HasHead}
 use Rattle.jc_world.specs.Given.{FileReadsFront}
 use Rattle.jc_world.specs.State.{MachineState, State, source_of, sources, with_answer, with_entry, with_machine, with_point, with_saved, with_upload}
 use Rattle.jc_world.specs.declared.event.Event.{Event}

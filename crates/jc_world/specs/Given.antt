@@ -11,7 +11,7 @@ use Rattle.jc_base.specs.declared.source.Stop.{Stop}
 use Rattle.jc_base.specs.declared.source.Stop.TheVariants.{ReadFailed}
 use Rattle.jc_file.specs.FileReading.{IsFileReading}
 use Rattle.jc_upload.specs.declared.head.UploadHead.{UploadHead}
-use Rattle.jc_collect.specs.Says.{HasHead}
+use Rattle.jc_upload.specs.Says.{HasHead}
 use Rattle.jc_world.specs.State.{MachineState, source_of}
 
 -- A reading without a fault and without bytes left over is the first of these entries.

@@ -13,7 +13,7 @@ use Rattle.jc_upload.specs.declared.head.Kind.TheVariants.{Export, File}
 use Rattle.jc_upload.specs.declared.head.UploadHead.{UploadHead}
 use Rattle.jc_upload.specs.Resume.{Point}
 use Rattle.jc_upload.specs.Upload.{Agrees}
-use Rattle.jc_collect.specs.Says.{HasHead}
+use Rattle.jc_upload.specs.Says.{HasHead}
 use Rattle.jc_world.specs.Given.{FileReadsFront}
 use Rattle.jc_world.specs.State.{AreDistinct, MachineState, State, source_of, sources}
 

@@ -10,10 +10,10 @@ ghost use Rattle.jc_world.specs.Kept.{IsKept};
 ghost use Rattle.jc_world.specs.Schedule.{Grows, StoresAccepted, TakesEach};
 ghost use Rattle.jc_world.specs.State.{AreDistinct, State, new_state};
 
-use jc_collect::{chain_stored, one_saying};
+use jc_collect::chain_stored;
 use jc_export::canonical_texts_read_back;
 use jc_file::fronts_of_files;
-use jc_upload::one_head;
+use jc_upload::{one_head, one_saying};
 
 /// In a new world every resume point is safe, and every event keeps it so: what lies before a resume point or a saved one
 /// is stored as the machine has it. Does nothing.
