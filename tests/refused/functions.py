@@ -48,13 +48,15 @@ def _function(crate: str, source: Any, read: Any) -> Function:
 
 
 def _owners(source: Any, read: Any) -> list[tuple[str, ...]]:
-    """The paths that a method's impl may have: the type's own, or for a trait one named after the type, the trait and
-    the trait's arguments, as `OutOfMemoryFromAllocError`."""
+    """The paths that a method's impl may have: the type's own, or for an alias one named after it and its arguments, as
+    `SqlKeeper+S`, or for a trait one named after the type, the trait and the trait's arguments, as
+    `OutOfMemoryFromAllocError`."""
     block = read.block
     if not block.trait:
         [name] = _words(block.ty, block.generics, with_paths=False)
-        declared = source.declared.get(name)
-        return [(*(declared[0][0] if declared else read.module), name)]
+        if types := [it for it in source.declared.get(name, []) if it[1] != "type"]:
+            return [(*types[0][0], name)]
+        return [(*read.module, "+".join(_words(block.ty, [], with_paths=False)))]
     names = (
         "".join(_words(block.ty, block.generics, False) + _words(block.trait, block.generics, with_paths))
         for with_paths in (False, True)
