@@ -1,15 +1,7 @@
 -- The first line of a text, and the lines behind it.
 use Rattle.std.proofs.Common.{◌≡◌, ◌+◌, ◌<◌, ◌≤◌, ◌==◌, ℕ, zero, suc, Bool, true, false, List, [], ◌∷◌, length, take, drop, refl, arith, slice_index}
 use Rattle.jc_console.specs.Lines.{lines_of}
-
-pub one_more : (b : ℕ) (text : List ℕ) (line : List ℕ) (lines : List (List ℕ)) → (b == 10 ≡ true → ⊥) → lines_of text ≡ line ∷ lines
-    → lines_of (b ∷ text) ≡ (b ∷ line) ∷ lines
-unfolding lines_of
-one_more b text line lines other rest = go (b == 10) refl
-  where
-    go : (is : Bool) → b == 10 ≡ is → lines_of (b ∷ text) ≡ (b ∷ line) ∷ lines
-    go true e = absurd (other e)
-    go false e = rw (e, rest) refl
+use Rattle.jc_console.specs.LineLaws.{one_more}
 
 last_one : (b : ℕ) → lines_of (b ∷ []) ≡ (b ∷ []) ∷ []
 unfolding lines_of

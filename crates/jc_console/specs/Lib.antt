@@ -2,3 +2,4 @@ pub mod Status
 pub mod Failure
 pub mod Ids
 pub mod Lines
+pub mod LineLaws
