@@ -1,0 +1,115 @@
+"""Random schedules of two machines and their collector: each event's answer, and what there is at the end, as crates/jc_schedules prints it,
+a program for tests, compared with a model of a few lists.
+"""
+import os
+import random
+import subprocess
+import sys
+import tempfile
+
+import samples
+from machines import World
+from make import JournalFile
+from model import Entry
+
+SCHEDULES = os.path.abspath(os.environ["SCHEDULES"])
+COUNT = int(os.environ.get("RANDOM_SCHEDULES", 10_000))
+LONGEST = 60
+SEED = 21
+# Machines have these alone: of each key there are two that differ, and the last ones are those of the journal files.
+POOL = [Entry(bytes([id]) * 16, number, 7, 8, frozenset({(b"A", b"%d" % version)}))
+        for id in (1, 2) for number in (1, 2) for version in (1, 2)]
+BOOT = samples.BOOT_ID
+FILED = [Entry(bytes([3]) * 16, number, 7, 8, frozenset({(b"A", b"3"), (b"_BOOT_ID", BOOT.hex().encode())})) for number in (1, 2)]
+POOL += FILED
+# How often an event is drawn.
+EVENTS = {"append": 6, "make": 5, "file": 2, "deliver": 9, "alien": 1, "hand": 9, "restart": 2}
+
+
+def journal_file(entries):
+    file = JournalFile()
+    for entry in entries:
+        file.add(entry.seqnum, entry.realtime, entry.monotonic, BOOT, [b"A=3"])
+    return b"".join(file.pieces(entries[0].seqnum_id))
+
+
+def pieces():
+    """Journal files, sound ones and one that is cut; and deliveries, of which one names a machine's source."""
+    one, both = journal_file(FILED[:1]), journal_file(FILED)
+    text = b"".join(entry.text() for entry in POOL[:3:2])
+    alien = samples.head(1).replace(samples.SOURCE, bytes(16)) + text
+    return [one, both, both[:-8], b"", samples.head(1) + text, alien, alien[:-9], alien[:47], b"x" + alien[1:]]
+
+
+def one_of(dice, things):
+    """A number of one of these things, and now and then the next one, which isn't there."""
+    return len(things) if not things or dice.random() < 0.03 else dice.randrange(len(things))
+
+
+def drawn(dice, world):
+    """An event that names what is there, as a rule."""
+    name = dice.choices(list(EVENTS), EVENTS.values())[0]
+    machine = dice.choices((0, 1, 2), (30, 20, 1))[0]
+    if name == "append":
+        entries = world.machines[min(machine, 1)].entries
+        return name, machine, POOL.index(FILED[len(entries)]) if len(entries) < 2 and dice.random() < 0.4 else dice.randrange(len(POOL))
+    if name == "make":
+        return name, machine, dice.randrange(5)
+    if name == "file":
+        return name, machine, dice.randrange(4)
+    if name == "deliver":
+        upload = one_of(dice, world.uploads)
+        size = len(world.uploads[upload]) if upload < len(world.uploads) else 48
+        return name, upload, dice.choice((size, size, dice.randrange(size + 2)))
+    if name == "alien":
+        return name, dice.randrange(3, len(world.pieces)), 0
+    if name == "hand":
+        return name, one_of(dice, world.answers), 0
+    return name, machine, one_of(dice, world.machines[min(machine, 1)].saved)
+
+
+def schedule(dice, given):
+    """Events, what the program has to print of them, and the model's world after them."""
+    world = World(POOL, given)
+    events, told = [], []
+    for _ in range(dice.randint(1, LONGEST)):
+        event = drawn(dice, world)
+        events.append("%s %d %d" % event)
+        told.append("01"[world.take(*event)])
+        if not world.safe():
+            sys.exit(f"the model itself has an unsafe resume point after {';'.join(events)}")
+    return ";".join(events), "".join(told).encode() + b"\n" + world.text(), world
+
+
+def run(folder, lines, given):
+    """What the program prints of schedules."""
+    paths = []
+    for name, data in [("schedules", "\n".join(lines).encode()), ("entries", b"".join(entry.text() for entry in POOL)),
+                       *((f"bytes-{place}", data) for place, data in enumerate(given))]:
+        paths.append(os.path.join(folder, name))
+        with open(paths[-1], "wb") as file:
+            file.write(data)
+    return subprocess.run([SCHEDULES, *paths], stdout=subprocess.PIPE, check=True, timeout=600).stdout
+
+
+def main():
+    dice = random.Random(SEED)
+    given = pieces()
+    drawn_ones = [schedule(dice, given) for _ in range(COUNT)]
+    with tempfile.TemporaryDirectory() as folder:
+        told = run(folder, [events for events, _, _ in drawn_ones], given)
+    at = 0
+    for events, wanted, _ in drawn_ones:
+        if told[at:at + len(wanted)] != wanted:
+            sys.exit(f"not as the model has it, from byte {at}: {events}\n--- wanted\n{wanted!r}\n--- got\n{told[at:at + len(wanted)]!r}")
+        at += len(wanted)
+    if at != len(told):
+        sys.exit(f"{len(told) - at} bytes more than the model prints")
+    saw = [world for _, _, world in drawn_ones]
+    moved = sum(len(machine.saved) > 1 for world in saw for machine in world.machines)
+    refused = sum(" 60 " in answer for world in saw for answer in world.answers)
+    if min(moved, refused) < COUNT // 10:
+        sys.exit(f"the schedules say too little: {moved} machines moved on, {refused} conflicts")
+
+
+main()

@@ -1,0 +1,9 @@
+#!/usr/bin/env bash
+# Random schedules of machines and their collector: each event's answer and what there is afterwards, against a model of its own.
+set -uo pipefail
+. "$(dirname "$0")/expect.sh"
+
+export SCHEDULES=${SCHEDULES:-crates/jc_schedules/out/jc_schedules}
+export PYTHONPATH=tests:tests/collect PYTHONDONTWRITEBYTECODE=1
+python3 tests/schedules/schedules.py || differs tests/schedules/schedules.py
+finish
