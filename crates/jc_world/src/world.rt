@@ -137,6 +137,7 @@ impl<K: Keeper + Drop> World<K> {
             (state_of K.journal self.new) }
         ensures within { result.taken ≤ length events.now }
         ensures all { result.refusal ≡ None → result.taken ≡ length events.now }
+        ensures refused { IsSome result.refusal → result.taken < length events.now }
         ensures kept { ((k : K) → K.sound k) → K.made (keeper_of self.old)
             → IsKept (limits_of self.old) (state_of K.journal self.old)
             → IsKept (limits_of self.old) (state_of K.journal self.new) }
@@ -159,6 +160,7 @@ impl<K: Keeper + Drop> World<K> {
             (state_of K.journal self.new) }
         ensures within { result.taken ≤ length events.now }
         ensures all { result.refusal ≡ None → result.taken ≡ length events.now }
+        ensures refused { IsSome result.refusal → result.taken < length events.now }
         ensures made { K.made (keeper_of self.old) → K.made (keeper_of self.new) }
         ensures limits { limits_of self.new ≡ limits_of self.old }
     {
