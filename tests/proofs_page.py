@@ -3,9 +3,8 @@
 
 The page has a section for each crate. A claim there names a function in bold, and its clauses in brackets after it; `(unnamed)`
 is one clause without a name. `impl TRAIT for TYPE` in bold stands for a contract that the trait has. "`NAME` in `specs/FILE`" is a
-definition. Each of these has to be in the sources of that crate, and each public function of a library on the page. What the section on
-contracts of tests claims has to be in the tests of some crate. The list of what the main theorem rests on has to have all definitions
-that its own file uses, and what these use.
+definition. Each of these has to be in the sources of that crate, and each public function of a library on the page. The list of what the
+main theorem rests on has to have all definitions that its own file uses, and what these use.
 """
 import re
 import sys
@@ -13,7 +12,6 @@ from pathlib import Path
 from typing import NamedTuple
 
 ROOT = Path(__file__).resolve().parent.parent
-TESTS = "Contracts of tests"
 THEOREM = "What the main theorem rests on"
 CLAIM = re.compile(r"\*\*`([^`]+)`\*\*(?: \(([^)]*)\))?")
 DEFINITION = re.compile(r"`(\w+)` in `(specs/[\w/]+\.antt)`")
@@ -142,8 +140,6 @@ def main():
     crates = {path.name for path in (ROOT / "crates").glob("jc_*") if (path / "specs").is_dir()}
     mistakes = [mistake for title, text in about.items() for mistake in mistakes_in(title, text)]
     mistakes += [f"{crate} has no section" for crate in sorted(crates - set(about))]
-    tests = Sources([*ROOT.glob("crates/*/src/**/tests.rt"), *ROOT.glob("crates/*/src/**/tests/**/*.rt")])
-    mistakes += mistaken_claims(TESTS, " ".join(found[TESTS].split()), tests)
     rests_on = set()
     definitions_below("jc_collect", "Run", rests_on)
     differing = rests_on ^ listed_definitions(found[THEOREM])

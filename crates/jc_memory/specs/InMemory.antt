@@ -1,0 +1,30 @@
+-- A journal in a database in memory, and uploads in memory, as contracts see them. (own)
+use Rattle.std.specs.Prelude.{ℕ, List, [], Some, map, refl}
+use Rattle.std.specs.Coded.{Coded, code_by, coded×, coded_ℕ}
+use Rattle.std.specs.FinMap as finite
+use Rattle.jc_base.specs.declared.limits.Limits.{Limits}
+use Rattle.jc_base.specs.Journal.{Journal}
+use Rattle.jc_keeper.specs.Coded.{coded_key, coded_body}
+use Rattle.jc_collect.specs.declared.runs.RunEnd.{RunEnd}
+use Rattle.jc_collect.specs.Run.{IsRun, seen}
+
+-- a journal, and how often the store below it has failed
+pub record InMemory : Type 0 where
+  pub journal : Journal
+  pub failures : ℕ
+
+abbrev pub in_memory_code : Coded InMemory
+in_memory_code =
+    code_by (Journal × ℕ) (coded× (finite.code coded_key coded_body) coded_ℕ) (λ m. (m.journal, m.failures))
+    (λ p. record { journal = p.0; failures = p.1 }) (λ _. refl)
+
+-- how often the devices of uploads in memory have failed
+abbrev pub no_failures : List (List ℕ) → List ℕ
+no_failures uploads = map (λ _. 0) uploads
+
+-- A run over uploads in memory into a journal in memory, which ended so and wrote these lines.
+abbrev pub IsRunInMemory : Limits → (uploads : List (List ℕ)) → (before : InMemory) → RunEnd → (lines : List ℕ)
+    → (after : InMemory) → Type 0
+IsRunInMemory limits uploads before end lines after =
+    IsRun limits uploads (seen before.journal before.failures (no_failures uploads) (Some []))
+    end (seen after.journal after.failures (no_failures uploads) (Some lines))

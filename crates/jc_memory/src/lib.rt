@@ -1,0 +1,8 @@
+//! The collector over a database in memory: what is proved of a run, with nothing left to assume.
+#![tactic(auto)]
+
+mod collecting;
+mod memory_keeper;
+
+pub use collecting::{Answered, Upload, collect, collect_anew};
+pub use memory_keeper::MemoryKeeper;
