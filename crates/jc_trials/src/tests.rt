@@ -1,4 +1,5 @@
-//! What no clause says of keepers and of collecting: worked rows, devices that fail, and uploads that are cut.
+//! What no clause says of keepers and of collecting: worked rows, devices that fail, uploads that are cut, and
+//! machines whose answers come in any order.
 
 mod answers;
 mod conflicts;
@@ -12,3 +13,4 @@ mod memory;
 mod other_tables;
 mod readings;
 mod rows;
+mod worlds;

@@ -1,0 +1,227 @@
+//! Worked steps of two machines and their collector, over each keeper.
+
+use super::journals::{Journals, Maps, Tables};
+use super::readings::entries;
+use jc_base::{Id128, Limits};
+use jc_keeper::Keeper;
+use jc_samples::{
+    BOOT_FIELD, CHANGED_ENTRY, ENTRY, ENTRY_2, ENTRY_3, HI, JOURNAL_FILE, METADATA, SOURCE_ID,
+};
+use jc_upload::Answer;
+use jc_world::{Event, Progress, World};
+use std::alloc::Global;
+use std::process::Abort;
+use std::test::Fail;
+
+/// The source of the second machine.
+const OTHER_ID: [u8; 16] = *b"\xb0\xb1\xb2\xb3\xb4\xb5\xb6\xb7\xb8\xb9\xba\xbb\xbc\xbd\xbe\xbf";
+
+const fn ack(start: u64, count: u64, new: u64, left: u64) -> Answer {
+    Answer::Ack {
+        source: Id128(SOURCE_ID),
+        start,
+        count,
+        new,
+        left,
+    }
+}
+
+const fn no(of: Option<(Id128, u64)>, code: u16, place: u64) -> Answer {
+    Answer::No { of, code, place }
+}
+
+/// The answers of the worked steps, in order.
+fn worked_answers() -> [Answer; 8] {
+    [
+        ack(0, 1, 1, 31),
+        ack(0, 3, 2, 0),
+        ack(1, 2, 0, 0),
+        ack(0, 2, 0, 0),
+        no(None, 1, 47),
+        no(Some((Id128(SOURCE_ID), 3)), 60, 0),
+        no(Some((Id128(OTHER_ID), 0)), 38, 96),
+        no(Some((Id128(OTHER_ID), 0)), 60, 0),
+    ]
+}
+
+/// Two machines without entries, and an empty journal.
+fn two_machines<J: Journals>(alloc: Global, journals: &mut J) -> Result<World<J::Kept>, Fail> {
+    let sources = vec![in alloc; Id128(SOURCE_ID), Id128(OTHER_ID)]?;
+    match World::new(alloc, journals.empty()?, sources, Limits::default())? {
+        Some(world) => Ok(world),
+        None => Err("equal sources")?,
+    }
+}
+
+/// Appends the entries with these texts to a machine's.
+fn append<K: Keeper + Drop>(
+    rt: &(impl Abort + AllocGlobal),
+    world: &mut World<K>,
+    machine: usize,
+    texts: &[&[u8]],
+) -> Result<(), Fail> {
+    for entry in entries(rt.alloc(), texts)? {
+        assert_eq!(rt; world.step(&Event::Append(machine, entry))?, true);
+    }
+    Ok(())
+}
+
+/// An event, whether it may happen, and afterwards the first machine's resume point and how many it saved.
+type Row = (Event, bool, u64, usize);
+
+fn check<K: Keeper + Drop>(
+    rt: &(impl Abort + AllocGlobal),
+    world: &mut World<K>,
+    rows: &[Row],
+) -> Result<(), Fail> {
+    for (event, taken, position, saved) in rows {
+        assert_eq!(rt; world.step(event)?, *taken, "{event:?}");
+        let point = world.resume(0).map(|point| point.position());
+        assert_eq!(rt; point, Some(*position), "after {event:?}");
+        let points = world.saved(0).map(|points| points.len());
+        assert_eq!(rt; points, Some(*saved), "after {event:?}");
+    }
+    Ok(())
+}
+
+fn first_machine<K: Keeper + Drop>(
+    rt: &(impl Abort + AllocGlobal),
+    world: &mut World<K>,
+) -> Result<(), Fail> {
+    append(rt, world, 0, &[ENTRY, ENTRY_2, ENTRY_3])?;
+    check(
+        rt,
+        world,
+        &[
+            (Event::Make(0, 2), true, 0, 1),
+            (Event::Deliver(0, 200), true, 0, 1),
+            (Event::Make(0, 3), true, 0, 1),
+            (Event::Deliver(1, 411), true, 0, 1),
+            (Event::Hand(1), true, 3, 2),
+            (Event::Hand(0), true, 3, 2),
+            (Event::Restart(0, 0), true, 0, 2),
+            (Event::Hand(0), true, 1, 3),
+            (Event::Make(0, 9), true, 1, 3),
+            (Event::Deliver(2, 290), true, 1, 3),
+            (Event::Deliver(0, 290), true, 1, 3),
+            (Event::Hand(3), true, 2, 4),
+            (Event::Hand(2), true, 3, 5),
+            (Event::Restart(0, 9), false, 3, 5),
+            (Event::Deliver(2, 291), false, 3, 5),
+            (Event::Deliver(1, 47), true, 3, 5),
+            (Event::Hand(4), false, 3, 5),
+        ],
+    )
+}
+
+/// Events that break their condition: an upload of a machine isn't alien, and a machine sends no file whose entries it
+/// hasn't.
+fn refused<K: Keeper + Drop>(
+    rt: &(impl Abort + AllocGlobal),
+    world: &mut World<K>,
+) -> Result<(), Fail> {
+    let alloc = rt.alloc();
+    let upload = world.uploads().first().ok_or("no upload")?;
+    let upload = Vec::from_slice(alloc, upload)?;
+    let file = Vec::from_slice(alloc, &JOURNAL_FILE)?;
+    check(
+        rt,
+        world,
+        &[
+            (Event::Alien(upload), false, 3, 5),
+            (Event::MakeFile(1, file), false, 3, 5),
+            (Event::Make(2, 1), false, 3, 5),
+        ],
+    )
+}
+
+fn second_machine<K: Keeper + Drop>(
+    rt: &(impl Abort + AllocGlobal),
+    world: &mut World<K>,
+) -> Result<(), Fail> {
+    let alloc = rt.alloc();
+    let file = Vec::from_slice(alloc, &JOURNAL_FILE)?;
+    append(rt, world, 1, &[METADATA, BOOT_FIELD, HI])?;
+    check(
+        rt,
+        world,
+        &[
+            (Event::MakeFile(1, file), true, 3, 5),
+            (Event::Deliver(4, 447), true, 3, 5),
+            (Event::Deliver(4, 448), true, 3, 5),
+        ],
+    )
+}
+
+fn worked_steps<J: Journals>(
+    rt: &(impl Abort + AllocGlobal),
+    journals: &mut J,
+) -> Result<(), Fail> {
+    let alloc = rt.alloc();
+    let mut world = two_machines(alloc, journals)?;
+    first_machine(rt, &mut world)?;
+    refused(rt, &mut world)?;
+    append(rt, &mut world, 0, &[CHANGED_ENTRY])?;
+    check(
+        rt,
+        &mut world,
+        &[
+            (Event::Make(0, 1), true, 3, 5),
+            (Event::Deliver(3, 169), true, 3, 5),
+            (Event::Hand(5), true, 3, 5),
+        ],
+    )?;
+    second_machine(rt, &mut world)?;
+    let lengths: Vec<usize> = world
+        .uploads()
+        .iter()
+        .map(|upload| upload.len())
+        .collect(alloc)?;
+    assert_eq!(rt; lengths.as_slice(), [290, 411, 290, 169, 448].as_slice());
+    assert_eq!(rt; world.answers(), worked_answers().as_slice());
+    Ok(())
+}
+
+#[test]
+fn two_machines_send_to_a_map(rt: HostRuntime) -> Result<(), Fail> {
+    worked_steps(&rt, &mut Maps(rt.alloc()))
+}
+
+#[test]
+fn two_machines_send_to_tables(rt: HostRuntime) -> Result<(), Fail> {
+    worked_steps(&rt, &mut Tables::in_memory(rt.alloc()))
+}
+
+#[test]
+fn a_run_takes_every_event(rt: HostRuntime) -> Result<(), Fail> {
+    let alloc = rt.alloc();
+    let mut world = two_machines(alloc, &mut Maps(alloc))?;
+    let bytes = Vec::from_slice(alloc, b"JCUPLD01")?;
+    let events = [Event::Hand(0), Event::Alien(bytes), Event::Make(1, 1)];
+    let progress = world.run(&events);
+    assert_eq!(rt;
+        progress,
+        Progress {
+            taken: 3,
+            refusal: None
+        }
+    );
+    assert_eq!(rt; world.answers(), [no(None, 1, 8)].as_slice());
+    Ok(())
+}
+
+#[test]
+fn equal_sources_make_no_world(rt: HostRuntime) -> Result<(), Fail> {
+    let alloc = rt.alloc();
+    let sources = vec![in alloc; Id128(SOURCE_ID), Id128(OTHER_ID), Id128(SOURCE_ID)]?;
+    let found = World::new(alloc, Maps(alloc).empty()?, sources, Limits::default())?;
+    assert_eq!(rt; found.is_none(), true);
+    let none = World::new(
+        alloc,
+        Maps(alloc).empty()?,
+        Vec::new(alloc),
+        Limits::default(),
+    )?;
+    assert_eq!(rt; none.is_some(), true);
+    Ok(())
+}
