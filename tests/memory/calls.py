@@ -50,11 +50,14 @@ def collected(word, upload, journal):
         yield Told(b"stopped 0 0\n", after, True)
 
 
-def stored(key, journal):
+def stored(word, key, journal):
+    """The entry under a key. Of a journal in tables, the database may not be opened, or not be taken up."""
     number, digits = key.split(":")[::-1]
     entry = journal.entries.get((bytes.fromhex(digits), int(number)))
     yield Told(text(b"entry", entry.text()) if entry else b"entry none\n", journal, False)
     yield Told(refused(b"entry"), journal, True)
+    if word == "stored":
+        yield Told(b"not opened\n|bad 63 0\n", journal, True)
 
 
 def read(word, data, journal):
@@ -83,10 +86,10 @@ def copied(data, journal):
 
 def told_by(word, operand, journal):
     """What each call of a word may print."""
-    if word in ("space", "stream", "run"):
+    if word in ("space", "stream", "run", "collect"):
         return [collected(word, operand, journal)]
-    if word == "get":
-        return [stored(operand, journal)]
+    if word in ("get", "stored"):
+        return [stored(word, operand, journal)]
     if word in ("read", "entries", "file", "pages"):
         return [read(word, operand, journal)]
     if word == "copies":
@@ -96,15 +99,22 @@ def told_by(word, operand, journal):
 
 
 class Case:
-    """Calls of one run: pairs of a word and of the bytes that it is about, or of a key."""
+    """Calls of one run: pairs of a word and of the bytes that it is about, or of a key. The first ones are refused nothing."""
 
-    def __init__(self, trial, name, calls):
+    def __init__(self, trial, name, calls, spared=0):
         self.trial = trial
         self.name = name
         self.calls = calls
         self.words = [CALLS]
         for word, operand in calls:
-            self.words += [word, operand if word == "get" else trial.put([operand])[0]]
+            self.words += [word, operand if word in ("get", "stored") else trial.put([operand])[0]]
+        # as many words, the last of which do nothing
+        self.spared = self.words[:1 + 2 * spared] + ["rot", "log:0"] * (len(calls) - spared)
+
+    def places(self, sizes):
+        """The numbers of the requests to refuse: each one, but for long rows of like ones as a database is opened."""
+        spared = len(refusal.run(self.trial.library, 0, 0, self.spared)[1])
+        return [number for number in refusal.places(sizes) if number > spared]
 
     def refusals_in(self, what, output):
         """How many refusals the output tells. All of it has to be what the calls may print."""
@@ -137,7 +147,7 @@ class Case:
         told, sizes = refusal.run(self.trial.library, 0, 0, self.words)
         self.trial.expect(f"{self.name}, undisturbed", told[1:], ("", 0))
         self.trial.expect(f"{self.name}, undisturbed: refusals", self.refusals_in(self.name, told[0]), 0)
-        ends = list(pool.map(self.one, range(1, len(sizes) + 1)))
+        ends = list(pool.map(self.one, self.places(sizes)))
         self.trial.expect(f"{self.name}: a call was refused memory", ends.count(True) > 0, True)
         print(f"memory of calls: {self.name}: {len(ends)} requests; {ends.count(True)} refusals were told by a call, {ends.count(None)} "
               f"hit the program itself, {ends.count(False)} did no harm")
@@ -145,6 +155,7 @@ class Case:
 
 
 KEYS = [("get", f"{samples.SEQNUM_ID.hex()}:{number}") for number in (1, 2, 3)]
+STORED = [("stored", key) for _, key in KEYS[:2]]
 
 
 def cases(trial):
@@ -161,6 +172,7 @@ def cases(trial):
                        ("copies", nested), ("upload", samples.E1 + samples.E2), ("send", samples.FILE),
                        ("resume", f"resume 2 {samples.SEQNUM_ID.hex()} 2\n".encode())):
         yield Case(trial, word, [(word, data), (word, data)])
+    yield Case(trial, "entries in tables", [("collect", row), *STORED, *STORED], spared=1)
 
 
 def main():

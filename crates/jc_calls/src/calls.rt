@@ -16,8 +16,21 @@
 //! | `send PATH` | makes an upload of the journal file |
 //! | `resume PATH` | writes the resume point that the file has |
 //!
+//! Others have a journal in a database on two disks in memory, `log` and `db`:
+//!
+//! | Word and operand | |
+//! |---|---|
+//! | `stop DISK:N` | of the next word's calls the disk does N and fails the others; `harmed` is said if it came to that |
+//! | `lose DISK:N` | the same, and afterwards both disks lose what wasn't synced |
+//! | `rot DISK:N` | during the next word the byte at N can't be read; `harmed` is said if the disk has it |
+//! | `collect PATH,PATH..` | collects the uploads by one run into the journal, which is made if there is none |
+//! | `export all` | the journal's entries |
+//! | `stored ID:NUMBER` | the entry under the key |
+//!
 //! Where a call answers that memory was refused, `refused` is printed in the place of what it makes.
 
+use crate::disks::{Disks, Harm};
+use crate::tables::Task;
 use crate::told::no_meaning;
 use crate::{collecting, entries, readings};
 use jc_base::Limits;
@@ -30,6 +43,7 @@ pub struct Calls {
     alloc: Global,
     limits: Limits,
     keeper: MapKeeper,
+    disks: Disks,
     told: Vec<u8>,
 }
 
@@ -39,6 +53,7 @@ impl Calls {
             alloc,
             limits: Limits::default(),
             keeper: MapKeeper::new(alloc),
+            disks: Disks::new(alloc),
             told: Vec::new(alloc),
         }
     }
@@ -53,6 +68,13 @@ impl Calls {
         match word {
             "limits" => self.limit(operand),
             "get" => collecting::get(self.alloc, &mut self.keeper, operand, &mut self.told),
+            "stop" | "lose" | "rot" => self.expect(word, operand),
+            "collect" => {
+                let uploads = read_files(rt, operand)?;
+                self.disks.perform(&Task::Collect(&uploads), &mut self.told)
+            }
+            "export" => self.disks.perform(&Task::Export, &mut self.told),
+            "stored" => self.disks.perform(&Task::Get(operand), &mut self.told),
             _ => {
                 let bytes = fs::read(rt, operand)?;
                 self.call(word, &bytes)
@@ -65,6 +87,16 @@ impl Calls {
             Some(limits) => {
                 self.limits = limits;
                 self.keeper = MapKeeper::new(self.alloc);
+                Ok(())
+            }
+            None => no_meaning(),
+        }
+    }
+
+    fn expect(&mut self, word: &str, operand: &str) -> io::Result<()> {
+        match Harm::of(word, operand) {
+            Some(harm) => {
+                self.disks.expect(harm);
                 Ok(())
             }
             None => no_meaning(),
@@ -88,6 +120,15 @@ impl Calls {
             _ => no_meaning(),
         }
     }
+}
+
+/// The files whose paths have commas between them.
+fn read_files(rt: &HostRuntime, paths: &str) -> io::Result<Vec<Vec<u8>>> {
+    let mut files = Vec::new(rt.alloc());
+    for path in paths.split(',') {
+        files.push(fs::read(rt, path)?)?;
+    }
+    Ok(files)
 }
 
 /// The limits that five numbers with commas between them are.

@@ -6,9 +6,11 @@
 
 mod calls;
 mod collecting;
+mod disks;
 mod entries;
 mod readings;
 mod recorded;
+mod tables;
 mod told;
 
 use calls::Calls;

@@ -1,0 +1,176 @@
+//! Two disks in memory for a database, and what befalls them.
+
+use crate::tables::Task;
+use sqlite::{Connection, Files, Options};
+use sqlite_disk::{Crash, Disk, Fuse, Memory, Rot};
+use std::alloc::Global;
+use std::io;
+use std::io::Write;
+
+/// More calls than a disk gets, and a place after the end of each disk.
+const NEVER: u64 = u64::MAX;
+
+/// What new databases draw their random numbers from: each run is like the others.
+const SEED: u64 = 1;
+
+#[derive(Clone, Copy, Debug, PartialEq, Eq)]
+enum Kind {
+    Nothing,
+    /// A disk does some calls, and fails each one after.
+    Stop,
+    /// The same, and then both disks lose what wasn't synced.
+    Lose,
+    /// A byte of a disk can't be read.
+    Rot,
+}
+
+/// What befalls the disks: its kind, and the number of calls, or the place of the byte, on either disk.
+#[derive(Clone, Copy, Debug, PartialEq, Eq)]
+pub struct Harm {
+    kind: Kind,
+    log: u64,
+    db: u64,
+}
+
+impl Harm {
+    const NOTHING: Harm = Harm {
+        kind: Kind::Nothing,
+        log: NEVER,
+        db: NEVER,
+    };
+
+    /// The harm of a word, to the disk and at the number that its operand names.
+    pub fn of(word: &str, operand: &str) -> Option<Harm> {
+        let kind = match word {
+            "stop" => Kind::Stop,
+            "lose" => Kind::Lose,
+            "rot" => Kind::Rot,
+            _ => return None,
+        };
+        let (disk, number) = operand.split_once(':')?;
+        let number = number.parse::<u64>().ok()?;
+        let (log, db) = match disk {
+            "log" => (number, NEVER),
+            "db" => (NEVER, number),
+            _ => return None,
+        };
+        Some(Harm { kind, log, db })
+    }
+
+    /// Says whether the disks met it.
+    fn tell(self, is_met: bool, told: &mut Vec<u8>) -> io::Result<()> {
+        match (self.kind, is_met) {
+            (Kind::Nothing, _) => Ok(()),
+            (_, true) => writeln!(told, "harmed"),
+            (_, false) => writeln!(told, "unharmed"),
+        }
+    }
+}
+
+/// What the two files of a database have.
+#[derive(Drop)]
+pub struct Disks {
+    alloc: Global,
+    log: Vec<u8>,
+    db: Vec<u8>,
+    /// What befalls them at the next task.
+    harm: Harm,
+}
+
+impl Disks {
+    /// Empty files.
+    pub fn new(alloc: Global) -> Disks {
+        Disks {
+            alloc,
+            log: Vec::new(alloc),
+            db: Vec::new(alloc),
+            harm: Harm::NOTHING,
+        }
+    }
+
+    pub fn expect(&mut self, harm: Harm) {
+        self.harm = harm;
+    }
+
+    /// Performs a task over the files, with the harm that was expected.
+    pub fn perform(&mut self, task: &Task<'_>, told: &mut Vec<u8>) -> io::Result<()> {
+        let harm = self.harm;
+        self.harm = Harm::NOTHING;
+        if harm.kind == Kind::Rot {
+            self.perform_rotten(harm, task, told)
+        } else {
+            self.perform_fused(harm, task, told)
+        }
+    }
+
+    fn perform_fused(&mut self, harm: Harm, task: &Task<'_>, told: &mut Vec<u8>) -> io::Result<()> {
+        let files = Files {
+            log: Fuse::new(disk(self.alloc, &self.log)?, harm.log),
+            db: Fuse::new(disk(self.alloc, &self.db)?, harm.db),
+        };
+        let mut left = perform(self.alloc, files, task, told)?;
+        let is_met = has_stopped(&mut left.log) || has_stopped(&mut left.db);
+        harm.tell(is_met, told)?;
+        if harm.kind == Kind::Lose {
+            left.log.crash();
+            left.db.crash();
+        }
+        self.keep(left.log.inner(), left.db.inner())
+    }
+
+    fn perform_rotten(
+        &mut self,
+        harm: Harm,
+        task: &Task<'_>,
+        told: &mut Vec<u8>,
+    ) -> io::Result<()> {
+        let is_met = harm.log < self.log.len() as u64 || harm.db < self.db.len() as u64;
+        let files = Files {
+            log: Rot::new(disk(self.alloc, &self.log)?, harm.log as usize),
+            db: Rot::new(disk(self.alloc, &self.db)?, harm.db as usize),
+        };
+        let left = perform(self.alloc, files, task, told)?;
+        harm.tell(is_met, told)?;
+        self.keep(left.log.inner(), left.db.inner())
+    }
+
+    /// The files have what is on these disks from now on.
+    fn keep(&mut self, log: &Memory, db: &Memory) -> io::Result<()> {
+        self.log = Vec::from_slice(self.alloc, log.bytes())?;
+        self.db = Vec::from_slice(self.alloc, db.bytes())?;
+        Ok(())
+    }
+}
+
+/// A disk on which these bytes outlive a loss of power.
+fn disk(alloc: Global, bytes: &[u8]) -> io::Result<Memory> {
+    let mut disk = Memory::new(alloc);
+    disk.write_at(0, bytes)?;
+    disk.sync()?;
+    Ok(disk)
+}
+
+/// Whether a disk answers no more.
+fn has_stopped<D: Disk>(disk: &mut D) -> bool {
+    !disk.may_be_used() || disk.len().is_err()
+}
+
+/// Performs a task over disks, and gives them back as they are then.
+fn perform<D: Disk + Drop>(
+    alloc: Global,
+    files: Files<D>,
+    task: &Task<'_>,
+    told: &mut Vec<u8>,
+) -> io::Result<Files<D>> {
+    if !files.may_be_used() {
+        writeln!(told, "not opened")?;
+        return Ok(files);
+    }
+    match Connection::open_files(alloc, files, Options::new(SEED)) {
+        Ok(conn) => Ok(task.perform(alloc, conn, told)?.close()),
+        Err((_, left)) => {
+            writeln!(told, "not opened")?;
+            Ok(left.into_files())
+        }
+    }
+}

@@ -1,0 +1,166 @@
+"""A journal on two disks in memory, as crates/jc_calls has them: those of the library that the database stands on. A disk fails every
+call once it has done some, also with what wasn't synced lost then, or it has a byte that can't be read; one disk or the other, at one
+place after another.
+
+What is asked of the journal afterwards is what stops.py asks.
+"""
+import os
+import re
+import subprocess
+from concurrent.futures import ThreadPoolExecutor
+
+import samples
+from model import Journal
+from trial import Trial
+
+CALLS = os.path.abspath(os.environ["CALLS"])
+DISKS = ("log", "db")
+# What a store that failed says: of an upload, or where it isn't opened or makes no journal.
+FAILED = f"no {samples.SOURCE.hex()} 0 62 0"
+CLOSED = (["not opened"], ["bad 62 0"])
+# Of so many bytes one is tried as one that can't be read.
+ROT_STRIDE = 61
+# So many numbers are tried before it is asked whether there was anything to do at the last of them.
+CHUNK = 16
+
+
+class Told:
+    """What the words printed, one after the other."""
+
+    def __init__(self, output):
+        self.rest = output
+
+    def line(self):
+        line, _, self.rest = self.rest.partition(b"\n")
+        return line.decode()
+
+    def answers(self, count):
+        """The answers to so many uploads, or the line that says why there is no journal."""
+        lines = [self.line()]
+        while len(lines) < count and re.match("ack |no ", lines[0]):
+            lines.append(self.line())
+        return lines
+
+    def entries(self):
+        """The journal's text, or the line that says why there is none."""
+        found = re.match(rb"entries (\d+)\n", self.rest)
+        if not found:
+            return self.line()
+        start, end = found.end(), found.end() + int(found[1])
+        text, self.rest = self.rest[start:end], self.rest[end + 1:]
+        return text
+
+
+class Case:
+    """Uploads that are collected in one run."""
+
+    def __init__(self, trial, name, uploads):
+        self.trial = trial
+        self.name = name
+        self.uploads = uploads
+        self.collect = ("collect", ",".join(trial.put(uploads)))
+        self.complete = Journal()
+        self.usual = self.answers(self.complete)
+
+    def answers(self, journal):
+        """What the uploads are answered with; the journal has them then."""
+        return [journal.take(upload) for upload in self.uploads]
+
+    def run(self, what, *words):
+        told = subprocess.run([CALLS, *words], stdout=subprocess.PIPE, stderr=subprocess.PIPE, check=False, timeout=60)
+        self.trial.expect(f"{what}: its end", (told.returncode, told.stderr), (0, b""))
+        return Told(told.stdout)
+
+    def stopped(self, kind, disk, number):
+        """A disk stops; answers whether it did."""
+        what = f"{self.name}, {kind} {disk} {number}"
+        told = self.run(what, kind, f"{disk}:{number}", *self.collect, "export", "all", *self.collect, "export", "all")
+        lines, is_met = told.answers(len(self.uploads)), told.line() == "harmed"
+        if not is_met:
+            self.trial.expect(f"{what}: undisturbed", lines, self.usual)
+        self.left(what, told, self.journals_after(what, lines))
+        return is_met
+
+    def journals_after(self, what, lines):
+        """What a run with these answers may leave: all that is acknowledged, and with it perhaps the first upload whose answer is a
+        failure of the store."""
+        journal, failed = Journal(), []
+        if lines in CLOSED:
+            return [journal]
+        self.trial.expect(f"{what}: number of answers", len(lines), len(self.uploads))
+        for line, upload in zip(lines, self.uploads):
+            if line == FAILED:
+                failed.append(upload)
+            else:
+                self.trial.expect(f"{what}: answer", line, journal.take(upload))
+        and_failed = journal.copy()
+        for upload in failed[:1]:
+            and_failed.take(upload)
+        return [journal, and_failed]
+
+    def left(self, what, told, journals):
+        """The entries, the answers to the same uploads sent again, and the entries then."""
+        entries, again, complete = told.entries(), told.answers(len(self.uploads)), told.entries()
+        found = [journal for journal in journals if entries == journal.text()]
+        if entries == "no tables" and not journals[0].entries:
+            found = [Journal()]
+        if self.trial.expect(f"{what}: {entries} is one of the journals that may be there", bool(found), True):
+            self.trial.expect(f"{what}: again", again, self.answers(found[0].copy()))
+            self.trial.expect(f"{what}: complete", (complete, told.rest), (self.complete.text(), b""))
+
+    def rotten(self, disk, place):
+        """A byte of a whole journal can't be read while the uploads are sent again and the entries are listed; answers whether there is
+        such a byte, and whether it was noticed."""
+        what = f"{self.name}, rot {disk} {place}"
+        rot = ("rot", f"{disk}:{place}")
+        told = self.run(what, *self.collect, *rot, *self.collect, *rot, "export", "all", "export", "all")
+        self.trial.expect(f"{what}: answers", told.answers(len(self.uploads)), self.usual)
+        usual = self.answers(self.complete.copy())
+        lines, is_met = told.answers(len(self.uploads)), told.line() == "harmed"
+        sound = len(lines) == len(usual) and all(line in (wanted, FAILED) for line, wanted in zip(lines, usual))
+        self.trial.expect(f"{what}: {lines}, over it", sound or lines in CLOSED, True)
+        entries, text = told.entries(), self.complete.text()
+        told.line()
+        sound = entries == text or bool(re.fullmatch(r"not opened|bad 6[245] \d+|stopped 62 \d+", str(entries)))
+        self.trial.expect(f"{what}: {entries}, over it", sound, True)
+        self.trial.expect(f"{what}: afterwards", (told.entries(), told.rest), (text, b""))
+        return is_met, (lines, entries) != (usual, text)
+
+
+def upwards(pool, attempt, step=1):
+    """Tries one number after another until an attempt finds nothing to do at it; answers what was found at those before."""
+    found = []
+    while True:
+        numbers = range(len(found) * step, (len(found) + CHUNK) * step, step)
+        more = list(pool.map(attempt, numbers))
+        found += [one for one in more if one[0]]
+        if not all(one[0] for one in more):
+            return found
+
+
+def stops(trial, pool):
+    row, rest = samples.stream(samples.E1), samples.stream(samples.E2, samples.E3)
+    tried = 0
+    for case in (Case(trial, "two uploads", [row, rest]), Case(trial, "an upload without entries", [samples.head(1)])):
+        for kind in ("stop", "lose"):
+            counts = [len(upwards(pool, lambda number, disk=disk: (case.stopped(kind, disk, number),))) for disk in DISKS]
+            print(f"disks: {case.name}, {kind}: {counts[0]} calls of the log, {counts[1]} of the database")
+            tried += sum(counts)
+    return tried
+
+
+def rot(trial, pool):
+    case = Case(trial, "two uploads", [samples.stream(samples.E1), samples.stream(samples.E2, samples.E3)])
+    bytes_tried = [one for disk in DISKS for one in upwards(pool, lambda place, disk=disk: case.rotten(disk, place), ROT_STRIDE)]
+    print(f"disks: {len(bytes_tried)} bytes that can't be read, {sum(noticed for _, noticed in bytes_tried)} of them noticed")
+    return len(bytes_tried)
+
+
+def main():
+    with Trial("disks") as trial, ThreadPoolExecutor(os.cpu_count()) as pool:
+        tried = stops(trial, pool) + rot(trial, pool)
+        trial.finish(f"{tried} runs")
+
+
+if __name__ == "__main__":
+    main()
