@@ -43,6 +43,63 @@ input head:1:0
 run collect @db
 fails 1 bad 65 1
 
+case a journal without a version is none, nor one without its table
+input head:1:0 ENTRY
+run collect @db
+> ack SOURCE 0 1 1 0
+statement @db DELETE FROM journal
+run check @db
+> bad 64 0
+status 1
+statement @db DROP TABLE journal
+run check @db
+> bad 64 0
+status 1
+run export @db
+fails 1 bad 64 0
+
+case no entries where the table of entries is gone
+input head:1:0 ENTRY
+run collect @db
+> ack SOURCE 0 1 1 0
+statement @db DROP TABLE entry
+run check @db
+fails 3 store failed
+run export @db
+fails 3 store failed
+
+case what a row may have
+input head:1:0 ENTRY
+run collect @db
+> ack SOURCE 0 1 1 0
+run check @db
+> ok 1
+statement @db INSERT INTO entry VALUES (x'00', 2, 1, 0, x'')
+run check @db
+> bad 65 0
+status 1
+statement @db DELETE FROM entry WHERE seqnum = 2; INSERT INTO entry VALUES (x'000102030405060708090a0b0c0d0e0f', 2, 0, -1, x'')
+run check @db
+> bad 65 1
+status 1
+statement @db DELETE FROM entry WHERE seqnum = 2; INSERT INTO entry VALUES (x'000102030405060708090a0b0c0d0e0f', 2, 0, 0, x'41')
+run check @db
+> bad 65 1
+status 1
+statement @db DELETE FROM entry WHERE seqnum = 2; INSERT INTO entry VALUES (x'000102030405060708090a0b0c0d0e0f', 2, 1, 0, x'41')
+run check @db
+> bad 65 1
+status 1
+statement @db DELETE FROM entry WHERE seqnum = 2; INSERT INTO entry VALUES (x'000102030405060708090a0b0c0d0e0f', 2, 0, 0, x'3d0a')
+run check @db
+> bad 65 1
+status 1
+statement @db DELETE FROM entry WHERE seqnum = 2
+run check @db
+> ok 1
+run export @db
+prints ENTRY
+
 case another program's tables are no journal
 statement @db CREATE TABLE note(title TEXT)
 run check @db
@@ -55,6 +112,16 @@ fails 1 bad 64 0
 input head:1:0
 run collect @db
 fails 1 bad 64 0
+# they are as they were
+statement @db INSERT INTO note VALUES ('one')
+
+case a database becomes a journal's once its tables are gone
+statement @db CREATE TABLE note(title TEXT); DROP TABLE note
+input head:1:0 ENTRY
+run collect @db
+> ack SOURCE 0 1 1 0
+run export @db
+prints ENTRY
 
 case a file that is no database is refused
 file @db ENTRY

@@ -195,6 +195,59 @@ status 1
 run export @input.db
 prints METADATA "MESSAGE=hi\n" BOOT_FIELD "\n"
 
+case headers with another start, and uploads into a journal of nothing
+file @upload1
+file @upload2 head:1:0 ENTRY_2 "=x"
+file @upload3 head:1:0 ENTRY_2 METADATA_2 "MESSAGE=ho\n\n"
+file @upload4 head:2:0 LONG_HEADER_FILE set:60:20
+file @upload5 head:1:3 ENTRY_2
+# in one run over files
+run collect @files.db @upload1 @upload2 @upload3 @upload4 @upload5
+> no - - 1 0
+> no SOURCE 0 10 121
+> no SOURCE 0 60 1
+> no SOURCE 0 34 12
+> ack SOURCE 3 1 1 0
+status 1
+run export @files.db
+prints ENTRY_2
+# in a run for each, by standard input
+input @upload1
+run collect @input.db
+> no - - 1 0
+status 1
+input @upload2
+run collect @input.db
+> no SOURCE 0 10 121
+status 1
+input @upload3
+run collect @input.db
+> no SOURCE 0 60 1
+status 1
+input @upload4
+run collect @input.db
+> no SOURCE 0 34 12
+status 1
+input @upload5
+run collect @input.db
+> ack SOURCE 3 1 1 0
+run export @input.db
+prints ENTRY_2
+
+case a journal file with a longer header is collected
+file @upload1 head:2:0 LONG_HEADER_FILE
+# in one run over files
+run collect @files.db @upload1
+> ack SOURCE 0 1 1 0
+run export @files.db
+prints METADATA "MESSAGE=hi\n" BOOT_FIELD "\n"
+# in a run for each, by standard input
+input @upload1
+run collect @input.db
+> ack SOURCE 0 1 1 0
+run export @input.db
+prints METADATA "MESSAGE=hi\n" BOOT_FIELD "\n"
+
 case an entry may have no fields
 file @upload1 head:1:0 METADATA "\n"
 # in one run over files

@@ -49,6 +49,23 @@ run show @db
 > 000102030405060708090a0b0c0d0e0f 2 1000000 5 [2 bytes]
 > 000102030405060708090a0b0c0d0e0f 3 1000000 5 -
 
+case show prints entries of two ids, with no message, one and several
+file @binary "MESSAGE\n" number:2 "b" byte:1 "\nMESSAGE=z\nMESSAGE\n" number:3 "a" byte:1 "b\n\n"
+input head:1:0 "__REALTIME_TIMESTAMP=1000000\n__MONOTONIC_TIMESTAMP=5\n__SEQNUM=2\n__SEQNUM_ID=ffffffffffffffffffffffffffffffff\n\n" ENTRY METADATA_2 @binary METADATA_3 "MESSAGE=b\nMESSAGE=a\n\n"
+run collect @db
+> ack SOURCE 0 4 4 0
+run show @db --from 2 --to 3
+> 000102030405060708090a0b0c0d0e0f 2 1000000 5 [3 bytes]
+> 000102030405060708090a0b0c0d0e0f 3 1000000 5 a
+> ffffffffffffffffffffffffffffffff 2 1000000 5 -
+run show @db --id ffffffffffffffffffffffffffffffff --to 9
+> ffffffffffffffffffffffffffffffff 2 1000000 5 -
+run show @db --id 000102030405060708090a0b0c0d0e0f --to 1
+> 000102030405060708090a0b0c0d0e0f 1 1000000 5 hi
+run show @db --id 000102030405060708090a0b0c0d0e0f --from 4
+run show @db --id 000102030405060708090a0b0c0d0e0f --from 2 --to 2
+> 000102030405060708090a0b0c0d0e0f 2 1000000 5 [3 bytes]
+
 case what is asked for is refused before a database is opened
 run show @none --id ""
 fails 2 bad id

@@ -2,10 +2,15 @@
 //! bytes of that file.
 
 use jc_samples::{add_text, add_word};
+use std::rt::Files;
 use std::{fs, io};
 
 /// Adds the bytes of the pieces of a line, one after the other.
-pub fn add_pieces(rt: &HostRuntime, pieces: &str, bytes: &mut Vec<u8>) -> io::Result<()> {
+pub fn add_pieces<R: Files + AllocGlobal>(
+    rt: &R,
+    pieces: &str,
+    bytes: &mut Vec<u8>,
+) -> io::Result<()> {
     let mut is_text = false;
     for part in pieces.split('"') {
         if is_text {
@@ -29,7 +34,7 @@ pub fn add(bytes: &mut Vec<u8>, more: &[u8]) -> io::Result<()> {
     Ok(bytes.extend_from_slice(more)?)
 }
 
-fn add_words(rt: &HostRuntime, words: &str, bytes: &mut Vec<u8>) -> io::Result<()> {
+fn add_words<R: Files + AllocGlobal>(rt: &R, words: &str, bytes: &mut Vec<u8>) -> io::Result<()> {
     for word in words.split_whitespace() {
         if word.starts_with('/') {
             add(bytes, &fs::read(rt, word)?)?;

@@ -32,6 +32,7 @@ use jc_database::{DatabaseStore, Databases};
 use jc_samples::SOURCE;
 use std::alloc::Global;
 use std::fmt::Write;
+use std::rt::Files;
 use std::test::Fail;
 use std::{env, fs, io, process, str};
 
@@ -64,7 +65,7 @@ struct Ran {
     status: u8,
 }
 
-/// How far a script has come.
+/// How far a script has come. Its methods are generic: no proof but that of `report_of` sees how databases are stored.
 #[derive(Drop)]
 struct Session {
     /// The line that is performed, or the last one on the last run while that is compared.
@@ -103,7 +104,12 @@ impl Session {
         }
     }
 
-    fn perform(&mut self, rt: &HostRuntime, folder: &str, script: &str) -> io::Result<()> {
+    fn perform<R: Databases + Files + AllocGlobal>(
+        &mut self,
+        rt: &R,
+        folder: &str,
+        script: &str,
+    ) -> io::Result<()> {
         let mut number = 0usize;
         for line in script.lines() {
             number = number.saturating_add(1);
@@ -124,9 +130,9 @@ impl Session {
     }
 
     /// Performs one line. Before a line that isn't on the last run, that run is compared.
-    fn take(
+    fn take<R: Databases + Files + AllocGlobal>(
         &mut self,
-        rt: &HostRuntime,
+        rt: &R,
         folder: &str,
         number: usize,
         word: &str,
@@ -147,7 +153,7 @@ impl Session {
     }
 
     /// A line on what the last run has to do.
-    fn want(&mut self, rt: &HostRuntime, word: &str, rest: &str) -> io::Result<()> {
+    fn want<R: Files + AllocGlobal>(&mut self, rt: &R, word: &str, rest: &str) -> io::Result<()> {
         match word {
             ">" => add_line(&mut self.wanted.output, rest),
             "prints" => add_pieces(rt, rest, &mut self.wanted.output),
@@ -159,7 +165,13 @@ impl Session {
     }
 
     /// A line that does something, other than a run.
-    fn act(&mut self, rt: &HostRuntime, folder: &str, word: &str, rest: &str) -> io::Result<()> {
+    fn act<R: Databases + Files + AllocGlobal>(
+        &mut self,
+        rt: &R,
+        folder: &str,
+        word: &str,
+        rest: &str,
+    ) -> io::Result<()> {
         let (path, others) = rest.split_once(' ').unwrap_or((rest, ""));
         match word {
             "" | "#" => Ok(()),
@@ -179,7 +191,11 @@ impl Session {
     }
 
     /// A run with these arguments.
-    fn run(&mut self, rt: &HostRuntime, arguments: &str) -> io::Result<()> {
+    fn run<R: Databases + Files + AllocGlobal>(
+        &mut self,
+        rt: &R,
+        arguments: &str,
+    ) -> io::Result<()> {
         let alloc = rt.alloc();
         let words = given_words(alloc, arguments)?;
         let (mut output, mut errors) = (Room::new(alloc, self.room, self.flushes), Vec::new(alloc));
@@ -208,7 +224,7 @@ impl Session {
     }
 
     /// Standard output has these bytes somewhere: then it is as it has to be.
-    fn want_part(&mut self, rt: &HostRuntime, pieces: &str) -> io::Result<()> {
+    fn want_part<R: Files + AllocGlobal>(&mut self, rt: &R, pieces: &str) -> io::Result<()> {
         let mut part = Vec::new(rt.alloc());
         add_pieces(rt, pieces, &mut part)?;
         if !contains(&self.ran.output, &part) {
@@ -254,14 +270,19 @@ impl Session {
         Ok(())
     }
 
-    fn expect_file(&mut self, rt: &HostRuntime, path: &str, pieces: &str) -> io::Result<()> {
+    fn expect_file<R: Files + AllocGlobal>(
+        &mut self,
+        rt: &R,
+        path: &str,
+        pieces: &str,
+    ) -> io::Result<()> {
         let mut wanted = Vec::new(rt.alloc());
         add_pieces(rt, pieces, &mut wanted)?;
         let held = fs::read(rt, path)?;
         expect_same(&mut self.difference, "the file", &held, &wanted)
     }
 
-    fn expect_missing(&mut self, rt: &HostRuntime, path: &str) -> io::Result<()> {
+    fn expect_missing<R: Files>(&mut self, rt: &R, path: &str) -> io::Result<()> {
         if fs::exists(rt, path)? {
             return expect_same(&mut self.difference, "the file", b"there", b"missing");
         }
@@ -325,7 +346,7 @@ fn new_folder(rt: &HostRuntime, name: &str) -> io::Result<String> {
     Ok(folder)
 }
 
-fn begin_anew(rt: &HostRuntime, folder: &str) -> io::Result<()> {
+fn begin_anew<R: Files + AllocGlobal>(rt: &R, folder: &str) -> io::Result<()> {
     fs::remove_dir_all(rt, folder)?;
     fs::create_dir(rt, folder)
 }
@@ -352,13 +373,13 @@ fn given_words(alloc: Global, arguments: &str) -> io::Result<Vec<String>> {
     Ok(words)
 }
 
-fn write_file(rt: &HostRuntime, path: &str, pieces: &str) -> io::Result<()> {
+fn write_file<R: Files + AllocGlobal>(rt: &R, path: &str, pieces: &str) -> io::Result<()> {
     let mut bytes = Vec::new(rt.alloc());
     add_pieces(rt, pieces, &mut bytes)?;
     fs::write(rt, path, &bytes)
 }
 
-/// Runs a statement on a database. It is generic, so that its proof doesn't see how databases are stored.
+/// Runs a statement on a database.
 fn execute<R: Databases>(rt: &R, path: &str, statement: &str) -> io::Result<()> {
     let Ok(mut conn) = rt.open_database(path) else {
         return bad_line();

@@ -108,10 +108,7 @@ fn reads_nothing_after_a_conflict<J: Journals>(
     Ok(())
 }
 
-pub(super) fn readings<J: Journals>(
-    rt: &(impl Abort + AllocGlobal),
-    journals: &mut J,
-) -> Result<(), Fail> {
+fn readings<J: Journals>(rt: &(impl Abort + AllocGlobal), journals: &mut J) -> Result<(), Fail> {
     takes_whole_readings_or_nothing(rt, journals)?;
     stops_at_a_conflict(rt, journals)?;
     leaves_nothing_of_a_failed_reading(rt, journals)?;

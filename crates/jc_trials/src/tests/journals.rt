@@ -32,14 +32,8 @@ impl Journals for Maps {
 pub(super) trait Databases {
     type Store: Alter + Drop;
 
-    /// From now on a new database is opened.
-    fn begin(&mut self);
-
-    /// A connection to that database.
+    /// A connection to a new database.
     fn open(&self) -> Result<Connection<Self::Store>, Fail>;
-
-    /// Whether a database is there once its connection is closed.
-    fn stays(&self) -> bool;
 }
 
 /// Databases in memory.
@@ -49,14 +43,8 @@ pub(super) struct Memories(pub(super) Global);
 impl Databases for Memories {
     type Store = MemStore;
 
-    fn begin(&mut self) {}
-
     fn open(&self) -> Result<Connection<MemStore>, Fail> {
         Ok(Connection::open_in_memory(self.0)?)
-    }
-
-    fn stays(&self) -> bool {
-        false
     }
 }
 
@@ -77,23 +65,9 @@ impl Tables<Memories> {
 }
 
 impl<D: Databases> Tables<D> {
-    /// A connection to a new database.
-    pub(super) fn connection(&mut self) -> Result<Connection<D::Store>, Fail> {
-        self.databases.begin();
-        self.databases.open()
-    }
-
-    /// A keeper of the same journal, which was made last: if its database stays, it is closed and taken up again.
-    pub(super) fn again(
-        &mut self,
-        keeper: SqlKeeper<D::Store>,
-    ) -> Result<SqlKeeper<D::Store>, Fail> {
-        let mut conn = keeper.into_connection();
-        if self.databases.stays() {
-            drop(conn);
-            conn = self.databases.open()?;
-        }
-        match SqlKeeper::adopt(self.alloc, conn) {
+    /// A keeper that takes up the same journal.
+    pub(super) fn again(&self, keeper: SqlKeeper<D::Store>) -> Result<SqlKeeper<D::Store>, Fail> {
+        match SqlKeeper::adopt(self.alloc, keeper.into_connection()) {
             Ok(keeper) => Ok(keeper),
             Err(_) => Err("not adopted")?,
         }
@@ -104,7 +78,7 @@ impl<D: Databases> Journals for Tables<D> {
     type Kept = SqlKeeper<D::Store>;
 
     fn empty(&mut self) -> Result<SqlKeeper<D::Store>, Fail> {
-        let conn = self.connection()?;
+        let conn = self.databases.open()?;
         match SqlKeeper::create(self.alloc, conn) {
             Ok(keeper) => Ok(keeper),
             Err(_) => Err("not created")?,

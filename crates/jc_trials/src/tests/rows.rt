@@ -286,10 +286,7 @@ upload head:2:0 LONG_HEADER_FILE set:60:20 => no S 0 34 12
 stores ""
 "#;
 
-pub(super) fn worked_runs<J: Journals>(
-    rt: &(impl Abort + AllocGlobal),
-    journals: &mut J,
-) -> Result<(), Fail> {
+fn worked_runs<J: Journals>(rt: &(impl Abort + AllocGlobal), journals: &mut J) -> Result<(), Fail> {
     assert_eq!(rt; report_of(rt.alloc(), journals, ROWS)?.as_str(), "");
     Ok(())
 }
