@@ -12,3 +12,4 @@ mod other_tables;
 mod readings;
 mod rows;
 mod worlds;
+mod worlds_in_memory;
