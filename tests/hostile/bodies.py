@@ -25,7 +25,7 @@ F4 = LEAST._replace(file=512)
 PROGRAM = Limits()
 KINDS = {"export": 1, "file": 2}
 # How many lines a word prints.
-LINES = {"space": 2, "stream": 1, "read": 1, "entries": 1, "file": 3, "pages": 1}
+LINES = {"space": 2, "stream": 1, "read": 1, "entries": 1, "scan": 1, "scan-1": 1, "scan-7": 1, "file": 3, "pages": 1}
 RANDOM_FILES = 1000
 
 
@@ -93,11 +93,11 @@ class Calls:
         return self.paths[data]
 
     def read(self, what, kind, body):
-        """A body by itself, in two ways."""
+        """A body by itself, in several ways."""
         wanted = reading(kind, body)
         if kind == "export":
-            self.add(what, "read", body, wanted)
-            self.add(what, "entries", body, wanted)
+            for word in ("read", "entries", "scan", "scan-1", "scan-7"):
+                self.add(what, word, body, wanted)
         else:
             asked = Asked(body)
             self.add(what, "file", body, wanted, f"steps {asked.steps}", asked.bounds(len(body)))
@@ -232,6 +232,15 @@ STEPS = ((samples.FILE, 1), (samples.edited(samples.FILE, {152: 0}), 0), (sample
          (samples.edited(samples.FILE, {152: 2, 224: 208}), 1), (samples.edited(samples.FILE, {176: 0}), 0),
          (vectors.many_arrays(), 1000), (vectors.one_entry_twice(), 1))
 
+# What a scanner answers to each call of `feed` with what is left of a stream, and what it says then; the last call takes nothing.
+WAITS, ENDED = "feed 121 held 9 field 7 2 waits entry", "feed 0 held 0 left 0 none"
+FED = ((PROGRAM, samples.E1 + samples.E2, (WAITS, WAITS, ENDED)),
+       (PROGRAM, b"\n" + samples.E1, (WAITS.replace("121", "122"), ENDED)),
+       (PROGRAM, M + b"=x\n\n", ("feed 110 held 1 bad 10 109 fault", "feed 0 held 1 bad 10 109 fault")),
+       (LEAST, M + b"A=" + 66 * b"x", ("feed 176 held 67 bad 12 109 fault", "feed 0 held 67 bad 12 109 fault")),
+       (PROGRAM, M + b"MESSAGE=hi\n", ("feed 120 held 9 field 7 2 left 120 none", "feed 0 held 9 field 7 2 left 120 none")),
+       (PROGRAM, samples.E1[:119], ("feed 119 held 10 left 119 none", "feed 0 held 10 left 119 none")))
+
 GROUPS = ((LEAST, "export", least_streams), (ONE_MORE, "export", heavy_streams), (PROGRAM, "export", vectors.streams),
           (FILES, "file", least_files), (FILES._replace(fields=9), "file", heavy_files), (F4, "file", repeated),
           (PROGRAM, "file", chains), (PROGRAM, "file", vectors.files), (PROGRAM, "file", vectors.crafted))
@@ -269,6 +278,15 @@ def steps(trial):
     return calls.run()
 
 
+def fed(trial):
+    """A scanner, call by call."""
+    calls = Calls(trial)
+    for number, (limits, data, lines) in enumerate(FED):
+        calls.begin(limits)
+        calls.add(f"a scanner {number}", "feed", data, *lines)
+    return calls.run()
+
+
 def fronts(trial):
     """Each front of three uploads: the shorter ones store nothing."""
     nested = vectors.M.replace(b"SEQNUM=1\n", b"SEQNUM=2\n") + binary(b"MESSAGE", samples.E1) + b"\n"
@@ -297,7 +315,7 @@ def damaged(trial):
 
 def main():
     with Trial("bodies") as trial:
-        trial.finish(f"{rows(trial) + steps(trial)} lines of rows", f"{fronts(trial)} of fronts", f"{damaged(trial)} of damaged files")
+        trial.finish(f"{rows(trial) + steps(trial) + fed(trial)} lines of rows", f"{fronts(trial)} of fronts", f"{damaged(trial)} of damaged files")
 
 
 if __name__ == "__main__":

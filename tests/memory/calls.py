@@ -61,7 +61,7 @@ def stored(word, key, journal):
 
 
 def read(word, data, journal):
-    verdict = reading("export" if word in ("read", "entries") else "file", data).encode() + b"\n"
+    verdict = reading("file" if word in ("file", "pages") else "export", data).encode() + b"\n"
     more = rb"steps \d+\n" + ASKED if word == "file" else b""
     yield Told(re.escape(verdict) + more, journal, False)
     yield Told(b"refused\n" + more, journal, True)
@@ -90,7 +90,7 @@ def told_by(word, operand, journal):
         return [collected(word, operand, journal)]
     if word in ("get", "stored"):
         return [stored(word, operand, journal)]
-    if word in ("read", "entries", "file", "pages"):
+    if word in ("read", "entries", "scan", "scan-7", "file", "pages"):
         return [read(word, operand, journal)]
     if word == "copies":
         return copied(operand, journal)
@@ -168,8 +168,9 @@ def cases(trial):
         after = [(word, row), (word, conflict), *KEYS, (word, cut), *KEYS, (word, rest), (word, rest), *KEYS]
         yield Case(trial, f"uploads by {word}", after)
         yield Case(trial, f"a journal file by {word}", [(word, file), *KEYS[:1], (word, file), *KEYS[:1]])
-    for word, data in (("read", samples.E1 + nested), ("entries", samples.E1 + nested), ("file", many), ("pages", many),
-                       ("copies", nested), ("upload", samples.E1 + samples.E2), ("send", samples.FILE),
+    for word, data in (("read", samples.E1 + nested), ("entries", samples.E1 + nested), ("scan", samples.E1 + nested),
+                       ("scan-7", samples.E1 + nested), ("file", many), ("pages", many), ("copies", nested),
+                       ("upload", samples.E1 + samples.E2), ("send", samples.FILE),
                        ("resume", f"resume 2 {samples.SEQNUM_ID.hex()} 2\n".encode())):
         yield Case(trial, word, [(word, data), (word, data)])
     yield Case(trial, "entries in tables", [("collect", row), *STORED, *STORED], spared=1)

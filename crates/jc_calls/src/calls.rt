@@ -9,6 +9,8 @@
 //! | `get ID:NUMBER` | the stored entry under the key |
 //! | `read PATH` | reads the export stream at once |
 //! | `entries PATH` | reads it entry by entry, in small pieces |
+//! | `scan PATH` | reads it by a scanner, in one piece; so do `scan-1` and `scan-7`, in pieces of 1 and of 7 bytes |
+//! | `feed PATH` | feeds it to a scanner as long as that takes bytes, and says what each call answers |
 //! | `file PATH` | reads the journal file by ranges, and says what was asked of it |
 //! | `pages PATH` | reads the journal file by pages |
 //! | `copies PATH` | copies and spells each entry of the export stream, in every way there is |
@@ -111,6 +113,10 @@ impl Calls {
             "run" => collecting::run_one(alloc, &mut self.keeper, bytes, &limits, told),
             "read" => readings::read(alloc, bytes, &limits, told),
             "entries" => readings::entries(alloc, bytes, limits, told),
+            "scan" => readings::scan(alloc, bytes, &limits, usize::MAX, told),
+            "scan-1" => readings::scan(alloc, bytes, &limits, 1, told),
+            "scan-7" => readings::scan(alloc, bytes, &limits, 7, told),
+            "feed" => readings::feed_whole(alloc, bytes, &limits, told),
             "file" => readings::file(alloc, bytes, limits, told),
             "pages" => readings::pages(alloc, bytes, limits, told),
             "copies" => entries::copies(alloc, bytes, &limits, told),

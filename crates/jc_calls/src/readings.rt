@@ -4,7 +4,7 @@ use crate::collecting::PIECE;
 use crate::recorded::{Asked, RecordedSpace};
 use crate::told::tell_end;
 use jc_base::{Ending, EntrySource, Limits, OutOfMemory, SliceStream, Step, Stop};
-use jc_export::{Stream, read_all};
+use jc_export::{Scanner, Stream, read_all};
 use jc_file::{FileEntries, PagedSpace, SliceSpace};
 use jc_samples::Pieces;
 use std::alloc::Global;
@@ -26,6 +26,88 @@ pub fn entries(alloc: Global, bytes: &[u8], limits: Limits, told: &mut Vec<u8>) 
         Ok(mut source) => tell_reading(told, &mut source),
         Err(OutOfMemory) => tell_end(told, 0, Err(Stop::OutOfMemory)),
     }
+}
+
+/// Reads an export stream by a scanner, in pieces of a size.
+pub fn scan(
+    alloc: Global,
+    bytes: &[u8],
+    limits: &Limits,
+    size: usize,
+    told: &mut Vec<u8>,
+) -> io::Result<()> {
+    let mut scanner = Scanner::new(alloc, *limits);
+    let most = limits.entry + limits.name + limits.value + 16;
+    let mut rest = bytes;
+    let mut count: u64 = 0;
+    for _ in 0..u64::MAX {
+        let (piece, _) = rest.split_at(rest.len().min(size));
+        let Ok(used) = feed(&mut scanner, piece) else {
+            return tell_end(told, count, Err(Stop::OutOfMemory));
+        };
+        if scanner.held() > most {
+            return writeln!(told, "held {}", scanner.held());
+        }
+        rest = rest.split_at(used.min(rest.len())).1;
+        match scanner.take() {
+            Ok(Some(Step::Entry(_))) => count = count.saturating_add(1),
+            Ok(Some(Step::Bad(fault))) => return tell_end(told, count, Ok(Ending::Bad(fault))),
+            Ok(_) => {
+                if rest.is_empty() {
+                    break;
+                }
+            }
+            Err(OutOfMemory) => return tell_end(told, count, Err(Stop::OutOfMemory)),
+        }
+    }
+    match scanner.finish() {
+        Some(Step::End { left }) => tell_end(told, count, Ok(Ending::End { left })),
+        _ => tell_end(told, count, Err(Stop::ReadFailed)),
+    }
+}
+
+/// Feeds an export stream to a scanner as long as it takes bytes, and writes what each call answers.
+pub fn feed_whole(
+    alloc: Global,
+    bytes: &[u8],
+    limits: &Limits,
+    told: &mut Vec<u8>,
+) -> io::Result<()> {
+    let mut scanner = Scanner::new(alloc, *limits);
+    let mut rest = bytes;
+    for _ in 0..u64::MAX {
+        let Ok(used) = feed(&mut scanner, rest) else {
+            return writeln!(told, "refused");
+        };
+        rest = rest.split_at(used.min(rest.len())).1;
+        write!(told, "feed {used} held {}", scanner.held())?;
+        if let Some((name, value)) = scanner.field_at(0) {
+            write!(told, " field {} {}", name.len(), value.len())?;
+        }
+        match scanner.finish() {
+            Some(Step::End { left }) => write!(told, " left {left}")?,
+            Some(Step::Bad(fault)) => write!(told, " bad {} {}", fault.code, fault.place)?,
+            _ => write!(told, " waits")?,
+        }
+        match scanner.take() {
+            Ok(Some(Step::Entry(_))) => writeln!(told, " entry")?,
+            Ok(Some(_)) => writeln!(told, " fault")?,
+            Ok(None) => writeln!(told, " none")?,
+            Err(OutOfMemory) => return writeln!(told, " refused"),
+        }
+        if used == 0 {
+            break;
+        }
+    }
+    Ok(())
+}
+
+/// Feeds a piece to a scanner, if the bytes can be counted.
+fn feed(scanner: &mut Scanner, piece: &[u8]) -> Result<usize, OutOfMemory> {
+    if u64::MAX - scanner.position() < piece.len() as u64 {
+        return Ok(0);
+    }
+    scanner.feed(piece)
 }
 
 /// Reads a journal file by ranges, and writes how many arrays were visited and what was asked of the space.
