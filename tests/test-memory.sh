@@ -1,6 +1,6 @@
 #!/usr/bin/env bash
 # Memory is refused to every command at one request after another, alone and with all later ones; in a long row of requests
-# of one size, at some of them; and to each public call that may answer it, as jc_calls makes them.
+# of one size, at some of them; and to calls of the libraries, as jc_calls makes them.
 # The library that refuses is preloaded, and compiled here by the compiler of the toolchain.
 set -uo pipefail
 . "$(dirname "$0")/expect.sh"

@@ -145,6 +145,7 @@ def stops(trial, pool):
         for kind in ("stop", "lose"):
             counts = [len(upwards(pool, lambda number, disk=disk: (case.stopped(kind, disk, number),))) for disk in DISKS]
             print(f"disks: {case.name}, {kind}: {counts[0]} calls of the log, {counts[1]} of the database")
+            trial.expect(f"{case.name}, {kind}: each disk was stopped", all(counts), True)
             tried += sum(counts)
     return tried
 
@@ -152,7 +153,9 @@ def stops(trial, pool):
 def rot(trial, pool):
     case = Case(trial, "two uploads", [samples.stream(samples.E1), samples.stream(samples.E2, samples.E3)])
     bytes_tried = [one for disk in DISKS for one in upwards(pool, lambda place, disk=disk: case.rotten(disk, place), ROT_STRIDE)]
-    print(f"disks: {len(bytes_tried)} bytes that can't be read, {sum(noticed for _, noticed in bytes_tried)} of them noticed")
+    count = sum(noticed for _, noticed in bytes_tried)
+    print(f"disks: {len(bytes_tried)} bytes that can't be read, {count} of them noticed")
+    trial.expect("some bytes are noticed, and some are of no use to anybody", 0 < count < len(bytes_tried), True)
     return len(bytes_tried)
 
 

@@ -270,6 +270,14 @@ run collect @db @one @two
 > ack SOURCE 0 1000 0 0
 run check @db
 > ok 1000
+# the database was closed, and goes on: a conflict stores nothing, and all entries are there
+file @three head:1:0 LAST_ENTRY CHANGED_ENTRY
+run collect @db @three @one
+> no SOURCE 0 60 1
+> ack SOURCE 0 1000 0 0
+status 1
+run export @db
+prints entries:1:1000
 
 case uploads are opened before the database
 file @upload head:1:0 ENTRY
