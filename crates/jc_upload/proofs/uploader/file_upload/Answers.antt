@@ -1,4 +1,4 @@
-use Rattle.std.proofs.Common.{◌≡◌, ◌++◌, refl, sym, subst, rules}
+use Rattle.std.proofs.Common.{◌≡◌, refl, sym, subst, rules}
 use Rattle.jc_upload.specs.Front.{CutsOfFile}
 use Rattle.jc_upload.specs.Upload.{file_head, file_upload_of}
 use Rattle.jc_upload.proofs.uploader.file_upload.Goals as goal
