@@ -1,13 +1,14 @@
 -- The numbers of the codes. (own)
 use Rattle.std.specs.Prelude.{ℕ}
 use Rattle.jc_base.specs.declared.fault.Code.{Code}
-use Rattle.jc_base.specs.declared.fault.Code.TheVariants.{ShortHeader, BadMagic, BadKind, BadReserved, EmptyName, NameTooLong, ValueTooLong, MissingNewline, TooManyFields, EntryTooLong, DuplicateMeta, NoRealtime, NoMonotonic, NoSeqnum, NoSeqnumId, BadNumber, BadId, ZeroSeqnum, FileShort, BadSignature, BadHeaderSize, Compressed, Compact, UnknownIncompatible, Sealed, BadState, Truncated, TooManyEntries, ChainEnds, BadOffset, BadType, BadSize, ChainBack, CompressedObject, BadData, FileTooLong, Conflict, ReadFailed, StoreFailed, OutOfMemory, NotAJournal, BadRow, WriteFailed, SourceChanged}
+use Rattle.jc_base.specs.declared.fault.Code.TheVariants.{ShortHeader, BadMagic, BadKind, BadReserved, Incomplete, EmptyName, NameTooLong, ValueTooLong, MissingNewline, TooManyFields, EntryTooLong, DuplicateMeta, NoRealtime, NoMonotonic, NoSeqnum, NoSeqnumId, BadNumber, BadId, ZeroSeqnum, FileShort, BadSignature, BadHeaderSize, Compressed, Compact, UnknownIncompatible, Sealed, BadState, Truncated, TooManyEntries, ChainEnds, BadOffset, BadType, BadSize, ChainBack, CompressedObject, BadData, FileTooLong, Conflict, ReadFailed, StoreFailed, OutOfMemory, NotAJournal, BadRow, WriteFailed, SourceChanged}
 
 abbrev pub number_of : Code → ℕ
 number_of ShortHeader = 1
 number_of BadMagic = 2
 number_of BadKind = 3
 number_of BadReserved = 4
+number_of Incomplete = 5
 number_of EmptyName = 10
 number_of NameTooLong = 11
 number_of ValueTooLong = 12

@@ -14,8 +14,10 @@ pub enum Code {
     BadMagic = 2,
     /// 3: an upload's kind is unknown.
     BadKind = 3,
-    /// 4: reserved bytes of an upload's header aren't zero.
+    /// 4: reserved bytes of an upload's header aren't as they have to be.
     BadReserved = 4,
+    /// 5: an upload that is to be whole doesn't have as many entries as its header says, or ends within one.
+    Incomplete = 5,
     /// 10: a field begins with `=`.
     EmptyName = 10,
     /// 11: a name is longer than the limit.

@@ -1,8 +1,9 @@
 -- What a keeper took up of a source is a step over a reading of the source's bytes.
-use Rattle.std.proofs.Common.{◌≡◌, ◌<◌, ◌≤◌, ◌+◌, nat_le, false, ℕ, List, ◌++◌, length, Option, Some, None, Result, Ok, Err, IsSomeAnd, refl, sym, ap, ◌∙◌, subst, inl, ⊎_elim, arith}
+use Rattle.std.proofs.Common.{◌≡◌, ◌<◌, ◌≤◌, ◌+◌, nat_le, true, false, ℕ, List, ◌++◌, length, Option, Some, None, Result, Ok, Err, IsSomeAnd, refl, sym, ap, ◌∙◌, subst, inl, ⊎_elim, arith}
 use Rattle.std.proofs.lemmas.Bool.{cases_lt, lt-leb}
 use Rattle.std.proofs.lemmas.List.{append-nil, length-append}
 use Rattle.std.specs.Io.KnownBytes.{Consumes, IsAtEnd}
+use Rattle.std.specs.Option.{option_map}
 use Rattle.jc_base.specs.declared.fault.Code.TheVariants.{FileTooLong}
 use Rattle.jc_base.specs.declared.fault.Fault.{Fault}
 use Rattle.jc_base.specs.declared.limits.Limits.{Limits}
@@ -16,37 +17,40 @@ use Rattle.jc_keeper.specs.declared.keeper.Absorbed.{Absorbed}
 use Rattle.jc_keeper.specs.declared.keeper.KeepStop.{KeepStop}
 use Rattle.jc_keeper.specs.Absorb.{Absorbs}
 use Rattle.jc_upload.specs.declared.head.Kind.{Kind}
+use Rattle.jc_upload.specs.declared.head.Version.{Version}
+use Rattle.jc_upload.specs.declared.head.Version.TheVariants.{V1, V2}
+use Rattle.jc_upload.specs.Says.{IsInParts, told_as}
 use Rattle.jc_upload.specs.declared.head.Kind.TheVariants.{Export, File}
 use Rattle.jc_collect.specs.Body.{AbsorbsBody, SaysBody}
 
-pub export_step : (limits : Limits) (known : Option (List ℕ)) (told : Option Reading) (before : Journal) (result : Result Absorbed KeepStop) (after : Journal)
-    → TellsReading limits known told → Absorbs before told result after
-    → AbsorbsBody (SaysBody limits Export known) before result after
-export_step limits known told before (Err stop) after tells h = h
-export_step limits None None before (Ok absorbed) after tells h = (h.0, tt, h.1)
-export_step limits None (Some r) before (Ok absorbed) after tells h = (r, tt, h)
-export_step limits (Some b) None before (Ok absorbed) after tells h = absurd tells
-export_step limits (Some b) (Some r) before (Ok absorbed) after tells h = (r, tells, h)
+pub export_step : (limits : Limits) (version : Version) (known : Option (List ℕ)) (told : Option Reading) (before : Journal) (result : Result Absorbed KeepStop) (after : Journal)
+    → TellsReading limits known told → Absorbs before (option_map (told_as version) told) result after
+    → AbsorbsBody (SaysBody limits version Export known) before result after
+export_step limits version known told before (Err stop) after tells h = h
+export_step limits version None None before (Ok absorbed) after tells h = (h.0, tt, h.1)
+export_step limits version None (Some r) before (Ok absorbed) after tells h = (told_as version r, tt, h)
+export_step limits version (Some b) None before (Ok absorbed) after tells h = absurd tells
+export_step limits version (Some b) (Some r) before (Ok absorbed) after tells h = (told_as version r, record { read = r; reads = tells; told = refl }, h)
 
-pub told_file : (limits : Limits) (known : Option (List ℕ)) (told : Option Reading) (before : Journal) (result : Result Absorbed KeepStop) (after : Journal)
-    → ((b : List ℕ) → known ≡ Some b → IsSomeAnd told (IsFileReading limits b)) → Absorbs before told result after
-    → AbsorbsBody (SaysBody limits File known) before result after
-told_file limits known told before (Err stop) after tells h = h
-told_file limits None None before (Ok absorbed) after tells h = (h.0, tt, h.1)
-told_file limits None (Some r) before (Ok absorbed) after tells h = (r, tt, h)
-told_file limits (Some b) None before (Ok absorbed) after tells h = absurd (tells b refl)
-told_file limits (Some b) (Some r) before (Ok absorbed) after tells h = (r, tells b refl, h)
+pub told_file : (limits : Limits) (version : Version) (known : Option (List ℕ)) (told : Option Reading) (before : Journal) (result : Result Absorbed KeepStop) (after : Journal)
+    → ((b : List ℕ) → known ≡ Some b → IsSomeAnd told (IsFileReading limits b)) → Absorbs before (option_map (told_as version) told) result after
+    → AbsorbsBody (SaysBody limits version File known) before result after
+told_file limits version known told before (Err stop) after tells h = h
+told_file limits version None None before (Ok absorbed) after tells h = (h.0, tt, h.1)
+told_file limits version None (Some r) before (Ok absorbed) after tells h = (told_as version r, tt, h)
+told_file limits version (Some b) None before (Ok absorbed) after tells h = absurd (tells b refl)
+told_file limits version (Some b) (Some r) before (Ok absorbed) after tells h = (told_as version r, record { read = r; reads = tells b refl; told = refl }, h)
 
 -- the source stands over a space whose bytes are those known
-pub file_step : (limits : Limits) (known bytes : Option (List ℕ)) (told : Option Reading) (before : Journal) (result : Result Absorbed KeepStop) (after : Journal)
-    → bytes ≡ known → ((b : List ℕ) → bytes ≡ Some b → IsSomeAnd told (IsFileReading limits b)) → Absorbs before told result after
-    → AbsorbsBody (SaysBody limits File known) before result after
-file_step limits known bytes told before result after same tells h =
-    told_file limits known told before result after (λ b is. tells b (same ∙ is)) h
+pub file_step : (limits : Limits) (version : Version) (known bytes : Option (List ℕ)) (told : Option Reading) (before : Journal) (result : Result Absorbed KeepStop) (after : Journal)
+    → bytes ≡ known → ((b : List ℕ) → bytes ≡ Some b → IsSomeAnd told (IsFileReading limits b)) → Absorbs before (option_map (told_as version) told) result after
+    → AbsorbsBody (SaysBody limits version File known) before result after
+file_step limits version known bytes told before result after same tells h =
+    told_file limits version known told before result after (λ b is. tells b (same ∙ is)) h
 
-pub body_step : (limits : Limits) (kind : Kind) (bytes known : Option (List ℕ)) (before : Journal) (result : Result Absorbed KeepStop) (after : Journal)
-    → bytes ≡ known → AbsorbsBody (SaysBody limits kind bytes) before result after → AbsorbsBody (SaysBody limits kind known) before result after
-body_step limits kind bytes known before result after same h = subst (λ (k : Option (List ℕ)). AbsorbsBody (SaysBody limits kind k) before result after) same h
+pub body_step : (limits : Limits) (version : Version) (kind : Kind) (bytes known : Option (List ℕ)) (before : Journal) (result : Result Absorbed KeepStop) (after : Journal)
+    → bytes ≡ known → AbsorbsBody (SaysBody limits version kind bytes) before result after → AbsorbsBody (SaysBody limits version kind known) before result after
+body_step limits version kind bytes known before result after same h = subst (λ (k : Option (List ℕ)). AbsorbsBody (SaysBody limits version kind k) before result after) same h
 
 -- ---- a file that is read whole first, up to one byte more than it may have
 
@@ -63,14 +67,15 @@ long_says limits a b r long longer h =
     (λ f. inl (record { fault = f.fault; fails = fault_of_long limits b longer ∙ sym told ∙ f.fails; none = f.none; ending = f.ending }))
     (λ w. absurd (⊎_elim (λ x. some_fault _ (sym x.well ∙ told)) (λ x. some_fault _ (sym x.well ∙ told)) w)) h
 
-pub whole_step : (limits : Limits) (known rest : Option (List ℕ)) (bytes : List ℕ) (before : Journal) (result : Result Absorbed KeepStop) (after : Journal)
+pub whole_step : (limits : Limits) (version : Version) (known rest : Option (List ℕ)) (bytes : List ℕ) (before : Journal) (result : Result Absorbed KeepStop) (after : Journal)
     → Consumes known rest bytes → (length bytes < limits.file + 1 → IsAtEnd rest)
-    → AbsorbsBody (SaysBody limits File (Some bytes)) before result after → AbsorbsBody (SaysBody limits File known) before result after
-whole_step limits known rest bytes before (Err stop) after came ended h = h
-whole_step limits None rest bytes before (Ok absorbed) after came ended h = (h.0, tt, h.2)
-whole_step limits (Some b) None bytes before (Ok absorbed) after came ended h = absurd came
-whole_step limits (Some b) (Some r) bytes before (Ok absorbed) after came ended h =
-    (h.0, ⊎_elim (short h.0 h.1) (long h.0 h.1) (cases_lt (length bytes) (limits.file + 1)), h.2)
+    → AbsorbsBody (SaysBody limits version File (Some bytes)) before result after → AbsorbsBody (SaysBody limits version File known) before result after
+whole_step limits version known rest bytes before (Err stop) after came ended h = h
+whole_step limits version None rest bytes before (Ok absorbed) after came ended h = (h.0, tt, h.2)
+whole_step limits version (Some b) None bytes before (Ok absorbed) after came ended h = absurd came
+whole_step limits version (Some b) (Some r) bytes before (Ok absorbed) after came ended h =
+    let says = h.1 in
+    (h.0, record { read = says.read; reads = ⊎_elim (short says.read says.reads) (long says.read says.reads) (cases_lt (length bytes) (limits.file + 1)); told = says.told }, h.2)
   where
     short : (x : Reading) → IsFileReading limits bytes x → length bytes < limits.file + 1 → IsFileReading limits b x
     short x says few = subst (λ (l : List ℕ). IsFileReading limits l x) (sym (came ∙ ap (λ l. bytes ++ l) (ended few) ∙ append-nil bytes)) says
@@ -79,3 +84,12 @@ whole_step limits (Some b) (Some r) bytes before (Ok absorbed) after came ended 
     long x says many =
         let all : length b ≡ length bytes + length r = ap length came ∙ length-append bytes r in
         long_says limits bytes b x (omega arith) (omega arith) says
+
+-- ---- what isn't to be whole is told as it is read
+
+pub told_parts : (version : Version) (known : Option Reading) → IsInParts version → option_map (told_as version) known ≡ known
+told_parts V1 None parts = refl
+told_parts V1 (Some r) parts = refl
+told_parts (V2 false entries) None parts = refl
+told_parts (V2 false entries) (Some r) parts = refl
+told_parts (V2 true entries) known parts = absurd parts

@@ -8,6 +8,7 @@ pub mod UnderWay
 pub mod Telling
 pub mod Filling
 pub mod Reading
+pub mod Wholes
 pub mod Heads
 pub mod Bodies
 pub mod Answering

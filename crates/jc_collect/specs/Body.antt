@@ -15,13 +15,14 @@ use Rattle.jc_upload.specs.declared.answer.Answer.{Answer}
 use Rattle.jc_upload.specs.declared.answer.Answer.TheVariants.{Ack, No}
 use Rattle.jc_upload.specs.declared.head.Kind.{Kind}
 use Rattle.jc_upload.specs.declared.head.UploadHead.{UploadHead}
+use Rattle.jc_upload.specs.declared.head.Version.{Version}
 use Rattle.jc_collect.specs.Answer.{named_by}
-use Rattle.jc_upload.specs.Says.{IsBodyReading}
+use Rattle.jc_upload.specs.Says.{BodySays}
 
 -- a reading that the body may have: any one if its bytes aren't known
-abbrev pub SaysBody : Limits → Kind → (body : Option (List ℕ)) → Reading → Type 0
-SaysBody limits kind None reading = ⊤
-SaysBody limits kind (Some body) reading = IsBodyReading limits kind body reading
+abbrev pub SaysBody : Limits → Version → Kind → (body : Option (List ℕ)) → Reading → Type 0
+SaysBody limits version kind None reading = ⊤
+SaysBody limits version kind (Some body) reading = BodySays limits version kind body reading
 
 -- What became of a body is a step over a reading that it has. If the keeper stopped, the journal stays.
 abbrev pub AbsorbsBody : (Says : Reading → Type 0) → (before : Journal) → Result Absorbed KeepStop → (after : Journal) → Type 0

@@ -4,6 +4,7 @@ pub mod Position
 pub mod Delivered
 pub mod Run
 pub mod Part
+pub mod Whole
 pub mod Begun
 pub mod Body
 pub mod Chain

@@ -5,15 +5,17 @@ mod body;
 mod borrowed_device;
 mod chain;
 mod collect;
+mod complete;
 mod delivery;
+mod gather;
 mod head;
 mod law;
 mod runs;
 mod space_stream;
-mod whole;
 
 pub use chain::chain_stored;
 pub use collect::collect_one;
+pub use complete::Whole;
 pub use delivery::Delivery;
 pub use law::{one_answer, one_journal_stored, one_set_accepted};
 pub use runs::{RunEnd, run};

@@ -10,7 +10,8 @@ use Rattle.jc_upload.specs.Head.{IsHead, IsHeadFault, head_text}
 use Rattle.jc_upload.specs.declared.head.Kind.{Kind}
 use Rattle.jc_upload.specs.declared.head.Kind.TheVariants.{Export, File}
 use Rattle.jc_upload.specs.declared.head.UploadHead.{UploadHead}
-use Rattle.jc_upload.specs.Says.{IsBodyReading, SaysBehind, SaysFault, Says}
+use Rattle.jc_upload.specs.declared.head.Version.{Version}
+use Rattle.jc_upload.specs.Says.{IsBodyReading, SaysBehind, BodySays, SaysFault, Says, told_as}
 
 module _
     (one : (a b : UploadHead) (x y : List ℕ) → IsHead a → IsHead b → head_text a ++ x ≡ head_text b ++ y → (a ≡ b) × (x ≡ y))
@@ -23,12 +24,16 @@ module _
     body_once limits Export body r s a b = stream limits body r s a b
     body_once limits File body r s a b = file limits body r s a b
 
+    told_once : (limits : Limits) (version : Version) (kind : Kind) (body : List ℕ) (r s : Reading) → BodySays limits version kind body r
+        → BodySays limits version kind body s → r ≡ s
+    told_once limits version kind body r s a b = a.told ∙ ap (told_as version) (body_once limits kind body a.read b.read a.reads b.reads) ∙ sym b.told
+
     behind_once : (limits : Limits) (upload : List ℕ) (h k : UploadHead) (r s : Reading) → SaysBehind limits upload h r → SaysBehind limits upload k s → r ≡ s
     behind_once limits upload h k r s a b =
         let same = one h k a.body b.body a.has.lawful b.has.lawful (sym a.has.whole ∙ b.has.whole) in
-        body_once limits k.kind b.body r s
-        (subst (λ (body : List ℕ). IsBodyReading limits k.kind body r) same.1
-        (subst (λ (head : UploadHead). IsBodyReading limits head.kind a.body r) same.0 a.reads))
+        told_once limits k.version k.kind b.body r s
+        (subst (λ (body : List ℕ). BodySays limits k.version k.kind body r) same.1
+        (subst (λ (head : UploadHead). BodySays limits head.version head.kind a.body r) same.0 a.reads))
         b.reads
 
     not_both : (limits : Limits) (upload : List ℕ) (h : UploadHead) (r s : Reading) → SaysFault upload r → ¬ SaysBehind limits upload h s

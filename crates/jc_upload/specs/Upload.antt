@@ -1,5 +1,5 @@
 -- What a sender keeps, the uploads that it makes, and what an answer to one changes. (own)
-use Rattle.std.specs.Prelude.{ℕ, zero, suc, ◌≡◌, ◌+◌, ◌<◌, ◌≤◌, List, ◌++◌, length, take, drop, flat_map, slice_get, Option, None}
+use Rattle.std.specs.Prelude.{ℕ, zero, suc, ◌≡◌, ◌+◌, ◌<◌, ◌≤◌, Bool, List, ◌++◌, length, take, drop, flat_map, slice_get, Option, None}
 use Rattle.std.specs.Option.{option_map}
 use Rattle.jc_base.specs.declared.id.Id128.{Id128}
 use Rattle.jc_base.specs.declared.id.Key.{Key}
@@ -7,6 +7,7 @@ use Rattle.jc_base.specs.LogEntry.{LogEntry}
 use Rattle.jc_export.specs.Canonical.{canon}
 use Rattle.jc_upload.specs.declared.head.Kind.TheVariants.{Export, File}
 use Rattle.jc_upload.specs.declared.head.UploadHead.{UploadHead}
+use Rattle.jc_upload.specs.declared.head.Version.TheVariants.{V1, V2}
 use Rattle.jc_upload.specs.declared.answer.Answer.{Answer}
 use Rattle.jc_upload.specs.declared.answer.Answer.TheVariants.{Ack, No}
 use Rattle.jc_upload.specs.Head.{head_text}
@@ -36,10 +37,14 @@ pub record Agrees (point : Point) (entries : List LogEntry) : Type 0 where
 
 -- the header of an upload that starts at the point
 abbrev pub export_head : Sender → UploadHead
-export_head sender = record { kind = Export; source = sender.source; start = sender.point.position }
+export_head sender = record { version = V1; kind = Export; source = sender.source; start = sender.point.position }
 
 abbrev pub file_head : Id128 → UploadHead
-file_head source = record { kind = File; source = source; start = 0 }
+file_head source = record { version = V1; kind = File; source = source; start = 0 }
+
+-- ... of the second version, which has this many entries, and may be to be whole
+abbrev pub second_head : Sender → (whole : Bool) → (count : ℕ) → UploadHead
+second_head sender whole count = record { version = V2 whole count; kind = Export; source = sender.source; start = sender.point.position }
 
 -- the entries from the point on, the first of them if more than the limit remain
 abbrev pub sent_of : Sender → List LogEntry → ℕ → List LogEntry
@@ -48,6 +53,10 @@ sent_of sender entries limit = take limit (drop sender.point.position entries)
 -- the header, and the canonical texts of these entries
 abbrev pub next_upload_of : Sender → List LogEntry → ℕ → List ℕ
 next_upload_of sender entries limit = head_text (export_head sender) ++ flat_map canon (sent_of sender entries limit)
+
+abbrev pub next_upload2_of : Sender → List LogEntry → ℕ → Bool → List ℕ
+next_upload2_of sender entries limit whole =
+    head_text (second_head sender whole (length (sent_of sender entries limit))) ++ flat_map canon (sent_of sender entries limit)
 
 abbrev pub file_upload_of : Id128 → List ℕ → List ℕ
 file_upload_of source bytes = head_text (file_head source) ++ bytes

@@ -7,9 +7,9 @@ ghost use Rattle.jc_base.specs.LogEntry.{IsEntry, LogEntry};
 ghost use Rattle.jc_base.specs.Reading.{Reading};
 ghost use Rattle.jc_export.specs.Cut.{joined};
 ghost use Rattle.jc_upload.specs.declared.head.Kind.TheVariants.{Export, File};
-ghost use Rattle.jc_upload.specs.Front.{CutsOfExport, CutsOfFile};
+ghost use Rattle.jc_upload.specs.Front.{CutsBy, CutsOfFile};
 ghost use Rattle.jc_upload.specs.Head.{IsHead, head_text};
-ghost use Rattle.jc_upload.specs.Says.{Says};
+ghost use Rattle.jc_upload.specs.Says.{IsInParts, Says};
 
 use crate::{UploadHead, one_head};
 
@@ -23,12 +23,12 @@ pub fn one_saying()
     jc_file::one_reading();
 }
 
-/// What a beginning of an upload says, wherever it is cut: of an upload of entries the first of them, and of a file that
-/// reads without a fault all of its entries or none. Does nothing.
+/// What a beginning of an upload says, wherever it is cut: of an upload of entries the first of them, or all or a fault
+/// if it is to be whole, and of a file that reads without a fault all of its entries or none. Does nothing.
 pub fn fronts_of_uploads()
     ensures export { (head : UploadHead) (entries : List LogEntry) → IsHead head → head.kind ≡ Export
-        → All IsEntry entries → CutsOfExport entries (head_text head ++ joined entries) }
-    ensures file { (head : UploadHead) (file : List ℕ) → IsHead head → head.kind ≡ File
+        → All IsEntry entries → CutsBy head.version entries (head_text head ++ joined entries) }
+    ensures file { (head : UploadHead) (file : List ℕ) → IsHead head → IsInParts head.version → head.kind ≡ File
         → CutsOfFile file (head_text head ++ file) }
 {
     one_head();

@@ -9,7 +9,7 @@ mod resume;
 mod uploader;
 
 pub use answer::{Answer, one_answer};
-pub use head::{Kind, UploadHead, one_head};
+pub use head::{Kind, UploadHead, Version, one_head};
 pub use law::{fronts_of_uploads, one_saying};
 pub use line::Line;
 pub use resume::{Resume, one_resume};

@@ -8,11 +8,11 @@ ghost use Rattle.jc_base.specs.LogEntry.{IsEntry};
 ghost use Rattle.jc_export.specs.Canonical.{canon};
 ghost use Rattle.jc_upload.specs.declared.head.Kind.TheVariants as kinds;
 ghost use Rattle.jc_upload.specs.declared.uploader.UploadFault.TheVariants as faults;
-ghost use Rattle.jc_upload.specs.Front.{CutsOfExport, CutsOfFile};
+ghost use Rattle.jc_upload.specs.Front.{CutsBy, CutsOfExport, CutsOfFile, CutsOfSecond};
 ghost use Rattle.jc_upload.specs.Head.{IsHead, head_text};
-ghost use Rattle.jc_upload.specs.Upload.{Advances, Agrees, acked_to, export_head, file_head, file_upload_of, moved_to, next_upload_of, point_behind, sent_of};
+ghost use Rattle.jc_upload.specs.Upload.{Advances, Agrees, acked_to, export_head, file_head, file_upload_of, moved_to, next_upload2_of, next_upload_of, point_behind, second_head, sent_of};
 
-use crate::{Answer, Kind, Resume, UploadHead, fronts_of_uploads};
+use crate::{Answer, Kind, Resume, UploadHead, Version, fronts_of_uploads};
 use jc_base::{ByteSink, Entry, Id128, OutOfMemory, VecSink, Written, write_all};
 use jc_export::write_entry;
 use std::alloc::Global;
@@ -107,11 +107,42 @@ impl Uploader {
     {
         let sent = self.next_entries(entries, limit)?;
         let head = UploadHead {
+            version: Version::V1,
             kind: Kind::Export,
             source: self.source,
             start: self.resume.position(),
         };
         Ok(export_upload(alloc, &head, sent)?)
+    }
+
+    /// The next upload with a header of the second version, which says how many entries it has. If it is to be `whole`,
+    /// all of them are taken or none. It carries the entries of `next_upload`, and is refused as that is.
+    pub fn next_upload2(
+        &self,
+        alloc: Global,
+        entries: &[Entry],
+        limit: u64,
+        whole: bool,
+    ) -> Result<Vec<u8>, UploadFault>
+        ensures upload { IfOk result (λ upload. upload.items ≡ next_upload2_of self.now entries.now limit whole) }
+        ensures lawful { OnOk result (IsHead (second_head self.now whole (length (sent_of self.now entries.now limit)))) }
+        ensures agrees { OnOk result (Agrees self.now.point entries.now) }
+        // A beginning of it is read as some of its entries, the first ones; if it is to be whole, all or a fault.
+        ensures front { IfOk result (λ upload. CutsOfSecond whole (sent_of self.now entries.now limit) upload.items) }
+        ensures changed { IsErrOf result UploadFault.SourceChanged ↔ ¬ Agrees self.now.point entries.now }
+    {
+        let sent = self.next_entries(entries, limit)?;
+        let head = UploadHead {
+            version: Version::V2 {
+                whole,
+                entries: sent.len() as u64,
+            },
+            kind: Kind::Export,
+            source: self.source,
+            start: self.resume.position(),
+        };
+        let upload = export_upload(alloc, &head, sent)?;
+        Ok(upload)
     }
 
     /// The entries that the next upload carries.
@@ -190,7 +221,7 @@ fn export_upload(
 ) -> Result<Vec<u8>, OutOfMemory>
     ensures text { IfOk result (λ upload. upload.items ≡ head_text head.now ++ flat_map canon entries.now) }
     ensures lawful { OnOk result (IsHead head.now) }
-    ensures front { IfOk result (λ upload. head.now.kind ≡ kinds.Export → CutsOfExport entries.now upload.items) }
+    ensures front { IfOk result (λ upload. head.now.kind ≡ kinds.Export → CutsBy head.now.version entries.now upload.items) }
 {
     // Does nothing: from its contract the proof has what a beginning of the upload says.
     fronts_of_uploads();
@@ -222,6 +253,7 @@ pub fn file_upload(alloc: Global, source: Id128, file: &[u8]) -> Result<Vec<u8>,
     // Does nothing: from its contract the proof has what a beginning of the upload says.
     fronts_of_uploads();
     let head = UploadHead {
+        version: Version::V1,
         kind: Kind::File,
         source,
         start: 0,

@@ -1,7 +1,6 @@
-use Rattle.std.proofs.Common.{rules, inl, inr}
+use Rattle.std.proofs.Common.{rules}
+use Rattle.jc_upload.proofs.HeadLemmas.{kind_unknown}
 use Rattle.jc_upload.proofs.head.checked_kind.Goals as goal
 
-pub returns-then-not-is_zero-2 : goal.returns-then-not-is_zero-2
-returns-then-not-is_zero-2 c =
-    rw c.fail-then-not-is_zero-2.ensures
-    (inr (search rules, inr (search rules, inr (search rules, inr (search rules, inl (search rules, search rules))))))
+pub returns-in-None : goal.returns-in-None
+returns-in-None c = kind_unknown c.args.bytes.now (search rules) (c.has_magic.ensures.0 (search rules)) c.in-None.ensures

@@ -7,4 +7,4 @@ pub returns-clause-front : goal.returns-clause-front
 returns-clause-front c =
     let text : c.extend_from_slice.new.self.items ≡ file_upload_of c.args.source c.args.file.now = search rules in
     subst (CutsOfFile c.args.file.now) (sym text)
-    (c.fronts_of_uploads.ensures.file (file_head c.args.source) c.args.file.now c.write.ensures.lawful refl)
+    (c.fronts_of_uploads.ensures.file (file_head c.args.source) c.args.file.now c.write.ensures.lawful tt refl)
