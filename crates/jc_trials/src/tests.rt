@@ -11,5 +11,6 @@ mod memory;
 mod other_tables;
 mod readings;
 mod rows;
+mod whole_uploads;
 mod worlds;
 mod worlds_in_memory;

@@ -180,7 +180,11 @@ impl Rows {
 
 /// The rows of a script that are wrong, each with its line. A script that runs nothing is wrong, too, and one that ends
 /// with an upload.
-fn report_of<J: Journals>(alloc: Global, journals: &mut J, script: &str) -> Result<String, Fail> {
+pub(super) fn report_of<J: Journals>(
+    alloc: Global,
+    journals: &mut J,
+    script: &str,
+) -> Result<String, Fail> {
     let mut rows = Rows {
         line: 0,
         uploads: Vec::new(alloc),

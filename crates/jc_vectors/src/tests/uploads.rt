@@ -4,7 +4,7 @@ use super::rows::check_rows;
 use jc_base::{Code, Entry, Fault, Id128, Limits};
 use jc_export::read_all;
 use jc_samples::{ENTRY, EXPORT, SEQNUM_ID, SOURCE_ID, numbered_entry};
-use jc_upload::{Answer, Kind, Resume, UploadFault, UploadHead, Uploader, file_upload};
+use jc_upload::{Answer, Kind, Resume, UploadFault, UploadHead, Uploader, Version, file_upload};
 use std::alloc::Global;
 use std::process::Abort;
 use std::test::Fail;
@@ -13,6 +13,7 @@ const SOURCE: Id128 = Id128(SOURCE_ID);
 
 fn head(kind: Kind, start: u64) -> UploadHead {
     UploadHead {
+        version: Version::V1,
         kind,
         source: SOURCE,
         start,
@@ -55,6 +56,47 @@ fn headers(rt: HostRuntime) {
         b"\x08\x07\x06\x05\x04\x03\x02\x01".as_slice()
     );
     assert_eq!(rt; UploadHead::read(&bytes), Ok(file));
+}
+
+#[test]
+fn second_headers(rt: HostRuntime) {
+    for (whole, flag) in [(false, 0), (true, 1)] {
+        let second = UploadHead {
+            version: Version::V2 {
+                whole,
+                entries: 0x0102_0304_0506_0708,
+            },
+            kind: Kind::Export,
+            source: SOURCE,
+            start: 0,
+        };
+        let mut bytes = EXPORT;
+        bytes[7] = b'2';
+        bytes[9] = flag;
+        bytes[40..48].copy_from_slice(b"\x08\x07\x06\x05\x04\x03\x02\x01");
+        assert_eq!(rt; second.write(), bytes);
+        assert_eq!(rt; UploadHead::read(&bytes), Ok(second));
+    }
+}
+
+#[test]
+fn second_header_faults(rt: HostRuntime) {
+    for (at, byte, code, place) in [
+        (7usize, b'3', Code::BadMagic, 0),
+        (8, 3, Code::BadKind, 8),
+        (9, 2, Code::BadReserved, 9),
+        (15, 1, Code::BadReserved, 9),
+    ] {
+        let mut bytes = EXPORT;
+        bytes[7] = b'2';
+        assert!(rt; at < 48);
+        bytes[at] = byte;
+        assert_eq!(rt;
+            UploadHead::read(&bytes),
+            Err(Fault { code, place }),
+            "byte {at}"
+        );
+    }
 }
 
 #[test]
@@ -231,6 +273,22 @@ fn the_first_upload_has_169_bytes(rt: HostRuntime) -> Result<(), Fail> {
     let upload = at("resume 0 - -\n")?.next_upload(rt.alloc(), &entries, 1_000)?;
     let want = [EXPORT.as_slice(), ENTRY].concat(rt.alloc())?;
     assert_eq!(rt; upload.len(), 169);
+    assert_eq!(rt; upload.as_slice(), want.as_slice());
+    Ok(())
+}
+
+#[test]
+fn a_whole_upload(rt: HostRuntime) -> Result<(), Fail> {
+    let entries = source(rt.alloc(), 2)?;
+    let upload = at("resume 0 - -\n")?.next_upload2(rt.alloc(), &entries, 9, true)?;
+    let mut want = Vec::from_slice(rt.alloc(), &EXPORT)?;
+    want[7] = b'2';
+    want[9] = 1;
+    want[40] = 2;
+    for seqnum in [1, 2] {
+        want.extend_from_slice(numbered_entry(rt.alloc(), seqnum)?.as_bytes())?;
+    }
+    assert_eq!(rt; upload.len(), 290);
     assert_eq!(rt; upload.as_slice(), want.as_slice());
     Ok(())
 }
