@@ -1,5 +1,5 @@
 -- Every event keeps what is kept of a world.
-use Rattle.std.proofs.Common.{◌≡◌, ℕ, ◌+◌, List, [], ◌∷◌, ◌++◌, Some, map, set, take, drop, refl, sym, ap, subst, ◌∙◌, inl, inr, ⊎_elim, arith, append-nil}
+use Rattle.std.proofs.Common.{◌≡◌, ℕ, ◌+◌, ◌≤◌, Bool, List, [], ◌∷◌, ◌++◌, Some, length, map, set, take, drop, refl, sym, ap, subst, ◌∙◌, inl, inr, ⊎_elim, arith, append-nil}
 use Rattle.std.specs.List.{slice_get, All, Contains}
 use Rattle.std.proofs.lemmas.List.{length-take, length-drop, take-append-drop}
 use Rattle.std.proofs.lemmas.List.Elements.{All-cons, All-contains, All-contains_itself, All-map, All-nil, All-push, All-set, All-weaker}
@@ -12,13 +12,13 @@ use Rattle.jc_upload.specs.declared.answer.Answer.{Answer}
 use Rattle.jc_upload.specs.declared.answer.Answer.TheVariants.{Ack, No}
 use Rattle.jc_upload.specs.Head.{IsHead}
 use Rattle.jc_upload.specs.Resume.{Point, start as first_point}
-use Rattle.jc_upload.specs.Upload.{acked_to, export_head, file_head, file_upload_of, next_upload_of, point_behind}
+use Rattle.jc_upload.specs.Upload.{acked_to, export_head, file_head, file_upload_of, next_upload2_of, next_upload_of, point_behind, second_head, sent_of}
 use Rattle.jc_collect.specs.Position.{IsPosition}
-use Rattle.jc_world.specs.Event.{Appends, Delivers, DeliversAlien, Hands, Happens, IsAlien, Makes, MakesFile, MovesOn, Restarts, moved_on, named}
+use Rattle.jc_world.specs.Event.{Appends, Delivers, DeliversAlien, Hands, Happens, IsAlien, Makes, Makes2, MakesFile, MovesOn, Restarts, moved_on, named}
 use Rattle.jc_world.specs.Kept.{AreStored, IsBacked, IsExportOf, IsKept, IsMachine, IsMade, IsSafe}
 use Rattle.jc_world.specs.State.{AreDistinct, MachineState, State, new_machine, new_state, source_of, with_answer, with_entry, with_machine, with_point, with_upload}
 use Rattle.jc_world.specs.declared.event.Event.{Event}
-use Rattle.jc_world.specs.declared.event.Event.TheVariants.{Append, Make, MakeFile, Deliver, Alien, Hand, Restart}
+use Rattle.jc_world.specs.declared.event.Event.TheVariants.{Append, Make, Make2, MakeFile, Deliver, Alien, Hand, Restart}
 use Rattle.jc_world.proofs.Growing.{Comes, backed_later, backed_more, made_more}
 use Rattle.jc_world.proofs.Lists.{all_further, all_get, contains_get, contains_map, map_written}
 use Rattle.jc_world.proofs.Points.{Has, agrees_behind, safe_later, safe_more, safe_start}
@@ -113,6 +113,12 @@ upload_kept limits s upload kept made = record {
   backed = kept.backed;
 }
 
+sent_within : (machine : MachineState) (limit : ℕ) → machine.sender.point.position ≤ length machine.entries
+    → machine.sender.point.position + length (sent_of machine.sender machine.entries limit) ≤ length machine.entries
+sent_within machine limit within =
+    let rest = drop machine.sender.point.position machine.entries in
+    omega (arith, length-take limit rest, length-drop machine.sender.point.position machine.entries, within)
+
 -- the entries that an upload carries are a part of the machine's
 next_made : (machine : MachineState) (limit : ℕ) (journal : Journal) → IsMachine journal machine → IsHead (export_head machine.sender) → IsExportOf machine (next_upload_of machine.sender machine.entries limit)
 next_made machine limit journal is lawful =
@@ -124,7 +130,7 @@ next_made machine limit journal is lawful =
       sent = take limit rest;
       has = record { lawful = lawful; whole = refl };
       part = record { more = drop limit rest; whole = sym (take-append-drop limit rest) };
-      within = omega (arith, length-take limit rest, length-drop machine.sender.point.position machine.entries, is.point.agrees.within);
+      within = sent_within machine limit is.point.agrees.within;
     }
 
 make_kept : (limits : Limits) (s t : State) (m limit : ℕ) → IsKept limits s → Makes s m limit t → IsKept limits t
@@ -136,6 +142,33 @@ make_kept limits s t m limit kept a =
       machine = a.machine;
       one = contains_get s.machines m a.machine a.at;
       from = inl (next_made a.machine limit s.journal is a.head);
+    }))
+
+-- ... and so with a header of the second version
+next2_made : (machine : MachineState) (limit : ℕ) (whole : Bool) (journal : Journal) → IsMachine journal machine
+    → IsHead (second_head machine.sender whole (length (sent_of machine.sender machine.entries limit)))
+    → IsExportOf machine (next_upload2_of machine.sender machine.entries limit whole)
+next2_made machine limit whole journal is lawful =
+    let rest = drop machine.sender.point.position machine.entries in
+    record {
+      head = second_head machine.sender whole (length (sent_of machine.sender machine.entries limit));
+      kind = refl;
+      own = refl;
+      sent = take limit rest;
+      has = record { lawful = lawful; whole = refl };
+      part = record { more = drop limit rest; whole = sym (take-append-drop limit rest) };
+      within = sent_within machine limit is.point.agrees.within;
+    }
+
+make2_kept : (limits : Limits) (s t : State) (m limit : ℕ) (whole : Bool) → IsKept limits s → Makes2 s m limit whole t → IsKept limits t
+make2_kept limits s t m limit whole kept a =
+    let is = all_get (IsMachine s.journal) s.machines m a.machine kept.machines a.at in
+    subst (IsKept limits) (sym a.after)
+    (upload_kept limits s (next_upload2_of a.machine.sender a.machine.entries limit whole) kept
+    (record {
+      machine = a.machine;
+      one = contains_get s.machines m a.machine a.at;
+      from = inl (next2_made a.machine limit whole s.journal is a.head);
     }))
 
 make_file_kept : (limits : Limits) (s t : State) (m : ℕ) (file : List ℕ) → IsKept limits s → MakesFile limits s m file t → IsKept limits t
@@ -225,6 +258,7 @@ module _ (once : SaysOnce) (one_head : HeadOnce) (texts : TextsCut) (files : Fil
   pub happens_kept : (limits : Limits) (s t : State) (event : Event) → IsKept limits s → Happens limits s event t → IsKept limits t
   happens_kept limits s t (Append m entry) kept h = append_kept limits s t m entry kept h
   happens_kept limits s t (Make m limit) kept h = make_kept limits s t m limit kept h
+  happens_kept limits s t (Make2 m limit whole) kept h = make2_kept limits s t m limit whole kept h
   happens_kept limits s t (MakeFile m file) kept h = make_file_kept limits s t m file.items kept h
   happens_kept limits s t (Deliver i cut) kept h = deliver_kept limits s t i cut kept h
   happens_kept limits s t (Alien bytes) kept h = alien_kept limits s t bytes.items kept h

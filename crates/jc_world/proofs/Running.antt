@@ -9,7 +9,7 @@ use Rattle.jc_world.specs.Schedule.{Grows, Takes, TakesEach}
 use Rattle.jc_world.specs.Stepped.{Steps}
 use Rattle.jc_world.specs.State.{State, with_machine}
 use Rattle.jc_world.specs.declared.event.Event.{Event}
-use Rattle.jc_world.specs.declared.event.Event.TheVariants.{Append, Make, MakeFile, Deliver, Alien, Hand, Restart}
+use Rattle.jc_world.specs.declared.event.Event.TheVariants.{Append, Make, Make2, MakeFile, Deliver, Alien, Hand, Restart}
 use Rattle.jc_world.proofs.Keeping.{grown}
 
 -- ---- one step
@@ -38,6 +38,7 @@ hands_same s t j h = ⊎_elim
 pub happens_grows : (limits : Limits) (s t : State) (event : Event) → Happens limits s event t → Grows s t
 happens_grows limits s t (Append m entry) h = same_grows s t (ap (λ (u : State). u.journal) h.after)
 happens_grows limits s t (Make m limit) h = same_grows s t (ap (λ (u : State). u.journal) h.after)
+happens_grows limits s t (Make2 m limit whole) h = same_grows s t (ap (λ (u : State). u.journal) h.after)
 happens_grows limits s t (MakeFile m file) h = same_grows s t (ap (λ (u : State). u.journal) h.after)
 happens_grows limits s t (Deliver i cut) h = collects_grow limits s t (take cut h.upload) h.collects
 happens_grows limits s t (Alien bytes) h = collects_grow limits s t bytes.items h.collects

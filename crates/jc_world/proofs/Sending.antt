@@ -1,6 +1,6 @@
 -- What an ack to an upload that a machine made says of the machine's entries.
-use Rattle.std.proofs.Common.{◌≡◌, ◌⊎◌, ℕ, ◌+◌, ◌≤◌, List, ◌++◌, Some, length, map, take, drop, refl, sym, ap, subst, ◌∙◌, inr, ⊎_elim, arith, length-append, append_assoc}
-use Rattle.std.specs.Prelude.{flat_map}
+use Rattle.std.proofs.Common.{◌≡◌, ◌⊎◌, ℕ, ◌+◌, ◌≤◌, Bool, true, false, List, ◌++◌, Some, length, map, take, drop, refl, sym, ap, subst, ◌∙◌, inr, ⊎_elim, arith, length-append, append_assoc}
+use Rattle.std.specs.Prelude.{◌&&◌, nat_eq, if◌then◌else◌, flat_map}
 use Rattle.std.specs.List.{slice_get, All, Contains}
 use Rattle.std.specs.Option.{option_map}
 use Rattle.std.proofs.lemmas.List.{take-append-drop, take_at}
@@ -9,6 +9,7 @@ use Rattle.std.proofs.lemmas.Option.{slice_get-map}
 use Rattle.jc_base.specs.Journal.{Journal}
 use Rattle.jc_base.specs.LogEntry.{IsEntry, LogEntry}
 use Rattle.jc_base.specs.Reading.{IsFront, Reading, reading}
+use Rattle.jc_base.specs.declared.fault.Code.TheVariants.{Incomplete}
 use Rattle.jc_base.specs.declared.fault.Ending.{Ending}
 use Rattle.jc_base.specs.declared.fault.Ending.TheVariants.{Bad, End}
 use Rattle.jc_base.specs.declared.fault.Fault.{Fault}
@@ -22,10 +23,12 @@ use Rattle.jc_keeper.specs.Agree.{HasBoth, IsStored}
 use Rattle.jc_upload.specs.declared.head.Kind.{Kind}
 use Rattle.jc_upload.specs.declared.head.Kind.TheVariants.{Export, File}
 use Rattle.jc_upload.specs.declared.head.UploadHead.{UploadHead}
-use Rattle.jc_upload.specs.Head.{IsHead, head_text}
+use Rattle.jc_upload.specs.declared.head.Version.{Version}
+use Rattle.jc_upload.specs.declared.head.Version.TheVariants.{V1, V2}
+use Rattle.jc_upload.specs.Head.{IsHead, fault_at, head_text}
 use Rattle.jc_collect.specs.Answer.{IsTaken}
 use Rattle.jc_collect.specs.Position.{Joins}
-use Rattle.jc_upload.specs.Says.{HasHead, IsBodyReading, Says}
+use Rattle.jc_upload.specs.Says.{HasHead, IsBodyReading, Says, ending_of_whole, told_as}
 use Rattle.jc_file.specs.Cut.{IsCutShort}
 use Rattle.jc_world.specs.Kept.{AreStored, IsExportOf, IsFileOf}
 use Rattle.jc_world.specs.State.{AreDistinct, MachineState, source_of}
@@ -47,7 +50,27 @@ same_machine machines a b distinct in_a in_b same =
 
 -- ---- an ack
 
--- An ack to a delivery is of this reading of it, whose entries are stored.
+-- What a reading is told as has its entries.
+told_entries : (version : Version) (r : Reading) → (told_as version r).entries ≡ r.entries
+told_entries V1 r = refl
+told_entries (V2 false entries) r = refl
+told_entries (V2 true entries) r = refl
+
+-- It is told to end without a fault only if it does.
+whole_ended : (number count : ℕ) (ending : Ending) (left : ℕ) → ending_of_whole number count ending ≡ End left → ending ≡ End left
+whole_ended number count (Bad fault) left h = h
+whole_ended number count (End end) left h = either (nat_eq end 0 && nat_eq count number) h
+  where
+    either : (all : Bool) → (if all then End end else Bad (fault_at Incomplete count)) ≡ End left → End end ≡ End left
+    either true e = e
+    either false e = cc
+
+told_ended : (version : Version) (r : Reading) (left : ℕ) → (told_as version r).ending ≡ End left → r.ending ≡ End left
+told_ended V1 r left h = h
+told_ended (V2 false entries) r left h = h
+told_ended (V2 true entries) r left h = whole_ended entries (length r.entries) r.ending left h
+
+-- An ack to a delivery is of this reading of its body, whose entries are stored.
 pub record IsAckOf (limits : Limits) (delivery : List ℕ) (source : Id128) (start count : ℕ) (after : Journal) : Type 0 where
   pub head : UploadHead
   pub body : List ℕ
@@ -88,17 +111,22 @@ ack_of once limits delivery source start count new left before after taken joins
   head = taken.head;
   body = taken.says.body;
   has = taken.says.has;
-  read = taken.reading;
-  reads = taken.says.reads;
+  read = taken.says.reads.read;
+  reads = taken.says.reads.reads;
   of_source = ap (λ (p : Id128 × ℕ). p.0) taken.named;
   of_start = ap (λ (p : Id128 × ℕ). p.1) taken.named;
   left = left;
-  ended = taken.ended;
-  counted = taken.counted;
-  stored = subst (λ (r : Reading). All (IsStored after) r.entries)
+  ended = told_ended taken.head.version taken.says.reads.read left
+      (ap (λ (r : Reading). r.ending) (sym taken.says.reads.told) ∙ taken.ended);
+  counted = taken.counted ∙ ap (λ (es : List LogEntry). length es) same;
+  stored = subst (All (IsStored after)) same
+      (subst (λ (r : Reading). All (IsStored after) r.entries)
       (once limits delivery joins.reading taken.reading joins.says (inr (taken.head, taken.says)))
-      (stored_both before after joins.reading.entries joins.has);
+      (stored_both before after joins.reading.entries joins.has));
 }
+  where
+    same : taken.reading.entries ≡ taken.says.reads.read.entries
+    same = ap (λ (r : Reading). r.entries) taken.says.reads.told ∙ told_entries taken.head.version taken.says.reads.read
 
 -- ---- a beginning of an upload
 

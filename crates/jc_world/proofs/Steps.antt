@@ -10,8 +10,8 @@ use Rattle.jc_base.specs.declared.limits.Limits.{Limits}
 use Rattle.jc_upload.specs.declared.answer.Answer.{Answer}
 use Rattle.jc_upload.specs.Head.{IsHead}
 use Rattle.jc_upload.specs.Resume.{Point}
-use Rattle.jc_upload.specs.Upload.{export_head, file_head, file_upload_of, next_upload_of}
-use Rattle.jc_world.specs.Event.{Collects, Delivers, DeliversAlien, Hands, IsAlien, Makes, MakesFile, Restarts, named}
+use Rattle.jc_upload.specs.Upload.{export_head, file_head, file_upload_of, next_upload2_of, next_upload_of, second_head, sent_of}
+use Rattle.jc_world.specs.Event.{Collects, Delivers, DeliversAlien, Hands, IsAlien, Makes, Makes2, MakesFile, Restarts, named}
 use Rattle.jc_world.specs.Given.{FileReadsFront, StandsAt}
 use Rattle.jc_world.specs.Machine.{GoesBack, TakesAnswer}
 use Rattle.jc_world.specs.Stepped.{IsAnswered, Never, Steps}
@@ -49,6 +49,16 @@ same_machines s m machine at = ap (λ (ms : List MachineState). record s { machi
 pub makes : (s t : State) (m limit : ℕ) (machine : MachineState) (upload : List ℕ) → slice_get s.machines m ≡ Some machine → IsHead (export_head machine.sender)
     → upload ≡ next_upload_of machine.sender machine.entries limit → t ≡ with_upload s upload → Makes s m limit t
 makes s t m limit machine upload at head is after = record {
+  machine = machine;
+  at = at;
+  head = head;
+  after = after ∙ ap (with_upload s) is;
+}
+
+pub makes2 : (s t : State) (m limit : ℕ) (whole : Bool) (machine : MachineState) (upload : List ℕ) → slice_get s.machines m ≡ Some machine
+    → IsHead (second_head machine.sender whole (length (sent_of machine.sender machine.entries limit)))
+    → upload ≡ next_upload2_of machine.sender machine.entries limit whole → t ≡ with_upload s upload → Makes2 s m limit whole t
+makes2 s t m limit whole machine upload at head is after = record {
   machine = machine;
   at = at;
   head = head;

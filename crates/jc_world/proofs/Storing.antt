@@ -11,7 +11,7 @@ use Rattle.jc_world.specs.Schedule.{Brings, BringsEach, BringsNothing, Grows, St
 use Rattle.jc_world.specs.Stepped.{Never}
 use Rattle.jc_world.specs.State.{State, with_machine}
 use Rattle.jc_world.specs.declared.event.Event.{Event}
-use Rattle.jc_world.specs.declared.event.Event.TheVariants.{Append, Make, MakeFile, Deliver, Alien, Hand, Restart}
+use Rattle.jc_world.specs.declared.event.Event.TheVariants.{Append, Make, Make2, MakeFile, Deliver, Alien, Hand, Restart}
 use Rattle.jc_world.proofs.Running.{happens_grows}
 
 -- ---- one event
@@ -41,6 +41,7 @@ handed s t j h = ⊎_elim
 reaches : (limits : Limits) (s t : State) (event : Event) → Happens limits s event t → Reaches limits s event t
 reaches limits s t (Append m entry) h = inl (record { answers = ap (λ (u : State). u.answers) h.after; journal = ap (λ (u : State). u.journal) h.after })
 reaches limits s t (Make m limit) h = inl (record { answers = ap (λ (u : State). u.answers) h.after; journal = ap (λ (u : State). u.journal) h.after })
+reaches limits s t (Make2 m limit whole) h = inl (record { answers = ap (λ (u : State). u.answers) h.after; journal = ap (λ (u : State). u.journal) h.after })
 reaches limits s t (MakeFile m file) h = inl (record { answers = ap (λ (u : State). u.answers) h.after; journal = ap (λ (u : State). u.journal) h.after })
 reaches limits s t (Deliver i cut) h = collected limits s t (Deliver i cut) (take cut h.upload) (ap (option_map (take cut)) h.at) h.collects
 reaches limits s t (Alien bytes) h = collected limits s t (Alien bytes) bytes.items refl h.collects

@@ -1,5 +1,5 @@
 -- What each event does to a world, if it may happen. (own)
-use Rattle.std.specs.Prelude.{ℕ, ◌≡◌, ◌+◌, ◌<◌, ◌≤◌, ◌⊎◌, List, length, take, Option, Some, None, slice_get}
+use Rattle.std.specs.Prelude.{ℕ, ◌≡◌, ◌+◌, ◌<◌, ◌≤◌, ◌⊎◌, Bool, List, length, take, Option, Some, None, slice_get}
 use Rattle.std.specs.List.{Contains}
 use Rattle.jc_base.specs.Journal.{Journal}
 use Rattle.jc_base.specs.LogEntry.{IsEntry, LogEntry}
@@ -11,13 +11,13 @@ use Rattle.jc_upload.specs.declared.answer.Answer.TheVariants.{Ack, No}
 use Rattle.jc_upload.specs.declared.head.UploadHead.{UploadHead}
 use Rattle.jc_upload.specs.Head.{IsHead}
 use Rattle.jc_upload.specs.Resume.{Point}
-use Rattle.jc_upload.specs.Upload.{acked_to, export_head, file_head, file_upload_of, next_upload_of, point_behind}
+use Rattle.jc_upload.specs.Upload.{acked_to, export_head, file_head, file_upload_of, next_upload2_of, next_upload_of, point_behind, second_head, sent_of}
 use Rattle.jc_collect.specs.Position.{HasCode, IsPosition}
 use Rattle.jc_upload.specs.Says.{HasHead}
 use Rattle.jc_world.specs.Given.{FileReadsFront}
 use Rattle.jc_world.specs.State.{MachineState, State, source_of, sources, with_answer, with_entry, with_machine, with_point, with_saved, with_upload}
 use Rattle.jc_world.specs.declared.event.Event.{Event}
-use Rattle.jc_world.specs.declared.event.Event.TheVariants.{Append, Make, MakeFile, Deliver, Alien, Hand, Restart}
+use Rattle.jc_world.specs.declared.event.Event.TheVariants.{Append, Make, Make2, MakeFile, Deliver, Alien, Hand, Restart}
 
 -- ---- a machine's entries and uploads
 
@@ -35,6 +35,13 @@ pub record Makes (s : State) (m limit : ℕ) (t : State) : Type 0 where
   pub at : slice_get s.machines m ≡ Some machine
   pub head : IsHead (export_head machine.sender)
   pub after : t ≡ with_upload s (next_upload_of machine.sender machine.entries limit)
+
+-- The same upload with a header of the second version, which says how many entries it has.
+pub record Makes2 (s : State) (m limit : ℕ) (whole : Bool) (t : State) : Type 0 where
+  pub machine : MachineState
+  pub at : slice_get s.machines m ≡ Some machine
+  pub head : IsHead (second_head machine.sender whole (length (sent_of machine.sender machine.entries limit)))
+  pub after : t ≡ with_upload s (next_upload2_of machine.sender machine.entries limit whole)
 
 -- One more upload: the bytes of a journal file that reads without a fault as the first of a machine's entries.
 pub record MakesFile (limits : Limits) (s : State) (m : ℕ) (file : List ℕ) (t : State) : Type 0 where
@@ -122,6 +129,7 @@ pub record Restarts (s : State) (m k : ℕ) (t : State) : Type 0 where
 abbrev pub Happens : Limits → (before : State) → Event → (after : State) → Type 0
 Happens limits s (Append m entry) t = Appends s m entry t
 Happens limits s (Make m limit) t = Makes s m limit t
+Happens limits s (Make2 m limit whole) t = Makes2 s m limit whole t
 Happens limits s (MakeFile m file) t = MakesFile limits s m file.items t
 Happens limits s (Deliver i cut) t = Delivers limits s i cut t
 Happens limits s (Alien bytes) t = DeliversAlien limits s bytes.items t

@@ -9,7 +9,7 @@ use Rattle.jc_world.specs.Event.{Happens}
 use Rattle.jc_world.specs.Stepped.{Never}
 use Rattle.jc_world.specs.State.{State}
 use Rattle.jc_world.specs.declared.event.Event.{Event}
-use Rattle.jc_world.specs.declared.event.Event.TheVariants.{Append, Make, MakeFile, Deliver, Alien, Hand, Restart}
+use Rattle.jc_world.specs.declared.event.Event.TheVariants.{Append, Make, Make2, MakeFile, Deliver, Alien, Hand, Restart}
 
 -- One event is taken: it happens, or it can't, and nothing changes.
 abbrev pub Takes : Limits → (before : State) → Event → (after : State) → Type 0
@@ -30,6 +30,7 @@ Grows s t = (e : LogEntry) → IsStored s.journal e → IsStored t.journal e
 abbrev pub delivery_of : State → Event → Option (List ℕ)
 delivery_of s (Append m entry) = None
 delivery_of s (Make m limit) = None
+delivery_of s (Make2 m limit whole) = None
 delivery_of s (MakeFile m file) = None
 delivery_of s (Deliver i cut) = option_map (take cut) (slice_get s.uploads i)
 delivery_of s (Alien bytes) = Some bytes.items

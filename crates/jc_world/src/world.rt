@@ -6,7 +6,7 @@ ghost use Rattle.jc_base.specs.declared.failure.OutOfMemory.{OutOfMemory};
 ghost use Rattle.jc_world.specs.Kept.{IsKept};
 ghost use Rattle.jc_world.specs.Schedule.{Grows, StoresAccepted, TakesEach};
 ghost use Rattle.jc_world.specs.State.{AreDistinct, new_machine, new_state};
-ghost use Rattle.jc_world.specs.Event.{Appends, Delivers, DeliversAlien, Hands, Happens, Makes, MakesFile, Restarts, named};
+ghost use Rattle.jc_world.specs.Event.{Appends, Delivers, DeliversAlien, Hands, Happens, Makes, Makes2, MakesFile, Restarts, named};
 ghost use Rattle.jc_world.specs.Stepped.{IsAnswered, Steps};
 ghost use Rattle.jc_world.specs.World.{keeper_of, limits_of, state_of};
 
@@ -208,6 +208,7 @@ impl<K: Keeper + Drop> World<K> {
         match event {
             Event::Append(machine, entry) => self.append(*machine, entry),
             Event::Make(machine, limit) => self.make(*machine, *limit),
+            Event::Make2(machine, limit, whole) => self.make2(*machine, *limit, *whole),
             Event::MakeFile(machine, file) => self.make_file(*machine, file),
             Event::Deliver(upload, cut) => self.deliver(*upload, *cut),
             Event::Alien(bytes) => self.deliver_alien(bytes),
@@ -239,6 +240,20 @@ impl<K: Keeper + Drop> World<K> {
             return Ok(false);
         };
         let upload = machine.next_upload(self.alloc, limit)?;
+        self.uploads.push(upload)?;
+        Ok(true)
+    }
+
+    fn make2(&mut self, machine: usize, limit: u64, whole: bool) -> Result<bool, OutOfMemory>
+        ensures step { Steps (Makes2 (state_of K.journal self.old) machine limit whole)
+            (state_of K.journal self.old) result (state_of K.journal self.new) }
+        ensures keeper { keeper_of self.new ≡ keeper_of self.old }
+        ensures limits { limits_of self.new ≡ limits_of self.old }
+    {
+        let Some(machine) = self.machines.get(machine) else {
+            return Ok(false);
+        };
+        let upload = machine.next_upload2(self.alloc, limit, whole)?;
         self.uploads.push(upload)?;
         Ok(true)
     }

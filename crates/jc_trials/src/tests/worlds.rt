@@ -182,6 +182,48 @@ fn worked_steps<J: Journals>(
     Ok(())
 }
 
+/// An upload that is to be whole, delivered in part and whole, between others that needn't be.
+fn whole_steps<J: Journals>(rt: &(impl Abort + AllocGlobal), journals: &mut J) -> Result<(), Fail> {
+    let mut world = two_machines(rt.alloc(), journals)?;
+    append(rt, &mut world, 0, &[ENTRY, ENTRY_2, ENTRY_3])?;
+    check(
+        rt,
+        &mut world,
+        &[
+            (Event::Make2(0, 2, true), true, 0, 1),
+            (Event::Deliver(0, 289), true, 0, 1),
+            (Event::Hand(0), true, 0, 1),
+            (Event::Make2(0, 2, false), true, 0, 1),
+            (Event::Deliver(1, 289), true, 0, 1),
+            (Event::Hand(1), true, 1, 2),
+            (Event::Deliver(0, 290), true, 1, 2),
+            (Event::Hand(2), true, 2, 3),
+            (Event::Make(0, 9), true, 2, 3),
+            (Event::Deliver(2, 169), true, 2, 3),
+            (Event::Hand(3), true, 3, 4),
+            (Event::Make2(2, 1, true), false, 3, 4),
+        ],
+    )?;
+    let answers = [
+        no(Some((Id128(SOURCE_ID), 0)), 5, 1),
+        ack(0, 1, 1, 120),
+        ack(0, 2, 1, 0),
+        ack(2, 1, 1, 0),
+    ];
+    assert_eq!(rt; world.answers(), answers.as_slice());
+    Ok(())
+}
+
+#[test]
+fn whole_uploads_to_a_map(rt: HostRuntime) -> Result<(), Fail> {
+    whole_steps(&rt, &mut Maps(rt.alloc()))
+}
+
+#[test]
+fn whole_uploads_to_tables(rt: HostRuntime) -> Result<(), Fail> {
+    whole_steps(&rt, &mut Tables::in_memory(rt.alloc()))
+}
+
 #[test]
 fn two_machines_send_to_a_map(rt: HostRuntime) -> Result<(), Fail> {
     worked_steps(&rt, &mut Maps(rt.alloc()))
