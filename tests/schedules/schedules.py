@@ -23,7 +23,7 @@ BOOT = samples.BOOT_ID
 FILED = [Entry(bytes([3]) * 16, number, 7, 8, frozenset({(b"A", b"3"), (b"_BOOT_ID", BOOT.hex().encode())})) for number in (1, 2)]
 POOL += FILED
 # How often an event is drawn.
-EVENTS = {"append": 6, "make": 5, "file": 2, "deliver": 9, "alien": 1, "hand": 9, "restart": 2}
+EVENTS = {"append": 6, "make": 3, "whole": 3, "parts": 1, "file": 2, "deliver": 9, "alien": 1, "hand": 9, "restart": 2}
 
 
 def journal_file(entries):
@@ -53,7 +53,7 @@ def drawn(dice, world):
     if name == "append":
         entries = world.machines[min(machine, 1)].entries
         return name, machine, POOL.index(FILED[len(entries)]) if len(entries) < 2 and dice.random() < 0.4 else dice.randrange(len(POOL))
-    if name == "make":
+    if name in ("make", "whole", "parts"):
         return name, machine, dice.randrange(5)
     if name == "file":
         return name, machine, dice.randrange(4)
@@ -108,8 +108,9 @@ def main():
     saw = [world for _, _, world in drawn_ones]
     moved = sum(len(machine.saved) > 1 for world in saw for machine in world.machines)
     refused = sum(" 60 " in answer for world in saw for answer in world.answers)
-    if min(moved, refused) < COUNT // 10:
-        sys.exit(f"the schedules say too little: {moved} machines moved on, {refused} conflicts")
+    cut = sum(" 5 " in answer for world in saw for answer in world.answers if answer.startswith("no "))
+    if min(moved, refused, cut) < COUNT // 10:
+        sys.exit(f"the schedules say too little: {moved} machines moved on, {refused} conflicts, {cut} whole uploads that were cut")
 
 
 main()

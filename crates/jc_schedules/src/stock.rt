@@ -4,6 +4,8 @@
 //! |---|---|
 //! | `append M E` | machine M has the export stream's entry E, at the end |
 //! | `make M N` | machine M makes its next upload, of at most N entries |
+//! | `whole M N` | the same with a header of the second version, to be whole |
+//! | `parts M N` | the same with such a header, and not to be whole |
 //! | `file M B` | machine M makes an upload of the journal file that has the bytes B |
 //! | `deliver U N` | the first N bytes of upload U reach the collector |
 //! | `alien B 0` | the bytes B reach the collector |
@@ -48,6 +50,8 @@ impl<'a> Stock<'a> {
         match name {
             "append" => Some(Event::Append(first, self.entries.get(second)?.try_clone().ok()?)),
             "make" => Some(Event::Make(first, second as u64)),
+            "whole" => Some(Event::Make2(first, second as u64, true)),
+            "parts" => Some(Event::Make2(first, second as u64, false)),
             "file" => Some(Event::MakeFile(first, self.copied(second)?)),
             "deliver" => Some(Event::Deliver(first, second)),
             "alien" => Some(Event::Alien(self.copied(first)?)),
