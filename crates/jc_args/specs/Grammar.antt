@@ -2,6 +2,7 @@
 use Rattle.std.specs.Prelude.{◌≡◌, ◌^◌, ◌-◌, ◌∷◌, [], List, Some, true, false, codes, map}
 use Rattle.clap.specs.Lexer.{usize_max}
 use Rattle.clap.specs.Words.{App, Rule, Text, app_of, new_app, new_rule, rule_of, with_rule, with_subcommand}
+use Rattle.clap.specs.declared.builder.action.ArgAction.TheVariants.{SetTrue}
 use Rattle.clap.specs.declared.builder.arg.Arg.{Arg}
 use Rattle.clap.specs.declared.builder.command.Command.{Command}
 use Rattle.clap.specs.declared.builder.command.Command.TheViews.{out-Command}
@@ -39,6 +40,10 @@ required_rule name = record (option_rule name) { required = true }
 abbrev pub number_rule : Text → Rule
 number_rule name = record (option_rule name) { parser = Some (Unsigned 0 (2 ^ 63 - 1)) }
 
+-- `--name`, which is true where it is given
+abbrev pub flag_rule : Text → Rule
+flag_rule name = record (new_rule name) { long = Some name; action = Some SetTrue }
+
 -- ---- commands
 
 -- a command of this name over `DB`
@@ -65,9 +70,10 @@ with_source kinds app =
     with_rule (with_rule (with_rule (with_rule app (required_rule (codes "source"))) (required_rule (codes "resume")))
     (kind_rule kinds)) (place_rule (codes "IN"))
 
--- `upload`, which has `--limit N` too
+-- `upload`, which has `--limit N` and `--whole` too
 abbrev pub upload_grammar : ValueParser → App
-upload_grammar kinds = with_rule (with_source kinds (new_app (codes "upload"))) (number_rule (codes "limit"))
+upload_grammar kinds =
+    with_rule (with_rule (with_source kinds (new_app (codes "upload"))) (number_rule (codes "limit"))) (flag_rule (codes "whole"))
 
 abbrev pub ack_grammar : ValueParser → App
 ack_grammar kinds = with_source kinds (new_app (codes "ack"))

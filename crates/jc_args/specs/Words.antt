@@ -1,5 +1,5 @@
 -- What the arguments of the command line ask for, in clap's own terms. (own)
-use Rattle.std.specs.Prelude.{◌≡◌, ◌⊎◌, ◌<◌, ◌^◌, ◌-◌, ⊤, ℕ, [], List, Option, Some, None, codes, map, option_map, unwrap_or}
+use Rattle.std.specs.Prelude.{◌≡◌, ◌⊎◌, ◌↔◌, ◌<◌, ◌^◌, ◌-◌, ⊤, ℕ, IsTrue, [], List, Option, Some, None, codes, map, option_map, unwrap_or}
 use Rattle.std.specs.Str.Parse.{IsNumeral, digits_value, without_leading_plus}
 use Rattle.clap.specs.Words.{App, Text, Row, all_of, first_of, fault_of, found_of, IsAmong, rows_of, subcommand_of}
 use Rattle.clap.specs.declared.parser.matches.ArgMatches.{ArgMatches}
@@ -18,7 +18,7 @@ command_name (Export database) = codes "export"
 command_name (Show database id first last) = codes "show"
 command_name (Check database) = codes "check"
 command_name (Verify kind file) = codes "verify"
-command_name (Upload source limit) = codes "upload"
+command_name (Upload source limit whole) = codes "upload"
 command_name (Ack source) = codes "ack"
 command_name ListCodes = codes "codes"
 
@@ -44,7 +44,7 @@ IsNumberOr unless_given (Some text) number =
     IsNumeral 10 (without_leading_plus text) × (digits_value 10 (without_leading_plus text) ≡ number) × (number < 2 ^ 64)
 
 -- The values of a command's arguments ask for this. Without `--limit` it is 1,000, and without `--from` and `--to` the range is
--- that of all numbers.
+-- that of all numbers. clap's value of `--whole` is `true` where it is given.
 abbrev pub AskBy : List Row → Request → Type 0
 AskBy rows (Collect database uploads) =
     IsGiven rows (codes "DB") database.now × (map (λ upload. upload.now) uploads.items ≡ all_given rows (codes "UPLOAD"))
@@ -57,7 +57,9 @@ AskBy rows (Show database id first last) =
     × IsNumberOr 0 (first_of (codes "from") rows) first × IsNumberOr (2 ^ 63 - 1) (first_of (codes "to") rows) last
 AskBy rows (Check database) = IsGiven rows (codes "DB") database.now
 AskBy rows (Verify kind file) = IsGiven rows (codes "KIND") (kind_name kind) × IsGiven rows (codes "FILE") file.now
-AskBy rows (Upload source limit) = NameSource rows source × IsNumberOr 1000 (first_of (codes "limit") rows) limit
+AskBy rows (Upload source limit whole) =
+    NameSource rows source × IsNumberOr 1000 (first_of (codes "limit") rows) limit
+    × (IsTrue whole ↔ IsGiven rows (codes "whole") (codes "true"))
 AskBy rows (Ack source) = NameSource rows source
 AskBy rows ListCodes = ⊤
 

@@ -4,11 +4,11 @@ ghost use Rattle.std.specs.Prelude.{◌≡◌, IfOk, codes, false};
 ghost use Rattle.clap.specs.Words.{app_of};
 ghost use Rattle.clap.specs.declared.builder.command.Command.TheViews.{out-Command};
 ghost use Rattle.clap.specs.declared.builder.value_parser.ValueParser.{ValueParser};
-ghost use Rattle.jc_args.specs.Grammar.{AreKinds, IsCommand, IsRule, kind_rule, number_rule, option_rule, place_rule, required_rule, uploads_rule, with_source};
+ghost use Rattle.jc_args.specs.Grammar.{AreKinds, IsCommand, IsRule, flag_rule, kind_rule, number_rule, option_rule, place_rule, required_rule, uploads_rule, with_source};
 
 use crate::texts;
 use clap::builder::ValueParser;
-use clap::{Arg, Command};
+use clap::{Arg, ArgAction, Command};
 use std::alloc::{AllocError, Global};
 
 static KINDS: [&str; 2] = ["export", "file"];
@@ -79,6 +79,16 @@ pub(crate) fn number_arg<'a>(alloc: Global, name: &'a str, help: &'a str) -> Arg
     ensures { IsRule result (number_rule name.entry.now) }
 {
     option_arg(alloc, name, "N", help).value_parser(ValueParser::unsigned(0, MOST))
+}
+
+/// `--name`, without a value.
+pub(crate) fn flag_arg<'a>(alloc: Global, name: &'a str, help: &'a str) -> Arg<'a>
+    ensures { IsRule result (flag_rule name.entry.now) }
+{
+    Arg::new(alloc, name)
+        .long(name)
+        .action(ArgAction::SetTrue)
+        .help(help)
 }
 
 /// `--name VALUE`.

@@ -1,6 +1,6 @@
 //! What the matches that `clap` found ask for.
 
-ghost use Rattle.std.specs.Prelude.{◌≡◌, ◌≢◌, ℕ, Some, IsSome, IfOk, IfSome, IfNone, MatchOption, codes, map, option_map};
+ghost use Rattle.std.specs.Prelude.{◌≡◌, ◌≢◌, ◌↔◌, ℕ, Some, IsSome, IsTrue, IfOk, IfSome, IfNone, MatchOption, codes, map, option_map};
 ghost use Rattle.clap.specs.Words.{first_of, subcommand_rows_of};
 ghost use Rattle.jc_args.specs.declared.request.Source.{Source as SourceWords};
 ghost use Rattle.jc_args.specs.Grammar.{kind_name};
@@ -105,7 +105,12 @@ fn upload_request<'a>(given: &ArgMatches<'a>) -> Option<Request<'a>>
 {
     let source = source_given(given)?;
     let limit = number_given(given, "limit", ENTRIES)?;
-    Some(Request::Upload { source, limit })
+    let whole = is_set(given, "whole");
+    Some(Request::Upload {
+        source,
+        limit,
+        whole,
+    })
 }
 
 fn ack_request<'a>(given: &ArgMatches<'a>) -> Option<Request<'a>>
@@ -149,6 +154,16 @@ fn number_of(word: &str) -> Option<u64>
     ensures { MatchOption result ((number : ℕ) → ¬ IsNumberOr 0 (Some word.now) number) (IsNumberOr 0 (Some word.now)) }
 {
     word.parse().ok()
+}
+
+/// Whether an argument without a value is given: `clap` has a text for it.
+fn is_set(given: &ArgMatches<'_>, name: &str) -> bool
+    ensures { IsTrue result ↔ IsGiven (given_rows given.now) name.now (codes "true") }
+{
+    match text_given(given, name) {
+        Some(text) => text == "true",
+        None => false,
+    }
 }
 
 fn kind_given(given: &ArgMatches<'_>) -> Option<InputKind>

@@ -6,7 +6,7 @@ ghost use Rattle.clap.specs.declared.builder.value_parser.ValueParser.{ValuePars
 ghost use Rattle.jc_args.specs.Grammar.{AreKinds, IsCommand, IsGrammar, ack_grammar, collect_grammar, collector_grammar, database_grammar, show_grammar, top_grammar, upload_grammar, verify_grammar};
 
 use crate::arguments::{
-    kind_arg, list_arg, number_arg, option_arg, place_arg, uploads_arg, with_source,
+    flag_arg, kind_arg, list_arg, number_arg, option_arg, place_arg, uploads_arg, with_source,
 };
 use crate::texts;
 use clap::Command;
@@ -93,7 +93,8 @@ fn upload_command<'a>(alloc: Global) -> Result<Command<'a>, AllocError>
 {
     let command = new_command(alloc, "upload", texts::UPLOAD, texts::UPLOAD_MORE);
     let limit = number_arg(alloc, "limit", texts::LIMIT_HELP);
-    with_source(alloc, command)?.arg(limit)
+    let whole = flag_arg(alloc, "whole", texts::WHOLE_HELP);
+    with_source(alloc, command)?.arg(limit)?.arg(whole)
 }
 
 fn ack_command<'a>(alloc: Global) -> Result<Command<'a>, AllocError>

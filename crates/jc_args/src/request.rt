@@ -34,10 +34,12 @@ pub enum Request<'a> {
         kind: InputKind,
         file: &'a str,
     },
-    /// The next upload of a source, of at most this many entries.
+    /// The next upload of a source, of at most this many entries; if it is to be whole, a collector takes all of it or
+    /// nothing.
     Upload {
         source: Source<'a>,
         limit: u64,
+        whole: bool,
     },
     /// How far answers move a source on.
     Ack {

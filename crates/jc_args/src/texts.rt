@@ -39,7 +39,7 @@ pub(crate) const COLLECT_MORE: &str =
   ack SOURCE START COUNT NEW LEFT  all COUNT complete entries are stored, and NEW of them weren't there before;
                                    the last LEFT bytes are an unfinished entry
   no SOURCE START CODE PLACE       it is refused and nothing of it is stored: what is wrong, and at which byte of its
-                                   entries (after 60: at which entry, counted from 0);
+                                   entries (after 60: at which entry, counted from 0; after 5: how many are complete);
                                    after 62, the database failed, it may be stored whole: send it again
   no - - CODE PLACE                the same, if the header of the upload can't be read
 `journal-collect help codes` lists the codes.
@@ -97,7 +97,8 @@ pub(crate) const UPLOAD: &str = "Writes the next upload of a machine's journal t
 
 pub(crate) const UPLOAD_MORE: &str =
     "For an export stream, an upload contains at most N entries (see --limit), starting after the resume point; for a
-journal file, the whole file.
+journal file, the whole file. With --whole, a collector refuses an upload that arrives cut short, with the code 5,
+and stores nothing of it; without, it stores the entries that are complete.
 
 Example: the next entries of the stream today.export, as an upload
   journal-collect upload --source a0a1a2a3a4a5a6a7a8a9aaabacadaeaf --resume today.resume \\
@@ -188,3 +189,6 @@ pub(crate) const RESUME_HELP: &str =
 
 pub(crate) const LIMIT_HELP: &str =
     "At most N entries in the upload, 1,000 by default; not used for a journal file";
+
+pub(crate) const WHOLE_HELP: &str =
+    "An upload that is stored whole or not at all; not used for a journal file";

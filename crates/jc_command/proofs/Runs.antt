@@ -49,7 +49,7 @@ performed words request given output output' errors errors' Success asks does qu
 performed words request given output output' errors errors' Refused asks does quiet = inl (request, asks, does)
 performed words request given output output' errors errors' Failed asks does quiet = (request, asks, does)
 performed words (Verify k file) given output output' errors errors' Misused asks (count, ending, told) quiet = absurd (not_misused ending told.judged)
-performed words (Upload source limit) given output output' errors errors' Misused asks does quiet = let same : Misused ≡ Success = does.0 in cc
+performed words (Upload source limit whole) given output output' errors errors' Misused asks does quiet = let same : Misused ≡ Success = does.0 in cc
 performed words (Ack source) given output output' errors errors' Misused asks does quiet = let same : Misused ≡ Success = does.0 in cc
 performed words (requests.Collect database uploads) given output output' errors errors' Misused asks does quiet =
     absurd (judged_not_misused (list_any is_failure does.answers) (list_any is_refusal does.answers) does.is)

@@ -28,7 +28,7 @@ use Rattle.jc_args.specs.Words.{AreWrong, AskFor, AskForHelp}
 -- file holds.
 abbrev pub Performs : Request → (given old new : Option (List ℕ)) → Status → Type 0
 Performs (Verify kind file) given old new status = (count : ℕ) × (ending : Ending) × TellsReading count ending status old new
-Performs (Upload source limit) given old new status = (status ≡ Success) × TellsSomeUpload source limit old new
+Performs (Upload source limit whole) given old new status = (status ≡ Success) × TellsSomeUpload source limit whole old new
 Performs (Ack source) given old new status = (status ≡ Success) × TellsSomePoint source given old new
 Performs (Collect database uploads) given old new status = TellsAnswers (number_of_uploads (length uploads.items)) status old new
 Performs (CollectListed database list) given old new status = TellsListed list.now given status old new
@@ -44,7 +44,7 @@ FailsBy (Verify kind file) given ReadFailed = ⊤
 FailsBy (Verify kind file) given WriteFailed = ⊤
 FailsBy (Verify kind file) given OutOfMemory = ⊤
 FailsBy (Verify kind file) given _ = ⊥
-FailsBy (Upload source limit) given failure = UploadFailsBy source failure
+FailsBy (Upload source limit whole) given failure = UploadFailsBy source failure
 FailsBy (Ack source) given failure = AckFailsBy source given failure
 FailsBy (Collect database uploads) given failure = CollectFailsBy database.now (map (λ path. path.now) uploads.items) failure
 FailsBy (CollectListed database list) given failure = CollectFailsBy database.now (list.now ∷ []) failure

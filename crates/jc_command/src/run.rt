@@ -77,8 +77,12 @@ fn perform<'a, R: Databases + Files + AllocGlobal, I: Read, O: Write, E: Write>(
 {
     match request {
         Request::Verify { kind, file } => verify(rt, kind, file, output),
-        Request::Upload { source, limit } => {
-            upload(rt, source, limit, output)?;
+        Request::Upload {
+            source,
+            limit,
+            whole,
+        } => {
+            upload(rt, source, limit, whole, output)?;
             Ok(Status::Success)
         }
         Request::Ack { source } => {

@@ -1,12 +1,12 @@
 -- What `upload` prints. (own)
-use Rattle.std.specs.Prelude.{◌≡◌, ℕ, List, Option, ⊤}
+use Rattle.std.specs.Prelude.{◌≡◌, ℕ, Bool, true, false, List, Option, ⊤}
 use Rattle.std.specs.Io.KnownBytes.{Appends}
 use Rattle.jc_base.specs.LogEntry.{LogEntry}
 use Rattle.jc_base.specs.Reading.{Reading}
 use Rattle.jc_base.specs.declared.id.Id128.{Id128}
 use Rattle.jc_console.specs.Ids.{IsIdOf}
 use Rattle.jc_upload.specs.Resume.{IsPoint, Point}
-use Rattle.jc_upload.specs.Upload.{Agrees, Sender, file_upload_of, next_upload_of}
+use Rattle.jc_upload.specs.Upload.{Agrees, Sender, file_upload_of, next_upload2_of, next_upload_of}
 use Rattle.jc_sender.specs.Source.{HasFault, ReadsWell}
 use Rattle.jc_console.specs.declared.failure.Failure.{Failure}
 use Rattle.jc_console.specs.declared.failure.Failure.TheVariants.{Bad, OutOfMemory, SourceChanged}
@@ -17,22 +17,27 @@ use Rattle.jc_args.specs.declared.request.Source.{Source}
 abbrev pub sender_of : Id128 → Point → Sender
 sender_of id point = record { source = id; point = point }
 
+-- the next entries of an export stream, with a header of the second version if the upload is to be whole
+abbrev pub stream_upload_of : Sender → (limit : ℕ) → (whole : Bool) → List LogEntry → List ℕ
+stream_upload_of sender limit true entries = next_upload2_of sender entries limit true
+stream_upload_of sender limit false entries = next_upload_of sender entries limit
+
 -- An upload has the next entries of an export stream, or all the bytes of a journal file, wherever the sender is.
-abbrev pub upload_of : InputKind → Sender → (limit : ℕ) → List LogEntry → (bytes : List ℕ) → List ℕ
-upload_of Export sender limit entries bytes = next_upload_of sender entries limit
-upload_of File sender limit entries bytes = file_upload_of sender.source bytes
+abbrev pub upload_of : InputKind → Sender → (limit : ℕ) → (whole : Bool) → List LogEntry → (bytes : List ℕ) → List ℕ
+upload_of Export sender limit whole entries bytes = stream_upload_of sender limit whole entries
+upload_of File sender limit whole entries bytes = file_upload_of sender.source bytes
 
 -- The upload of a source with these bytes, which have no fault; an export stream still agrees with the resume point.
-pub record MakesUpload (kind : InputKind) (sender : Sender) (limit : ℕ) (bytes upload : List ℕ) : Type 0 where
+pub record MakesUpload (kind : InputKind) (sender : Sender) (limit : ℕ) (whole : Bool) (bytes upload : List ℕ) : Type 0 where
   pub reading : Reading
   pub well : ReadsWell kind bytes reading
   pub agrees : kind ≡ Export → Agrees sender.point reading.entries
-  pub made : upload ≡ upload_of kind sender limit reading.entries bytes
+  pub made : upload ≡ upload_of kind sender limit whole reading.entries bytes
 
 -- The output gained that upload.
-pub record TellsUpload (kind : InputKind) (sender : Sender) (limit : ℕ) (bytes : List ℕ) (old new : Option (List ℕ)) : Type 0 where
+pub record TellsUpload (kind : InputKind) (sender : Sender) (limit : ℕ) (whole : Bool) (bytes : List ℕ) (old new : Option (List ℕ)) : Type 0 where
   pub upload : List ℕ
-  pub makes : MakesUpload kind sender limit bytes upload
+  pub makes : MakesUpload kind sender limit whole bytes upload
   pub printed : Appends old new upload
 
 -- The bytes have no fault, and they no longer go on from the resume point.
@@ -51,10 +56,10 @@ WhyNoUpload kind sender bytes _ = ⊥
 
 -- The output gained the upload of the source that the command line names, for some bytes of its files, which no
 -- contract can name.
-pub record TellsSomeUpload (source : Source) (limit : ℕ) (old new : Option (List ℕ)) : Type 0 where
+pub record TellsSomeUpload (source : Source) (limit : ℕ) (whole : Bool) (old new : Option (List ℕ)) : Type 0 where
   pub id : Id128
   pub named : IsIdOf source.id.now id
   pub point : Point
   pub lawful : IsPoint point
   pub bytes : List ℕ
-  pub told : TellsUpload source.kind (sender_of id point) limit bytes old new
+  pub told : TellsUpload source.kind (sender_of id point) limit whole bytes old new

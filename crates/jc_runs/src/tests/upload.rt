@@ -34,6 +34,25 @@ file @in entries:1:1002
 run upload --source SOURCE --resume @resume export @in
 prints head:1:0 entries:1:1000
 
+case an upload that is to be whole says so, and how many entries it has
+file @in entries:1:3
+run upload --whole --source SOURCE --resume @resume export @in
+prints head:1:0 set:7:50 set:9:1 put:40:3 entries:1:3
+run upload --source SOURCE --resume @resume --limit 2 export @in --whole
+prints head:1:0 set:7:50 set:9:1 put:40:2 entries:1:2
+file @resume "resume 3 000102030405060708090a0b0c0d0e0f 3\n"
+run upload --whole --source SOURCE --resume @resume export @in
+prints head:1:3 set:7:50 set:9:1
+# a source that changed is refused as it is without
+file @resume "resume 4 000102030405060708090a0b0c0d0e0f 4\n"
+run upload --whole --source SOURCE --resume @resume export @in
+fails 1 refused 70
+# it isn't looked at for a journal file
+file @resume "resume 0 - -\n"
+file @in JOURNAL_FILE
+run upload --whole --source SOURCE --resume @resume file @in
+prints head:2:0 JOURNAL_FILE
+
 case a journal file is uploaded whole
 file @in JOURNAL_FILE
 run upload --source SOURCE --resume @resume file @in
@@ -93,6 +112,14 @@ case the id of a source may have upper case digits
 file @in
 run upload --source A0A1A2A3A4A5A6A7A8A9AAABACADAEAF --resume @resume export @in
 prints head:1:0
+
+case that an upload is to be whole is said once, and without a value
+run upload --whole --whole --source SOURCE --resume r export in
+misused error: the argument
+run upload --whole=true --source SOURCE --resume r export in
+misused error: unexpected value
+run verify --whole export in
+misused error: unexpected argument
 
 case a limit is a number below two to the 63
 run upload --source SOURCE --resume r --limit=x export in
