@@ -75,6 +75,14 @@ expect 0 "" "" receive web < <(sed 's/^__SEQNUM=102$/__SEQNUM=0/' "$folder/e")
 expect 1 "" "~*refused: web@${id//a/e}: no ${id//a/e} 0 27 *" \
     "$library/collect-incoming" --once "$folder/collector.conf"
 [[ $(answers web) == *"no ${id//a/e} 0 27 "* ]] || differs "the answer that refuses"
+# what the machines send is to be whole: cut off on its way it is refused, and it is taken when it comes again
+whole=${id//a/9}
+journal-collect upload --whole --source "$whole" --resume "$folder/none" export examples/web.export > "$folder/whole"
+expect 0 "" "" receive web < <(head -c -1 "$folder/whole")
+expect 1 "" "~*refused: web@$whole: no $whole 0 5 1" "$library/collect-incoming" --once "$folder/collector.conf"
+expect 0 "" "" receive web < "$folder/whole"
+expect 0 "" "" "$library/collect-incoming" --once "$folder/collector.conf"
+[[ $(answers web) == *"ack $whole 0 2 2 0"* ]] || differs "the answer to an upload that came again"
 for name in now later; do
     printf 'DATABASE_NAME=%s\n' $name | cat "$folder/collector.conf" - > "$folder/$name.conf"
 done
