@@ -1,7 +1,7 @@
 -- What a beginning of an upload says.
 use Rattle.std.proofs.Common.{◌≡◌, ◌⊎◌, ◌<◌, ◌≤◌, ◌+◌, ◌-◌, ◌&&◌, if◌then◌else◌, nat_eq, Bool, true, false, ℕ, List, [], ◌∷◌, ◌++◌, length, take, drop, refl, sym, ap, subst, ◌∙◌, inl, inr, ⊎_elim, arith, take-append-drop, append-nil}
-use Rattle.std.proofs.lemmas.Bool.{eq-eqb, eqb-true}
-use Rattle.std.proofs.lemmas.List.{get_or_at, length-append, length-take, take_all}
+use Rattle.std.proofs.lemmas.Bool.{cases_lt, eq-eqb, eqb-true}
+use Rattle.std.proofs.lemmas.List.{get_or_at, length-append, length-drop, length-take, take_all}
 use Rattle.std.proofs.Math.Seq.{take-append-add}
 use Rattle.std.specs.List.{All}
 use Rattle.jc_base.specs.declared.fault.Ending.{Ending}
@@ -118,19 +118,23 @@ all_front front all is same = sym (append-nil front) ∙ ap (λ (l : List LogEnt
     nothing [] h = refl
     nothing (e ∷ es) h = absurd (omega (arith, h))
 
-whole_ends : (limits : Limits) (entries : List LogEntry) (s : Reading) (ending : Ending) → s.ending ≡ ending → IsFront s.entries entries
-    → (AllFit limits entries → EndsWell s) → EndsWhole limits entries (whole_of (length entries) s)
-whole_ends limits entries s (Bad fault) is front ends =
+whole_ends : (limits : Limits) (entries : List LogEntry) (upload : List ℕ) (cut : ℕ) (s : Reading) (ending : Ending) → s.ending ≡ ending → IsFront s.entries entries
+    → (AllFit limits entries → EndsWell s) → (length s.entries ≡ length entries → length upload ≤ cut)
+    → EndsWhole limits entries upload cut (whole_of (length entries) s)
+whole_ends limits entries upload cut s (Bad fault) is front ends full =
     inr (inr (λ fit. let well = ends fit in bad_end fault well.left (sym is ∙ well.ends), (fault, ap (ending_of_whole (length entries) (length s.entries)) is)))
   where
     bad_end : (fault : Fault) (left : ℕ) → ¬ (Bad fault ≡ End left)
     bad_end fault left h = cc
-whole_ends limits entries s (End left) is front ends =
+whole_ends limits entries upload cut s (End left) is front ends full =
     let told = ap (ending_of_whole (length entries) (length s.entries)) is in
     elim (counted (length entries) left s (nat_eq left 0) (nat_eq (length s.entries) (length entries)) refl refl) [
       | inl all ↦
           let same : s.entries ≡ entries = all_front s.entries entries front all.1 in
-          inl (ap (λ (z : Ending). reading s.entries z) (told ∙ all.2 ∙ ap End all.0) ∙ ap (λ (es : List LogEntry). reading es (End 0)) same)
+          inl (
+            full all.1,
+            ap (λ (z : Ending). reading s.entries z) (told ∙ all.2 ∙ ap End all.0) ∙ ap (λ (es : List LogEntry). reading es (End 0)) same,
+          )
       | inr none ↦ inr (inl (told ∙ none))
     ]
 
@@ -162,6 +166,8 @@ module _ (one_fault : (bytes : List ℕ) (a b : Fault) → IsHeadFault bytes a �
       All IsEntry es → StreamReading limits at (joined es) r → ReadsBack limits es r)
       (front : (limits : Limits) (at : ℕ) (es : List LogEntry) (front more : List ℕ) (r : Reading) →
       All IsEntry es → joined es ≡ front ++ more → StreamReading limits at front r → IsFront r.entries es)
+      (fewer : (limits : Limits) (at : ℕ) (es : List LogEntry) (front more : List ℕ) (r : Reading) →
+      All IsEntry es → joined es ≡ front ++ more → 0 < length more → StreamReading limits at front r → length r.entries < length es)
       (ends : (limits : Limits) (at : ℕ) (es : List LogEntry) (front more : List ℕ) (r : Reading) →
       All IsEntry es → AllFit limits es → joined es ≡ front ++ more → StreamReading limits at front r → EndsWell r)
       (head : UploadHead) (entries : List LogEntry) (lawful : IsHead head) where
@@ -181,6 +187,24 @@ module _ (one_fault : (bytes : List ℕ) (a b : Fault) → IsHeadFault bytes a �
               reads_back limits 0 entries r are (subst (λ (b : List ℕ). StreamReading limits 0 b r) full.1 (body full.0));
         }
 
+    -- a beginning of the upload that has all its entries is all of it
+    all_read : All IsEntry entries → (limits : Limits) (cut : ℕ) (s : Reading) → 48 ≤ cut → StreamReading limits 0 (take (cut - 48) (joined entries)) s
+        → length s.entries ≡ length entries → length (head_text head ++ joined entries) ≤ cut
+    all_read are limits cut s enough reads all =
+        let text = joined entries in
+        let long : length (head_text head ++ text) ≡ 48 + length text =
+        length-append (head_text head) text ∙ ap (λ n. n + length text) (head_length head lawful) in
+        ⊎_elim
+        (λ (low : cut < length (head_text head ++ text)).
+        let more : 0 < length (drop (cut - 48) text) = omega (arith, length-drop (cut - 48) text, long, low, enough) in
+        absurd (omega (
+          arith,
+          all,
+          fewer limits 0 entries (take (cut - 48) text) (drop (cut - 48) text) s are (sym (take-append-drop (cut - 48) text)) more reads,
+        )))
+        (λ (high : length (head_text head ++ text) ≤ cut). high)
+        (cases_lt cut (length (head_text head ++ text)))
+
     pub whole_cuts : head.version ≡ V2 true (length entries) → head.kind ≡ Export → All IsEntry entries → CutsOfWhole entries (head_text head ++ joined entries)
     whole_cuts version is are limits cut r says =
         let text = joined entries in
@@ -197,10 +221,11 @@ module _ (one_fault : (bytes : List ℕ) (a b : Fault) → IsHeadFault bytes a �
               (front limits 0 entries (take (cut - 48) text) (drop (cut - 48) text) b.read are split b.reads);
           ends = λ enough.
               let b = says_body enough in
-              subst (EndsWhole limits entries) (sym b.told)
-              (whole_ends limits entries b.read b.read.ending refl
+              subst (EndsWhole limits entries (head_text head ++ text) cut) (sym b.told)
+              (whole_ends limits entries (head_text head ++ text) cut b.read b.read.ending refl
               (front limits 0 entries (take (cut - 48) text) (drop (cut - 48) text) b.read are split b.reads)
-              (λ fit. ends limits 0 entries (take (cut - 48) text) (drop (cut - 48) text) b.read are fit split b.reads));
+              (λ fit. ends limits 0 entries (take (cut - 48) text) (drop (cut - 48) text) b.read are fit split b.reads)
+              (all_read are limits cut b.read enough b.reads));
           whole = λ all fit.
               let full = whole_body cut head text lawful all in
               let b = says_body full.0 in

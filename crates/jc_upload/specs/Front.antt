@@ -26,19 +26,20 @@ pub record ReadsFirst (limits : Limits) (entries : List LogEntry) (upload : List
   pub ends : 48 ≤ cut → AllFit limits entries → EndsWell r
   pub whole : length upload ≤ cut → ReadsBack limits entries r
 
--- A reading of a whole upload's beginning ends with all entries, or in a fault.
-abbrev pub EndsWhole : Limits → (entries : List LogEntry) → Reading → Type 0
-EndsWhole limits entries r =
-    (r ≡ reading entries (End 0)) ⊎ (r.ending ≡ Bad (fault_at Incomplete (length r.entries)))
+-- A reading of the first bytes of an upload that is to be whole ends with all entries, at full length alone, or in a
+-- fault.
+abbrev pub EndsWhole : Limits → (entries : List LogEntry) → (upload : List ℕ) → (cut : ℕ) → Reading → Type 0
+EndsWhole limits entries upload cut r =
+    ((length upload ≤ cut) × (r ≡ reading entries (End 0))) ⊎ (r.ending ≡ Bad (fault_at Incomplete (length r.entries)))
     ⊎ (¬ AllFit limits entries × ((fault : Fault) × (r.ending ≡ Bad fault)))
 
 -- What the first bytes of an upload of entries that is to be whole are read as: the first of these entries, and then the
--- fault that it is incomplete, or for entries beyond the limits a fault of its body, or none if there are all of them. The
+-- fault that it is incomplete, or for entries beyond the limits a fault of its body, or none if all bytes are there. The
 -- whole upload has no fault if each entry fits the limits.
 pub record ReadsWhole (limits : Limits) (entries : List LogEntry) (upload : List ℕ) (cut : ℕ) (r : Reading) : Type 0 where
   pub short : cut < 48 → r ≡ lacks_header cut
   pub first : 48 ≤ cut → IsFront r.entries entries
-  pub ends : 48 ≤ cut → EndsWhole limits entries r
+  pub ends : 48 ≤ cut → EndsWhole limits entries upload cut r
   pub whole : length upload ≤ cut → AllFit limits entries → r ≡ reading entries (End 0)
 
 -- So every beginning of an upload of these entries is read, under any limits.
