@@ -125,10 +125,8 @@ pub fn file(alloc: Global, bytes: &[u8], limits: Limits, told: &mut Vec<u8>) -> 
 
 /// Reads a journal file by pages.
 pub fn pages(alloc: Global, bytes: &[u8], limits: Limits, told: &mut Vec<u8>) -> io::Result<()> {
-    match PagedSpace::new(alloc, SliceSpace { bytes }) {
-        Ok(space) => tell_reading(told, &mut FileEntries::new(alloc, space, limits)),
-        Err(OutOfMemory) => tell_end(told, 0, Err(Stop::OutOfMemory)),
-    }
+    let space = PagedSpace::new(alloc, SliceSpace { bytes });
+    tell_reading(told, &mut FileEntries::new(alloc, space, limits))
 }
 
 /// Reads a source to its end and once more, and writes how it ended; the second time that has to be the same.

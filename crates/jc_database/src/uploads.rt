@@ -40,7 +40,7 @@ pub fn open_upload<'a, R: Files + AllocGlobal>(
         return Ok(Delivery::Stream(FromRead::new(file)));
     }
     match FileSpace::new(file) {
-        Ok(space) => Ok(Delivery::Space(PagedSpace::new(rt.alloc(), space)?)),
+        Ok(space) => Ok(Delivery::Space(PagedSpace::new(rt.alloc(), space))),
         Err(_) => Err(Failure::ReadFailed),
     }
 }

@@ -104,7 +104,7 @@ fn verify_file<'a, F: Read + Seek + OpenFile + Drop, O: Write>(
         return verify_space(alloc, SliceSpace { bytes: &bytes }, output);
     }
     match FileSpace::new(file) {
-        Ok(space) => verify_space(alloc, PagedSpace::new(alloc, space)?, output),
+        Ok(space) => verify_space(alloc, PagedSpace::new(alloc, space), output),
         Err(_) => Err(Failure::ReadFailed),
     }
 }
