@@ -1,5 +1,5 @@
 -- A run over no upload, and over one more.
-use Rattle.std.proofs.Common.{◌≡◌, ◌⊎◌, ℕ, ◌+◌, ◌<◌, ◌≤◌, Bool, true, List, [], ◌∷◌, ◌++◌, Some, length, map, refl, sym, ap, subst, ◌∙◌, inl, inr, ⊎_elim, arith}
+use Rattle.std.proofs.Common.{◌≡◌, ◌⊎◌, ℕ, ◌+◌, ◌<◌, ◌≤◌, Bool, true, List, [], ◌∷◌, ◌++◌, Option, Some, length, map, refl, sym, ap, subst, ◌∙◌, inl, inr, ⊎_elim, arith}
 use Rattle.std.specs.List.{slice_get, slice_index}
 use Rattle.std.proofs.lemmas.List.{map-append, length-map}
 use Rattle.std.proofs.lemmas.List.Elements.{All-contains_itself}
@@ -16,8 +16,8 @@ use Rattle.jc_upload.specs.declared.answer.Answer.{Answer}
 use Rattle.jc_upload.specs.declared.answer.Answer.TheVariants.{Ack, No}
 use Rattle.jc_collect.specs.Accepted.{IsMarked, SaysAt, AreAccepted, IsStoredBefore}
 use Rattle.jc_collect.specs.Answer.{IsTaken, is_failure}
-use Rattle.jc_collect.specs.Position.{Answers, Joins, Leaves, IsPosition, HasCode, HasCause}
-use Rattle.jc_collect.specs.Run.{Seen, AnswersAt, AcksStored, AreCaused, Collected}
+use Rattle.jc_collect.specs.Position.{Answers, Joins, Leaves, IsPosition, FailsUnread, HasCode, HasCause, HasGivenFewer}
+use Rattle.jc_collect.specs.Run.{Seen, left_at, AnswersAt, AcksStored, AreCaused, Collected}
 use Rattle.jc_collect.proofs.Lists.{none_not_some, get_last, get_more, get_cases, length_more}
 use Rattle.jc_collect.proofs.OneMore.{SaysOnce, is_ack, says_more, says_last, stored_more, stored_back, are_more}
 use Rattle.jc_collect.proofs.Positions.{right_mark, only_mark, stored_next}
@@ -58,6 +58,7 @@ collected_none limits before = record {
   kept = λ e h. h;
   reads = λ i a h. absurd (none_not_some a h);
   stores = λ i a h. absurd (none_not_some a h);
+  unread = λ i a h. absurd (none_not_some a h);
 }
 
 -- ---- one more upload
@@ -154,7 +155,9 @@ module _ (once : SaysOnce) (limits : Limits) (uploads : List (List ℕ)) (upload
       (read_earlier : (i : ℕ) → i < length answers → slice_index after.read_failures i ≡ slice_index mid.read_failures i)
       (read : HasCode answer ReadFailed → Rose (slice_index before.read_failures (length answers)) (slice_index after.read_failures (length answers)))
       (store_before : before.store_failures ≤ mid.store_failures)
-      (store : HasCause StoreFailed mid.store_failures after.store_failures answer) where
+      (store : HasCause StoreFailed mid.store_failures after.store_failures answer)
+      (left_earlier : (i : ℕ) → i < length answers → left_at after i ≡ left_at mid i)
+      (unread : FailsUnread answer → HasGivenFewer 48 (left_at before (length answers)) (left_at after (length answers))) where
     reads_more : AreCaused ReadFailed (answers ++ answer ∷ []) (λ i. Rose (slice_index before.read_failures i) (slice_index after.read_failures i))
     reads_more i a h code =
         ⊎_elim
@@ -171,6 +174,15 @@ module _ (once : SaysOnce) (limits : Limits) (uploads : List (List ℕ)) (upload
         (store.failed (subst (λ (x : Answer). HasCode x StoreFailed) (sym w.1) code)))
         (get_cases answers answer i a h)
 
+    unread_more : (i : ℕ) (a : Answer) → slice_get (answers ++ answer ∷ []) i ≡ Some a → FailsUnread a
+        → HasGivenFewer 48 (left_at before i) (left_at after i)
+    unread_more i a h fails =
+        ⊎_elim
+        (λ w. subst (λ (o : Option (List ℕ)). HasGivenFewer 48 (left_at before i) o) (sym (left_earlier i w.0)) (was.unread i a w.1 fails))
+        (λ w. subst (λ k. HasGivenFewer 48 (left_at before k) (left_at after k)) (sym w.0)
+        (unread (subst (λ (x : Answer). FailsUnread x) (sym w.1) fails)))
+        (get_cases answers answer i a h)
+
     pub collected_more : Collected limits (uploads ++ upload ∷ []) before after (answers ++ answer ∷ [])
     collected_more = record {
       each = length_more answers answer ∙ ap (λ n. n + 1) was.each ∙ sym (length_more uploads upload);
@@ -183,4 +195,5 @@ module _ (once : SaysOnce) (limits : Limits) (uploads : List (List ℕ)) (upload
       kept = λ e h. kept_by answer now.leaves e (was.kept e h);
       reads = reads_more;
       stores = stores_more;
+      unread = unread_more;
     }

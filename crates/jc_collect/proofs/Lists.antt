@@ -1,6 +1,6 @@
 -- Lists with one more element.
-use Rattle.std.proofs.Common.{◌≡◌, ◌⊎◌, ℕ, suc, zero, ◌+◌, ◌<◌, List, [], ◌∷◌, ◌++◌, Option, Some, None, length, map, take, drop, set, refl, sym, ap, ◌∙◌, inl, inr, ⊎_elim, arith}
-use Rattle.std.specs.List.{slice_get, slice_index}
+use Rattle.std.proofs.Common.{◌≡◌, ◌⊎◌, ℕ, suc, zero, ◌+◌, ◌<◌, List, [], ◌∷◌, ◌++◌, Option, Some, None, length, map, take, drop, set, get_or, refl, sym, ap, ◌∙◌, inl, inr, ⊎_elim, arith}
+use Rattle.std.specs.List.{slice_get}
 use Rattle.std.proofs.lemmas.List.{length-map}
 use Rattle.std.specs.Option.{unwrap_or, is_some}
 use Rattle.std.proofs.lemmas.Option.{slice_get_within}
@@ -59,21 +59,21 @@ get_set_other (y ∷ ys) zero (suc k) x h = refl
 get_set_other (y ∷ ys) (suc i) zero x h = refl
 get_set_other (y ∷ ys) (suc i) (suc k) x h = get_set_other ys i k x (omega (arith, h))
 
-pub index_set_other : {X : Type 0} (f : X → ℕ) (xs : List X) (i k : ℕ) (x : X) → k < i → slice_index (map f (set xs i x)) k ≡ slice_index (map f xs) k
-index_set_other f [] i k x h = refl
-index_set_other f (y ∷ ys) zero k x h = absurd (omega (arith, h))
-index_set_other f (y ∷ ys) (suc i) zero x h = refl
-index_set_other f (y ∷ ys) (suc i) (suc k) x h = index_set_other f ys i k x (omega (arith, h))
+pub index_set_other : {X Y : Type 0} (f : X → Y) (d : Y) (xs : List X) (i k : ℕ) (x : X) → k < i → get_or (map f (set xs i x)) k d ≡ get_or (map f xs) k d
+index_set_other f d [] i k x h = refl
+index_set_other f d (y ∷ ys) zero k x h = absurd (omega (arith, h))
+index_set_other f d (y ∷ ys) (suc i) zero x h = refl
+index_set_other f d (y ∷ ys) (suc i) (suc k) x h = index_set_other f d ys i k x (omega (arith, h))
 
-pub index_set : {X : Type 0} (f : X → ℕ) (xs : List X) (i : ℕ) (x : X) → i < length xs → slice_index (map f (set xs i x)) i ≡ f x
-index_set f [] i x h = absurd (omega (arith, h))
-index_set f (y ∷ ys) zero x h = refl
-index_set f (y ∷ ys) (suc i) x h = index_set f ys i x (omega (arith, h))
+pub index_set : {X Y : Type 0} (f : X → Y) (d : Y) (xs : List X) (i : ℕ) (x : X) → i < length xs → get_or (map f (set xs i x)) i d ≡ f x
+index_set f d [] i x h = absurd (omega (arith, h))
+index_set f d (y ∷ ys) zero x h = refl
+index_set f d (y ∷ ys) (suc i) x h = index_set f d ys i x (omega (arith, h))
 
-pub index_map : {X : Type 0} (f : X → ℕ) (xs : List X) (i : ℕ) (x : X) → slice_get xs i ≡ Some x → slice_index (map f xs) i ≡ f x
-index_map f [] i x h = absurd (none_not_some x h)
-index_map f (y ∷ ys) zero x h = ap f (some_same y x h)
-index_map f (y ∷ ys) (suc i) x h = index_map f ys i x h
+pub index_map : {X Y : Type 0} (f : X → Y) (d : Y) (xs : List X) (i : ℕ) (x : X) → slice_get xs i ≡ Some x → get_or (map f xs) i d ≡ f x
+index_map f d [] i x h = absurd (none_not_some x h)
+index_map f d (y ∷ ys) zero x h = ap f (some_same y x h)
+index_map f d (y ∷ ys) (suc i) x h = index_map f d ys i x h
 
 -- what a list tells in order is told by each of its elements
 pub told_at : {X Y : Type 0} (told : X → Option Y) (xs : List X) (ys : List Y) (i : ℕ) (x : X) → map told xs ≡ map (λ y. Some y) ys → slice_get xs i ≡ Some x

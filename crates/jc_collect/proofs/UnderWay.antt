@@ -1,5 +1,5 @@
 -- A run that is under way.
-use Rattle.std.proofs.Common.{◌≡◌, ℕ, ◌+◌, ◌<◌, ◌≤◌, List, [], ◌∷◌, ◌++◌, Option, Some, None, length, map, take, set, refl, sym, ap, subst, ◌∙◌, inl, append-nil, arith}
+use Rattle.std.proofs.Common.{◌≡◌, ℕ, ◌+◌, ◌<◌, ◌≤◌, List, [], ◌∷◌, ◌++◌, Option, Some, None, length, map, take, set, get_or, refl, sym, ap, subst, ◌∙◌, inl, append-nil, arith}
 use Rattle.std.specs.List.{slice_get, slice_index}
 use Rattle.std.specs.Io.KnownBytes.{Appends}
 use Rattle.std.proofs.KnownBytes.{Appends-nil, Appends-trans}
@@ -15,8 +15,8 @@ use Rattle.jc_keeper.specs.Agree.{IsStored}
 use Rattle.jc_upload.specs.Answer.{answer_text}
 use Rattle.jc_upload.specs.declared.answer.Answer.{Answer}
 use Rattle.jc_upload.specs.declared.answer.Answer.TheVariants.{Ack, No}
-use Rattle.jc_collect.specs.Position.{Collects, HasCode, HasCause}
-use Rattle.jc_collect.specs.Run.{Seen, seen, Collected, RunsToEnd, StopsAt, lines_of_answers}
+use Rattle.jc_collect.specs.Position.{Collects, FailsUnread, HasCode, HasCause, HasGivenFewer}
+use Rattle.jc_collect.specs.Run.{Seen, seen, left_at, Collected, RunsToEnd, StopsAt, lines_of_answers}
 use Rattle.jc_collect.proofs.CollectedMore.{collected_none, collected_more}
 use Rattle.jc_collect.proofs.Lists.{get_set_other, index_set_other, index_set, index_map, take_more, told_at, same_length}
 use Rattle.jc_collect.proofs.OneMore.{SaysOnce}
@@ -41,7 +41,8 @@ pub lines_more : (answers : List Answer) (answer : Answer) → lines_of_answers 
 lines_more answers answer =
     flat_map-append answer_text answers (answer ∷ []) ∙ ap (λ l. lines_of_answers answers ++ l) (append-nil (answer_text answer))
 
-module _ {D : Type 0} (Premise : Type 0) (told : D → Option (List ℕ)) (fails : D → ℕ) (limits : Limits) (first : List D) where
+module _ {D : Type 0} (Premise : Type 0) (told : D → Option (List ℕ)) (fails : D → ℕ) (leaves : D → Option (List ℕ)) (limits : Limits)
+    (first : List D) where
   pub under_way_none : (before : Seen) → UnderWay Premise told limits first before 0 first before
   under_way_none before = record {
     rest = λ i h. refl;
@@ -61,13 +62,15 @@ module _ {D : Type 0} (Premise : Type 0) (told : D → Option (List ℕ)) (fails
 
   module _ (before : Seen) (present : List D) (done : ℕ) (was now : D) (journal left : Journal) (stores stores_now : ℕ)
       (written written_now : Option (List ℕ)) (answer : Answer)
-      (way : UnderWay Premise told limits first before done present (seen journal stores (map fails present) written))
+      (way : UnderWay Premise told limits first before done present (seen journal stores (map fails present) (map leaves present) written))
       (at : slice_get present done ≡ Some was)
       (firsts : before.read_failures ≡ map fails first)
+      (firsts_left : before.left ≡ map leaves first)
       (read : HasCode answer ReadFailed → Rose (fails was) (fails now))
-      (store : HasCause StoreFailed stores stores_now answer) where
+      (store : HasCause StoreFailed stores stores_now answer)
+      (unread : FailsUnread answer → HasGivenFewer 48 (leaves was) (leaves now)) where
     abbrev pub after : Seen
-    after = seen left stores_now (map fails (set present done now)) written_now
+    after = seen left stores_now (map fails (set present done now)) (map leaves (set present done now)) written_now
 
     at_first : slice_get first done ≡ Some was
     at_first = sym (way.rest done (omega arith)) ∙ at
@@ -75,7 +78,7 @@ module _ {D : Type 0} (Premise : Type 0) (told : D → Option (List ℕ)) (fails
     module _ (once : SaysOnce) (p : Premise)
         (position : Collects limits (told was) journal answer left)
         (uploads : List (List ℕ)) (same : map told first ≡ map (λ u. Some u) uploads) where
-      ran : RunsToEnd limits (take done uploads) before (seen journal stores (map fails present) written)
+      ran : RunsToEnd limits (take done uploads) before (seen journal stores (map fails present) (map leaves present) written)
       ran = way.ran p uploads same
 
       inside : done < length uploads
@@ -85,23 +88,36 @@ module _ {D : Type 0} (Premise : Type 0) (told : D → Option (List ℕ)) (fails
       number = ran.collected.each ∙ length-take-le done uploads (omega (arith, inside))
 
       read_before : slice_index before.read_failures (length ran.answers) ≡ fails was
-      read_before = ap (λ (l : List ℕ). slice_index l (length ran.answers)) firsts ∙ ap (λ n. slice_index (map fails first) n) number ∙ index_map fails first done was at_first
+      read_before = ap (λ (l : List ℕ). slice_index l (length ran.answers)) firsts ∙ ap (λ n. slice_index (map fails first) n) number ∙ index_map fails 0 first done was at_first
 
       read_now : slice_index after.read_failures (length ran.answers) ≡ fails now
-      read_now = ap (λ n. slice_index (map fails (set present done now)) n) number ∙ index_set fails present done now (slice_get_within present done was at)
+      read_now = ap (λ n. slice_index (map fails (set present done now)) n) number ∙ index_set fails 0 present done now (slice_get_within present done was at)
+
+      left_before : left_at before (length ran.answers) ≡ leaves was
+      left_before =
+          ap (λ (l : List (Option (List ℕ))). get_or l (length ran.answers) None) firsts_left
+          ∙ ap (λ n. get_or (map leaves first) n None) number ∙ index_map leaves None first done was at_first
+
+      left_now : left_at after (length ran.answers) ≡ leaves now
+      left_now =
+          ap (λ n. get_or (map leaves (set present done now)) n None) number
+          ∙ index_set leaves None present done now (slice_get_within present done was at)
 
       one_more : Collected limits (take (done + 1) uploads) before after (ran.answers ++ answer ∷ [])
       one_more =
           let said = told_at told first uploads done was same at_first in
           subst (λ (us : List (List ℕ)). Collected limits us before after (ran.answers ++ answer ∷ []))
           (sym (take_more uploads done said.0 said.1))
-          (collected_more once limits (take done uploads) said.0 before (seen journal stores (map fails present) written) after
+          (collected_more once limits (take done uploads) said.0 before (seen journal stores (map fails present) (map leaves present) written) after
           ran.answers answer ran.collected
           (subst (λ (o : Option (List ℕ)). Collects limits o journal answer left) said.2 position)
-          (λ i h. index_set_other fails present done i now (omega (arith, h, number)))
+          (λ i h. index_set_other fails 0 present done i now (omega (arith, h, number)))
           (λ code. subst (λ n. Rose n (slice_index after.read_failures (length ran.answers))) (sym read_before)
           (subst (λ n. Rose (fails was) n) (sym read_now) (read code)))
-          way.stores store)
+          way.stores store
+          (λ i h. index_set_other leaves None present done i now (omega (arith, h, number)))
+          (λ few. subst (λ (o : Option (List ℕ)). HasGivenFewer 48 o (left_at after (length ran.answers))) (sym left_before)
+          (subst (λ (o : Option (List ℕ)). HasGivenFewer 48 (leaves was) o) (sym left_now) (unread few))))
 
       pub stops : (count : ℕ) → WentOut written written_now (answer_text answer) count → StopsAt limits uploads before after done count
       stops count out = record {

@@ -1,5 +1,5 @@
 -- What a whole run is. (own)
-use Rattle.std.specs.Prelude.{ℕ, ◌≡◌, ◌+◌, ◌<◌, ◌≤◌, Bool, List, [], ◌∷◌, ◌++◌, length, map, take, Option, Some, slice_get, slice_index, ⊤}
+use Rattle.std.specs.Prelude.{ℕ, ◌≡◌, ◌+◌, ◌<◌, ◌≤◌, Bool, List, [], ◌∷◌, ◌++◌, length, map, take, Option, Some, None, slice_get, slice_index, slice_index_or, ⊤}
 use Rattle.std.specs.List.{All, flat_map}
 use Rattle.std.specs.Io.KnownBytes.{Appends}
 use Rattle.jc_base.specs.declared.fault.Code.{Code}
@@ -16,7 +16,7 @@ use Rattle.jc_upload.specs.declared.answer.Answer.{Answer}
 use Rattle.jc_upload.specs.declared.answer.Answer.TheVariants.{Ack}
 use Rattle.jc_collect.specs.Accepted.{SaysAt, AreAccepted, IsStoredBefore}
 use Rattle.jc_collect.specs.Answer.{is_failure}
-use Rattle.jc_collect.specs.Position.{Answers, HasCode}
+use Rattle.jc_collect.specs.Position.{Answers, FailsUnread, HasCode, HasGivenFewer}
 use Rattle.jc_collect.specs.declared.runs.RunEnd.{RunEnd}
 use Rattle.jc_collect.specs.declared.runs.RunEnd.TheVariants.{Done, Stopped}
 
@@ -25,11 +25,16 @@ pub record Seen : Type 0 where
   pub journal : Journal
   pub store_failures : ℕ
   pub read_failures : List ℕ
+  -- the bytes that each stream has left, if it tells them; of a space nothing is told
+  pub left : List (Option (List ℕ))
   pub written : Option (List ℕ)
 
-abbrev pub seen : Journal → ℕ → List ℕ → Option (List ℕ) → Seen
-seen journal store_failures read_failures written =
-    record { journal = journal; store_failures = store_failures; read_failures = read_failures; written = written }
+abbrev pub seen : Journal → ℕ → List ℕ → List (Option (List ℕ)) → Option (List ℕ) → Seen
+seen journal store_failures read_failures left written =
+    record { journal = journal; store_failures = store_failures; read_failures = read_failures; left = left; written = written }
+
+abbrev pub left_at : Seen → ℕ → Option (List ℕ)
+left_at seen i = slice_index_or seen.left i None
 
 -- The answer at a position is the one over what is stored before it, or it reports a failure.
 pub record AnswersAt (limits : Limits) (start : Journal) (uploads : List (List ℕ)) (accepted : List Bool) (i : ℕ) (answer : Answer) : Type 0 where
@@ -68,6 +73,9 @@ pub record Collected (limits : Limits) (uploads : List (List ℕ)) (before after
   -- failures have causes
   pub reads : AreCaused ReadFailed answers (λ i. Rose (slice_index before.read_failures i) (slice_index after.read_failures i))
   pub stores : AreCaused StoreFailed answers (λ _. Rose before.store_failures after.store_failures)
+  -- and one is reported without source and start only if fewer bytes came of a stream than a header has
+  pub unread : (i : ℕ) (answer : Answer) → slice_get answers i ≡ Some answer → FailsUnread answer
+      → HasGivenFewer 48 (left_at before i) (left_at after i)
 
 -- the lines of answers, in order
 abbrev pub lines_of_answers : List Answer → List ℕ

@@ -22,9 +22,10 @@ in_memory_code =
 abbrev pub no_failures : List (List ℕ) → List ℕ
 no_failures uploads = map (λ _. 0) uploads
 
--- A run over uploads in memory into a journal in memory, which ended so and wrote these lines.
+-- A run over uploads in memory into a journal in memory, which ended so and wrote these lines. What the uploads' devices
+-- have left isn't told: that is asked of failed readings alone, and there are none.
 abbrev pub IsRunInMemory : Limits → (uploads : List (List ℕ)) → (before : InMemory) → RunEnd → (lines : List ℕ)
     → (after : InMemory) → Type 0
 IsRunInMemory limits uploads before end lines after =
-    IsRun limits uploads (seen before.journal before.failures (no_failures uploads) (Some []))
-    end (seen after.journal after.failures (no_failures uploads) (Some lines))
+    IsRun limits uploads (seen before.journal before.failures (no_failures uploads) [] (Some []))
+    end (seen after.journal after.failures (no_failures uploads) [] (Some lines))
