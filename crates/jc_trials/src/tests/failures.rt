@@ -8,7 +8,7 @@ use jc_collect::{Delivery, RunEnd, collect_one, run};
 use jc_file::SliceSpace;
 use jc_file::faulty::FailSpace;
 use jc_keeper::Keeper;
-use jc_samples::{ENTRY, ENTRY_2, EXPORT, FILE, JOURNAL_FILE, Slow, answer_lines, bytewise};
+use jc_samples::{CHANGED_ENTRY, ENTRY, ENTRY_2, EXPORT, FILE, JOURNAL_FILE, Slow, answer_lines, bytewise};
 use jc_upload::Answer;
 use std::process::Abort;
 use std::test::Fail;
@@ -53,6 +53,26 @@ fn a_stream_fails<J: Journals>(
     let mut keeper = journals.empty()?;
     let device = FailStream::new(bytewise(&upload), 291);
     assert_eq!(rt; collect_stream(alloc, &mut keeper, device), ack(2, 2, 0));
+    Ok(())
+}
+
+/// A conflict in the first 65,536 bytes after the header is told, though the stream fails behind them.
+fn a_conflict_comes_before_the_next_read<J: Journals>(
+    rt: &(impl Abort + AllocGlobal),
+    journals: &mut J,
+) -> Result<(), Fail> {
+    let alloc = rt.alloc();
+    let first = [EXPORT.as_slice(), ENTRY].concat(alloc)?;
+    let mut keeper = journals.empty()?;
+    let new = collect_stream(alloc, &mut keeper, SliceStream::new(&first));
+    assert_eq!(rt; new, ack(1, 1, 0));
+    let mut other = [EXPORT.as_slice(), CHANGED_ENTRY].concat(alloc)?;
+    for _ in 0..1_000 {
+        other.extend_from_slice(ENTRY)?;
+    }
+    let device = FailStream::new(SliceStream::new(&other), 2);
+    let conflict = collect_stream(alloc, &mut keeper, device);
+    assert_eq!(rt; conflict, no(60, 0));
     Ok(())
 }
 
@@ -193,5 +213,7 @@ fn devices_fail_over_a_map(rt: HostRuntime) -> Result<(), Fail> {
 
 #[test]
 fn devices_fail_over_a_database(rt: HostRuntime) -> Result<(), Fail> {
-    devices_fail(&rt, &mut Tables::in_memory(rt.alloc()))
+    let mut tables = Tables::in_memory(rt.alloc());
+    devices_fail(&rt, &mut tables)?;
+    a_conflict_comes_before_the_next_read(&rt, &mut tables)
 }
