@@ -4,7 +4,7 @@
 The page has a section for each crate. A claim there names a function in bold, and its clauses in brackets after it; `(unnamed)`
 is one clause without a name. `impl TRAIT for TYPE` in bold stands for a contract that the trait has. "`NAME` in `specs/FILE`" is a
 definition. Each of these has to be in the sources of that crate, and each public function of a library on the page. The list of what the
-main theorem rests on has to have all definitions that its own file uses, and what these use.
+main theorem rests on has to have all definitions that its own file uses, and what these use; that of jc_world those that are more.
 """
 import re
 import sys
@@ -89,17 +89,20 @@ def sections(page):
     return dict(zip(parts[1::2], parts[2::2]))
 
 
-def definitions_below(crate, name, found):
-    """Adds the files of definitions that this one uses, and itself."""
-    path = ROOT / "crates" / crate / "specs" / (name.replace(".", "/") + ".antt")
-    if (crate, name) not in found and path.exists():
-        found.add((crate, name))
-        for used in USED.findall(path.read_text()):
-            definitions_below(*used, found)
+def definitions_below(crate, names):
+    """These files of definitions of a crate, and those that they use."""
+    found, waiting = set(), [(crate, name) for name in names]
+    while waiting:
+        crate, name = waiting.pop()
+        path = ROOT / "crates" / crate / "specs" / (name.replace(".", "/") + ".antt")
+        if (crate, name) not in found and path.exists():
+            found.add((crate, name))
+            waiting += USED.findall(path.read_text())
+    return found
 
 
 def listed_definitions(text):
-    """The files that the list of the main theorem has."""
+    """The files that a list has of what a theorem rests on."""
     return {(crate, name) for crate, names in re.findall(r"^- (jc_\w+): (.*(?:\n  .*)*)", text, re.MULTILINE)
             for name in re.findall(r"`([\w.]+)`", names)}
 
@@ -140,10 +143,11 @@ def main():
     crates = {path.name for path in (ROOT / "crates").glob("jc_*") if (path / "specs").is_dir()}
     mistakes = [mistake for title, text in about.items() for mistake in mistakes_in(title, text)]
     mistakes += [f"{crate} has no section" for crate in sorted(crates - set(about))]
-    rests_on = set()
-    definitions_below("jc_collect", "Run", rests_on)
-    differing = rests_on ^ listed_definitions(found[THEOREM])
-    mistakes += [f"the main theorem's list: {crate}, {name}" for crate, name in sorted(differing)]
+    rests_on = definitions_below("jc_collect", ["Run"])
+    of_worlds = definitions_below("jc_world", ["Kept", "Schedule", "World"]) - rests_on
+    for title, wanted, listed in ("the main theorem", rests_on, found[THEOREM]), ("jc_world", of_worlds, found["jc_world"]):
+        differing = sorted(wanted ^ listed_definitions(listed))
+        mistakes += [f"{title}'s list: {crate}, {name}" for crate, name in differing]
     for mistake in mistakes:
         print(mistake, file=sys.stderr)
     return 1 if mistakes else 0

@@ -19,4 +19,5 @@ refuses 's/\*\*`read_fields`\*\* (unnamed)/**`read_fields`**/' "jc_export: read_
 refuses 's/`impl ByteSpace for FileSpace`/`impl ByteSpace for NoSpace`/' "jc_file: there is no impl ByteSpace for NoSpace"
 refuses 's/`StreamReading` in/`StreamRiding` in/' "jc_export: there is no StreamRiding in specs/Stream.antt"
 refuses 's/^- jc_keeper: `Agree`, /- jc_keeper: /' "the main theorem's list: jc_keeper, Agree"
+refuses 's/^- jc_upload: `Resume`, /- jc_upload: /' "jc_world's list: jc_upload, Resume"
 finish
