@@ -3,6 +3,7 @@
 use jc_base::{Id128, Key};
 use jc_export::canonical;
 use jc_keeper::{Keeper, MapKeeper};
+use jc_records::RecordKeeper;
 use jc_samples::SEQNUM_ID;
 use jc_store::SqlKeeper;
 use sqlite::{Alter, Connection, MemStore};
@@ -80,6 +81,22 @@ impl<D: Databases> Journals for Tables<D> {
     fn empty(&mut self) -> Result<SqlKeeper<D::Store>, Fail> {
         let conn = self.databases.open()?;
         match SqlKeeper::create(self.alloc, conn) {
+            Ok(keeper) => Ok(keeper),
+            Err(_) => Err("not created")?,
+        }
+    }
+}
+
+/// Journals in the tables of schema 2, each in a database in memory of its own.
+#[derive(Drop)]
+pub(super) struct Records(pub(super) Global);
+
+impl Journals for Records {
+    type Kept = RecordKeeper<MemStore>;
+
+    fn empty(&mut self) -> Result<RecordKeeper<MemStore>, Fail> {
+        let conn = Connection::open_in_memory(self.0)?;
+        match RecordKeeper::create(self.0, conn) {
             Ok(keeper) => Ok(keeper),
             Err(_) => Err("not created")?,
         }
