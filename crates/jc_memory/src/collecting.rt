@@ -1,7 +1,8 @@
 //! Uploads in memory are collected into a journal in memory.
 
-ghost use Rattle.std.specs.Prelude.{◌≡◌, Some, map, IfOk, OnErr};
+ghost use Rattle.std.specs.Prelude.{◌≡◌, ◌≢◌, Some, Err, map, IfOk, OnErr};
 ghost use Rattle.std.specs.FinMap as finite;
+ghost use Rattle.jc_keeper.specs.declared.keeper.KeepStop.TheVariants.{ReadFailed};
 ghost use Rattle.jc_collect.specs.Delivered.{of_delivery};
 ghost use Rattle.jc_memory.specs.InMemory.{IsRunInMemory};
 
@@ -55,6 +56,7 @@ pub fn collect_anew(
     ensures run { IfOk result (λ done.
         IsRunInMemory limits.now (map (of_delivery (λ b. b.now) (λ b. b.now)) uploads.now)
         (record { journal = finite.empty; failures = 0 }) done.0.end done.0.lines.items done.1) }
+    ensures never_read { result ≢ Err ReadFailed }
 {
     let mut keeper = MemoryKeeper::new(alloc)?;
     let answered = collect(alloc, &mut keeper, uploads, limits)?;
