@@ -3,6 +3,8 @@
 
 mod collecting;
 mod memory_keeper;
+mod worlds;
 
 pub use collecting::{Answered, Upload, collect, collect_anew};
 pub use memory_keeper::MemoryKeeper;
+pub use worlds::world_after;
