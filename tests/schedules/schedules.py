@@ -107,8 +107,8 @@ def main():
         sys.exit(f"{len(told) - at} bytes more than the model prints")
     saw = [world for _, _, world in drawn_ones]
     moved = sum(len(machine.saved) > 1 for world in saw for machine in world.machines)
-    refused = sum(" 60 " in answer for world in saw for answer in world.answers)
-    cut = sum(" 5 " in answer for world in saw for answer in world.answers if answer.startswith("no "))
+    codes = [answer.split()[3] for world in saw for answer in world.answers if answer.startswith("no ")]
+    refused, cut = codes.count("60"), codes.count("5")
     if min(moved, refused, cut) < COUNT // 10:
         sys.exit(f"the schedules say too little: {moved} machines moved on, {refused} conflicts, {cut} whole uploads that were cut")
 

@@ -16,6 +16,8 @@ upload head:1:0 set:7:50 set:9:1 put:40:2 ENTRY => no S 0 5 1
 stores ""
 upload head:1:0 set:7:50 set:9:1 put:40:1 ENTRY ENTRY_2 => no S 0 5 2
 stores ""
+upload head:1:0 set:7:50 set:9:1 put:40:1 ENTRY "_" => no S 0 5 1
+stores ""
 upload head:1:0 set:7:50 set:9:1 put:40:9 ENTRY "=x" => no S 0 10 121
 stores ""
 upload head:1:0 ENTRY => ack S 0 1 1 0
