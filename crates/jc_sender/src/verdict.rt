@@ -6,9 +6,9 @@ ghost use Rattle.jc_sender.specs.Verdict.{verdict_text, verdict_status, TellsRea
 
 use crate::entries::count_entries;
 use jc_args::InputKind;
-use jc_base::{Ending, Limits};
-use jc_console::{Failure, Status, is_regular, open_file, printed, read_file, read_front};
-use jc_export::read_all;
+use jc_base::{ByteStream, Ending, FromRead, Limits};
+use jc_console::{Failure, Status, is_regular, open_file, printed, read_front};
+use jc_export::{Stream, one_reading};
 use jc_file::{ByteSpace, FileEntries, FileSpace, PagedSpace, SliceSpace};
 use std::alloc::Global;
 use std::fmt;
@@ -62,27 +62,33 @@ pub fn verify<'a, R: Files + AllocGlobal, O: Write>(
 {
     match kind {
         InputKind::Export => {
-            let bytes = read_file(rt, file)?;
-            verify_export(rt.alloc(), bytes.as_slice(), output)
+            let device = FromRead::new(open_file(rt, file)?);
+            verify_export(rt.alloc(), device, output)
         }
         InputKind::File => verify_file(rt.alloc(), open_file(rt, file)?, output),
     }
 }
 
-/// Prints how the bytes read as an export stream.
-fn verify_export<'a, O: Write>(
+/// Prints how what a device gives reads as an export stream.
+fn verify_export<'a, R: ByteStream + Drop, O: Write>(
     alloc: Global,
-    bytes: &[u8],
+    device: R,
     output: &mut O,
 ) -> Result<Status, Failure<'a>>
-    ensures told { IfOk result (λ status. TellsBytes InputKind.Export bytes.now status (O.contents output.old)
-        (O.contents output.new)) }
-    ensures failed { IfErr result (λ failure. (failure ≡ Failure.WriteFailed) ⊎ (failure ≡ Failure.OutOfMemory)) }
+    ensures told { IfOk result (λ status. (count : ℕ) × (ending : Ending)
+        × TellsReading count ending status (O.contents output.old) (O.contents output.new)) }
+    ensures bytes { (bytes : List ℕ) → R.remaining device ≡ Some bytes → IfOk result (λ status.
+        TellsBytes InputKind.Export bytes status (O.contents output.old) (O.contents output.new)) }
+    ensures failed { IfErr result (λ failure. (failure ≡ Failure.ReadFailed) ⊎ (failure ≡ Failure.WriteFailed)
+        ⊎ (failure ≡ Failure.OutOfMemory)) }
     ensures untouched { IfErr result (λ failure. failure ≢ Failure.WriteFailed
         → Keeps (O.contents output.old) (O.contents output.new)) }
 {
-    let reading = read_all(alloc, bytes, &Limits::default())?;
-    tell(reading.entries.len() as u64, reading.end, output)
+    // Does nothing: the proof has from it that the bytes have no other reading.
+    one_reading();
+    let mut entries = Stream::new(alloc, device, Limits::default())?;
+    let (count, ending) = count_entries(&mut entries)?;
+    tell(count, ending, output)
 }
 
 /// Prints how a file reads as a journal file. If its ranges can't be read it is read up to one byte over the limit of a
