@@ -8,7 +8,9 @@ use jc_collect::{Delivery, RunEnd, collect_one, run};
 use jc_file::SliceSpace;
 use jc_file::faulty::FailSpace;
 use jc_keeper::Keeper;
-use jc_samples::{CHANGED_ENTRY, ENTRY, ENTRY_2, EXPORT, FILE, JOURNAL_FILE, Slow, answer_lines, bytewise};
+use jc_samples::{
+    CHANGED_ENTRY, ENTRY, ENTRY_2, EXPORT, FILE, JOURNAL_FILE, Slow, answer_lines, bytewise,
+};
 use jc_upload::Answer;
 use std::process::Abort;
 use std::test::Fail;
