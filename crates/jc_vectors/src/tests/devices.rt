@@ -1,13 +1,8 @@
-//! Streams, sinks and sources in memory, and devices that fail once.
+//! Streams and sinks in memory, and devices that fail once.
 
-use super::values::entry;
 use jc_base::faulty::{FailSink, FailStream};
-use jc_base::{
-    ByteStream, Ending, EntrySource, FromRead, ListSource, SliceStream, Step, ToWrite, VecSink,
-    Written, write_all,
-};
+use jc_base::{ByteStream, FromRead, SliceStream, ToWrite, VecSink, Written, write_all};
 use std::alloc::Global;
-use std::collections::VecDeque;
 use std::test::Fail;
 
 fn read_to_end<R: ByteStream>(stream: &mut R, alloc: Global) -> Result<Option<Vec<u8>>, Fail> {
@@ -56,30 +51,5 @@ fn sinks_take_their_bytes(rt: HostRuntime) -> Result<(), Fail> {
     let mut writer = ToWrite::new(Vec::new(alloc));
     assert_eq!(rt; write_all(&mut writer, b"text").is_ok(), true);
     assert_eq!(rt; writer.into_writer().as_slice() == b"text".as_slice(), true);
-    Ok(())
-}
-
-fn count_entries<S: EntrySource>(source: &mut S) -> (u64, Option<Ending>) {
-    for count in 0..100 {
-        match source.next() {
-            Ok(Step::Entry(_)) => {}
-            Ok(Step::End { left }) => return (count, Some(Ending::End { left })),
-            Ok(Step::Bad(fault)) => return (count, Some(Ending::Bad(fault))),
-            Err(_) => return (count, None),
-        }
-    }
-    (100, None)
-}
-
-#[test]
-fn a_source_gives_its_entries_and_then_its_ending(rt: HostRuntime) -> Result<(), Fail> {
-    let alloc = rt.alloc();
-    let mut entries = VecDeque::new(alloc);
-    entries.push_back(entry(alloc, 1)?)?;
-    entries.push_back(entry(alloc, 2)?)?;
-    let ending = Ending::End { left: 3 };
-    let mut source = ListSource::new(entries, ending);
-    assert_eq!(rt; count_entries(&mut source), (2, Some(ending)));
-    assert_eq!(rt; count_entries(&mut source), (0, Some(ending)));
     Ok(())
 }
