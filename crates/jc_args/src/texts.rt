@@ -121,7 +121,7 @@ pub const CODES: &str = "1   ShortHeader         an upload has fewer bytes than 
 2   BadMagic            an upload begins with neither `JCUPLD01` nor `JCUPLD02`
 3   BadKind             the kind of an upload is unknown
 4   BadReserved         reserved bytes in an upload's header aren't as they have to be
-5   Incomplete          an upload that is to be whole has another number of entries than its header says
+5   Incomplete          an upload that is to be whole has another number of entries, or ends within one
 10  EmptyName           a field begins with `=`
 11  NameTooLong         a name is over its limit
 12  ValueTooLong        a value is over its limit

@@ -19,15 +19,6 @@ pub fn open_file<'a, R: Files>(rt: &R, path: &'a str) -> Result<R::File, Failure
     }
 }
 
-/// The bytes of the file at `path`.
-pub fn read_file<'a, R: Files + AllocGlobal>(rt: &R, path: &'a str) -> Result<Vec<u8>, Failure<'a>>
-    ensures { IfErr result (λ failure. (failure ≡ Failure.CannotOpen path.entry) ⊎ (failure ≡ Failure.ReadFailed)
-        ⊎ (failure ≡ Failure.OutOfMemory)) }
-{
-    let mut file = open_file(rt, path)?;
-    read_whole(rt.alloc(), &mut file)
-}
-
 /// Whether ranges of the file can be read: a pipe gives its bytes once, and a folder none.
 pub fn is_regular<F: OpenFile>(file: &F) -> bool {
     file.metadata().is_ok_and(|metadata| metadata.is_file())

@@ -9,7 +9,7 @@ mod output;
 mod status;
 
 pub use failure::Failure;
-pub use file::{is_regular, open_file, read_file, read_front, read_whole};
+pub use file::{is_regular, open_file, read_front, read_whole};
 pub use ids::source_id;
 pub use lines::line_length;
 pub use output::printed;

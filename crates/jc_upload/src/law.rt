@@ -24,7 +24,8 @@ pub fn one_saying()
 }
 
 /// What a beginning of an upload says, wherever it is cut: of an upload of entries the first of them, or all or a fault
-/// if it is to be whole, and of a file that reads without a fault all of its entries or none. Does nothing.
+/// if it is to be whole, and of a file that reads without a fault, and needn't be whole, all of its entries or none. Does
+/// nothing.
 pub fn fronts_of_uploads()
     ensures export { (head : UploadHead) (entries : List LogEntry) → IsHead head → head.kind ≡ Export
         → All IsEntry entries → CutsBy head.version entries (head_text head ++ joined entries) }
