@@ -96,6 +96,8 @@ pub enum Code {
     BadRow = 65,
     /// 66: a device failed while it was written.
     WriteFailed = 66,
+    /// 67: a database has a journal of an older version.
+    OldSchema = 67,
     /// 70: a source's entries no longer go on from the resume point.
     SourceChanged = 70,
 }
