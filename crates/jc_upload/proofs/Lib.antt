@@ -5,3 +5,4 @@ pub mod AnswerLemmas
 pub mod ResumeLemmas
 pub mod Sayings
 pub mod Fronts
+pub mod Excerpts

@@ -6,3 +6,4 @@ pub mod Reading
 pub mod Upload
 pub mod Says
 pub mod Front
+pub mod Excerpt

@@ -2,6 +2,7 @@
 #![tactic(auto)]
 
 mod answer;
+mod excerpt;
 mod head;
 mod law;
 mod line;
@@ -9,6 +10,7 @@ mod resume;
 mod uploader;
 
 pub use answer::{Answer, one_answer};
+pub use excerpt::Excerpt;
 pub use head::{Kind, UploadHead, Version, one_head};
 pub use law::{fronts_of_uploads, one_saying};
 pub use line::Line;

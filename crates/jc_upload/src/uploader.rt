@@ -1,20 +1,27 @@
 //! The sender's part: which entries an upload carries, and when a resume point moves on.
 
-ghost use Rattle.std.specs.Prelude.{◌≡◌, ◌↔◌, ◌≤◌, ◌++◌, length, flat_map, IsTrue, IfOk, IfErr, OnOk, IsErrOf, MatchOption};
+ghost use Rattle.std.specs.Prelude.{◌≡◌, ◌↔◌, ◌≤◌, ◌⊎◌, ◌++◌, ℕ, List, Some, Err, length, flat_map, IsTrue, IfOk, IfErr, OnOk, IsErrOf, MatchOption};
 ghost use Rattle.std.specs.Bool.{OnTrue, OnFalse};
 ghost use Rattle.std.specs.List.{All};
 ghost use Rattle.std.specs.Io.KnownBytes.{Appends};
-ghost use Rattle.jc_base.specs.LogEntry.{IsEntry};
+ghost use Rattle.jc_base.specs.Device.{Rose};
+ghost use Rattle.jc_base.specs.LogEntry.{IsEntry, LogEntry};
+ghost use Rattle.jc_base.specs.declared.source.Stop.TheVariants.{ReadFailed};
 ghost use Rattle.jc_export.specs.Canonical.{canon};
+ghost use Rattle.jc_export.specs.Device.{limits_of};
 ghost use Rattle.jc_upload.specs.declared.head.Kind.TheVariants as kinds;
 ghost use Rattle.jc_upload.specs.declared.uploader.UploadFault.TheVariants as faults;
+ghost use Rattle.jc_upload.specs.Excerpt.{AreOfStream, Gave, IsExcerpt, IsStreamEnding, IsNextUpload, head_by};
 ghost use Rattle.jc_upload.specs.Front.{CutsBy, CutsOfExport, CutsOfFile, CutsOfSecond};
 ghost use Rattle.jc_upload.specs.Head.{IsHead, head_text};
 ghost use Rattle.jc_upload.specs.Upload.{Advances, Agrees, acked_to, export_head, file_head, file_upload_of, moved_to, next_upload2_of, next_upload_of, point_behind, second_head, sent_of};
 
-use crate::{Answer, Kind, Resume, UploadHead, Version, fronts_of_uploads};
-use jc_base::{ByteSink, Entry, Id128, OutOfMemory, VecSink, Written, write_all};
-use jc_export::write_entry;
+use crate::{Answer, Excerpt, Kind, Resume, UploadHead, Version, fronts_of_uploads};
+use jc_base::{
+    ByteSink, ByteStream, Ending, Entry, EntrySource, Id128, OutOfMemory, Step, Stop, VecSink,
+    Written, write_all,
+};
+use jc_export::{Stream, write_entry};
 use std::alloc::Global;
 use std::error::Error;
 use std::fmt;
@@ -143,6 +150,85 @@ impl Uploader {
         };
         let upload = export_upload(alloc, &head, sent)?;
         Ok(upload)
+    }
+
+    /// What the next upload needs of the entries that an export stream gives, and how they end. Of these entries no more
+    /// are kept than the upload carries.
+    pub fn excerpt<R: ByteStream>(
+        &self,
+        alloc: Global,
+        source: &mut Stream<R>,
+        limit: u64,
+    ) -> Result<(Excerpt, Ending), Stop>
+        ensures excerpt { IfOk result (λ told. (entries : List LogEntry)
+            × Gave (⟦<Stream<R> as EntrySource>⟧.remaining source.old) entries told.1
+            × AreOfStream (limits_of source.old) entries × IsExcerpt self.now.point.position limit entries told.0) }
+        ensures stream { IfOk result (λ told. IsStreamEnding told.1) }
+        ensures failed { result ≡ Err ReadFailed
+            → Rose (⟦<Stream<R> as EntrySource>⟧.failures source.old) (⟦<Stream<R> as EntrySource>⟧.failures source.new)
+            ⊎ (⟦<Stream<R> as EntrySource>⟧.last source.old ≡ Some (Err ReadFailed)) }
+        ensures borrowed_device { ⟦<Stream<R> as EntrySource>⟧.borrowed_device source.new
+            ≡ ⟦<Stream<R> as EntrySource>⟧.borrowed_device source.old }
+    {
+        let position = self.resume.position();
+        let mut excerpt = Excerpt::new(alloc);
+        'entries: loop {
+            let step = source.next()?;
+            match step {
+                Step::Entry(entry) => excerpt.take(position, limit, entry)?,
+                Step::End { left } => return Ok((excerpt, Ending::End { left })),
+                Step::Bad(fault) => return Ok((excerpt, Ending::Bad(fault))),
+            }
+        }
+    }
+
+    /// The next upload, by what it needs of a source's entries: with a header of the first version, or, if it is to be
+    /// `whole`, of the second. It is the one that `next_upload` or `next_upload2` makes of these entries, and is refused
+    /// as that is.
+    pub fn next_upload_of(
+        &self,
+        alloc: Global,
+        excerpt: &Excerpt,
+        whole: bool,
+    ) -> Result<Vec<u8>, UploadFault>
+        ensures upload { (entries : List LogEntry) (limit : ℕ) → IsExcerpt self.now.point.position limit entries excerpt.now
+            → IfOk result (λ upload. IsNextUpload self.now entries limit whole upload.items) }
+        ensures changed { (entries : List LogEntry) (limit : ℕ) → IsExcerpt self.now.point.position limit entries excerpt.now
+            → IsErrOf result UploadFault.SourceChanged ↔ ¬ Agrees self.now.point entries }
+    {
+        if !self.agrees_with(excerpt) {
+            return Err(UploadFault::SourceChanged);
+        }
+        let head = self.head_by(whole, excerpt.carried.len() as u64);
+        let upload = export_upload(alloc, &head, &excerpt.carried)?;
+        Ok(upload)
+    }
+
+    /// The header of an upload of so many entries, of the second version if it is to be `whole`.
+    fn head_by(&self, whole: bool, count: u64) -> UploadHead
+        ensures { result ≡ head_by self.now whole count }
+    {
+        let version = match whole {
+            true => Version::V2 {
+                whole,
+                entries: count,
+            },
+            false => Version::V1,
+        };
+        UploadHead {
+            version,
+            kind: Kind::Export,
+            source: self.source,
+            start: self.resume.position(),
+        }
+    }
+
+    /// Whether the entries of which this is an excerpt agree with the point.
+    fn agrees_with(&self, excerpt: &Excerpt) -> bool
+        ensures { (entries : List LogEntry) (limit : ℕ) → IsExcerpt self.now.point.position limit entries excerpt.now
+            → IsTrue result ↔ Agrees self.now.point entries }
+    {
+        self.resume.position() <= excerpt.count && excerpt.before == self.resume.last()
     }
 
     /// The entries that the next upload carries.
