@@ -25,6 +25,8 @@ pub enum Failure<'a> {
     BadAnswer(u64),
     /// An id isn't 32 hexadecimal digits.
     BadId,
+    /// No entry has a field of this name.
+    BadFieldName,
     /// A database's name begins with `:` or with `file:`.
     BadDatabaseName,
     /// The file with this path can't be opened.
@@ -48,8 +50,8 @@ impl Failure<'_> {
         match self {
             Failure::Bad(_) | Failure::SourceChanged => Status::Refused,
             Failure::BadResume | Failure::BadAnswer(_) => Status::Refused,
-            Failure::BadId | Failure::BadDatabaseName => Status::Misused,
-            Failure::WordsAreNoText => Status::Misused,
+            Failure::BadId | Failure::BadFieldName => Status::Misused,
+            Failure::BadDatabaseName | Failure::WordsAreNoText => Status::Misused,
             _ => Status::Failed,
         }
     }
@@ -80,6 +82,7 @@ impl fmt::Display for Failure<'_> {
             Failure::BadResume => write!(f, "bad resume"),
             Failure::BadAnswer(line) => write!(f, "bad answer {line}"),
             Failure::BadId => write!(f, "bad id"),
+            Failure::BadFieldName => write!(f, "bad field name"),
             Failure::BadDatabaseName => write!(f, "bad database name"),
             Failure::CannotOpen(path) => write!(f, "cannot open {path}"),
             Failure::ReadFailed => write!(f, "read failed"),

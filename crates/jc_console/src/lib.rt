@@ -5,6 +5,7 @@ mod failure;
 mod file;
 mod ids;
 mod lines;
+mod names;
 mod output;
 mod status;
 
@@ -12,5 +13,6 @@ pub use failure::Failure;
 pub use file::{is_regular, open_file, read_front, read_whole};
 pub use ids::source_id;
 pub use lines::line_length;
+pub use names::field_name;
 pub use output::printed;
 pub use status::Status;
