@@ -12,10 +12,10 @@ db=$folder/db
 python3 - "$folder" << 'MADE'
 import sys
 sys.path[:0] = ["tests"]
-from samples import E1, E2, E3, FILE, entry_text, stream
+from samples import E1, E2, E3, FILE, entry_text, head, stream
 for name, data in {
     "a": stream(E1, E2), "b": stream(E3), "-a": stream(entry_text(10)),
-    "in": E1 + E2, "many": b"".join(map(entry_text, range(1, 1002))), "journal": FILE,
+    "in": E1 + E2, "many": b"".join(map(entry_text, range(1, 1002))), "journal": FILE, "uploaded": head(2) + FILE,
 }.items():
     with open(f"{sys.argv[1]}/{name}", "wb") as file:
         file.write(data)
@@ -43,6 +43,19 @@ shows "" --to=0 "$db" "--from=$most"
 shows "1 2 3" --to 007 "$db"
 expect 2 "" "bad id" "$PROGRAM" show "$db" --id "no id" --from 2 --to 3
 
+# the field that `show` has in its lines, and names that none has
+first="000102030405060708090a0b0c0d0e0f 1 1000000 5"
+expect 0 "$first hi" "" "$PROGRAM" show "$db" --to 1 --field MESSAGE
+expect 0 "$first -" "" "$PROGRAM" show "$db" --to 1 --field=_BOOT_ID
+"$PROGRAM" collect "$folder/file.db" "$folder/uploaded" > "$folder/told"
+expect 0 "$first 101112131415161718191a1b1c1d1e1f" "" "$PROGRAM" show "$folder/file.db" --field _BOOT_ID
+for name in "" = A=B "MESSAGE=" $'\n' $'A\nB' $'A\n' __ __CURSOR __SEQNUM; do
+    expect 2 "" "bad field name" "$PROGRAM" show "$db" --field "$name"
+done
+for name in _ _A A__ " " $'\t' "größe" "$(printf 'A%.0s' {1..2000})"; do
+    expect 0 "$first -" "" "$PROGRAM" show "$db" --to 1 --field "$name"
+done
+
 # what a file holds; at most 1,000 entries unless a limit is given, and a journal file whole whatever the limit
 machine() { "$PROGRAM" "$1" --source "$id" --resume "$folder/resume" "${@:2}"; }
 counts() { tail -c +49 "$folder/told" > "$folder/body" && "$PROGRAM" verify "$1" "$folder/body"; }
@@ -66,6 +79,7 @@ expect 2 "" "~$missing"$'\n'"  <DB>*" "$PROGRAM" show --id 00
 expect 2 "" "~$more*" "$PROGRAM" export db more
 expect 2 "" "~$more*" "$PROGRAM" check db more
 expect 2 "" "~$more*" "$PROGRAM" show db more
+expect 2 "" "~error: a value is required for '--field <NAME>' but none was supplied*" "$PROGRAM" show db --field
 expect 2 "" "~error: the argument '--from <N>' cannot be used multiple times*" "$PROGRAM" show db --from 1 --from 2
 expect 2 "" "~error: invalid value 'x' for '--from <N>': *" "$PROGRAM" show db --from x
 expect 2 "" "~error: invalid value '-1' for '--from <N>': *" "$PROGRAM" show db --from=-1

@@ -2,7 +2,7 @@
 
 Every line, the status, the export, listings and the stock sqlite3's rows are held against the model's.
 """
-from make import Machine
+from make import NAMES, Machine
 from model import Journal
 from trial import Trial, as_output, run, status_of
 
@@ -43,6 +43,9 @@ def listings(trial, what, database, journal, machines):
         words = ("--id", machine.seqnum_id.hex(), "--from", str(first), "--to", str(last))
         trial.expect(f"{what}: show {words}", run("show", database, *words),
                      (journal.lines(machine.seqnum_id, first, last), "", 0))
+    for field in NAMES:
+        words = ("--field", field.decode())
+        trial.expect(f"{what}: show {words}", run("show", database, *words), (journal.lines(field=field), "", 0))
 
 
 def one_round(trial, what):

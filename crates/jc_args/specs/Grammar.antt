@@ -54,11 +54,11 @@ database_grammar name = with_rule (new_app name) (place_rule (codes "DB"))
 abbrev pub collect_grammar : App
 collect_grammar = with_rule (with_rule (database_grammar (codes "collect")) uploads_rule) (option_rule (codes "files-from"))
 
--- `show DB [--id HEX] [--from N] [--to N]`
+-- `show DB [--id HEX] [--from N] [--to N] [--field NAME]`
 abbrev pub show_grammar : App
 show_grammar =
-    with_rule (with_rule (with_rule (database_grammar (codes "show")) (option_rule (codes "id"))) (number_rule (codes "from")))
-    (number_rule (codes "to"))
+    with_rule (with_rule (with_rule (with_rule (database_grammar (codes "show")) (option_rule (codes "id")))
+    (number_rule (codes "from"))) (number_rule (codes "to"))) (option_rule (codes "field"))
 
 -- `verify KIND FILE`
 abbrev pub verify_grammar : ValueParser → App

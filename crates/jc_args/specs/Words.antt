@@ -15,7 +15,7 @@ abbrev pub command_name : Request → Text
 command_name (Collect database uploads) = codes "collect"
 command_name (CollectListed database list) = codes "collect"
 command_name (Export database) = codes "export"
-command_name (Show database id first last) = codes "show"
+command_name (Show database field id first last) = codes "show"
 command_name (Check database) = codes "check"
 command_name (Verify kind file) = codes "verify"
 command_name (Upload source limit whole) = codes "upload"
@@ -52,8 +52,9 @@ AskBy rows (Collect database uploads) =
 AskBy rows (CollectListed database list) =
     IsGiven rows (codes "DB") database.now × IsGiven rows (codes "files-from") list.now × (all_given rows (codes "UPLOAD") ≡ [])
 AskBy rows (Export database) = IsGiven rows (codes "DB") database.now
-AskBy rows (Show database id first last) =
-    IsGiven rows (codes "DB") database.now × (option_map (λ hex. hex.now) id ≡ first_of (codes "id") rows)
+AskBy rows (Show database field id first last) =
+    IsGiven rows (codes "DB") database.now × (option_map (λ name. name.now) field ≡ first_of (codes "field") rows)
+    × (option_map (λ hex. hex.now) id ≡ first_of (codes "id") rows)
     × IsNumberOr 0 (first_of (codes "from") rows) first × IsNumberOr (2 ^ 63 - 1) (first_of (codes "to") rows) last
 AskBy rows (Check database) = IsGiven rows (codes "DB") database.now
 AskBy rows (Verify kind file) = IsGiven rows (codes "KIND") (kind_name kind) × IsGiven rows (codes "FILE") file.now

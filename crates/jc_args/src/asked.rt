@@ -71,11 +71,13 @@ fn show_request<'a>(given: &ArgMatches<'a>) -> Option<Request<'a>>
         (λ request. (command_name request ≡ codes "show") × AskBy (given_rows given.now) request) }
 {
     let database = text_given(given, "DB")?;
+    let field = text_given(given, "field");
     let id = text_given(given, "id");
     let first = number_given(given, "from", 0)?;
     let last = number_given(given, "to", MOST)?;
     Some(Request::Show {
         database,
+        field,
         id,
         first,
         last,

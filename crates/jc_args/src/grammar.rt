@@ -68,10 +68,12 @@ fn show_command<'a>(alloc: Global) -> Result<Command<'a>, AllocError>
     let id = option_arg(alloc, "id", "HEX", texts::ID_HELP);
     let first = number_arg(alloc, "from", texts::FIRST_HELP);
     let last = number_arg(alloc, "to", texts::LAST_HELP);
+    let field = option_arg(alloc, "field", "NAME", texts::FIELD_HELP);
     database_command(alloc, "show", texts::SHOW, texts::SHOW_MORE)?
         .arg(id)?
         .arg(first)?
-        .arg(last)
+        .arg(last)?
+        .arg(field)
 }
 
 fn check_command<'a>(alloc: Global) -> Result<Command<'a>, AllocError>

@@ -18,9 +18,10 @@ pub enum Request<'a> {
         database: &'a str,
     },
     /// A line for each entry of the journal of a database, with this sequence id if any, and with a number that is at
-    /// least `first` and at most `last`.
+    /// least `first` and at most `last`. It ends with the field of this name, or with `MESSAGE` if none is named.
     Show {
         database: &'a str,
+        field: Option<&'a str>,
         id: Option<&'a str>,
         first: u64,
         last: u64,

@@ -66,10 +66,13 @@ pub(crate) const SHOW: &str = "Lists stored entries, a line for each";
 pub(crate) const SHOW_MORE: &str = "Prints for each entry, in the order of `export`:
   ID NUMBER REALTIME MONOTONIC MESSAGE
 ID is its sequence id, and both times are in microseconds. MESSAGE is `-` if the entry has none, and `[COUNT bytes]`
-if it isn't plain text on one line.
+if it isn't plain text on one line. With --field, the line has that field in place of MESSAGE.
 
 Example: the entries with the numbers 100 to 199
-  journal-collect show logs.db --from 100 --to 199";
+  journal-collect show logs.db --from 100 --to 199
+
+Example: the boot of each entry
+  journal-collect show logs.db --field _BOOT_ID";
 
 pub(crate) const CHECK: &str =
     "Reads a database and prints how many entries it has, or what is wrong with it";
@@ -176,6 +179,8 @@ pub(crate) const ID_HELP: &str = "Only entries with this sequence id, 32 hexadec
 pub(crate) const FIRST_HELP: &str = "Only entries with the number N or a greater one";
 
 pub(crate) const LAST_HELP: &str = "Only entries with the number N or a smaller one";
+
+pub(crate) const FIELD_HELP: &str = "The field that is printed in place of MESSAGE";
 
 pub(crate) const KIND_HELP: &str = "What the file holds: an export stream, or a journal file";
 

@@ -57,7 +57,7 @@ performed words (requests.CollectListed database list) given output output' erro
     let told = does.told.told in
     absurd (judged_not_misused (list_any is_failure told.answers) (list_any is_refusal told.answers) told.is)
 performed words (requests.Export database) given output output' errors errors' Misused asks does quiet = let same : Misused ≡ Success = does in cc
-performed words (requests.Show database id first last) given output output' errors errors' Misused asks does quiet = let same : Misused ≡ Success = does in cc
+performed words (requests.Show database field id first last) given output output' errors errors' Misused asks does quiet = let same : Misused ≡ Success = does in cc
 performed words requests.ListCodes given output output' errors errors' Misused asks does quiet = let same : Misused ≡ Success = does in cc
 performed words (requests.Check database) given output output' errors errors' Misused asks (health, is, told) quiet = absurd (health_not_misused health told.judged)
 

@@ -33,7 +33,7 @@ Performs (Ack source) given old new status = (status ≡ Success) × TellsSomePo
 Performs (Collect database uploads) given old new status = TellsAnswers (number_of_uploads (length uploads.items)) status old new
 Performs (CollectListed database list) given old new status = TellsListed list.now given status old new
 Performs (request.Export database) given old new status = status ≡ Success
-Performs (Show database id first last) given old new status = status ≡ Success
+Performs (Show database field id first last) given old new status = status ≡ Success
 Performs (Check database) given old new status = (health : Health) × IsHealth health × TellsHealth health status old new
 Performs ListCodes given old new status = status ≡ Success
 
@@ -49,7 +49,8 @@ FailsBy (Ack source) given failure = AckFailsBy source given failure
 FailsBy (Collect database uploads) given failure = CollectFailsBy database.now (map (λ path. path.now) uploads.items) failure
 FailsBy (CollectListed database list) given failure = CollectFailsBy database.now (list.now ∷ []) failure
 FailsBy (request.Export database) given failure = DatabaseFailsBy database.now failure
-FailsBy (Show database id first last) given failure = ShowFailsBy database.now (option_map (λ digits. digits.now) id) failure
+FailsBy (Show database field id first last) given failure =
+    ShowFailsBy database.now (option_map (λ name. name.now) field) (option_map (λ digits. digits.now) id) failure
 FailsBy (Check database) given failure = CheckFailsBy database.now failure
 FailsBy ListCodes given failure = failure ≡ WriteFailed
 

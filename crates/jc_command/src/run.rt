@@ -101,11 +101,12 @@ fn perform<'a, R: Databases + Files + AllocGlobal, I: Read, O: Write, E: Write>(
         }
         Request::Show {
             database,
+            field,
             id,
             first,
             last,
         } => {
-            show(rt, database, id, first, last, output)?;
+            show(rt, database, field, id, first, last, output)?;
             Ok(Status::Success)
         }
         Request::Check { database } => check(rt, database, output),

@@ -5,8 +5,9 @@ use Rattle.jc_base.specs.declared.fault.Code.TheVariants.{BadRow, NotAJournal}
 use Rattle.jc_base.specs.declared.fault.Fault.{Fault}
 use Rattle.jc_base.specs.declared.id.Id128.{Id128}
 use Rattle.jc_console.specs.Ids.{IsIdOf, IsIdText}
+use Rattle.jc_console.specs.Names.{IsFieldName}
 use Rattle.jc_console.specs.declared.failure.Failure.{Failure}
-use Rattle.jc_console.specs.declared.failure.Failure.TheVariants.{Bad, BadDatabaseName, BadId, CannotOpen, OutOfMemory, ReadFailed, StoreFailed, WriteFailed}
+use Rattle.jc_console.specs.declared.failure.Failure.TheVariants.{Bad, BadDatabaseName, BadFieldName, BadId, CannotOpen, OutOfMemory, ReadFailed, StoreFailed, WriteFailed}
 
 -- A name that SQLite doesn't take for a path.
 abbrev pub IsBadName : List ℕ → Type 0
@@ -57,10 +58,12 @@ AsksId None id = id ≡ None
 AsksId (Some digits) None = ⊥
 AsksId (Some digits) (Some id) = IsIdOf digits id
 
--- Why `show` fails: the digits spell no id, or it fails as another command over a database does.
-abbrev pub ShowFailsBy : (database : List ℕ) → (digits : Option (List ℕ)) → Failure → Type 0
-ShowFailsBy database digits BadId = IsSomeAnd digits (λ text. ¬ IsIdText text)
-ShowFailsBy database digits failure = DatabaseFailsBy database failure
+-- Why `show` fails: no entry has a field of this name, the digits spell no id, or it fails as another command over a
+-- database does.
+abbrev pub ShowFailsBy : (database : List ℕ) → (field digits : Option (List ℕ)) → Failure → Type 0
+ShowFailsBy database field digits BadFieldName = IsSomeAnd field (λ text. ¬ IsFieldName text)
+ShowFailsBy database field digits BadId = IsSomeAnd digits (λ text. ¬ IsIdText text)
+ShowFailsBy database field digits failure = DatabaseFailsBy database failure
 
 -- Why `check` prints nothing. What is wrong with the tables of a database, it prints.
 abbrev pub WhyNoHealth : (path : List ℕ) → Failure → Type 0

@@ -66,6 +66,30 @@ run show @db --id 000102030405060708090a0b0c0d0e0f --from 4
 run show @db --id 000102030405060708090a0b0c0d0e0f --from 2 --to 2
 > 000102030405060708090a0b0c0d0e0f 2 1000000 5 [3 bytes]
 
+case show prints another field by the same rules
+input head:2:0 JOURNAL_FILE
+run collect @file
+> ack SOURCE 0 1 1 0
+run show @file --field _BOOT_ID
+> 000102030405060708090a0b0c0d0e0f 1 1000000 5 101112131415161718191a1b1c1d1e1f
+run show @file --field MESSAGE
+prints SHOWN
+input head:1:0 ENTRY
+run collect @db
+> ack SOURCE 0 1 1 0
+run show @db --field _BOOT_ID
+> 000102030405060708090a0b0c0d0e0f 1 1000000 5 -
+file @several "UNIT=b\nUNIT=a\nUNITS=A\n\n"
+file @binary "UNIT\n" number:2 byte:1 "x\nUNIT=hi\n\n"
+input head:1:0 METADATA_2 @several METADATA_3 @binary
+run collect @db
+> ack SOURCE 0 2 2 0
+run show @db --from 2 --field UNIT
+> 000102030405060708090a0b0c0d0e0f 2 1000000 5 a
+> 000102030405060708090a0b0c0d0e0f 3 1000000 5 [2 bytes]
+run show @db --to 1 --field UNIT
+> 000102030405060708090a0b0c0d0e0f 1 1000000 5 -
+
 case what is asked for is refused before a database is opened
 run show @none --id ""
 fails 2 bad id
@@ -79,6 +103,16 @@ run show @none --id gggggggggggggggggggggggggggggggg
 fails 2 bad id
 run show :db --id gggggggggggggggggggggggggggggggg
 fails 2 bad id
+run show @none --field "" --id 00
+fails 2 bad id
+run show @none --field ""
+fails 2 bad field name
+run show :db --field A=B
+fails 2 bad field name
+run show :db --field __CURSOR
+fails 2 bad field name
+run show :db --field _
+fails 2 bad database name
 run show :db --id SOURCE
 fails 2 bad database name
 run export :memory:
