@@ -163,6 +163,7 @@ pub const CODES: &str = "1   ShortHeader         an upload has fewer bytes than 
 63  OutOfMemory         memory was refused
 64  NotAJournal         a database has no journal of this version
 65  BadRow              a row isn't an entry; the place is its number in the order of keys, from 0
+67  OldSchema           a database has a journal of an older version
 70  SourceChanged       a source's entries no longer go on from the resume point
 ";
 
