@@ -6,7 +6,7 @@ from collections.abc import Callable
 from dataclasses import dataclass, field, replace
 from typing import Any
 
-import toolchain
+from checking import check
 from edits import BadEdit, Edit, Sources, read_edits
 from functions import Function
 from libraries import is_current
@@ -61,7 +61,6 @@ class Judge:
     def outcomes(self, edits: list[Edit]) -> list[Outcome]:
         """An outcome for each edit, and a last one for the crate without them."""
         waiting, outcomes = [Waiting(it) for it in edits], []
-        batch: list[Waiting] = []
         while waiting:
             batch = next_batch(waiting)
             waiting = [it for it in waiting if it not in batch]
@@ -70,7 +69,7 @@ class Judge:
                     waiting.append(it.again(ruling.hidden_by))
                 else:
                     outcomes.append(_outcome(it.edit, ruling))
-        return [*outcomes, self._unedited([it.edit.function for it in batch])] if edits else []
+        return [*outcomes, self._unedited(list(dict.fromkeys(it.function for it in edits)))] if edits else []
 
     def _judged(self, batch: list[Waiting]) -> list[tuple[Waiting, Ruling]]:
         """What one check says of each edit. If the edited crate can't be read, its halves are checked."""
@@ -84,19 +83,24 @@ class Judge:
         return self._judged(batch[:half]) + self._judged(batch[half:])
 
     def _unedited(self, functions: list[Function]) -> Outcome:
-        """Whether the crate itself is proved over what the edits' checks kept. If its library stands, which is built
-        only if all of it is proved, only these functions of it are checked."""
-        report = self._check([], functions if is_current(self.crate) else [])
-        if report.is_proved() and report.unread() is None:
-            return Outcome("", True, "without its edits it is proved")
-        return Outcome("", False, f"without its edits it is NOT PROVED: {report.lines[-1]}")
+        """Whether these functions are proved without their edits in such a check, and the crate as a whole: by its
+        library, which is built only if all of it is proved, or else by a check."""
+        report = self._check([], functions)
+        refused = [it.symbols[0] for it in functions if report.ruling(it).kind is not Kind.PROVED]
+        if (why := report.unread()) is not None or refused:
+            return Outcome("", False, f"without its edits it is NOT PROVED: {why or ', '.join(refused)}")
+        if not is_current(self.crate) and not (report := self._check([], [])).is_proved():
+            return Outcome("", False, f"without its edits it is NOT PROVED: {report.lines[-1]}")
+        return Outcome("", True, "without its edits it is proved")
 
     def _check(self, edits: list[Edit], functions: list[Function]) -> Report:
-        """What a check of these functions and what they call says, or one of the whole crate if there are none."""
+        """What a check of these functions says, in which all others are taken at their word, or one of the whole crate
+        if there are none."""
         self.say(f"{self.crate.name}: a check {f'of {len(edits)} edits' if edits else 'without edits'}")
         texts = self.sources.with_bodies(edits)
         asked = [word for it in functions for word in ("--only", it.asked)]
-        ran = toolchain.rt().checked(self.crate, texts, ["--jobs", "1", *asked], self.kept)
+        others = [it for it in self.sources.functions if it not in functions and len(it.symbols) == 1]
+        ran = check(self.crate, texts, asked, self.kept, others if functions else [])
         return Report(ran.returncode, ran.stdout, set(texts))
 
 

@@ -1,9 +1,11 @@
 """What a check of an edited crate says of each of its functions.
 
 The checker has one line for each function, and ends with `logic=proved` or `logic=not-proved`, or if it was asked for
-some functions alone, with `only=N proved=M`:
+some functions alone, with `only=N proved=M`, and with `only=N holes=M` if proofs are left open:
 
     fn base::key: proved
+    fn base::value: no holes
+    fn base::field: depends on a hole in `Rattle.base.proofs.key.Proof.key_spec`
     fn base::fits: no proof: expected answers in ./proofs/fits/Answers.antt; `search` did not prove `returns`
     fn base::text: not proved
     fn base::line: no proof: it calls `base::key`, which is not proved
@@ -34,9 +36,10 @@ STALE = re.compile(r"has no field|is not in scope|has no `|was not admitted")
 # A goal of the function's own promises: its clauses, a loop's invariant, or what its type always keeps. The other goals
 # are of arithmetic, of bounds, of an end, or of what a call requires.
 PROMISE = re.compile(r"returns(-|$)|invariant_of-|(?!.*-requires(-|$)).*-(init|preserved)(-|$)")
-# The last lines of a check that ended.
-ALL_PROVED = re.compile(r"logic=proved |only=(\d+) proved=\1$")
-SOME_REFUSED = re.compile(r"logic=not-proved|only=\d+ proved=\d+$")
+# What is said of a function that is proved, by the contracts of those whose proofs are left open.
+PROVED = re.compile(r"proved$|no holes$|depends on a hole in ")
+# The last line of a check that ended.
+JUDGED = re.compile(r"logic=(not-)?proved\b|only=\d+ (proved|holes)=\d+$")
 
 
 class Kind(Enum):
@@ -67,7 +70,8 @@ class Report:
         self.edited = edited
 
     def is_proved(self) -> bool:
-        return self.status == 0 and bool(ALL_PROVED.match(self.lines[-1]))
+        """Whether the whole crate is proved."""
+        return self.status == 0 and self.lines[-1].startswith("logic=proved ") and self.unread() is None
 
     def unread(self) -> str | None:
         """The line that shows that the crate wasn't judged, if it wasn't."""
@@ -75,7 +79,7 @@ class Report:
         for line in self.lines:
             if rt.unread(line, self.edited) or rt.rtlib.STALE.search(line):
                 return line
-        if self.is_proved() or (self.status == 1 and SOME_REFUSED.match(self.lines[-1])):
+        if self.status in (0, 1) and JUDGED.match(self.lines[-1]):
             return None
         return next((it for it in self.lines if "error" in it), self.lines[-1])
 
@@ -83,7 +87,7 @@ class Report:
         """What became of a function. The crate must have been judged."""
         heads = tuple(f"fn {it}: " for it in function.symbols)
         found = [it.split(": ", 1)[1] for it in self.lines if it.startswith(heads)]
-        if found == ["proved"]:
+        if len(found) == 1 and PROVED.match(found[0]):
             return Ruling(Kind.PROVED)
         if len(found) != 1 or not re.match(r"no proof: |not proved(;|$)", found[0]):
             return Ruling(Kind.UNREAD, tuple(found))
