@@ -3,10 +3,10 @@
 usage: python3 tests/refused [--only CRATE] [--list]
 
 An edit gives one function another body, in the form of a file of must-fail/. Many are applied at once, one a function,
-and each is judged by what the check says of its own function: a promise of that function must be refused. It fails if
-it doesn't apply, changes more than a body, can't be read, or if its function is proved, or refused only by arithmetic,
-by bounds or by what a call requires. At the end the crate without its edits must be proved over the same work: all of
-it, unless its library is built from the sources as they are; then some functions of it.
+and each is judged by what the check says of its own function, while all others are taken at their word: a promise of
+that function must be refused. It fails if it doesn't apply, changes more than a body, can't be read, or if its function
+is proved, or refused only by arithmetic, by bounds or by what a call requires. At the end each function must be proved
+without its edits, and so must the crate, unless its library is built from the sources as they are.
 
 The libraries below a crate are taken as `rt ci` left them, and built if they aren't there or older than their sources.
 RT_JOBS is how many crates are judged side by side; without it, as many as there are processors and memory for.
