@@ -2,4 +2,5 @@ pub mod AnswersRead
 pub mod Gathering
 pub mod Sources
 pub mod Taking
+pub mod Uploads
 pub mod Verdicts

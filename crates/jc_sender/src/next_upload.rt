@@ -1,17 +1,19 @@
 //! `upload`: the next upload of a source.
 
-ghost use Rattle.std.specs.Prelude.{◌≡◌, ◌≢◌, ◌⊎◌, Bool, ℕ, IfOk, IfErr, OnOk};
+ghost use Rattle.std.specs.Prelude.{◌≡◌, ◌≢◌, Bool, ℕ, List, Some, IfOk, IfErr, OnOk};
 ghost use Rattle.std.specs.Io.KnownBytes.{Appends, Keeps};
 ghost use Rattle.jc_sender.specs.Failing.{UploadFailsBy};
-ghost use Rattle.jc_sender.specs.Sent.{MakesUpload, TellsSomeUpload, TellsUpload, WhyNoUpload};
+ghost use Rattle.jc_sender.specs.Sent.{MakesUpload, TellsSomeUpload, WhyNoSomeUpload, WhyNoUpload};
 
 use crate::resume_file::read_resume;
-use crate::source::{check_file, export_entries, read_source};
+use crate::source::{check_file, open_source};
 use jc_args::{InputKind, Source};
-use jc_console::{Failure, printed, source_id};
+use jc_base::{ByteStream, Ending, FromRead, Limits};
+use jc_console::{Failure, printed, read_front, source_id};
+use jc_export::{Stream, canonical_texts_read_back, one_reading};
 use jc_upload::{Uploader, file_upload};
 use std::alloc::Global;
-use std::io::Write;
+use std::io::{Read, Write};
 use std::rt::Files;
 
 /// Prints the next upload of a source. If it is to be `whole`, a collector takes all of it or nothing; a journal file's
@@ -30,77 +32,68 @@ pub fn upload<'a, R: Files + AllocGlobal, O: Write>(
 {
     let id = source_id(source.id)?;
     let resume = read_resume(rt, source.resume)?;
-    let bytes = read_source(rt, source)?;
     let uploader = Uploader::new(id, resume);
-    tell_upload(
-        rt.alloc(),
-        &uploader,
-        source.kind,
-        limit,
-        whole,
-        &bytes,
-        output,
-    )
-}
-
-/// Prints the next upload of a source with these bytes.
-fn tell_upload<'a, O: Write>(
-    alloc: Global,
-    uploader: &Uploader,
-    kind: InputKind,
-    limit: u64,
-    whole: bool,
-    bytes: &[u8],
-    output: &mut O,
-) -> Result<(), Failure<'a>>
-    ensures told { OnOk result (TellsUpload kind uploader.now limit whole bytes.now (O.contents output.old)
-        (O.contents output.new)) }
-    ensures failed { IfErr result (λ failure. (failure ≡ Failure.WriteFailed)
-        ⊎ WhyNoUpload kind uploader.now bytes.now failure) }
-    ensures untouched { IfErr result (λ failure. failure ≢ Failure.WriteFailed
-        → Keeps (O.contents output.old) (O.contents output.new)) }
-{
-    let upload = made_upload(alloc, uploader, kind, limit, whole, bytes)?;
+    let file = open_source(rt, source)?;
+    let upload = made_upload(rt.alloc(), &uploader, source.kind, limit, whole, file)?;
     write_out(&upload, output)
 }
 
-/// The next upload of a source with these bytes.
-fn made_upload<'a>(
+/// The next upload of a source whose bytes a reader gives. A journal file is read up to one byte over the limit of a file:
+/// more would change nothing.
+fn made_upload<'a, F: Read + Drop>(
     alloc: Global,
     uploader: &Uploader,
     kind: InputKind,
     limit: u64,
     whole: bool,
-    bytes: &[u8],
+    file: F,
 ) -> Result<Vec<u8>, Failure<'a>>
-    ensures made { IfOk result (λ upload. MakesUpload kind uploader.now limit whole bytes.now upload.items) }
-    ensures failed { IfErr result (WhyNoUpload kind uploader.now bytes.now) }
+    ensures made { IfOk result (λ upload. (bytes : List ℕ)
+        × MakesUpload kind uploader.now limit whole bytes upload.items) }
+    ensures failed { IfErr result (WhyNoSomeUpload kind) }
 {
     match kind {
-        InputKind::Export => export_upload(alloc, uploader, limit, whole, bytes),
-        InputKind::File => journal_upload(alloc, uploader, bytes),
+        InputKind::Export => export_upload(alloc, uploader, limit, whole, FromRead::new(file)),
+        InputKind::File => {
+            let bytes = read_front(alloc, file, Limits::default().file + 1)?;
+            journal_upload(alloc, uploader, &bytes)
+        }
     }
 }
 
-fn export_upload<'a>(
+/// The next upload of an export stream that a device gives. Its entries are read to their end, and no more of them are
+/// kept than the upload carries.
+fn export_upload<'a, R: ByteStream + Drop>(
     alloc: Global,
     uploader: &Uploader,
     limit: u64,
     whole: bool,
-    bytes: &[u8],
+    device: R,
 ) -> Result<Vec<u8>, Failure<'a>>
-    ensures made { IfOk result (λ upload. MakesUpload InputKind.Export uploader.now limit whole bytes.now upload.items) }
-    ensures failed { IfErr result (WhyNoUpload InputKind.Export uploader.now bytes.now) }
+    ensures made { IfOk result (λ upload. (bytes : List ℕ)
+        × MakesUpload InputKind.Export uploader.now limit whole bytes upload.items) }
+    ensures failed { IfErr result (WhyNoSomeUpload InputKind.Export) }
+    // If the device's bytes are known, the upload is theirs.
+    ensures bytes { (bytes : List ℕ) → R.remaining device ≡ Some bytes → IfOk result (λ upload.
+        MakesUpload InputKind.Export uploader.now limit whole bytes upload.items) }
+    ensures why { (bytes : List ℕ) → R.remaining device ≡ Some bytes → IfErr result (λ failure.
+        failure ≢ Failure.ReadFailed → WhyNoUpload InputKind.Export uploader.now bytes failure) }
 {
-    let entries = export_entries(alloc, bytes)?;
-    if whole {
-        let upload = uploader.next_upload2(alloc, &entries, limit, true)?;
-        return Ok(upload);
+    // Do nothing: the proof has from them that the bytes have no other reading, and that entries which a stream may have
+    // are read back from their canonical texts.
+    one_reading();
+    canonical_texts_read_back();
+    let mut entries = Stream::new(alloc, device, Limits::default())?;
+    let (excerpt, ending) = uploader.excerpt(alloc, &mut entries, limit)?;
+    match ending {
+        Ending::End { left: _ } => {}
+        Ending::Bad(fault) => return Err(Failure::Bad(fault)),
     }
-    let upload = uploader.next_upload(alloc, &entries, limit)?;
+    let upload = uploader.next_upload_of(alloc, &excerpt, whole)?;
     Ok(upload)
 }
 
+/// The next upload of a journal file with these bytes.
 fn journal_upload<'a>(
     alloc: Global,
     uploader: &Uploader,

@@ -13,6 +13,13 @@ use jc_file::{FileEntries, SliceSpace};
 use std::alloc::Global;
 use std::rt::Files;
 
+/// The file of a source.
+pub fn open_source<'a, R: Files>(rt: &R, source: Source<'a>) -> Result<R::File, Failure<'a>>
+    ensures { IfErr result (λ failure. failure ≡ Failure.CannotOpen source.entry.file) }
+{
+    open_file(rt, source.file)
+}
+
 /// The bytes of a source's file. A journal file is read up to one byte over the limit of a file: more would change
 /// nothing.
 pub fn read_source<'a, R: Files + AllocGlobal>(
@@ -22,7 +29,7 @@ pub fn read_source<'a, R: Files + AllocGlobal>(
     ensures { IfErr result (λ failure. (failure ≡ Failure.CannotOpen source.entry.file) ⊎ (failure ≡ Failure.ReadFailed)
         ⊎ (failure ≡ Failure.OutOfMemory)) }
 {
-    let mut file = open_file(rt, source.file)?;
+    let mut file = open_source(rt, source)?;
     match source.kind {
         InputKind::Export => read_whole(rt.alloc(), &mut file),
         InputKind::File => read_front(rt.alloc(), file, Limits::default().file + 1),
