@@ -41,6 +41,15 @@ class Told:
             lines.append(self.line())
         return lines
 
+    def is_harmed(self):
+        """Whether a disk met its harm. That alone may keep the database from being closed, which is said first."""
+        line = self.line()
+        if line != "not closed":
+            return line == "harmed"
+        if self.line() != "harmed":
+            raise ValueError("a database on sound disks isn't closed")
+        return True
+
     def entries(self):
         """The journal's text, or the line that says why there is none."""
         found = re.match(rb"entries (\d+)\n", self.rest)
@@ -75,7 +84,7 @@ class Case:
         """A disk stops; answers whether it did."""
         what = f"{self.name}, {kind} {disk} {number}"
         told = self.run(what, kind, f"{disk}:{number}", *self.collect, "export", "all", *self.collect, "export", "all")
-        lines, is_met = told.answers(len(self.uploads)), told.line() == "harmed"
+        lines, is_met = told.answers(len(self.uploads)), told.is_harmed()
         if not is_met:
             self.trial.expect(f"{what}: undisturbed", lines, self.usual)
         self.left(what, told, self.journals_after(what, lines))
@@ -108,19 +117,32 @@ class Case:
             self.trial.expect(f"{what}: again", again, self.answers(found[0].copy()))
             self.trial.expect(f"{what}: complete", (complete, told.rest), (self.complete.text(), b""))
 
-    def rotten(self, disk, place):
+    def closing(self):
+        """The number of calls of the database after which it is complete but for what is in the log."""
+        for number in range(1000):
+            what = f"{self.name}, stopped as it is closed, {number}"
+            told = self.run(what, "stop", f"db:{number}", *self.collect)
+            if told.answers(len(self.uploads)) == self.usual:
+                self.trial.expect(f"{what}: not closed", told.rest, b"not closed\nharmed\n")
+                return number
+        raise ValueError("no upload is ever answered")
+
+    def rotten(self, disk, place, closing):
         """A byte of a whole journal can't be read while the uploads are sent again and the entries are listed; answers whether there is
-        such a byte, and whether it was noticed."""
-        what = f"{self.name}, rot {disk} {place}"
+        such a byte, and whether it was noticed. What is stored is in the log if the database had stopped as it was closed."""
+        what = f"{self.name}, rot {disk} {place}" + ", not closed" * (closing is not None)
+        left = () if closing is None else ("stop", f"db:{closing}")
         rot = ("rot", f"{disk}:{place}")
-        told = self.run(what, *self.collect, *rot, *self.collect, *rot, "export", "all", "export", "all")
+        told = self.run(what, *left, *self.collect, *rot, *self.collect, *rot, "export", "all", "export", "all")
         self.trial.expect(f"{what}: answers", told.answers(len(self.uploads)), self.usual)
+        if left:
+            self.trial.expect(f"{what}: not closed", told.is_harmed(), True)
         usual = self.answers(self.complete.copy())
-        lines, is_met = told.answers(len(self.uploads)), told.line() == "harmed"
+        lines, is_met = told.answers(len(self.uploads)), told.is_harmed()
         sound = len(lines) == len(usual) and all(line in (wanted, FAILED) for line, wanted in zip(lines, usual))
         self.trial.expect(f"{what}: {lines}, over it", sound or lines in CLOSED, True)
         entries, text = told.entries(), self.complete.text()
-        told.line()
+        told.is_harmed()
         sound = entries == text or bool(re.fullmatch(r"not opened|bad 6[245] \d+|stopped 62 \d+", str(entries)))
         self.trial.expect(f"{what}: {entries}, over it", sound, True)
         self.trial.expect(f"{what}: afterwards", (told.entries(), told.rest), (text, b""))
@@ -152,11 +174,14 @@ def stops(trial, pool):
 
 def rot(trial, pool):
     case = Case(trial, "two uploads", [samples.stream(samples.E1), samples.stream(samples.E2, samples.E3)])
-    bytes_tried = [one for disk in DISKS for one in upwards(pool, lambda place, disk=disk: case.rotten(disk, place), ROT_STRIDE)]
-    count = sum(noticed for _, noticed in bytes_tried)
-    print(f"disks: {len(bytes_tried)} bytes that can't be read, {count} of them noticed")
-    trial.expect("some bytes are noticed, and some are of no use to anybody", 0 < count < len(bytes_tried), True)
-    return len(bytes_tried)
+    tried = 0
+    for closing, left in ((None, "closed"), (case.closing(), "not closed")):
+        found = [one for disk in DISKS for one in upwards(pool, lambda place, disk=disk: case.rotten(disk, place, closing), ROT_STRIDE)]
+        count = sum(noticed for _, noticed in found)
+        print(f"disks: {left}: {len(found)} bytes that can't be read, {count} of them noticed")
+        trial.expect(f"{left}: some bytes are noticed, and some are of no use to anybody", 0 < count < len(found), True)
+        tried += len(found)
+    return tried
 
 
 def main():

@@ -1,8 +1,9 @@
 //! Two disks in memory for a database, and what befalls them.
 
 use crate::tables::Task;
-use sqlite::{Connection, Files, Options};
-use sqlite_disk::{Crash, Disk, Fuse, Memory, Rot};
+use crate::worn::Worn;
+use sqlite::{Connection, FileStore, Files, Options};
+use sqlite_disk::{Crash, Disk, Fuse, Memory};
 use std::alloc::Global;
 use std::io;
 use std::io::Write;
@@ -12,6 +13,9 @@ const NEVER: u64 = u64::MAX;
 
 /// What new databases draw their random numbers from: each run is like the others.
 const SEED: u64 = 1;
+
+/// A disk in memory that any harm can befall.
+type Harmed = Worn<Fuse<Memory>>;
 
 #[derive(Clone, Copy, Debug, PartialEq, Eq)]
 enum Kind {
@@ -96,42 +100,20 @@ impl Disks {
     pub fn perform(&mut self, task: &Task<'_>, told: &mut Vec<u8>) -> io::Result<()> {
         let harm = self.harm;
         self.harm = Harm::NOTHING;
-        if harm.kind == Kind::Rot {
-            self.perform_rotten(harm, task, told)
-        } else {
-            self.perform_fused(harm, task, told)
-        }
-    }
-
-    fn perform_fused(&mut self, harm: Harm, task: &Task<'_>, told: &mut Vec<u8>) -> io::Result<()> {
+        let is_rotten = harm.kind == Kind::Rot
+            && (harm.log < self.log.len() as u64 || harm.db < self.db.len() as u64);
         let files = Files {
-            log: Fuse::new(disk(self.alloc, &self.log)?, harm.log),
-            db: Fuse::new(disk(self.alloc, &self.db)?, harm.db),
+            log: disk(self.alloc, &self.log, harm.kind, harm.log)?,
+            db: disk(self.alloc, &self.db, harm.kind, harm.db)?,
         };
         let mut left = perform(self.alloc, files, task, told)?;
-        let is_met = has_stopped(&mut left.log) || has_stopped(&mut left.db);
+        let is_met = is_rotten || has_stopped(&mut left.log) || has_stopped(&mut left.db);
         harm.tell(is_met, told)?;
         if harm.kind == Kind::Lose {
             left.log.crash();
             left.db.crash();
         }
-        self.keep(left.log.inner(), left.db.inner())
-    }
-
-    fn perform_rotten(
-        &mut self,
-        harm: Harm,
-        task: &Task<'_>,
-        told: &mut Vec<u8>,
-    ) -> io::Result<()> {
-        let is_met = harm.log < self.log.len() as u64 || harm.db < self.db.len() as u64;
-        let files = Files {
-            log: Rot::new(disk(self.alloc, &self.log)?, harm.log as usize),
-            db: Rot::new(disk(self.alloc, &self.db)?, harm.db as usize),
-        };
-        let left = perform(self.alloc, files, task, told)?;
-        harm.tell(is_met, told)?;
-        self.keep(left.log.inner(), left.db.inner())
+        self.keep(left.log.disk().inner(), left.db.disk().inner())
     }
 
     /// The files have what is on these disks from now on.
@@ -142,12 +124,16 @@ impl Disks {
     }
 }
 
-/// A disk on which these bytes outlive a loss of power.
-fn disk(alloc: Global, bytes: &[u8]) -> io::Result<Memory> {
+/// A disk that harm of a kind befalls at a number. These bytes outlive a loss of power.
+fn disk(alloc: Global, bytes: &[u8], kind: Kind, number: u64) -> io::Result<Harmed> {
     let mut disk = Memory::new(alloc);
     disk.write_at(0, bytes)?;
     disk.sync()?;
-    Ok(disk)
+    let (calls, bad) = match kind {
+        Kind::Rot => (NEVER, number),
+        Kind::Nothing | Kind::Stop | Kind::Lose => (number, NEVER),
+    };
+    Ok(Worn::new(Fuse::new(disk, calls), bad))
 }
 
 /// Whether a disk answers no more.
@@ -167,10 +153,24 @@ fn perform<D: Disk + Drop>(
         return Ok(files);
     }
     match Connection::open_files(alloc, files, Options::new(SEED)) {
-        Ok(conn) => Ok(task.perform(alloc, conn, told)?.close()),
+        Ok(conn) => close(task.perform(alloc, conn, told)?, told),
         Err((_, left)) => {
             writeln!(told, "not opened")?;
             Ok(left.into_files())
+        }
+    }
+}
+
+/// Closes a database as a program does, and gives back what it is in: what the log has is copied first.
+fn close<D: Disk + Drop>(
+    conn: Connection<FileStore<D>>,
+    told: &mut Vec<u8>,
+) -> io::Result<Files<D>> {
+    match conn.close_files() {
+        Ok(files) => Ok(files),
+        Err((_, store)) => {
+            writeln!(told, "not closed")?;
+            Ok(store.close())
         }
     }
 }

@@ -12,6 +12,7 @@ mod readings;
 mod recorded;
 mod tables;
 mod told;
+mod worn;
 
 use calls::Calls;
 use std::io::Write;

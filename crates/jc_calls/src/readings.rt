@@ -81,18 +81,9 @@ pub fn feed_whole(
         };
         rest = rest.split_at(used.min(rest.len())).1;
         write!(told, "feed {used} held {}", scanner.held())?;
-        if let Some((name, value)) = scanner.field_at(0) {
-            write!(told, " field {} {}", name.len(), value.len())?;
-        }
-        match scanner.finish() {
-            Some(Step::End { left }) => write!(told, " left {left}")?,
-            Some(Step::Bad(fault)) => write!(told, " bad {} {}", fault.code, fault.place)?,
-            _ => write!(told, " waits")?,
-        }
+        tell_held(told, &scanner)?;
         match scanner.take() {
-            Ok(Some(Step::Entry(_))) => writeln!(told, " entry")?,
-            Ok(Some(_)) => writeln!(told, " fault")?,
-            Ok(None) => writeln!(told, " none")?,
+            Ok(taken) => tell_taken(told, taken)?,
             Err(OutOfMemory) => return writeln!(told, " refused"),
         }
         if used == 0 {
@@ -100,6 +91,26 @@ pub fn feed_whole(
         }
     }
     Ok(())
+}
+
+/// Writes the first field that a scanner holds, and how the stream would end here.
+fn tell_held(told: &mut Vec<u8>, scanner: &Scanner) -> io::Result<()> {
+    if let Some((name, value)) = scanner.field_at(0) {
+        write!(told, " field {} {}", name.len(), value.len())?;
+    }
+    match scanner.finish() {
+        Some(Step::End { left }) => write!(told, " left {left}"),
+        Some(Step::Bad(fault)) => write!(told, " bad {} {}", fault.code, fault.place),
+        _ => write!(told, " waits"),
+    }
+}
+
+fn tell_taken(told: &mut Vec<u8>, taken: Option<Step>) -> io::Result<()> {
+    match taken {
+        Some(Step::Entry(_)) => writeln!(told, " entry"),
+        Some(_) => writeln!(told, " fault"),
+        None => writeln!(told, " none"),
+    }
 }
 
 /// Feeds a piece to a scanner, if the bytes can be counted.

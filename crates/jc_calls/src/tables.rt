@@ -21,26 +21,26 @@ pub enum Task<'a> {
 }
 
 impl Task<'_> {
-    /// Performs it over a database, and gives back what that is stored in.
+    /// Performs it over a database, and gives that back.
     pub fn perform<S: Alter + Drop>(
         &self,
         alloc: Global,
         conn: Connection<S>,
         told: &mut Vec<u8>,
-    ) -> io::Result<S> {
+    ) -> io::Result<Connection<S>> {
         let is_new = is_empty(&conn);
         if is_new && !matches!(self, Task::Collect(_)) {
             writeln!(told, "no tables")?;
-            return Ok(conn.into_store());
+            return Ok(conn);
         }
         match journal(alloc, conn, is_new) {
             Ok(mut keeper) => {
                 self.perform_on(alloc, &mut keeper, told)?;
-                Ok(keeper.into_connection().into_store())
+                Ok(keeper.into_connection())
             }
             Err((fault, conn)) => {
                 writeln!(told, "bad {} {}", fault.code, fault.row)?;
-                Ok(conn.into_store())
+                Ok(conn)
             }
         }
     }
