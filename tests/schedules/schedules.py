@@ -81,15 +81,15 @@ def schedule(dice, given):
     return ";".join(events), "".join(told).encode() + b"\n" + world.text(), world
 
 
-def run(folder, lines, given):
-    """What the program prints of schedules."""
+def words(folder, lines, given):
+    """The words that have the program take schedules."""
     paths = []
     for name, data in [("schedules", "\n".join(lines).encode()), ("entries", b"".join(entry.text() for entry in POOL)),
                        *((f"bytes-{place}", data) for place, data in enumerate(given))]:
         paths.append(os.path.join(folder, name))
         with open(paths[-1], "wb") as file:
             file.write(data)
-    return subprocess.run([SCHEDULES, *paths], stdout=subprocess.PIPE, check=True, timeout=600).stdout
+    return [SCHEDULES, *paths]
 
 
 def main():
@@ -97,7 +97,8 @@ def main():
     given = pieces()
     drawn_ones = [schedule(dice, given) for _ in range(COUNT)]
     with tempfile.TemporaryDirectory() as folder:
-        told = run(folder, [events for events, _, _ in drawn_ones], given)
+        called = words(folder, [events for events, _, _ in drawn_ones], given)
+        told = subprocess.run(called, stdout=subprocess.PIPE, check=True, timeout=600).stdout
     at = 0
     for events, wanted, _ in drawn_ones:
         if told[at:at + len(wanted)] != wanted:
@@ -113,4 +114,5 @@ def main():
         sys.exit(f"the schedules say too little: {moved} machines moved on, {refused} conflicts, {cut} whole uploads that were cut")
 
 
-main()
+if __name__ == "__main__":
+    main()
