@@ -10,6 +10,7 @@ mod listings;
 mod memory;
 mod other_tables;
 mod readings;
+mod records;
 mod rows;
 mod whole_uploads;
 mod worlds;
