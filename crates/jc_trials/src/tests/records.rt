@@ -41,7 +41,10 @@ fn fields_as_rows_are_exported(rt: HostRuntime) -> Result<(), Fail> {
         Err(_) => Err("stopped")?,
     }
     let wanted = [ENTRY, ENTRY_2].concat(rt.alloc())?;
-    assert_eq!(rt; str::from_utf8(&sink.into_bytes())?, str::from_utf8(&wanted)?);
+    assert_eq!(rt;
+        str::from_utf8(&sink.into_bytes())?,
+        str::from_utf8(&wanted)?
+    );
     Ok(())
 }
 
