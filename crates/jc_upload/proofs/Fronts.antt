@@ -12,6 +12,8 @@ use Rattle.jc_base.specs.declared.limits.Limits.{Limits}
 use Rattle.jc_base.specs.Limit.{AreKept}
 use Rattle.jc_base.specs.LogEntry.{IsEntry, LogEntry}
 use Rattle.jc_base.specs.Reading.{EndsWell, IsFront, Reading, reading}
+use Rattle.jc_export.specs.StreamFault.{IsStreamCode}
+use Rattle.jc_export.specs.StreamFaultLaws.{stream_code}
 use Rattle.jc_export.specs.Cut.{AllFit, ReadsBack, joined}
 use Rattle.jc_export.specs.Stream.{StreamReading}
 use Rattle.jc_file.specs.Bytes.{part}
@@ -119,14 +121,18 @@ all_front front all is same = sym (append-nil front) ∙ ap (λ (l : List LogEnt
     nothing (e ∷ es) h = absurd (omega (arith, h))
 
 whole_ends : (limits : Limits) (entries : List LogEntry) (upload : List ℕ) (cut : ℕ) (s : Reading) (ending : Ending) → s.ending ≡ ending → IsFront s.entries entries
-    → (AllFit limits entries → EndsWell s) → (length s.entries ≡ length entries → length upload ≤ cut)
+    → (AllFit limits entries → EndsWell s) → ((fault : Fault) → s.ending ≡ Bad fault → IsStreamCode fault.code)
+    → (length s.entries ≡ length entries → length upload ≤ cut)
     → EndsWhole limits entries upload cut (whole_of (length entries) s)
-whole_ends limits entries upload cut s (Bad fault) is front ends full =
-    inr (inr (λ fit. let well = ends fit in bad_end fault well.left (sym is ∙ well.ends), (fault, ap (ending_of_whole (length entries) (length s.entries)) is)))
+whole_ends limits entries upload cut s (Bad fault) is front ends codes full =
+    inr (inr (
+      λ fit. let well = ends fit in bad_end fault well.left (sym is ∙ well.ends),
+      (fault, ap (ending_of_whole (length entries) (length s.entries)) is, codes fault is),
+    ))
   where
     bad_end : (fault : Fault) (left : ℕ) → ¬ (Bad fault ≡ End left)
     bad_end fault left h = cc
-whole_ends limits entries upload cut s (End left) is front ends full =
+whole_ends limits entries upload cut s (End left) is front ends codes full =
     let told = ap (ending_of_whole (length entries) (length s.entries)) is in
     elim (counted (length entries) left s (nat_eq left 0) (nat_eq (length s.entries) (length entries)) refl refl) [
       | inl all ↦
@@ -225,6 +231,7 @@ module _ (one_fault : (bytes : List ℕ) (a b : Fault) → IsHeadFault bytes a �
               (whole_ends limits entries (head_text head ++ text) cut b.read b.read.ending refl
               (front limits 0 entries (take (cut - 48) text) (drop (cut - 48) text) b.read are split b.reads)
               (λ fit. ends limits 0 entries (take (cut - 48) text) (drop (cut - 48) text) b.read are fit split b.reads)
+              (λ fault is. stream_code limits 0 (take (cut - 48) text) b.read fault b.reads is)
               (all_read are limits cut b.read enough b.reads));
           whole = λ all fit.
               let full = whole_body cut head text lawful all in

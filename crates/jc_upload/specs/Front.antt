@@ -7,6 +7,7 @@ use Rattle.jc_base.specs.declared.limits.Limits.{Limits}
 use Rattle.jc_base.specs.LogEntry.{LogEntry}
 use Rattle.jc_base.specs.Reading.{EndsWell, IsFront, Reading, reading}
 use Rattle.jc_export.specs.Cut.{AllFit, ReadsBack}
+use Rattle.jc_export.specs.StreamFault.{IsStreamCode}
 use Rattle.jc_file.specs.Cut.{IsCutShort}
 use Rattle.jc_file.specs.FileReading.{IsFileReading}
 use Rattle.jc_upload.specs.Head.{fault_at}
@@ -27,11 +28,11 @@ pub record ReadsFirst (limits : Limits) (entries : List LogEntry) (upload : List
   pub whole : length upload ≤ cut → ReadsBack limits entries r
 
 -- A reading of the first bytes of an upload that is to be whole ends with all entries, at full length alone, or in a
--- fault.
+-- fault: 5, or for entries beyond the limits one of a stream.
 abbrev pub EndsWhole : Limits → (entries : List LogEntry) → (upload : List ℕ) → (cut : ℕ) → Reading → Type 0
 EndsWhole limits entries upload cut r =
     ((length upload ≤ cut) × (r ≡ reading entries (End 0))) ⊎ (r.ending ≡ Bad (fault_at Incomplete (length r.entries)))
-    ⊎ (¬ AllFit limits entries × ((fault : Fault) × (r.ending ≡ Bad fault)))
+    ⊎ (¬ AllFit limits entries × ((fault : Fault) × (r.ending ≡ Bad fault) × IsStreamCode fault.code))
 
 -- What the first bytes of an upload of entries that is to be whole are read as: the first of these entries, and then the
 -- fault that it is incomplete, or for entries beyond the limits a fault of its body, or none if all bytes are there. The
