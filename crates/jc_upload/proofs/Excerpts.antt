@@ -72,7 +72,7 @@ key_other xs e zero apart = refl
 key_other xs e (suc n) apart =
     ap (option_map (λ (x : LogEntry). x.key)) (get_other xs e n (λ same. apart (omega arith)))
 
-one_more : (xs : List LogEntry) (e : LogEntry) → length (xs ++ e ∷ []) ≡ length xs + 1
+pub one_more : (xs : List LogEntry) (e : LogEntry) → length (xs ++ e ∷ []) ≡ length xs + 1
 one_more xs e = length-append xs (e ∷ [])
 
 behind : (xs : List LogEntry) (e : LogEntry) (position : ℕ) → position ≤ length xs

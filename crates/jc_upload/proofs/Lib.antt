@@ -6,3 +6,4 @@ pub mod ResumeLemmas
 pub mod Sayings
 pub mod Fronts
 pub mod Excerpts
+pub mod Marking

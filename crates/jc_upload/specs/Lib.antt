@@ -7,3 +7,4 @@ pub mod Upload
 pub mod Says
 pub mod Front
 pub mod Excerpt
+pub mod Marks

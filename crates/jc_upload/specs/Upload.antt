@@ -1,5 +1,5 @@
 -- What a sender keeps, the uploads that it makes, and what an answer to one changes. (own)
-use Rattle.std.specs.Prelude.{ℕ, zero, suc, ◌≡◌, ◌+◌, ◌<◌, ◌≤◌, Bool, List, ◌++◌, length, take, drop, flat_map, slice_get, Option, None}
+use Rattle.std.specs.Prelude.{ℕ, zero, suc, ◌≡◌, ◌⊎◌, ◌+◌, ◌<◌, ◌≤◌, Bool, List, [], ◌∷◌, ◌++◌, length, take, drop, flat_map, slice_get, Option, None}
 use Rattle.std.specs.Option.{option_map}
 use Rattle.jc_base.specs.declared.id.Id128.{Id128}
 use Rattle.jc_base.specs.declared.id.Key.{Key}
@@ -83,3 +83,15 @@ acked_to (No of code place) = 0
 -- the sender once its point is there
 abbrev pub moved_to : Sender → List LogEntry → ℕ → Sender
 moved_to sender entries n = record { source = sender.source; point = point_behind entries n }
+
+-- The sender before an answer and after it: the answer moves it on, or nothing changes.
+abbrev pub TakesAnswer : List LogEntry → Answer → (before after : Sender) → Type 0
+TakesAnswer entries answer before after =
+    (Advances before entries answer × (after ≡ moved_to before entries (acked_to answer)))
+    ⊎ ((¬ Advances before entries answer) × (after ≡ before))
+
+-- ... and after several, in their order.
+abbrev pub TakesAnswers : List LogEntry → List Answer → (before after : Sender) → Type 0
+TakesAnswers entries [] before after = after ≡ before
+TakesAnswers entries (answer ∷ answers) before after =
+    (middle : Sender) × TakesAnswer entries answer before middle × TakesAnswers entries answers middle after

@@ -6,6 +6,7 @@ mod excerpt;
 mod head;
 mod law;
 mod line;
+mod marks;
 mod resume;
 mod uploader;
 

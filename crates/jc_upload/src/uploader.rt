@@ -1,6 +1,6 @@
 //! The sender's part: which entries an upload carries, and when a resume point moves on.
 
-ghost use Rattle.std.specs.Prelude.{◌≡◌, ◌↔◌, ◌≤◌, ◌⊎◌, ◌++◌, ℕ, List, Some, Err, length, flat_map, IsTrue, IfOk, IfErr, OnOk, IsErrOf, MatchOption};
+ghost use Rattle.std.specs.Prelude.{◌≡◌, ◌↔◌, ◌<◌, ◌≤◌, ◌⊎◌, ◌^◌, ◌++◌, ℕ, List, Some, Err, length, flat_map, IsTrue, IfOk, IfErr, OnErr, OnOk, IsErrOf, MatchOption};
 ghost use Rattle.std.specs.Bool.{OnTrue, OnFalse};
 ghost use Rattle.std.specs.List.{All};
 ghost use Rattle.std.specs.Io.KnownBytes.{Appends};
@@ -14,8 +14,10 @@ ghost use Rattle.jc_upload.specs.declared.uploader.UploadFault.TheVariants as fa
 ghost use Rattle.jc_upload.specs.Excerpt.{AreOfStream, Gave, IsExcerpt, IsStreamEnding, IsNextUpload, head_by};
 ghost use Rattle.jc_upload.specs.Front.{CutsBy, CutsOfExport, CutsOfFile, CutsOfSecond};
 ghost use Rattle.jc_upload.specs.Head.{IsHead, head_text};
-ghost use Rattle.jc_upload.specs.Upload.{Advances, Agrees, acked_to, export_head, file_head, file_upload_of, moved_to, next_upload2_of, next_upload_of, point_behind, second_head, sent_of};
+ghost use Rattle.jc_upload.specs.Marks.{AsksFor, IsAsked, IsMarked};
+ghost use Rattle.jc_upload.specs.Upload.{Advances, Agrees, TakesAnswer, TakesAnswers, acked_to, export_head, file_head, file_upload_of, moved_to, next_upload2_of, next_upload_of, point_behind, second_head, sent_of};
 
+use crate::marks::Marks;
 use crate::{Answer, Excerpt, Kind, Resume, UploadHead, Version, fronts_of_uploads};
 use jc_base::{
     ByteSink, ByteStream, Ending, Entry, EntrySource, Id128, OutOfMemory, Step, Stop, VecSink,
@@ -258,6 +260,76 @@ impl Uploader {
         };
         self.resume = point_behind(entries, end);
         true
+    }
+
+    /// Takes answers in their order, over the entries that an export stream gives up to its end, and answers how they end.
+    /// Of the entries no more is kept than the points that the answers ask for. After an `Err` nothing has changed.
+    pub fn on_answers<R: ByteStream>(
+        &mut self,
+        alloc: Global,
+        source: &mut Stream<R>,
+        answers: &[Answer],
+    ) -> Result<Ending, Stop>
+        ensures taken { IfOk result (λ ending. (entries : List LogEntry)
+            × Gave (⟦<Stream<R> as EntrySource>⟧.remaining source.old) entries ending
+            × AreOfStream (limits_of source.old) entries × TakesAnswers entries answers.now self.old self.new) }
+        ensures stream { IfOk result IsStreamEnding }
+        ensures same { OnErr result (self.new ≡ self.old) }
+        ensures failed { result ≡ Err ReadFailed
+            → Rose (⟦<Stream<R> as EntrySource>⟧.failures source.old) (⟦<Stream<R> as EntrySource>⟧.failures source.new)
+            ⊎ (⟦<Stream<R> as EntrySource>⟧.last source.old ≡ Some (Err ReadFailed)) }
+        ensures borrowed_device { ⟦<Stream<R> as EntrySource>⟧.borrowed_device source.new
+            ≡ ⟦<Stream<R> as EntrySource>⟧.borrowed_device source.old }
+    {
+        let mut marks = Marks::asked(alloc, self.resume.position(), answers)?;
+        let ending = marks.take_all(source)?;
+        self.take_answers(&marks, answers);
+        Ok(ending)
+    }
+
+    /// Takes answers in their order, by the marks of the source's entries.
+    fn take_answers(&mut self, marks: &Marks, answers: &[Answer])
+        ensures { (entries : List LogEntry) → IsMarked entries marks.now
+            → AsksFor self.old.point.position answers.now marks.now → TakesAnswers entries answers.now self.old self.new }
+    {
+        for answer in answers {
+            self.take_answer(marks, answer);
+        }
+    }
+
+    fn take_answer(&mut self, marks: &Marks, answer: &Answer)
+        ensures { (entries : List LogEntry) → IsMarked entries marks.now → IsAsked marks.now self.old.point.position
+            → (acked_to answer.now < 2 ^ 64 → IsAsked marks.now (acked_to answer.now))
+            → TakesAnswer entries answer.now self.old self.new × IsAsked marks.now self.new.point.position }
+    {
+        if let Some(resume) = self.moved_by(marks, answer) {
+            self.resume = resume;
+        }
+    }
+
+    /// The point to which the answer moves the resume point, if it does, by the marks of the source's entries.
+    fn moved_by(&self, marks: &Marks, answer: &Answer) -> Option<Resume>
+        ensures { (entries : List LogEntry) → IsMarked entries marks.now → IsAsked marks.now self.now.point.position
+            → (acked_to answer.now < 2 ^ 64 → IsAsked marks.now (acked_to answer.now))
+            → MatchOption result (¬ Advances self.now entries answer.now)
+            (λ moved. Advances self.now entries answer.now × (moved ≡ point_behind entries (acked_to answer.now))) }
+    {
+        let Answer::Ack {
+            source,
+            start,
+            count,
+            ..
+        } = *answer
+        else {
+            return None;
+        };
+        let position = self.resume.position();
+        let behind = marks.at(position)?;
+        let end = start.checked_add(count)?;
+        if source != self.source || behind != self.resume || start > position || end <= position {
+            return None;
+        }
+        marks.at(end)
     }
 
     /// The position that the answer moves the resume point on to, if it does.

@@ -1,0 +1,43 @@
+-- No entry was given at first, and one more with each.
+use Rattle.std.proofs.Common.{[], ◌∷◌, ◌++◌, arith, refl, rules}
+use Rattle.jc_export.specs.contracts.stream.StreamEntrySource.TheImpl.{remaining-value}
+use Rattle.jc_export.specs.Device.{limits_of}
+use Rattle.jc_upload.proofs.Excerpts.{follows_more, follows_none, of_stream_more, of_stream_none}
+use Rattle.jc_upload.proofs.Marking.{marks_more}
+use Rattle.jc_upload.proofs.marks.Marks.take_all.Goals as goal
+
+pub entries-init : goal.entries-init
+entries-init g c =
+    let remaining = (remaining-value g.row.R g.R.ByteStream g.R.ByteStream-dict).it in
+    record {
+      given = ([], follows_none (remaining c.args.source.now), of_stream_none (limits_of c.args.source.now), c.requires.none);
+      asked = λ n asked. asked;
+      limits = refl;
+      bound = omega (arith, c.requires.none.counted);
+      failures = search rules;
+      last = search rules;
+      borrowed = refl;
+    }
+
+pub entries-preserved : goal.entries-preserved
+entries-preserved g c =
+    let remaining = (remaining-value g.row.R g.R.ByteStream g.R.ByteStream-dict).it in
+    let entry = c.in-Entry.entry in
+    let given = c.entries.invariant.given in
+    let took = c.in_ok-take-in-Entry.ensures in
+    record {
+      given = (
+        given.0 ++ entry ∷ [],
+        follows_more (remaining c.args.source.now) (remaining c.entries.source) (remaining c.next.new.self) given.0 entry
+            c.in_ok-step.step given.1 c.in-Entry.is c.in_ok-step.ensures.gives,
+        of_stream_more (limits_of c.args.source.now) (limits_of c.entries.source) given.0 entry c.in_ok-step.step given.2
+            c.entries.invariant.limits c.in-Entry.is took.lawful c.in_ok-step.ensures.stream,
+        marks_more given.0 entry c.entries.self c.take.new.self given.3 took.count took.here took.others,
+      );
+      asked = λ n asked. took.asked n (c.entries.invariant.asked n asked);
+      limits = search rules;
+      bound = search rules;
+      failures = search rules;
+      last = search rules;
+      borrowed = search rules;
+    }
