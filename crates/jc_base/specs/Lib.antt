@@ -19,3 +19,4 @@ pub mod Turn
 pub mod Listed
 pub mod PairSet
 pub mod PairSetLaws
+pub mod FollowsLaws
