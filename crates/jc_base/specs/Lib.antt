@@ -19,4 +19,5 @@ pub mod Turn
 pub mod Listed
 pub mod PairSet
 pub mod PairSetLaws
+pub mod SetKeptLaws
 pub mod FollowsLaws
