@@ -1,7 +1,5 @@
 pub mod Cut
 pub mod Sets
-pub mod KeptLemmas
-pub mod WentOutLemmas
 pub mod TurnLemmas
 pub mod TextLemmas
 pub mod First

@@ -21,3 +21,5 @@ pub mod PairSet
 pub mod PairSetLaws
 pub mod SetKeptLaws
 pub mod FollowsLaws
+pub mod KeptLaws
+pub mod WentOutLaws

@@ -1,6 +1,6 @@
 use Rattle.std.proofs.Common.{◌∙◌}
 use Rattle.std.proofs.lemmas.List.{take_rest}
-use Rattle.jc_base.proofs.WentOutLemmas.{went_out_more}
+use Rattle.jc_base.specs.WentOutLaws.{went_out_more}
 use Rattle.jc_base.proofs.sink.write_all.Goals as goal
 
 pub loop-at-preserved : goal.loop-at-preserved

@@ -1,5 +1,5 @@
 use Rattle.std.proofs.lemmas.List.{take_rest}
-use Rattle.jc_base.proofs.WentOutLemmas.{went_out_more}
+use Rattle.jc_base.specs.WentOutLaws.{went_out_more}
 use Rattle.jc_database.proofs.answer_sink.write_front.Goals as goal
 
 pub loop-at-preserved : goal.loop-at-preserved
