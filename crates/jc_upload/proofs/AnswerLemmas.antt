@@ -1,16 +1,16 @@
 -- Lines of answers: what is read of them is what is written, and what is written is read again.
-use Rattle.std.proofs.Common.{◌≡◌, ℕ, zero, suc, ◌^◌, ◌<◌, ltb, List, [], ◌∷◌, ◌++◌, Option, Some, None, decimal, refl, sym, ap, subst, ◌∙◌, inl, inr, arith}
+use Rattle.std.proofs.Common.{◌≡◌, ℕ, ◌^◌, ◌<◌, ltb, List, [], ◌∷◌, ◌++◌, Option, Some, None, decimal, refl, sym, ap, subst, ◌∙◌, inl, inr, arith}
 use Rattle.std.specs.Prelude.{codes, IfSome}
-use Rattle.std.specs.List.{All}
 use Rattle.std.proofs.lemmas.Bool.{lt-ltb, ltb-true}
 use Rattle.hex.specs.Hex.{encode_lower}
 use Rattle.jc_base.specs.declared.id.Id128.{Id128}
 use Rattle.jc_upload.specs.declared.answer.Answer.{Answer}
 use Rattle.jc_upload.specs.declared.answer.Answer.TheVariants.{Ack, No}
-use Rattle.jc_upload.specs.Answer.{IsAnswer, IsAck, IsNo, answer_text, answer_words}
+use Rattle.jc_upload.specs.Answer.{IsAnswer, IsAck, IsNo, answer_text}
 use Rattle.jc_upload.specs.Reading.{same_bytes, all_of, word_at, number_at, id_at, pair_at, ack_at, no_at, answer_at}
+use Rattle.jc_upload.specs.WordLaws.{high_ack, high_no}
 use Rattle.jc_upload.proofs.WordLemmas.{same_is}
-use Rattle.jc_upload.proofs.PartLemmas.{bind_some, some_is, chosen, IsHigh, high_none, high_more, high_decimal, high_id, word_again, word_found, number_at_found, number_at_again, id_at_found, id_at_again, pair_then, pair_found, pair_again}
+use Rattle.jc_upload.proofs.PartLemmas.{bind_some, some_is, chosen, word_again, word_found, number_at_found, number_at_again, id_at_found, id_at_again, pair_then, pair_found, pair_again}
 
 -- nothing is behind what was read
 pub all_found : {A : Type 0} (x : A) (bytes : List ℕ) (y : A) → all_of x bytes ≡ Some y → (x ≡ y) × (bytes ≡ [])
@@ -122,41 +122,6 @@ answer_found line answer e =
             | inr none ↦ absurd (cc none.1)
           ]
     ]
-
-high_ack : IsHigh (codes "ack")
-high_ack = high_more 97 (codes "ck") (omega arith) (high_more 99 (codes "k") (omega arith) (high_more 107 [] (omega arith) high_none))
-
-high_no : IsHigh (codes "no")
-high_no = high_more 110 (codes "o") (omega arith) (high_more 111 [] (omega arith) high_none)
-
-high_dash : IsHigh (codes "-")
-high_dash = high_more 45 [] (omega arith) high_none
-
-no_words : All IsHigh []
-no_words k d below = absurd (omega (arith, below))
-
-high_word : (word : List ℕ) (words : List (List ℕ)) → IsHigh word → All IsHigh words → All IsHigh (word ∷ words)
-high_word word words high others zero d below = high
-high_word word words high others (suc k) d below = others k d (omega (arith, below))
-
-high_five : (a b c d e : List ℕ) → IsHigh a → IsHigh b → IsHigh c → IsHigh d → IsHigh e → All IsHigh (a ∷ b ∷ c ∷ d ∷ e ∷ [])
-high_five a b c d e ha hb hc hd he =
-    high_word a (b ∷ c ∷ d ∷ e ∷ []) ha (high_word b (c ∷ d ∷ e ∷ []) hb (high_word c (d ∷ e ∷ []) hc
-    (high_word d (e ∷ []) hd (high_word e [] he no_words))))
-
--- no byte of an answer's words ends a word
-pub high_words : (answer : Answer) → IsAnswer answer → All IsHigh (answer_words answer)
-high_words (Ack source start count new left) ok =
-    high_word (codes "ack") (encode_lower source.0 ∷ decimal start ∷ decimal count ∷ decimal new ∷ decimal left ∷ []) high_ack
-    (high_five (encode_lower source.0) (decimal start) (decimal count) (decimal new) (decimal left) (high_id source.0 ok.source_is)
-    (high_decimal start ok.start_in) (high_decimal count ok.count_in) (high_decimal new ok.new_in) (high_decimal left ok.left_in))
-high_words (No (Some pair) code place) ok =
-    high_five (codes "no") (encode_lower pair.0.0) (decimal pair.1) (decimal code) (decimal place) high_no
-    (high_id pair.0.0 ok.of_is.id) (high_decimal pair.1 ok.of_is.number) (high_decimal code (omega (arith, ok.code_in)))
-    (high_decimal place ok.place_in)
-high_words (No None code place) ok =
-    high_five (codes "no") (codes "-") (codes "-") (decimal code) (decimal place) high_no
-    high_dash high_dash (high_decimal code (omega (arith, ok.code_in))) (high_decimal place ok.place_in)
 
 pub answer_again : (answer : Answer) → IsAnswer answer → answer_at (answer_text answer) ≡ Some answer
 unfolding answer_at

@@ -1,21 +1,20 @@
 -- The parts of a line: a word with the byte that ends it, and what is made of such words.
-use Rattle.std.proofs.Common.{◌≡◌, ℕ, zero, suc, ◌+◌, ◌^◌, ◌<◌, ◌≤◌, Bool, true, false, cond, eqb, List, [], ◌∷◌, ◌++◌, length, get_or, take, drop, Option, Some, None, decimal, refl, sym, ap, subst, ◌∙◌, inl, inr, arith, add-one}
+use Rattle.std.proofs.Common.{◌≡◌, ℕ, ◌+◌, ◌^◌, ◌<◌, Bool, true, false, cond, eqb, List, [], ◌∷◌, ◌++◌, length, get_or, take, drop, Option, Some, None, decimal, refl, sym, ap, subst, ◌∙◌, inl, inr, arith, add-one}
 use Rattle.std.specs.Prelude.{◌⊎◌, IfSome, codes}
 use Rattle.std.specs.List.{position, position_or_len}
 use Rattle.std.proofs.Math.Seq.{drop-cons, drop-append-add}
 use Rattle.std.proofs.lemmas.Bool.{lt-ltb, eqb-true}
 use Rattle.std.proofs.lemmas.Option.{cond_some}
-use Rattle.std.proofs.lemmas.Fmt.{decimal_is_IsNumeral}
 use Rattle.std.proofs.lemmas.List.{length-append, get_or_append_left, get_or_at, take_at, take-append-drop}
 use Rattle.std.proofs.lemmas.List.Quantifiers.{position-Some}
 use Rattle.std.proofs.lemmas.List.Sums.{position_or_len_is}
-use Rattle.std.proofs.lemmas.Str.Parse.{digit_at}
-use Rattle.hex.specs.Hex.{encode_lower, is_hex_digit}
+use Rattle.hex.specs.Hex.{encode_lower}
 use Rattle.jc_base.specs.Number.{IsId}
 use Rattle.jc_base.specs.declared.id.Id128.{Id128}
 use Rattle.jc_upload.specs.Answer.{IsPair}
 use Rattle.jc_upload.specs.Reading.{◌>>=◌, number_of, id_of, same_bytes, word_at, number_at, id_at, dash_at, pair_at}
-use Rattle.jc_upload.proofs.WordLemmas.{same_is, number_found, number_again, id_found, id_again, id_digits}
+use Rattle.jc_upload.proofs.WordLemmas.{same_is, number_found, number_again, id_found, id_again}
+use Rattle.jc_upload.specs.WordLaws.{IsHigh, high_dash, high_decimal, high_id, id_digits}
 
 -- the value of a step that gave one
 pub bind_some : {A B : Type 0} (o : Option A) (f : A → Option B) (y : B) → (o >>= f) ≡ Some y → (x : A) × (o ≡ Some x) × (f x ≡ Some y)
@@ -45,28 +44,6 @@ is_taken true o y e = (refl, e)
 is_taken false o y e = absurd cc
 
 -- ---- words
-
--- no byte of the word ends a word
-abbrev pub IsHigh : List ℕ → Type 0
-IsHigh word = (k : ℕ) → k < length word → 45 ≤ get_or word k 0
-
-pub high_none : IsHigh []
-high_none k below = absurd (omega arith)
-
-pub high_more : (b : ℕ) (word : List ℕ) → 45 ≤ b → IsHigh word → IsHigh (b ∷ word)
-high_more b word high others zero below = high
-high_more b word high others (suc k) below = others k (omega arith)
-
-pub high_decimal : (n : ℕ) → n < 2 ^ 64 → IsHigh (decimal n)
-high_decimal n small k below =
-    let digit = digit_at (decimal n) k (decimal_is_IsNumeral n small).0.1 below in
-    omega arith
-
-hex_high : (c : ℕ) → is_hex_digit c ≡ true → 45 ≤ c
-hex_high c h = grind (arith)
-
-pub high_id : (id : List ℕ) → IsId id → IsHigh (encode_lower id)
-high_id id ok k below = hex_high _ ((id_digits id ok).1 k 0 below)
 
 pub word_again : (end : ℕ) (word rest : List ℕ) → end < 45 → IsHigh word → word_at end (word ++ end ∷ rest) ≡ Some (word, rest)
 unfolding word_at
@@ -135,9 +112,6 @@ dash_found end bytes rest e =
     let taken = cond_some (same_bytes word.0.0 (codes "-")) word.0.1 rest word.2 in
     word_found end bytes word.0 word.1
     ∙ ap (λ w. w ++ end ∷ word.0.1) (same_is word.0.0 (codes "-") taken.0) ∙ ap (λ r. 45 ∷ end ∷ r) taken.1
-
-high_dash : IsHigh (codes "-")
-high_dash = high_more 45 [] (omega arith) high_none
 
 dash_again : (end : ℕ) (rest : List ℕ) → end < 45 → dash_at end (45 ∷ end ∷ rest) ≡ Some rest
 unfolding dash_at

@@ -8,8 +8,9 @@ use Rattle.jc_base.specs.declared.id.Key.{Key}
 use Rattle.jc_upload.specs.Answer.{IsPair}
 use Rattle.jc_upload.specs.Resume.{Point, HasLast, IsPoint, key_of, resume_text}
 use Rattle.jc_upload.specs.Reading.{same_bytes, word_at, number_at, pair_at, point_of, point_at, resume_at}
+use Rattle.jc_upload.specs.WordLaws.{IsHigh, high_none, high_more}
 use Rattle.jc_upload.proofs.WordLemmas.{same_is}
-use Rattle.jc_upload.proofs.PartLemmas.{bind_some, some_is, is_taken, IsHigh, high_none, high_more, word_again, word_found, number_at_found, number_at_again, pair_then, pair_found, pair_again}
+use Rattle.jc_upload.proofs.PartLemmas.{bind_some, some_is, is_taken, word_again, word_found, number_at_found, number_at_again, pair_then, pair_found, pair_again}
 use Rattle.jc_upload.proofs.AnswerLemmas.{all_found}
 
 abbrev point_with : ℕ → Option Key → Point

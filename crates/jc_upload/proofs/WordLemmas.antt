@@ -1,21 +1,21 @@
 -- Words: what is read of them is what is written, and what is written is read again.
-use Rattle.std.proofs.Common.{◌≡◌, ℕ, ◌^◌, ◌<◌, Bool, true, false, ◌&&◌, ltb, eqb, List, length, Option, Some, None, Result, Ok, Err, decimal, refl, sym, ap, subst, ◌∙◌, inl, inr, arith}
-use Rattle.std.specs.Prelude.{◌*◌, is_ok, MatchResult}
+use Rattle.std.proofs.Common.{◌≡◌, ℕ, ◌^◌, ◌<◌, Bool, true, false, ◌&&◌, ltb, eqb, List, length, Option, Some, None, Result, Ok, Err, decimal, refl, sym, ap, subst, ◌∙◌}
+use Rattle.std.specs.Prelude.{is_ok, MatchResult}
 use Rattle.std.specs.Bool.{then_some}
 use Rattle.std.specs.Result.{result_ok}
-use Rattle.std.specs.List.{AllPass}
 use Rattle.std.specs.Str.Parse.{digits_value}
-use Rattle.std.proofs.lemmas.Bool.{and_parts, ltb-true, lt-ltb, eqb-true, cases_lt, false≢true}
+use Rattle.std.proofs.lemmas.Bool.{and_parts, ltb-true, lt-ltb, eqb-true, false≢true}
 use Rattle.std.proofs.lemmas.Option.{cond_some}
 use Rattle.std.proofs.lemmas.Slice.Eq.{bytes_eq-Decides}
 use Rattle.std.proofs.lemmas.Fmt.{decimal_is_IsNumeral}
-use Rattle.std.proofs.lemmas.List.{get_or_past, get_or_default}
-use Rattle.hex.specs.Hex.{decode_of, encode_lower, is_hex_digit, IsBytes}
+use Rattle.std.proofs.lemmas.List.{get_or_default}
+use Rattle.hex.specs.Hex.{decode_of, encode_lower, IsBytes}
 use Rattle.hex.specs.declared.error.FromHexError.{FromHexError}
 use Rattle.hex.proofs.HexLemmas.{decode_of-encode_lower, decode_of-ok}
 use Rattle.jc_base.specs.Number.{IsId}
 use Rattle.jc_base.specs.declared.id.Id128.{Id128}
 use Rattle.jc_upload.specs.Reading.{number_of, id_from, id_of, same_bytes}
+use Rattle.jc_upload.specs.WordLaws.{id_bytes}
 
 abbrev some : {A : Type 0} → A → Option A
 some x = Some x
@@ -74,14 +74,6 @@ decoded_as bytes = Ok bytes
 ok_is : {xs ys : List ℕ} → decoded_as xs ≡ decoded_as ys → xs ≡ ys
 ok_is e = cc
 
--- what an id is, byte by byte
-id_bytes : (id : List ℕ) → IsId id → IsBytes id
-id_bytes id ok i =
-    elim (cases_lt i (length id)) [
-      | inl below ↦ ok.1 i 0 below
-      | inr past ↦ rw (get_or_past id i 0 past) (omega arith)
-    ]
-
 bytes_id : (id : List ℕ) → length id ≡ 16 → IsBytes id → IsId id
 bytes_id id len bytes = (len, λ k d h. rw (get_or_default id k d 0 h) (bytes k))
 
@@ -120,12 +112,6 @@ checked_id word id false ok is back decoded =
     no_id word (λ other lawful e.
     let read = sym decoded ∙ ap decode_of e ∙ decode_of-encode_lower other.0 (id_bytes other.0 lawful) in
     absurd (false≢true (back (e ∙ ap encode_lower (sym (ok_is read))))))
-
--- an id's digits are 32 digits, in either reading of that
-pub id_digits : (id : List ℕ) → IsId id → (length (encode_lower id) ≡ 32) × AllPass is_hex_digit (encode_lower id)
-id_digits id ok =
-    let read = decode_of-ok (encode_lower id) id (decode_of-encode_lower id (id_bytes id ok)) in
-    (read.2 ∙ ap (λ n. 2 * n) ok.0, read.1)
 
 -- ---- results
 

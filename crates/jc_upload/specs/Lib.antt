@@ -6,5 +6,6 @@ pub mod Reading
 pub mod Upload
 pub mod Says
 pub mod Front
+pub mod WordLaws
 pub mod Excerpt
 pub mod Marks

@@ -1,7 +1,8 @@
 use Rattle.std.proofs.Common.{◌≡◌, length, ◌∙◌}
 use Rattle.std.specs.List.{AllPass}
 use Rattle.hex.specs.Hex.{is_hex_digit}
-use Rattle.jc_upload.proofs.WordLemmas.{no_id, checked_id, id_digits}
+use Rattle.jc_upload.proofs.WordLemmas.{no_id, checked_id}
+use Rattle.jc_upload.specs.WordLaws.{id_digits}
 use Rattle.jc_upload.proofs.line.id_of.Goals as goal
 
 pub returns-in_err-id : goal.returns-in_err-id
