@@ -7,7 +7,9 @@ use Rattle.std.proofs.lemmas.Bool.Decides.{eqb_tells}
 use Rattle.std.proofs.lemmas.List.Elements.{All-nil, All-push}
 use Rattle.std.proofs.lemmas.List.{take_all, drop_all, take-append-le, drop-append-le}
 use Rattle.jc_base.specs.declared.source.Step.{Step}
-use Rattle.jc_base.specs.declared.source.Step.TheVariants.{Entry}
+use Rattle.jc_base.specs.declared.source.Step.TheVariants.{Entry, Bad as Faulty}
+use Rattle.jc_base.specs.declared.fault.Ending.TheVariants.{Bad}
+use Rattle.jc_base.specs.declared.fault.Fault.{Fault}
 use Rattle.jc_base.specs.Limit.{AreKept}
 use Rattle.jc_base.specs.LogEntry.{IsEntry, LogEntry}
 use Rattle.jc_base.specs.declared.limits.Limits.{Limits}
@@ -18,7 +20,7 @@ use Rattle.jc_export.specs.StreamFault.{GivesOfStream}
 use Rattle.jc_upload.specs.declared.excerpt.Excerpt.{Excerpt}
 use Rattle.jc_upload.specs.declared.head.Kind.TheVariants.{Export}
 use Rattle.jc_upload.specs.declared.head.UploadHead.{UploadHead}
-use Rattle.jc_upload.specs.Excerpt.{AreOfStream, IsExcerpt, IsNextUpload, head_by}
+use Rattle.jc_upload.specs.Excerpt.{AreOfStream, IsExcerpt, IsNextUpload, IsStreamEnding, head_by}
 use Rattle.jc_upload.specs.Front.{CutsBy, CutsOfSecond}
 use Rattle.jc_upload.specs.Head.{IsHead, head_text}
 use Rattle.jc_upload.specs.Upload.{Agrees, Sender, key_before, sent_of}
@@ -123,6 +125,12 @@ of_stream_more limits now entries e step before same is lawful gives =
       lawful = All-push IsEntry entries e before.lawful lawful;
       fit = All-push (λ (f : LogEntry). AreKept limits f.body.pairs) entries e before.fit kept;
     }
+
+-- the end of a stream is one of a stream under the limits that it began with
+pub of_stream_end : (limits now : Limits) (fault : Fault) (step : Step) → now ≡ limits → step ≡ Faulty fault → GivesOfStream now (Ok step)
+    → IsStreamEnding limits (Bad fault)
+of_stream_end limits now fault step same is gives =
+    subst (λ (s : Step). GivesOfStream limits (Ok s)) is (subst (λ (l : Limits). GivesOfStream l (Ok step)) same gives)
 
 -- an excerpt of entries becomes one of one entry more
 pub grows : (position limit : ℕ) (entries : List LogEntry) (e : LogEntry) (old new : Excerpt)

@@ -8,7 +8,7 @@ use Rattle.jc_base.specs.LogEntry.{IsEntry, LogEntry}
 use Rattle.jc_base.specs.Reading.{Reading}
 use Rattle.jc_export.specs.Canonical.{canon}
 use Rattle.jc_export.specs.Cut.{AllFit}
-use Rattle.jc_export.specs.StreamFault.{IsStreamCode}
+use Rattle.jc_export.specs.StreamFault.{IsStreamFault}
 use Rattle.jc_upload.specs.declared.excerpt.Excerpt.{Excerpt}
 use Rattle.jc_upload.specs.declared.head.UploadHead.{UploadHead}
 use Rattle.jc_upload.specs.Front.{CutsOfSecond}
@@ -26,9 +26,9 @@ pub record AreOfStream (limits : Limits) (entries : List LogEntry) : Type 0 wher
   pub fit : AllFit limits entries
 
 -- An end, or the fault of a stream.
-abbrev pub IsStreamEnding : Ending → Type 0
-IsStreamEnding (End left) = ⊤
-IsStreamEnding (Bad fault) = IsStreamCode fault.code
+abbrev pub IsStreamEnding : Limits → Ending → Type 0
+IsStreamEnding limits (End left) = ⊤
+IsStreamEnding limits (Bad fault) = IsStreamFault limits fault
 
 -- An excerpt of entries at a position: how many there are, the key of the last one before it, and those from there on,
 -- the first of them if more than a limit remain.

@@ -73,7 +73,7 @@ impl Marks {
             × Gave (⟦<Stream<R> as EntrySource>⟧.remaining source.old) entries ending
             × AreOfStream (limits_of source.old) entries × IsMarked entries self.new) }
         ensures asked { OnOk result ((n : ℕ) → IsAsked self.old n → IsAsked self.new n) }
-        ensures stream { IfOk result IsStreamEnding }
+        ensures stream { IfOk result (IsStreamEnding (limits_of source.old)) }
         ensures failed { result ≡ Err ReadFailed
             → Rose (⟦<Stream<R> as EntrySource>⟧.failures source.old) (⟦<Stream<R> as EntrySource>⟧.failures source.new)
             ⊎ (⟦<Stream<R> as EntrySource>⟧.last source.old ≡ Some (Err ReadFailed)) }

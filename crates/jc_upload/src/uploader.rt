@@ -165,7 +165,7 @@ impl Uploader {
         ensures excerpt { IfOk result (λ told. (entries : List LogEntry)
             × Gave (⟦<Stream<R> as EntrySource>⟧.remaining source.old) entries told.1
             × AreOfStream (limits_of source.old) entries × IsExcerpt self.now.point.position limit entries told.0) }
-        ensures stream { IfOk result (λ told. IsStreamEnding told.1) }
+        ensures stream { IfOk result (λ told. IsStreamEnding (limits_of source.old) told.1) }
         ensures failed { result ≡ Err ReadFailed
             → Rose (⟦<Stream<R> as EntrySource>⟧.failures source.old) (⟦<Stream<R> as EntrySource>⟧.failures source.new)
             ⊎ (⟦<Stream<R> as EntrySource>⟧.last source.old ≡ Some (Err ReadFailed)) }
@@ -273,7 +273,7 @@ impl Uploader {
         ensures taken { IfOk result (λ ending. (entries : List LogEntry)
             × Gave (⟦<Stream<R> as EntrySource>⟧.remaining source.old) entries ending
             × AreOfStream (limits_of source.old) entries × TakesAnswers entries answers.now self.old self.new) }
-        ensures stream { IfOk result IsStreamEnding }
+        ensures stream { IfOk result (IsStreamEnding (limits_of source.old)) }
         ensures same { OnErr result (self.new ≡ self.old) }
         ensures failed { result ≡ Err ReadFailed
             → Rose (⟦<Stream<R> as EntrySource>⟧.failures source.old) (⟦<Stream<R> as EntrySource>⟧.failures source.new)

@@ -2,7 +2,7 @@
 use Rattle.std.proofs.Common.{[], ◌∷◌, ◌++◌, arith, refl, rules}
 use Rattle.jc_export.specs.contracts.stream.StreamEntrySource.TheImpl.{remaining-value}
 use Rattle.jc_export.specs.Device.{limits_of}
-use Rattle.jc_upload.proofs.Excerpts.{follows_more, follows_none, of_stream_more, of_stream_none}
+use Rattle.jc_upload.proofs.Excerpts.{follows_more, follows_none, of_stream_end, of_stream_more, of_stream_none}
 use Rattle.jc_upload.proofs.Marking.{marks_more}
 use Rattle.jc_upload.proofs.marks.Marks.take_all.Goals as goal
 
@@ -41,3 +41,8 @@ entries-preserved g c =
       last = search rules;
       borrowed = search rules;
     }
+
+pub returns-in-Bad-clause-stream : goal.returns-in-Bad-clause-stream
+returns-in-Bad-clause-stream g c =
+    of_stream_end (limits_of c.args.source.now) (limits_of c.entries.source) c.in-Bad.fault c.in_ok-step.step
+    c.entries.invariant.limits c.in-Bad.is c.in_ok-step.ensures.stream
