@@ -46,13 +46,14 @@ stand_in chown <<< '#!/bin/sh'
 stand_in hostname <<< $'#!/bin/sh\necho web'
 stand_in ssh-keyscan <<< $'#!/bin/sh\necho "$1 ssh-ed25519 AAAA"'
 stand_in ssh-keygen <<< $'#!/bin/sh\nfor file; do :; done\n: > "$file"\n: > "$file.pub"'
+stand_in runuser <<< $'#!/bin/sh\nshift 3\nexec "$@"'
 stand_in systemd-id128 <<< $'#!/bin/sh\ntr -d - < /proc/sys/kernel/random/uuid'
 
 # The blocks, each in a file of its own.
 awk -v to="$folder/guide" '/^```sh$/ { n++; on = 1; next } /^```$/ { on = 0 } on { print > (to "-" n) }' docs/GUIDE.md
 awk -v to="$folder/page" '/^\.Bd -literal/ { n++; on = 1; next } /^\.Ed$/ { on = 0 } on { gsub(/\\e/, "\\"); print > (to "-" n) }' \
     docs/journal-collect.1
-[[ $(find "$folder" -name 'guide-*' | wc -l) -eq 8 ]] || differs "a block of the guide isn't tried"
+[[ $(find "$folder" -name 'guide-*' | wc -l) -eq 9 ]] || differs "a block of the guide isn't tried"
 [[ $(find "$folder" -name 'page-*' | wc -l) -eq 7 ]] || differs "an example of the man page isn't tried"
 blocks() {
     sed -E "s#(^|[^a-z/])/(etc/journal-collect|usr/lib/journal-collect|var/lib/journal-)#\1$root/\2#g" "$folder/$1" | bash -e
@@ -81,8 +82,13 @@ expect 0 "ok 300 0" "" journal-collect verify export "$HOME"/*.export
 expect 0 "" "" blocks guide-4
 [[ $(find "$root/var/lib" -name '*.upload') == "" ]] || differs "something is sent a second time"
 
+# a database of an earlier program
+gzip -dc "$here/tests/fixtures/tables-1/closed.db.gz" > "$root/var/lib/journal-collect/databases/2026-01-01T00.db"
+expect 0 "ok 6" "" blocks guide-7
+expect 0 "" "" blocks guide-7
+
 # by hand, and journals for journalctl
-expect 0 "ok 300 0"$'\n'"resume 300" "" blocks guide-7
+expect 0 "ok 300 0"$'\n'"resume 300" "" blocks guide-8
 expect 0 "ok 300" "" journal-collect check logs.db
 if [[ -n $real_journalctl && -x /lib/systemd/systemd-journal-remote ]]; then
     blocks guide-6 > "$folder/told" 2> "$folder/errors" || differs "the journals for journalctl: $(cat "$folder/errors")"
@@ -100,7 +106,7 @@ fi
 } > large
 mv large stream
 expect 1 "~bad 12 *" "" journal-collect verify export stream
-expect 0 "" "~left out: *" blocks guide-8
+expect 0 "" "~left out: *" blocks guide-9
 expect 0 "ok 300 0" "" journal-collect verify export stream
 
 # the man page

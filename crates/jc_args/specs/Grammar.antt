@@ -88,8 +88,9 @@ top_grammar = on_top (λ s. record s { has_version = true; arg_required_else_hel
 -- the commands over a database
 abbrev pub collector_grammar : App
 collector_grammar =
-    with_subcommand (with_subcommand (with_subcommand (with_subcommand top_grammar collect_grammar.top)
-    (database_grammar (codes "export")).top) show_grammar.top) (database_grammar (codes "check")).top
+    with_subcommand (with_subcommand (with_subcommand (with_subcommand (with_subcommand top_grammar collect_grammar.top)
+    (database_grammar (codes "export")).top) show_grammar.top) (database_grammar (codes "check")).top)
+    (database_grammar (codes "migrate")).top
 
 -- ... those over files, and `codes`
 abbrev pub grammar : (verify upload ack : ValueParser) → App

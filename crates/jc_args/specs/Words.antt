@@ -8,7 +8,7 @@ use Rattle.clap.specs.declared.error.kind.ErrorKind.TheVariants.{ArgumentConflic
 use Rattle.jc_args.specs.Answer.{IsAskedFor}
 use Rattle.jc_args.specs.Grammar.{IsGrammar, kind_name}
 use Rattle.jc_args.specs.declared.request.Request.{Request}
-use Rattle.jc_args.specs.declared.request.Request.TheVariants.{Collect, CollectListed, Export, Show, Check, Verify, Upload, Ack, ListCodes}
+use Rattle.jc_args.specs.declared.request.Request.TheVariants.{Collect, CollectListed, Export, Show, Check, Migrate, Verify, Upload, Ack, ListCodes}
 use Rattle.jc_args.specs.declared.request.Source.{Source}
 
 abbrev pub command_name : Request → Text
@@ -17,6 +17,7 @@ command_name (CollectListed database list) = codes "collect"
 command_name (Export database) = codes "export"
 command_name (Show database field id first last) = codes "show"
 command_name (Check database) = codes "check"
+command_name (Migrate database) = codes "migrate"
 command_name (Verify kind file) = codes "verify"
 command_name (Upload source limit whole) = codes "upload"
 command_name (Ack source) = codes "ack"
@@ -57,6 +58,7 @@ AskBy rows (Show database field id first last) =
     × (option_map (λ hex. hex.now) id ≡ first_of (codes "id") rows)
     × IsNumberOr 0 (first_of (codes "from") rows) first × IsNumberOr (2 ^ 63 - 1) (first_of (codes "to") rows) last
 AskBy rows (Check database) = IsGiven rows (codes "DB") database.now
+AskBy rows (Migrate database) = IsGiven rows (codes "DB") database.now
 AskBy rows (Verify kind file) = IsGiven rows (codes "KIND") (kind_name kind) × IsGiven rows (codes "FILE") file.now
 AskBy rows (Upload source limit whole) =
     NameSource rows source × IsNumberOr 1000 (first_of (codes "limit") rows) limit

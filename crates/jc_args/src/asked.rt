@@ -32,6 +32,7 @@ pub(crate) fn requested<'a>(
         "export" => Ok(export_request(given)),
         "show" => Ok(show_request(given)),
         "check" => Ok(check_request(given)),
+        "migrate" => Ok(migrate_request(given)),
         "verify" => Ok(verify_request(given)),
         "upload" => Ok(upload_request(given)),
         "ack" => Ok(ack_request(given)),
@@ -90,6 +91,14 @@ fn check_request<'a>(given: &ArgMatches<'a>) -> Option<Request<'a>>
 {
     let database = text_given(given, "DB")?;
     Some(Request::Check { database })
+}
+
+fn migrate_request<'a>(given: &ArgMatches<'a>) -> Option<Request<'a>>
+    ensures { MatchOption result (AsksNone (given_rows given.now) (codes "migrate"))
+        (λ request. (command_name request ≡ codes "migrate") × AskBy (given_rows given.now) request) }
+{
+    let database = text_given(given, "DB")?;
+    Some(Request::Migrate { database })
 }
 
 fn verify_request<'a>(given: &ArgMatches<'a>) -> Option<Request<'a>>

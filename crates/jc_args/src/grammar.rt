@@ -31,7 +31,8 @@ fn collector<'a>(alloc: Global) -> Result<Command<'a>, AllocError>
         .subcommand(collect_command(alloc)?)?
         .subcommand(export_command(alloc)?)?
         .subcommand(show_command(alloc)?)?
-        .subcommand(check_command(alloc)?)
+        .subcommand(check_command(alloc)?)?
+        .subcommand(migrate_command(alloc)?)
 }
 
 /// The program without its commands.
@@ -80,6 +81,12 @@ fn check_command<'a>(alloc: Global) -> Result<Command<'a>, AllocError>
     ensures { IfOk result (λ command. IsCommand command (database_grammar (codes "check"))) }
 {
     database_command(alloc, "check", texts::CHECK, texts::CHECK_MORE)
+}
+
+fn migrate_command<'a>(alloc: Global) -> Result<Command<'a>, AllocError>
+    ensures { IfOk result (λ command. IsCommand command (database_grammar (codes "migrate"))) }
+{
+    database_command(alloc, "migrate", texts::MIGRATE, texts::MIGRATE_MORE)
 }
 
 fn verify_command<'a>(alloc: Global) -> Result<Command<'a>, AllocError>

@@ -30,6 +30,10 @@ pub enum Request<'a> {
     Check {
         database: &'a str,
     },
+    /// The journal of a database put into the tables of the present version, or what is wrong with it.
+    Migrate {
+        database: &'a str,
+    },
     /// How the file reads.
     Verify {
         kind: InputKind,

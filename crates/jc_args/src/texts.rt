@@ -81,9 +81,22 @@ pub(crate) const CHECK_MORE: &str = "Prints one line:
   ok COUNT    the database has COUNT entries, and all of them were read
   bad 64 0    it isn't a database of this program, or it is damaged
   bad 65 ROW  the row with this number, counted from 0, isn't an entry
+  bad 67 0    its tables are of an older version: see `migrate`
 
 Example: a database of one entry prints `ok 1`
   journal-collect check logs.db";
+
+pub(crate) const MIGRATE: &str =
+    "Puts the entries of a database with tables of an older version into tables of this one";
+
+pub(crate) const MIGRATE_MORE: &str = "Prints one line:
+  ok COUNT    the database has tables of this version now, with the same COUNT entries
+  bad 64 0    it isn't a database with tables of an older version, or it is damaged
+  bad 65 ROW  the row with this number, counted from 0, isn't an entry
+If it is refused or fails, and also if it is stopped, the database has all its entries, in tables of either version.
+
+Example: a database that `check` refuses with `bad 67 0`
+  journal-collect migrate logs.db";
 
 pub(crate) const VERIFY: &str =
     "Reads a file and prints how many entries it has, or what is wrong with it";

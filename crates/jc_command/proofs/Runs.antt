@@ -60,6 +60,7 @@ performed words (requests.Export database) given output output' errors errors' M
 performed words (requests.Show database field id first last) given output output' errors errors' Misused asks does quiet = let same : Misused ≡ Success = does in cc
 performed words requests.ListCodes given output output' errors errors' Misused asks does quiet = let same : Misused ≡ Success = does in cc
 performed words (requests.Check database) given output output' errors errors' Misused asks (health, is, told) quiet = absurd (health_not_misused health told.judged)
+performed words (requests.Migrate database) given output output' errors errors' Misused asks (health, is, told) quiet = absurd (health_not_misused health told.judged)
 
 -- a failure's status is that of a device or memory, or another one
 device_or_not : (status : Status) → (status ≡ Failed) ⊎ (status ≢ Failed)

@@ -9,7 +9,7 @@ use Rattle.jc_console.specs.declared.failure.Failure.TheVariants.{CannotOpen, Ou
 use Rattle.jc_console.specs.declared.status.Status.{Status}
 use Rattle.jc_console.specs.declared.status.Status.TheVariants.{Success, Refused, Misused, Failed}
 use Rattle.jc_args.specs.declared.request.Request.{Request}
-use Rattle.jc_args.specs.declared.request.Request.TheVariants.{Collect, CollectListed, Show, Check, Verify, Upload, Ack, ListCodes}
+use Rattle.jc_args.specs.declared.request.Request.TheVariants.{Collect, CollectListed, Show, Check, Migrate, Verify, Upload, Ack, ListCodes}
 use Rattle.jc_args.specs.declared.request.Request.TheVariants as request
 use Rattle.jc_database.specs.Answered.{TellsAnswers, number_of_uploads}
 use Rattle.jc_database.specs.Checked.{IsHealth, TellsHealth}
@@ -24,8 +24,8 @@ use Rattle.jc_args.specs.Words.{AreWrong, AskFor, AskForHelp}
 
 -- What standard output gains when a request is performed, over what standard input gives, and the status: from `verify` a
 -- reading, from `upload` an upload, from `ack` a resume point, from `collect` an answer to each upload, and from `check`
--- what there is of a journal. Nothing is said of listings, nor which answers come: no contract can name what a database's
--- file holds.
+-- and `migrate` what there is of a journal. Nothing is said of listings, nor which answers come: no contract can name what
+-- a database's file holds.
 abbrev pub Performs : Request → (given old new : Option (List ℕ)) → Status → Type 0
 Performs (Verify kind file) given old new status = (count : ℕ) × (ending : Ending) × TellsReading count ending status old new
 Performs (Upload source limit whole) given old new status = (status ≡ Success) × TellsSomeUpload source limit whole old new
@@ -35,6 +35,7 @@ Performs (CollectListed database list) given old new status = TellsListed list.n
 Performs (request.Export database) given old new status = status ≡ Success
 Performs (Show database field id first last) given old new status = status ≡ Success
 Performs (Check database) given old new status = (health : Health) × IsHealth health × TellsHealth health status old new
+Performs (Migrate database) given old new status = (health : Health) × IsHealth health × TellsHealth health status old new
 Performs ListCodes given old new status = status ≡ Success
 
 -- Why a request fails: its own file can't be opened, what it names is refused, or a device or memory fails.
@@ -52,6 +53,7 @@ FailsBy (request.Export database) given failure = DatabaseFailsBy database.now f
 FailsBy (Show database field id first last) given failure =
     ShowFailsBy database.now (option_map (λ name. name.now) field) (option_map (λ digits. digits.now) id) failure
 FailsBy (Check database) given failure = CheckFailsBy database.now failure
+FailsBy (Migrate database) given failure = CheckFailsBy database.now failure
 FailsBy ListCodes given failure = failure ≡ WriteFailed
 
 -- The arguments ask for something, and it is performed.

@@ -10,7 +10,7 @@ ghost use Rattle.jc_command.specs.Run.{Ends, FailsBy, Performs, Stops};
 use clap::error::ErrorKind;
 use jc_args::{CODES, Request, parse};
 use jc_console::{Failure, Status, printed};
-use jc_database::{Databases, check, collect, collect_listed, export, show};
+use jc_database::{Databases, check, collect, collect_listed, export, migrate, show};
 use jc_sender::{ack, upload, verify};
 use std::io::{Read, Write};
 use std::rt::Files;
@@ -76,45 +76,32 @@ fn perform<'a, R: Databases + Files + AllocGlobal, I: Read, O: Write, E: Write>(
         → Keeps (O.contents output.old) (O.contents output.new)) }
 {
     match request {
-        Request::Verify { kind, file } => verify(rt, kind, file, output),
+        Request::Verify { kind, file } => return verify(rt, kind, file, output),
         Request::Upload {
             source,
             limit,
             whole,
-        } => {
-            upload(rt, source, limit, whole, output)?;
-            Ok(Status::Success)
-        }
-        Request::Ack { source } => {
-            ack(rt, source, input, output)?;
-            Ok(Status::Success)
-        }
+        } => upload(rt, source, limit, whole, output)?,
+        Request::Ack { source } => ack(rt, source, input, output)?,
         Request::Collect { database, uploads } => {
-            collect(rt, database, uploads.as_slice(), input, output)
+            return collect(rt, database, uploads.as_slice(), input, output);
         }
         Request::CollectListed { database, list } => {
-            collect_listed(rt, database, list, input, output, errors)
+            return collect_listed(rt, database, list, input, output, errors);
         }
-        Request::Export { database } => {
-            export(rt, database, output)?;
-            Ok(Status::Success)
-        }
+        Request::Export { database } => export(rt, database, output)?,
         Request::Show {
             database,
             field,
             id,
             first,
             last,
-        } => {
-            show(rt, database, field, id, first, last, output)?;
-            Ok(Status::Success)
-        }
-        Request::Check { database } => check(rt, database, output),
-        Request::ListCodes => {
-            list_codes(output)?;
-            Ok(Status::Success)
-        }
+        } => show(rt, database, field, id, first, last, output)?,
+        Request::Check { database } => return check(rt, database, output),
+        Request::Migrate { database } => return migrate(rt, database, output),
+        Request::ListCodes => list_codes(output)?,
     }
+    Ok(Status::Success)
 }
 
 /// Prints what each code means.

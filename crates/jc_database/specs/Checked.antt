@@ -1,4 +1,4 @@
--- What `check` says of a database. (own)
+-- What `check` and `migrate` say of a database. (own)
 use Rattle.std.specs.Prelude.{◌≡◌, ℕ, List, [], ◌∷◌, ◌++◌, Option, ⊤, codes, decimal}
 use Rattle.std.specs.Io.KnownBytes.{Appends}
 use Rattle.jc_base.specs.Fault.{number_of}

@@ -1,7 +1,7 @@
 -- The databases that commands work on, and why one of these commands fails. (own)
 use Rattle.std.specs.Prelude.{◌≡◌, ◌⊎◌, ℕ, List, take, Option, None, Some, IsSomeAnd, ⊤, codes}
 use Rattle.std.specs.List.{Contains}
-use Rattle.jc_base.specs.declared.fault.Code.TheVariants.{BadRow, NotAJournal}
+use Rattle.jc_base.specs.declared.fault.Code.TheVariants.{BadRow, NotAJournal, OldSchema}
 use Rattle.jc_base.specs.declared.fault.Fault.{Fault}
 use Rattle.jc_base.specs.declared.id.Id128.{Id128}
 use Rattle.jc_console.specs.Ids.{IsIdOf, IsIdText}
@@ -13,9 +13,11 @@ use Rattle.jc_console.specs.declared.failure.Failure.TheVariants.{Bad, BadDataba
 abbrev pub IsBadName : List ℕ → Type 0
 IsBadName name = (take 1 name ≡ codes ":") ⊎ (take 5 name ≡ codes "file:")
 
--- A database has no journal of this version, which is not the fault of a row, or a row that isn't an entry.
+-- A database has no journal of this version or one of an older version, which is not the fault of a row, or a row that
+-- isn't an entry.
 abbrev pub IsDatabaseFault : Fault → Type 0
-IsDatabaseFault fault = (fault.code ≡ BadRow) ⊎ ((fault.code ≡ NotAJournal) × (fault.place ≡ 0))
+IsDatabaseFault fault =
+    (fault.code ≡ BadRow) ⊎ (((fault.code ≡ NotAJournal) ⊎ (fault.code ≡ OldSchema)) × (fault.place ≡ 0))
 
 -- Why the tables of an open database aren't a journal's, or why they couldn't be made.
 abbrev pub WhyNoTables : Failure → Type 0
@@ -28,6 +30,10 @@ WhyNoTables _ = ⊥
 abbrev pub WhyNoJournal : (path : List ℕ) → Failure → Type 0
 WhyNoJournal path (CannotOpen at) = at.now ≡ path
 WhyNoJournal path failure = WhyNoTables failure
+
+-- Why a database that is open fails.
+abbrev pub IsStoreFailure : Failure → Type 0
+IsStoreFailure failure = (failure ≡ StoreFailed) ⊎ (failure ≡ OutOfMemory)
 
 -- Why a listing stopped.
 abbrev pub IsOutFailure : Failure → Type 0
@@ -65,7 +71,7 @@ ShowFailsBy database field digits BadFieldName = IsSomeAnd field (λ text. ¬ Is
 ShowFailsBy database field digits BadId = IsSomeAnd digits (λ text. ¬ IsIdText text)
 ShowFailsBy database field digits failure = DatabaseFailsBy database failure
 
--- Why `check` prints nothing. What is wrong with the tables of a database, it prints.
+-- Why `check` or `migrate` prints nothing. What is wrong with the tables of a database, they print.
 abbrev pub WhyNoHealth : (path : List ℕ) → Failure → Type 0
 WhyNoHealth path (Bad fault) = ⊥
 WhyNoHealth path failure = WhyNoJournal path failure

@@ -3,18 +3,19 @@
 ghost use Rattle.std.specs.Prelude.{◌≡◌, ◌≢◌, Some, IfOk, IfErr};
 ghost use Rattle.std.specs.Io.KnownBytes.{Keeps};
 ghost use Rattle.jc_database.specs.Checked.{IsHealth, TellsHealth, health_text, health_status};
-ghost use Rattle.jc_database.specs.Database.{CheckFailsBy, WhyNoHealth};
+ghost use Rattle.jc_database.specs.Database.{CheckFailsBy, IsStoreFailure, WhyNoHealth};
 ghost use Rattle.jc_console.specs.Failure.{status_of};
 
-use crate::database::{Databases, check_name, close, open_there};
+use crate::database::{DatabaseStore, Databases, check_name, close, open_there};
 use crate::failures::why_unanswered;
 use jc_base::Fault;
 use jc_console::{Failure, Status, printed};
+use jc_records::SqlKeeper;
 use std::fmt;
 use std::io::Write;
 use std::rt::Files;
 
-/// What `check` prints of a database.
+/// What `check` and `migrate` print of a database.
 #[derive(Clone, Copy)]
 pub enum Health {
     /// It keeps this many entries.
@@ -69,11 +70,18 @@ fn read_health<'a, R: Databases + Files + AllocGlobal>(
     ensures health { IfOk result IsHealth }
     ensures failed { IfErr result (WhyNoHealth database.now) }
 {
-    let mut keeper = match open_there(rt, database) {
-        Ok(keeper) => keeper,
-        Err(Failure::Bad(fault)) => return Ok(Health::Bad(fault)),
-        Err(failure) => return Err(failure),
-    };
+    match open_there(rt, database) {
+        Ok(keeper) => count(keeper),
+        Err(Failure::Bad(fault)) => Ok(Health::Bad(fault)),
+        Err(failure) => Err(failure),
+    }
+}
+
+/// How many entries a journal has. Its database is closed.
+pub fn count<'a, S: DatabaseStore>(mut keeper: SqlKeeper<S>) -> Result<Health, Failure<'a>>
+    ensures health { IfOk result IsHealth }
+    ensures failed { IfErr result IsStoreFailure }
+{
     let counted = keeper.count();
     let closed = close(keeper);
     match counted {
@@ -86,7 +94,7 @@ fn read_health<'a, R: Databases + Files + AllocGlobal>(
 }
 
 /// Prints what was found, and answers its status.
-fn tell<'a, O: Write>(health: Health, output: &mut O) -> Result<Status, Failure<'a>>
+pub fn tell<'a, O: Write>(health: Health, output: &mut O) -> Result<Status, Failure<'a>>
     ensures told { IfOk result (λ status. TellsHealth health status (O.contents output.old) (O.contents output.new)) }
     ensures failed { IfErr result (λ failure. failure ≡ Failure.WriteFailed) }
 {

@@ -1,4 +1,4 @@
-//! The commands over the journal in a database: `collect`, `export`, `show` and `check`.
+//! The commands over the journal in a database: `collect`, `export`, `show`, `check` and `migrate`.
 #![tactic(auto)]
 
 mod answer_sink;
@@ -10,6 +10,7 @@ mod host;
 mod judged;
 mod listed;
 mod listing;
+mod migrating;
 mod uploads;
 
 pub use collecting::collect;
@@ -17,3 +18,4 @@ pub use database::{DatabaseStore, Databases};
 pub use health::{Health, check};
 pub use listed::collect_listed;
 pub use listing::{export, show};
+pub use migrating::migrate;
