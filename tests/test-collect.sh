@@ -1,6 +1,7 @@
 #!/usr/bin/env bash
 # Collecting into a database, as only processes show it: many uploads in one run, a collector that is killed, a full disk, several
-# collectors at once, files that can't be read, and databases of other programs. What is stored is read by the stock sqlite3 too.
+# collectors at once, files that can't be read, databases of other programs, and of the first version of the tables. What is stored
+# is read by the stock sqlite3 too.
 # The random choices come from a seed that each part prints; SEED=N makes the same choices again.
 set -uo pipefail
 . "$(dirname "$0")/expect.sh"
@@ -93,10 +94,10 @@ if stock; then
     stock "$folder/tables" "PRAGMA journal_mode = WAL" > "$folder/told"
     expect_empty "$folder/tables"
     # an entry that the stock sqlite3 puts in, and one that reads as none
-    body="CAST('MESSAGE=ho' || char(10) AS BLOB)"
-    stock "$db" "INSERT INTO entry SELECT seqid, 2, 7, 8, $body FROM entry"
+    stock "$db" "INSERT INTO record SELECT seqid, 2, 7, 8 FROM record"
+    stock "$db" "INSERT INTO field SELECT seqid, 2, 0, CAST('MESSAGE' AS BLOB), CAST('ho' AS BLOB) FROM record WHERE seqnum = 1"
     expect 0 "000102030405060708090a0b0c0d0e0f 2 7 8 ho" "" "$PROGRAM" show "$db" --from 2
-    stock "$db" "INSERT INTO entry SELECT seqid, 3, -1, 8, $body FROM entry WHERE seqnum = 1"
+    stock "$db" "INSERT INTO record SELECT seqid, 3, -1, 8 FROM record WHERE seqnum = 1"
     expect 1 "bad 65 2" "" "$PROGRAM" check "$db"
     for command in collect export show; do
         expect 1 "" "bad 65 2" "$PROGRAM" $command "$db" < "$up"
@@ -139,7 +140,7 @@ else
 fi
 
 export PROGRAM
-for part in runs at_once full kills; do
+for part in runs at_once full kills older; do
     python3 "tests/collect/$part.py" || differs "tests/collect/$part.py"
 done
 finish

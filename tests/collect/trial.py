@@ -12,15 +12,25 @@ from stock import IS_HERE, stock
 PROGRAM = os.environ["PROGRAM"]
 TABLES = "SELECT sql FROM sqlite_schema WHERE sql IS NOT NULL ORDER BY name"
 SCHEMA = """
-CREATE TABLE entry(seqid BLOB NOT NULL, seqnum INTEGER NOT NULL,
-  realtime INTEGER NOT NULL, monotonic INTEGER NOT NULL,
-  body BLOB NOT NULL, PRIMARY KEY(seqid, seqnum)) STRICT
+CREATE TABLE field(seqid BLOB NOT NULL, seqnum INTEGER NOT NULL,
+  pos INTEGER NOT NULL, name BLOB NOT NULL, value BLOB NOT NULL,
+  PRIMARY KEY(seqid, seqnum, pos),
+  FOREIGN KEY(seqid, seqnum) REFERENCES record(seqid, seqnum)) STRICT
 CREATE TABLE journal(one INTEGER PRIMARY KEY, version INTEGER NOT NULL) STRICT
+CREATE TABLE record(seqid BLOB NOT NULL, seqnum INTEGER NOT NULL,
+  realtime INTEGER NOT NULL, monotonic INTEGER NOT NULL,
+  PRIMARY KEY(seqid, seqnum)) STRICT
 """
 VERSION = "SELECT one || ' ' || version FROM journal"
+# the rows of `record`, and before the next one those of `field` under its key
 ROWS = """
-SELECT lower(hex(seqid)) || ' ' || seqnum || ' ' || realtime || ' ' || monotonic || ' ' || lower(hex(body))
-FROM entry ORDER BY seqid, seqnum
+SELECT line FROM (
+    SELECT seqid, seqnum, -1 AS pos,
+           lower(hex(seqid)) || ' ' || seqnum || ' ' || realtime || ' ' || monotonic AS line FROM record
+    UNION ALL
+    SELECT seqid, seqnum, pos,
+           lower(hex(seqid)) || ' ' || seqnum || ' ' || pos || ' ' || lower(hex(name)) || ' ' || lower(hex(value)) FROM field
+) ORDER BY seqid, seqnum, pos
 """
 # How many mistakes of a script are printed.
 SHOWN = 10
@@ -106,7 +116,7 @@ class Trial:
         if IS_HERE:
             copied = self.copy(database)
             self.expect(f"{what}: tables", (stock(copied, TABLES) or "").split(), SCHEMA.split())
-            self.expect(f"{what}: version", stock(copied, VERSION), "1 1\n")
+            self.expect(f"{what}: version", stock(copied, VERSION), "1 2\n")
             self.expect(f"{what}: rows", stock(copied, ROWS), journal.rows())
             self.expect(f"{what}: integrity", stock(copied, "PRAGMA integrity_check"), "ok\n")
 

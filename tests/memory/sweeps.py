@@ -9,6 +9,7 @@ import shutil
 import sys
 from concurrent.futures import ThreadPoolExecutor
 
+import older
 import refusal
 import samples
 from model import Journal
@@ -208,6 +209,25 @@ def copied(base, folder):
     return database
 
 
+class Migrate(Sweep):
+    """A journal that goes over to the tables of the present version: it is whole, in the old tables or in the new ones."""
+
+    def __init__(self, trial, name):
+        self.journal = older.earlier_journal()
+        self.base = older.earlier(trial, "closed")
+        super().__init__(trial, name, [], older.usual(self.journal))
+
+    def prepare(self, folder):
+        return ["migrate", shutil.copyfile(self.base, os.path.join(folder, "db"))]
+
+    def judge(self, what, folder, told):
+        database = os.path.join(folder, "db")
+        if not self.is_usual(told) and run("check", database) == older.REFUSED:
+            self.trial.expect(f"{what}: again", run("migrate", database), self.usual)
+        self.trial.expect(f"{what}: export", run("export", database), (self.journal.text(), "", 0))
+        return super().judge(what, folder, told)
+
+
 class Ack(Sweep):
     """An answer that moves a resume point on."""
 
@@ -266,6 +286,7 @@ def reading(trial, base):
     yield Listing(trial, "export", ["export"], base, journal.text())
     yield Listing(trial, "show", ["show", "--from", "1"], base, journal.lines())
     yield Listing(trial, "check", ["check"], base, b"ok 1\n")
+    yield Migrate(trial, "migrate")
     file = put(os.path.join(trial.folder(), "file"), samples.FILE)
     texts = put(os.path.join(trial.folder(), "texts"), samples.E1 + samples.E2)
     yield Sweep(trial, "verify export", ["verify", "export", texts], (b"ok 2 0\n", "", 0))

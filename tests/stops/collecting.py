@@ -47,6 +47,39 @@ class Collecting:
         """What a run leaves that ended after this many answers: all of those uploads, and none or all of the next one."""
         self.holds_one_of(what, database, self.journals[answered:answered + 2])
 
+    def failed(self, what, database, told):
+        """What a run prints and leaves whose device failed."""
+        output, errors, status = told
+        lines = output.decode().splitlines()
+        if lines:
+            self.trial.expect(f"{what}: number of lines", len(lines), len(self.uploads))
+            self.trial.expect(f"{what}: {errors!r}", errors in ("", "store failed\n"), True)
+            self.trial.expect(f"{what}: status", status, 3 if errors else status_of(lines))
+        else:
+            may_be = {f"cannot open {name}\n" for name in (database, *self.names)} | {"store failed\n", "read failed\n"}
+            self.trial.expect(f"{what}: {errors!r}", errors in may_be, True)
+            self.trial.expect(f"{what}: status", status, 3)
+        self.holds_one_of(what, database, self.after_failures(what, lines))
+
+    def after_failures(self, what, lines):
+        """The journals that a run with these answers may leave: all that is acknowledged, and with it perhaps the first upload that is
+        answered by a failure of the store."""
+        journal = self.journals[0].copy()
+        failed = []
+        for line, upload in zip(lines, self.uploads):
+            after = journal.copy()
+            answer = after.take(upload)
+            whose = " ".join(answer.split(" ")[1:3])
+            if line == f"no {whose} 62 0":
+                failed.append(upload)
+            elif line not in (f"no {whose} 61 0", "no - - 61 0"):
+                self.trial.expect(f"{what}: line", line, answer)
+                journal = after
+        and_failed = journal.copy()
+        for upload in failed[:1]:
+            and_failed.take(upload)
+        return [journal, and_failed]
+
     def holds_one_of(self, what, database, journals):
         """The database holds one of some journals, and the same uploads complete it. If there was none before the run, and one may
         be empty, there may be none yet."""

@@ -3,16 +3,18 @@
 What a run writes is noted, and from that the files are made as a device may have them: of each change since a file was last synced
 nothing, all, a beginning or some sectors, each sector old or new below the end that was synced, and anything past it. Every upload that
 was acknowledged before the loss has its entries in the journal then, beside these there are none or all of the next one, and the same
-uploads complete it. All this rests on a device that keeps what it said is synced, finishes each sector that it begins, and changes none
-that it wasn't asked to.
+uploads complete it. A journal that goes over to tables of the present version is whole, in the old tables or in the new ones. All this
+rests on a device that keeps what it said is synced, finishes each sector that it begins, and changes none that it wasn't asked to.
 """
 import os
 from concurrent.futures import ThreadPoolExecutor
 
 import device
+import older
 import samples
 from collecting import Collecting
 from make import Machine
+from migrating import Migrating
 from trial import Trial
 
 # How often power is lost at one place, each time with other changes kept.
@@ -24,7 +26,8 @@ def states(scenario, calls):
     disks = {kind: device.Disk() for kind in (b"d", b"l")}
     if scenario.base:
         for kind, end in ((b"d", ""), (b"l", "-wal")):
-            disks[kind].hold(scenario.base + end)
+            if os.path.exists(scenario.base + end):
+                disks[kind].hold(scenario.base + end)
     answered = 0
     yield disks, answered
     for call in calls:
@@ -71,6 +74,7 @@ def main():
             Collecting(trial, "two uploads", [row, rest]),
             Collecting(trial, "two uploads into a journal", [rest, samples.head(2) + samples.FILE], [row]),
             Collecting(trial, "many entries", [machine.stream(0, 40), machine.file(50), machine.stream(30, 60)]),
+            *(Migrating(trial, f"migrate, {name}", name) for name in older.EARLIER),
         ]
         trial.finish(f"{sum(sweep(scenario, pool) for scenario in scenarios)} losses of power")
 

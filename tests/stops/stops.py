@@ -2,8 +2,9 @@
 all later ones.
 
 Every upload that was acknowledged has its entries in the journal afterwards. Beside these there are all or none of the first upload that
-wasn't answered, or was answered by a failure of the store, and nothing else. The same uploads sent again complete the journal. A resume
-file is the old or the new one whole.
+wasn't answered, or was answered by a failure of the store, and nothing else. The same uploads sent again complete the journal. A journal
+that goes over to tables of the present version is whole, in the old tables or in the new ones. A resume file is the old or the new one
+whole.
 """
 import os
 import shutil
@@ -11,10 +12,12 @@ import signal
 from concurrent.futures import ThreadPoolExecutor
 
 import device
+import older
 import samples
 from collecting import NEVER, Collecting
 from make import Machine
-from trial import PROGRAM, Trial, run, status_of
+from migrating import Migrating
+from trial import PROGRAM, Trial, run
 
 KILLED = ("", -signal.SIGKILL)
 RESUME = ("--source", samples.SOURCE.hex(), "--resume")
@@ -39,40 +42,10 @@ def stopped(scenario, mode, number):
 
 def failing(scenario, number, last, reads, only=""):
     """A device, or one of the two files alone, fails from one call to another; answers whether it did."""
-    trial = scenario.trial
     what = f"{scenario.name}, calls {number} to {last} fail{', reads too' if reads else ''}{only and ', on file ' + only}"
-    database, (output, errors, status), calls = scenario.run("f", number, last, reads=reads, only=only)
-    lines = output.decode().splitlines()
-    if lines:
-        trial.expect(f"{what}: number of lines", len(lines), len(scenario.uploads))
-        trial.expect(f"{what}: {errors!r}", errors in ("", "store failed\n"), True)
-        trial.expect(f"{what}: status", status, 3 if errors else status_of(lines))
-    else:
-        may_be = {f"cannot open {name}\n" for name in (database, *scenario.names)} | {"store failed\n", "read failed\n"}
-        trial.expect(f"{what}: {errors!r}", errors in may_be, True)
-        trial.expect(f"{what}: status", status, 3)
-    scenario.holds_one_of(what, database, after_failures(scenario, what, lines))
+    database, told, calls = scenario.run("f", number, last, reads=reads, only=only)
+    scenario.failed(what, database, told)
     return bool(calls)
-
-
-def after_failures(scenario, what, lines):
-    """The journals that a run with these answers may leave: all that is acknowledged, and with it perhaps the first upload that is
-    answered by a failure of the store."""
-    journal = scenario.journals[0].copy()
-    failed = []
-    for line, upload in zip(lines, scenario.uploads):
-        after = journal.copy()
-        answer = after.take(upload)
-        whose = " ".join(answer.split(" ")[1:3])
-        if line == f"no {whose} 62 0":
-            failed.append(upload)
-        elif line not in (f"no {whose} 61 0", "no - - 61 0"):
-            scenario.trial.expect(f"{what}: line", line, answer)
-            journal = after
-    and_failed = journal.copy()
-    for upload in failed[:1]:
-        and_failed.take(upload)
-    return [journal, and_failed]
 
 
 def upwards(pool, attempt, step=1):
@@ -86,7 +59,7 @@ def upwards(pool, attempt, step=1):
             return tried
 
 
-def collect(trial, pool, scenario, step=1):
+def sweep(trial, pool, scenario, step=1):
     told, calls = scenario.run("n", 0, 0)[1:]
     trial.expect(f"{scenario.name}: undisturbed", told, scenario.usual)
     stops = sum(upwards(pool, lambda number: stopped(scenario, mode, number), step) for mode in "kh")
@@ -159,8 +132,9 @@ def main():
             (Collecting(trial, "two uploads", [row, rest]), 1),
             (Collecting(trial, "two uploads into a journal", [rest, samples.head(2) + samples.FILE], [row]), 1),
             (Collecting(trial, "many entries", [machine.stream(0, 40), machine.file(50), machine.stream(30, 60)]), 3),
+            *((Migrating(trial, f"migrate, {name}", name), 1) for name in older.EARLIER),
         ]
-        tried = sum(collect(trial, pool, *scenario) for scenario in scenarios) + Acks(trial).sweep(pool)
+        tried = sum(sweep(trial, pool, *scenario) for scenario in scenarios) + Acks(trial).sweep(pool)
         trial.finish(f"{tried} runs")
 
 

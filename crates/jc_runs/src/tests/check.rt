@@ -31,7 +31,7 @@ case a row that is no entry's is reported by its number
 input head:1:0 ENTRY
 run collect @db
 > ack SOURCE 0 1 1 0
-statement @db INSERT INTO entry VALUES(x'000102030405060708090a0b0c0d0e0f', 2, -1, 0, x'')
+statement @db INSERT INTO record VALUES (x'000102030405060708090a0b0c0d0e0f', 2, -1, 0)
 run check @db
 > bad 65 1
 status 1
@@ -58,11 +58,16 @@ status 1
 run export @db
 fails 1 bad 64 0
 
-case no entries where the table of entries is gone
+case no entries where a table of theirs is gone
 input head:1:0 ENTRY
 run collect @db
 > ack SOURCE 0 1 1 0
-statement @db DROP TABLE entry
+statement @db DROP TABLE field
+run check @db
+fails 3 store failed
+run export @db
+fails 3 store failed
+statement @db DROP TABLE record
 run check @db
 fails 3 store failed
 run export @db
@@ -74,27 +79,70 @@ run collect @db
 > ack SOURCE 0 1 1 0
 run check @db
 > ok 1
-statement @db INSERT INTO entry VALUES (x'00', 2, 1, 0, x'')
+statement @db INSERT INTO record VALUES (x'00', 2, 1, 0)
 run check @db
 > bad 65 0
 status 1
-statement @db DELETE FROM entry WHERE seqnum = 2; INSERT INTO entry VALUES (x'000102030405060708090a0b0c0d0e0f', 2, 0, -1, x'')
+statement @db DELETE FROM record WHERE seqnum = 2; INSERT INTO record VALUES (x'000102030405060708090a0b0c0d0e0f', 2, 0, -1)
 run check @db
 > bad 65 1
 status 1
-statement @db DELETE FROM entry WHERE seqnum = 2; INSERT INTO entry VALUES (x'000102030405060708090a0b0c0d0e0f', 2, 0, 0, x'41')
+statement @db DELETE FROM record WHERE seqnum = 2; INSERT INTO record VALUES (x'000102030405060708090a0b0c0d0e0f', 0, 0, 0)
+run check @db
+> bad 65 0
+status 1
+statement @db DELETE FROM record WHERE seqnum = 0; INSERT INTO record VALUES (x'000102030405060708090a0b0c0d0e0f', 2, 0, 0)
+run check @db
+> ok 2
+# fields at 1 alone, at 0 and 2, at 0 and before it
+statement @db INSERT INTO field VALUES (x'000102030405060708090a0b0c0d0e0f', 2, 1, x'41', x'')
 run check @db
 > bad 65 1
 status 1
-statement @db DELETE FROM entry WHERE seqnum = 2; INSERT INTO entry VALUES (x'000102030405060708090a0b0c0d0e0f', 2, 1, 0, x'41')
+statement @db DELETE FROM field WHERE seqnum = 2; INSERT INTO field VALUES (x'000102030405060708090a0b0c0d0e0f', 2, 0, x'41', x''); INSERT INTO field VALUES (x'000102030405060708090a0b0c0d0e0f', 2, 2, x'42', x'')
 run check @db
 > bad 65 1
 status 1
-statement @db DELETE FROM entry WHERE seqnum = 2; INSERT INTO entry VALUES (x'000102030405060708090a0b0c0d0e0f', 2, 0, 0, x'3d0a')
+statement @db DELETE FROM field WHERE seqnum = 2; INSERT INTO field VALUES (x'000102030405060708090a0b0c0d0e0f', 2, 0, x'41', x''); INSERT INTO field VALUES (x'000102030405060708090a0b0c0d0e0f', 2, -1, x'42', x'')
 run check @db
 > bad 65 1
 status 1
-statement @db DELETE FROM entry WHERE seqnum = 2
+# a name of no bytes, one with `=`, one with a newline, metadata
+statement @db DELETE FROM field WHERE seqnum = 2; INSERT INTO field VALUES (x'000102030405060708090a0b0c0d0e0f', 2, 0, x'', x'')
+run check @db
+> bad 65 1
+status 1
+statement @db DELETE FROM field WHERE seqnum = 2; INSERT INTO field VALUES (x'000102030405060708090a0b0c0d0e0f', 2, 0, x'413d', x'')
+run check @db
+> bad 65 1
+status 1
+statement @db DELETE FROM field WHERE seqnum = 2; INSERT INTO field VALUES (x'000102030405060708090a0b0c0d0e0f', 2, 0, x'0a41', x'')
+run check @db
+> bad 65 1
+status 1
+statement @db DELETE FROM field WHERE seqnum = 2; INSERT INTO field VALUES (x'000102030405060708090a0b0c0d0e0f', 2, 0, x'5f5f41', x'')
+run check @db
+> bad 65 1
+status 1
+# two names, and two values of one name, that go down; the same field twice
+statement @db DELETE FROM field WHERE seqnum = 2; INSERT INTO field VALUES (x'000102030405060708090a0b0c0d0e0f', 2, 0, x'42', x''); INSERT INTO field VALUES (x'000102030405060708090a0b0c0d0e0f', 2, 1, x'41', x'')
+run check @db
+> bad 65 1
+status 1
+statement @db DELETE FROM field WHERE seqnum = 2; INSERT INTO field VALUES (x'000102030405060708090a0b0c0d0e0f', 2, 0, x'41', x'32'); INSERT INTO field VALUES (x'000102030405060708090a0b0c0d0e0f', 2, 1, x'41', x'31')
+run check @db
+> bad 65 1
+status 1
+statement @db DELETE FROM field WHERE seqnum = 2; INSERT INTO field VALUES (x'000102030405060708090a0b0c0d0e0f', 2, 0, x'41', x'31'); INSERT INTO field VALUES (x'000102030405060708090a0b0c0d0e0f', 2, 1, x'41', x'31')
+run check @db
+> bad 65 1
+status 1
+statement @db DELETE FROM field WHERE seqnum = 2; INSERT INTO field VALUES (x'000102030405060708090a0b0c0d0e0f', 2, 0, x'41', x'31'); INSERT INTO field VALUES (x'000102030405060708090a0b0c0d0e0f', 2, 1, x'41', x'32'); INSERT INTO field VALUES (x'000102030405060708090a0b0c0d0e0f', 2, 2, x'4142', x''); INSERT INTO field VALUES (x'000102030405060708090a0b0c0d0e0f', 2, 3, x'42', x'')
+run check @db
+> ok 2
+run show @db --from 2 --field A
+> 000102030405060708090a0b0c0d0e0f 2 0 0 1
+statement @db DELETE FROM field WHERE seqnum = 2; DELETE FROM record WHERE seqnum = 2
 run check @db
 > ok 1
 run export @db

@@ -8,6 +8,7 @@
 //! | `directory PATH` | makes a folder |
 //! | `remove PATH` | removes a file |
 //! | `statement PATH SQL` | runs SQL on a database, which is made if there is none |
+//! | `older PATH` | makes a database with an empty journal in tables of the older version |
 //! | `< TEXT` | standard input of the next run has this line next |
 //! | `input PIECES` | standard input of the next run has these bytes next |
 //! | `room N` | standard output of the next run takes N bytes and then fails |
@@ -35,6 +36,15 @@ use std::fmt::Write;
 use std::rt::Files;
 use std::test::Fail;
 use std::{env, fs, io, process, str};
+
+/// An empty journal in tables of the older version.
+const OLDER_TABLES: &str = "
+CREATE TABLE journal(one INTEGER PRIMARY KEY, version INTEGER NOT NULL) STRICT;
+CREATE TABLE entry(seqid BLOB NOT NULL, seqnum INTEGER NOT NULL,
+  realtime INTEGER NOT NULL, monotonic INTEGER NOT NULL,
+  body BLOB NOT NULL, PRIMARY KEY(seqid, seqnum)) STRICT;
+INSERT INTO journal VALUES (1, 1)
+";
 
 /// Performs a script in a new folder, and fails if anything in it is wrong.
 pub fn run_script(rt: &HostRuntime, name: &str, script: &str) -> Result<(), Fail> {
@@ -180,6 +190,7 @@ impl Session {
             "directory" => fs::create_dir(rt, path),
             "remove" => fs::remove_file(rt, path),
             "statement" => execute(rt, path, others),
+            "older" => execute(rt, path, OLDER_TABLES),
             "<" => add_line(&mut self.input, rest),
             "input" => add_pieces(rt, rest, &mut self.input),
             "room" => self.make_room(rest),

@@ -27,6 +27,9 @@ has "Example: "
 run check --help
 has "Usage: journal-collect "
 has "Example: "
+run migrate --help
+has "Usage: journal-collect "
+has "Example: "
 run verify --help
 has "Usage: journal-collect "
 has "Example: "
@@ -43,6 +46,7 @@ has "\n  collect "
 has "\n  export "
 has "\n  show "
 has "\n  check "
+has "\n  migrate "
 has "\n  verify "
 has "\n  upload "
 has "\n  ack "
@@ -63,6 +67,10 @@ misused
 run show db --to 9223372036854775808
 misused
 run check db more
+misused
+run migrate
+misused
+run migrate db more
 misused
 run upload export in
 misused
