@@ -83,25 +83,29 @@ static void put(Entry *entry, const void *at, size_t len)
     entry->body_len += len;
 }
 
-static void join(Entry *entry)
+/* In order, and each once. */
+static void sort_fields(Entry *entry)
 {
     qsort(entry->fields, entry->count, sizeof(Field), by_name_and_value);
-    entry->body_len = 0;
-    for (size_t i = 0; i < entry->count; i++) {
-        Field *field = &entry->fields[i];
-        if (i > 0 && by_name_and_value(field - 1, field) == 0)
-            continue;
-        put(entry, field->name.at, field->name.len);
-        if (is_text(field->value)) {
-            put(entry, "=", 1);
-        } else {
-            uint64_t len = field->value.len;
-            put(entry, "\n", 1);
-            put(entry, &len, 8);
-        }
-        put(entry, field->value.at, field->value.len);
+    size_t kept = 0;
+    for (size_t i = 0; i < entry->count; i++)
+        if (kept == 0 || by_name_and_value(&entry->fields[kept - 1], &entry->fields[i]) != 0)
+            entry->fields[kept++] = entry->fields[i];
+    entry->count = kept;
+}
+
+static void spell(Entry *entry, Field field)
+{
+    put(entry, field.name.at, field.name.len);
+    if (is_text(field.value)) {
+        put(entry, "=", 1);
+    } else {
+        uint64_t len = field.value.len;
         put(entry, "\n", 1);
+        put(entry, &len, 8);
     }
+    put(entry, field.value.at, field.value.len);
+    put(entry, "\n", 1);
 }
 
 static void add(Entry *entry, Bytes name, Bytes value)

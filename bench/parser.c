@@ -82,7 +82,10 @@ static void finish(Draft *draft, Bytes *values, const uint8_t *first, const uint
         bad(26, first, start);
     if (entry->seqnum == 0)
         bad(27, first, start);
-    join(entry);
+    sort_fields(entry);
+    entry->body_len = 0;
+    for (size_t i = 0; i < entry->count; i++)
+        spell(entry, entry->fields[i]);
     uint8_t *text = grown(NULL, entry->body_len + 1);
     memcpy(text, entry->body, entry->body_len);
     free(text);

@@ -4,7 +4,7 @@
 Reading: `verify export` of streams of 10 MB and of 100 MB in turn with the C parser of parser.c, `verify file` of a journal
 file. Collecting: new databases of 1,000 to 100,000 entries with 20 fields each, from export uploads and from journal files, the
 same uploads again, and listings of what is stored; each in turn with the C baseline of baseline.c. What is in C is left out if
-it can't be built. Each figure is the best of five runs.
+it can't be built. `migrate` of databases of schema 1. Each figure is the best of five runs.
 """
 import os
 import sys
@@ -142,12 +142,31 @@ def measure_collecting(program):
             forget(database)
 
 
+def measure_migrating(program):
+    database = os.path.join(OUT, "migrated.db")
+
+    def renew(_):
+        forget(database)
+        Run(["cp", old, database])
+
+    for entries in (ENTRIES // 10, ENTRIES):
+        try:
+            old = made(f"{entries}.old", "make_old.py", entries)
+        except OSError:
+            print("Python's sqlite3 isn't here or makes no such tables, so there is no figure for migrate")
+            return
+        runs = best([program, "migrate", database], renew)
+        print(f"migrate, {entries:,} entries: {rates(runs, entries, megabytes([old]))}", flush=True)
+    forget(database)
+
+
 def main():
     program = os.path.abspath(sys.argv[1])
     os.makedirs(OUT, exist_ok=True)
     say_machine(program)
     measure_reading(program)
     measure_collecting(program)
+    measure_migrating(program)
     print(f"load after: {' '.join(f'{load:.1f}' for load in os.getloadavg())}")
 
 
