@@ -2,7 +2,7 @@
 call once it has done some, also with what wasn't synced lost then, or it has a byte that can't be read; one disk or the other, at one
 place after another.
 
-What is asked of the journal afterwards is what stops.py asks.
+What is asked of the journal afterwards is what stops.py asks. A journal that goes over to other tables has its entries in one of both.
 """
 import os
 import re
@@ -18,6 +18,15 @@ DISKS = ("log", "db")
 # What a store that failed says: of an upload, or where it isn't opened or makes no journal.
 FAILED = f"no {samples.SOURCE.hex()} 0 62 0"
 CLOSED = (["not opened"], ["bad 62 0"])
+# What `migrate` says over a disk that stops, and what it may say once more over sound ones: that the journal goes over now, or that it has
+# gone over before.
+OVER = {
+    "migrated": ("bad 64 0",),
+    "stopped 62": ("migrated", "bad 64 0"),
+    "not opened": ("migrated",),
+    "bad 62 0": ("migrated",),
+    "bad 64 0": ("migrated",),
+}
 # Of so many bytes one is tried as one that can't be read.
 ROT_STRIDE = 61
 # So many numbers are tried before it is asked whether there was anything to do at the last of them.
@@ -149,6 +158,24 @@ class Case:
         return is_met, (lines, entries) != (usual, text)
 
 
+class Migration(Case):
+    """A journal of some uploads that goes over from the tables of schema 1."""
+
+    def stopped(self, kind, disk, number):
+        what = f"{self.name}, {kind} {disk} {number}"
+        told = self.run(what, "collect-old", self.collect[1], kind, f"{disk}:{number}", "migrate", "all", "migrate", "all", *self.collect,
+                        "export", "all")
+        self.trial.expect(f"{what}: answers", told.answers(len(self.uploads)), self.usual)
+        line, is_met = told.line(), told.is_harmed()
+        if not is_met:
+            self.trial.expect(f"{what}: undisturbed", line, "migrated")
+        again = told.line()
+        self.trial.expect(f"{what}: {line}, and then {again}", again in OVER.get(line, ()), True)
+        self.trial.expect(f"{what}: again", told.answers(len(self.uploads)), self.answers(self.complete.copy()))
+        self.trial.expect(f"{what}: afterwards", (told.entries(), told.rest), (self.complete.text(), b""))
+        return is_met
+
+
 def upwards(pool, attempt, step=1):
     """Tries one number after another until an attempt finds nothing to do at it; answers what was found at those before."""
     found = []
@@ -163,7 +190,9 @@ def upwards(pool, attempt, step=1):
 def stops(trial, pool):
     row, rest = samples.stream(samples.E1), samples.stream(samples.E2, samples.E3)
     tried = 0
-    for case in (Case(trial, "two uploads", [row, rest]), Case(trial, "an upload without entries", [samples.head(1)])):
+    cases = (Case(trial, "two uploads", [row, rest]), Case(trial, "an upload without entries", [samples.head(1)]),
+             Migration(trial, "two uploads that go over", [row, rest]))
+    for case in cases:
         for kind in ("stop", "lose"):
             counts = [len(upwards(pool, lambda number, disk=disk: (case.stopped(kind, disk, number),))) for disk in DISKS]
             print(f"disks: {case.name}, {kind}: {counts[0]} calls of the log, {counts[1]} of the database")

@@ -26,6 +26,8 @@
 //! | `lose DISK:N` | the same, and afterwards both disks lose what wasn't synced |
 //! | `rot DISK:N` | during the next word the byte at N can't be read; `harmed` is said if the disk has it |
 //! | `collect PATH,PATH..` | collects the uploads by one run into the journal, which is made if there is none |
+//! | `collect-old PATH,PATH..` | the same, in the tables of schema 1 |
+//! | `migrate all` | the journal goes over from the tables of schema 1 |
 //! | `export all` | the journal's entries |
 //! | `stored ID:NUMBER` | the entry under the key |
 //!
@@ -75,6 +77,12 @@ impl Calls {
                 let uploads = read_files(rt, operand)?;
                 self.disks.perform(&Task::Collect(&uploads), &mut self.told)
             }
+            "collect-old" => {
+                let uploads = read_files(rt, operand)?;
+                self.disks
+                    .perform(&Task::CollectOld(&uploads), &mut self.told)
+            }
+            "migrate" => self.disks.perform(&Task::Migrate, &mut self.told),
             "export" => self.disks.perform(&Task::Export, &mut self.told),
             "stored" => self.disks.perform(&Task::Get(operand), &mut self.told),
             _ => {

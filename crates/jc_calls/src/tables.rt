@@ -1,9 +1,11 @@
-//! A journal in tables: uploads are collected into it, and its entries are listed. No proof here sees how it is stored.
+//! A journal in tables: uploads are collected into it, its entries are listed, and it goes over to other tables. No proof
+//! here sees how it is stored.
 
 use crate::collecting;
 use crate::told::tell_text;
 use jc_base::{Limits, VecSink};
-use jc_store::{AdoptFault, SqlKeeper};
+use jc_records::SchemaTwo;
+use jc_store::{Listed, MigrateStop, SchemaOne, TableKeeper};
 use sqlite::{Alter, Connection};
 use std::alloc::Global;
 use std::io;
@@ -14,6 +16,10 @@ use std::io::Write;
 pub enum Task<'a> {
     /// Uploads are collected by one run, into a journal that is made if there is none.
     Collect(&'a [Vec<u8>]),
+    /// The same, in the tables of schema 1.
+    CollectOld(&'a [Vec<u8>]),
+    /// It goes over from the tables of schema 1.
+    Migrate,
     /// All entries are listed.
     Export,
     /// The entry under a key is listed.
@@ -28,35 +34,37 @@ impl Task<'_> {
         conn: Connection<S>,
         told: &mut Vec<u8>,
     ) -> io::Result<Connection<S>> {
-        let is_new = is_empty(&conn);
-        if is_new && !matches!(self, Task::Collect(_)) {
-            writeln!(told, "no tables")?;
-            return Ok(conn);
-        }
-        match journal(alloc, conn, is_new) {
-            Ok(mut keeper) => {
-                self.perform_on(alloc, &mut keeper, told)?;
-                Ok(keeper.into_connection())
-            }
-            Err((fault, conn)) => {
-                writeln!(told, "bad {} {}", fault.code, fault.row)?;
-                Ok(conn)
-            }
+        match self {
+            Task::Collect(uploads) => collect::<S, SchemaTwo>(alloc, conn, uploads, told),
+            Task::CollectOld(uploads) => collect::<S, SchemaOne>(alloc, conn, uploads, told),
+            Task::Migrate => migrate(alloc, conn, told),
+            Task::Export => export(alloc, conn, told),
+            Task::Get(named) => get(alloc, conn, named, told),
         }
     }
+}
 
-    fn perform_on<S: Alter>(
-        &self,
-        alloc: Global,
-        keeper: &mut SqlKeeper<S>,
-        told: &mut Vec<u8>,
-    ) -> io::Result<()> {
-        match self {
-            Task::Collect(uploads) => {
-                collecting::run_all(alloc, keeper, uploads, &Limits::default(), told)
-            }
-            Task::Export => export(alloc, keeper, told),
-            Task::Get(named) => collecting::get(alloc, keeper, named, told),
+/// The journal in a database, made if there are no tables and it may be; or the database, once it was said why there is no
+/// journal.
+fn journal<S: Alter + Drop, L: Listed + Drop>(
+    alloc: Global,
+    conn: Connection<S>,
+    may_be_made: bool,
+    told: &mut Vec<u8>,
+) -> io::Result<Result<TableKeeper<S, L>, Connection<S>>> {
+    let found = if !is_empty(&conn) {
+        TableKeeper::adopt(alloc, conn)
+    } else if may_be_made {
+        TableKeeper::create(alloc, conn)
+    } else {
+        writeln!(told, "no tables")?;
+        return Ok(Err(conn));
+    };
+    match found {
+        Ok(keeper) => Ok(Ok(keeper)),
+        Err((fault, conn)) => {
+            writeln!(told, "bad {} {}", fault.code, fault.row)?;
+            Ok(Err(conn))
         }
     }
 }
@@ -66,26 +74,70 @@ fn is_empty<S: Alter>(conn: &Connection<S>) -> bool {
     schema.tables.is_empty() && schema.indexes.is_empty() && schema.views.is_empty()
 }
 
-fn journal<S: Alter>(
+fn collect<S: Alter + Drop, L: Listed + Drop>(
     alloc: Global,
     conn: Connection<S>,
-    is_new: bool,
-) -> Result<SqlKeeper<S>, (AdoptFault, Connection<S>)> {
-    if is_new {
-        SqlKeeper::create(alloc, conn)
-    } else {
-        SqlKeeper::adopt(alloc, conn)
+    uploads: &[Vec<u8>],
+    told: &mut Vec<u8>,
+) -> io::Result<Connection<S>> {
+    match journal::<S, L>(alloc, conn, true, told)? {
+        Ok(mut keeper) => {
+            collecting::run_all(alloc, &mut keeper, uploads, &Limits::default(), told)?;
+            Ok(keeper.into_connection())
+        }
+        Err(conn) => Ok(conn),
     }
 }
 
-fn export<S: Alter>(
+fn migrate<S: Alter + Drop>(
     alloc: Global,
-    keeper: &mut SqlKeeper<S>,
+    conn: Connection<S>,
     told: &mut Vec<u8>,
-) -> io::Result<()> {
+) -> io::Result<Connection<S>> {
+    let keeper = match journal::<S, SchemaOne>(alloc, conn, false, told)? {
+        Ok(keeper) => keeper,
+        Err(conn) => return Ok(conn),
+    };
+    match keeper.migrate::<SchemaTwo>() {
+        Ok(keeper) => {
+            writeln!(told, "migrated")?;
+            Ok(keeper.into_connection())
+        }
+        Err(MigrateStop { code, keeper }) => {
+            writeln!(told, "stopped {code}")?;
+            Ok(keeper.into_connection())
+        }
+    }
+}
+
+fn export<S: Alter + Drop>(
+    alloc: Global,
+    conn: Connection<S>,
+    told: &mut Vec<u8>,
+) -> io::Result<Connection<S>> {
+    let mut keeper = match journal::<S, SchemaTwo>(alloc, conn, false, told)? {
+        Ok(keeper) => keeper,
+        Err(conn) => return Ok(conn),
+    };
     let mut sink = VecSink::new(alloc);
     match keeper.export(&mut sink) {
-        Ok(_) => tell_text(told, "entries", Ok(sink.into_bytes())),
-        Err(stop) => writeln!(told, "stopped {} {}", stop.code, stop.written),
+        Ok(_) => tell_text(told, "entries", Ok(sink.into_bytes()))?,
+        Err(stop) => writeln!(told, "stopped {} {}", stop.code, stop.written)?,
+    }
+    Ok(keeper.into_connection())
+}
+
+fn get<S: Alter + Drop>(
+    alloc: Global,
+    conn: Connection<S>,
+    named: &str,
+    told: &mut Vec<u8>,
+) -> io::Result<Connection<S>> {
+    match journal::<S, SchemaTwo>(alloc, conn, false, told)? {
+        Ok(mut keeper) => {
+            collecting::get(alloc, &mut keeper, named, told)?;
+            Ok(keeper.into_connection())
+        }
+        Err(conn) => Ok(conn),
     }
 }
