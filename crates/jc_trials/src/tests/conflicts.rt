@@ -121,6 +121,6 @@ fn readings_over_a_map(rt: HostRuntime) -> Result<(), Fail> {
 }
 
 #[test]
-fn readings_over_a_database(rt: HostRuntime) -> Result<(), Fail> {
-    readings(&rt, &mut Tables::in_memory(rt.alloc()))
+fn readings_over_tables(rt: HostRuntime) -> Result<(), Fail> {
+    readings(&rt, &mut Tables(rt.alloc()))
 }

@@ -214,8 +214,8 @@ fn devices_fail_over_a_map(rt: HostRuntime) -> Result<(), Fail> {
 }
 
 #[test]
-fn devices_fail_over_a_database(rt: HostRuntime) -> Result<(), Fail> {
-    let mut tables = Tables::in_memory(rt.alloc());
+fn devices_fail_over_tables(rt: HostRuntime) -> Result<(), Fail> {
+    let mut tables = Tables(rt.alloc());
     devices_fail(&rt, &mut tables)?;
     a_conflict_comes_before_the_next_read(&rt, &mut tables)
 }

@@ -3,10 +3,10 @@
 use jc_base::{Id128, Key};
 use jc_export::canonical;
 use jc_keeper::{Keeper, MapKeeper};
-use jc_records::RecordKeeper;
+use jc_memory::MemoryKeeper;
 use jc_samples::SEQNUM_ID;
-use jc_store::SqlKeeper;
-use sqlite::{Alter, Connection, MemStore};
+use jc_store::SqlKeeper1;
+use sqlite::{Connection, MemStore};
 use std::alloc::Global;
 use std::test::Fail;
 
@@ -29,74 +29,28 @@ impl Journals for Maps {
     }
 }
 
-/// Opens databases of one kind.
-pub(super) trait Databases {
-    type Store: Alter + Drop;
-
-    /// A connection to a new database.
-    fn open(&self) -> Result<Connection<Self::Store>, Fail>;
-}
-
-/// Databases in memory.
+/// Journals in the tables that new databases get, each in a database in memory of its own.
 #[derive(Drop)]
-pub(super) struct Memories(pub(super) Global);
+pub(super) struct Tables(pub(super) Global);
 
-impl Databases for Memories {
-    type Store = MemStore;
+impl Journals for Tables {
+    type Kept = MemoryKeeper;
 
-    fn open(&self) -> Result<Connection<MemStore>, Fail> {
-        Ok(Connection::open_in_memory(self.0)?)
+    fn empty(&mut self) -> Result<MemoryKeeper, Fail> {
+        Ok(MemoryKeeper::new(self.0)?)
     }
 }
 
-/// Journals in tables, each in a database of its own.
+/// Journals in the tables of schema 1, each in a database in memory of its own.
 #[derive(Drop)]
-pub(super) struct Tables<D> {
-    pub(super) alloc: Global,
-    pub(super) databases: D,
-}
+pub(super) struct OldTables(pub(super) Global);
 
-impl Tables<Memories> {
-    pub(super) fn in_memory(alloc: Global) -> Tables<Memories> {
-        Tables {
-            alloc,
-            databases: Memories(alloc),
-        }
-    }
-}
+impl Journals for OldTables {
+    type Kept = SqlKeeper1<MemStore>;
 
-impl<D: Databases> Tables<D> {
-    /// A keeper that takes up the same journal.
-    pub(super) fn again(&self, keeper: SqlKeeper<D::Store>) -> Result<SqlKeeper<D::Store>, Fail> {
-        match SqlKeeper::adopt(self.alloc, keeper.into_connection()) {
-            Ok(keeper) => Ok(keeper),
-            Err(_) => Err("not adopted")?,
-        }
-    }
-}
-
-impl<D: Databases> Journals for Tables<D> {
-    type Kept = SqlKeeper<D::Store>;
-
-    fn empty(&mut self) -> Result<SqlKeeper<D::Store>, Fail> {
-        let conn = self.databases.open()?;
-        match SqlKeeper::create(self.alloc, conn) {
-            Ok(keeper) => Ok(keeper),
-            Err(_) => Err("not created")?,
-        }
-    }
-}
-
-/// Journals in the tables of schema 2, each in a database in memory of its own.
-#[derive(Drop)]
-pub(super) struct Records(pub(super) Global);
-
-impl Journals for Records {
-    type Kept = RecordKeeper<MemStore>;
-
-    fn empty(&mut self) -> Result<RecordKeeper<MemStore>, Fail> {
+    fn empty(&mut self) -> Result<SqlKeeper1<MemStore>, Fail> {
         let conn = Connection::open_in_memory(self.0)?;
-        match RecordKeeper::create(self.0, conn) {
+        match SqlKeeper1::create(self.0, conn) {
             Ok(keeper) => Ok(keeper),
             Err(_) => Err("not created")?,
         }

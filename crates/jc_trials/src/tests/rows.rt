@@ -8,7 +8,7 @@
 //!
 //! `add_pieces` has the form of `PIECES`. Each run begins with an empty journal.
 
-use super::journals::{Journals, Maps, Records, Tables, stored};
+use super::journals::{Journals, Maps, OldTables, Tables, stored};
 use jc_base::{ByteStream, Limits, SliceStream, VecSink};
 use jc_collect::{Delivery, RunEnd, run};
 use jc_file::{ByteSpace, SliceSpace};
@@ -301,13 +301,13 @@ fn worked_runs_over_a_map(rt: HostRuntime) -> Result<(), Fail> {
 }
 
 #[test]
-fn worked_runs_over_a_database_in_memory(rt: HostRuntime) -> Result<(), Fail> {
-    worked_runs(&rt, &mut Tables::in_memory(rt.alloc()))
+fn worked_runs_over_tables(rt: HostRuntime) -> Result<(), Fail> {
+    worked_runs(&rt, &mut Tables(rt.alloc()))
 }
 
 #[test]
-fn worked_runs_over_a_row_for_each_field(rt: HostRuntime) -> Result<(), Fail> {
-    worked_runs(&rt, &mut Records(rt.alloc()))
+fn worked_runs_over_old_tables(rt: HostRuntime) -> Result<(), Fail> {
+    worked_runs(&rt, &mut OldTables(rt.alloc()))
 }
 
 const WRONG: &str = r#"upload head:1:0 ENTRY => ack S 0 1 0 0

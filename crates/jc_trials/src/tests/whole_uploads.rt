@@ -71,6 +71,6 @@ fn whole_uploads_over_a_map(rt: HostRuntime) -> Result<(), Fail> {
 }
 
 #[test]
-fn whole_uploads_over_a_database_in_memory(rt: HostRuntime) -> Result<(), Fail> {
-    whole_uploads(&rt, &mut Tables::in_memory(rt.alloc()))
+fn whole_uploads_over_tables(rt: HostRuntime) -> Result<(), Fail> {
+    whole_uploads(&rt, &mut Tables(rt.alloc()))
 }

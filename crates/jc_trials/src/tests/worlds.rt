@@ -221,7 +221,7 @@ fn whole_uploads_to_a_map(rt: HostRuntime) -> Result<(), Fail> {
 
 #[test]
 fn whole_uploads_to_tables(rt: HostRuntime) -> Result<(), Fail> {
-    whole_steps(&rt, &mut Tables::in_memory(rt.alloc()))
+    whole_steps(&rt, &mut Tables(rt.alloc()))
 }
 
 #[test]
@@ -231,7 +231,7 @@ fn two_machines_send_to_a_map(rt: HostRuntime) -> Result<(), Fail> {
 
 #[test]
 fn two_machines_send_to_tables(rt: HostRuntime) -> Result<(), Fail> {
-    worked_steps(&rt, &mut Tables::in_memory(rt.alloc()))
+    worked_steps(&rt, &mut Tables(rt.alloc()))
 }
 
 #[test]
