@@ -1,6 +1,7 @@
 pub mod AnswersRead
 pub mod Gathering
 pub mod Sources
+pub mod Streams
 pub mod Taking
 pub mod Uploads
 pub mod Verdicts

@@ -1,14 +1,15 @@
 -- What answers do to a sender.
-use Rattle.std.proofs.Common.{◌≡◌, ◌↔◌, ◌∙◌, Bool, true, false, List, [], ◌∷◌, ap, ap₂, inl, inr, refl, sym, subst}
+use Rattle.std.proofs.Common.{◌≡◌, ◌↔◌, ◌∙◌, ℕ, Bool, true, false, List, [], ◌∷◌, ap, ap₂, inl, inr, refl, sym, subst}
 use Rattle.std.specs.Prelude.{IsTrue}
 use Rattle.std.specs.Bool.{OnTrue, OnFalse}
 use Rattle.jc_base.specs.LogEntry.{LogEntry}
-use Rattle.jc_base.specs.declared.id.Id128.{Id128}
 use Rattle.jc_upload.specs.Resume.{Point}
-use Rattle.jc_upload.specs.Upload.{Advances, Sender, acked_to, moved_to}
+use Rattle.jc_upload.specs.Upload.{Advances, Sender, TakesAnswer, TakesAnswers, acked_to, moved_to}
 use Rattle.jc_upload.specs.declared.answer.Answer.{Answer}
 use Rattle.jc_sender.specs.Sent.{sender_of}
-use Rattle.jc_sender.specs.Taken.{TakesAnswer, TakesAnswers}
+use Rattle.jc_sender.specs.Source.{HasEntriesOf}
+use Rattle.jc_sender.specs.Taken.{MovesSender}
+use Rattle.jc_args.specs.declared.request.InputKind.{InputKind}
 
 pub takes_of : (entries : List LogEntry) (answer : Answer) (before after : Sender) (moves : Bool)
     → IsTrue moves ↔ Advances before entries answer
@@ -31,12 +32,15 @@ all_keep_source entries [] before after takes = ap (λ (s : Sender). s.source) t
 all_keep_source entries (answer ∷ answers) before after (middle, takes, rest) =
     all_keep_source entries answers middle after rest ∙ keeps_source entries answer before middle takes
 
--- so what the answers did is told by the resume points
-pub between_points : (id : Id128) (point moved : Point) (entries : List LogEntry) (answers : List Answer) (before after : Sender)
-    → before ≡ sender_of id point → moved ≡ after.point → TakesAnswers entries answers before after
-    → TakesAnswers entries answers (sender_of id point) (sender_of id moved)
-between_points id point moved entries answers before after starts ends takes =
-    let source : after.source ≡ id = all_keep_source entries answers before after takes ∙ ap (λ (s : Sender). s.source) starts in
-    let end : after ≡ sender_of id moved = ap₂ sender_of source (sym ends) in
-    subst (λ (s : Sender). TakesAnswers entries answers s (sender_of id moved)) starts
-    (subst (λ (s : Sender). TakesAnswers entries answers before s) end takes)
+-- so what the answers did is told by the resume point
+pub sender_moved : (kind : InputKind) (bytes : List ℕ) (entries : List LogEntry) (answers : List Answer) (before after : Sender) (moved : Point)
+    → HasEntriesOf kind bytes entries → TakesAnswers entries answers before after → moved ≡ after.point
+    → MovesSender kind before bytes answers moved
+sender_moved kind bytes entries answers before after moved has takes ends =
+    let end : after ≡ sender_of before.source moved = ap₂ sender_of (all_keep_source entries answers before after takes) (sym ends) in
+    record {
+      reading = has.0;
+      well = has.1;
+      takes = subst (λ (es : List LogEntry). TakesAnswers es answers before (sender_of before.source moved)) has.2
+          (subst (λ (s : Sender). TakesAnswers entries answers before s) end takes);
+    }

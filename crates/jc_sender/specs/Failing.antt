@@ -3,7 +3,7 @@ use Rattle.std.specs.Prelude.{◌≡◌, ◌⊎◌, ⊤, ℕ, List, Option, IfSo
 use Rattle.jc_console.specs.Ids.{IsIdText}
 use Rattle.jc_console.specs.declared.failure.Failure.{Failure}
 use Rattle.jc_console.specs.declared.failure.Failure.TheVariants.{Bad, BadAnswer, BadId, BadResume, CannotOpen, OutOfMemory, ReadFailed, SourceChanged, WriteFailed}
-use Rattle.jc_sender.specs.Source.{HasFault, HasSomeFault}
+use Rattle.jc_sender.specs.Source.{HasFault}
 use Rattle.jc_sender.specs.Taken.{HasBadLine}
 use Rattle.jc_args.specs.declared.request.InputKind.TheVariants.{Export}
 use Rattle.jc_args.specs.declared.request.Source.{Source}
@@ -20,10 +20,8 @@ SourceFailsBy source WriteFailed = ⊤
 SourceFailsBy source OutOfMemory = ⊤
 SourceFailsBy source _ = ⊥
 
--- ... or, for `upload`, the entries no longer go on from its resume point. Of a stream the bytes aren't kept, so its
--- fault is one of a stream.
+-- ... or, for `upload`, the entries no longer go on from its resume point.
 abbrev pub UploadFailsBy : Source → Failure → Type 0
-UploadFailsBy source (Bad fault) = HasSomeFault source.kind fault
 UploadFailsBy source SourceChanged = source.kind ≡ Export
 UploadFailsBy source failure = SourceFailsBy source failure
 

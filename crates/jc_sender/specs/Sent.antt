@@ -7,9 +7,9 @@ use Rattle.jc_base.specs.declared.id.Id128.{Id128}
 use Rattle.jc_console.specs.Ids.{IsIdOf}
 use Rattle.jc_upload.specs.Resume.{IsPoint, Point}
 use Rattle.jc_upload.specs.Upload.{Agrees, Sender, file_upload_of, next_upload2_of, next_upload_of}
-use Rattle.jc_sender.specs.Source.{HasFault, HasSomeFault, ReadsWell}
+use Rattle.jc_sender.specs.Source.{HasFault, ReadsWell, WhyNoSomeEntries}
 use Rattle.jc_console.specs.declared.failure.Failure.{Failure}
-use Rattle.jc_console.specs.declared.failure.Failure.TheVariants.{Bad, OutOfMemory, ReadFailed, SourceChanged}
+use Rattle.jc_console.specs.declared.failure.Failure.TheVariants.{Bad, OutOfMemory, SourceChanged}
 use Rattle.jc_args.specs.declared.request.InputKind.{InputKind}
 use Rattle.jc_args.specs.declared.request.InputKind.TheVariants.{Export, File}
 use Rattle.jc_args.specs.declared.request.Source.{Source}
@@ -54,14 +54,10 @@ WhyNoUpload kind sender bytes SourceChanged = (kind ≡ Export) × HasChanged se
 WhyNoUpload kind sender bytes OutOfMemory = ⊤
 WhyNoUpload kind sender bytes _ = ⊥
 
--- Why there is no next upload of a source whose bytes aren't known: the same, as far as it can be said without them, or
--- they can't be read.
+-- The same of a source whose bytes aren't known, as far as it can be said without them, or they can't be read.
 abbrev pub WhyNoSomeUpload : InputKind → Failure → Type 0
-WhyNoSomeUpload kind (Bad fault) = HasSomeFault kind fault
 WhyNoSomeUpload kind SourceChanged = kind ≡ Export
-WhyNoSomeUpload kind ReadFailed = ⊤
-WhyNoSomeUpload kind OutOfMemory = ⊤
-WhyNoSomeUpload kind _ = ⊥
+WhyNoSomeUpload kind failure = WhyNoSomeEntries kind failure
 
 -- The output gained the upload of the source that the command line names, for some bytes of its files, which no
 -- contract can name.

@@ -7,12 +7,10 @@ use Rattle.jc_base.specs.declared.fault.Ending.{Ending}
 use Rattle.jc_base.specs.declared.fault.Ending.TheVariants.{End, Bad}
 use Rattle.jc_base.specs.declared.fault.Fault.{Fault}
 use Rattle.jc_base.specs.declared.limits.Limits.{Limits}
-use Rattle.jc_export.specs.StreamFault.{IsStreamCode}
 use Rattle.jc_sender.specs.Reads.{ReadsAs}
 use Rattle.jc_console.specs.declared.failure.Failure.{Failure}
 use Rattle.jc_console.specs.declared.failure.Failure.TheVariants as failure
 use Rattle.jc_args.specs.declared.request.InputKind.{InputKind}
-use Rattle.jc_args.specs.declared.request.InputKind.TheVariants.{Export, File}
 
 abbrev pub IsEnd : Ending → Type 0
 IsEnd ending = (left : ℕ) × (ending ≡ End left)
@@ -32,11 +30,6 @@ pub record HasFault (kind : InputKind) (bytes : List ℕ) (fault : Fault) : Type
   pub reads : ReadsAs kind limits bytes reading
   pub ends : reading.ending ≡ Bad fault
 
--- A source whose bytes aren't known may have this fault: a stream's is one of a stream, and some file has the file's.
-abbrev pub HasSomeFault : InputKind → Fault → Type 0
-HasSomeFault Export fault = IsStreamCode fault.code
-HasSomeFault File fault = (bytes : List ℕ) × HasFault File bytes fault
-
 -- The bytes have no fault, and these complete entries.
 abbrev pub HasEntriesOf : InputKind → List ℕ → List LogEntry → Type 0
 HasEntriesOf kind bytes entries = (reading : Reading) × ReadsWell kind bytes reading × (entries ≡ reading.entries)
@@ -46,3 +39,10 @@ abbrev pub WhyNoEntries : InputKind → List ℕ → Failure → Type 0
 WhyNoEntries kind bytes (failure.Bad fault) = HasFault kind bytes fault
 WhyNoEntries kind bytes failure.OutOfMemory = ⊤
 WhyNoEntries kind bytes _ = ⊥
+
+-- The same of bytes that aren't known: some have the fault, or they can't be read.
+abbrev pub WhyNoSomeEntries : InputKind → Failure → Type 0
+WhyNoSomeEntries kind (failure.Bad fault) = (bytes : List ℕ) × HasFault kind bytes fault
+WhyNoSomeEntries kind failure.ReadFailed = ⊤
+WhyNoSomeEntries kind failure.OutOfMemory = ⊤
+WhyNoSomeEntries kind _ = ⊥

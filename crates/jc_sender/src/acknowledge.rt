@@ -1,17 +1,19 @@
 //! `ack`: how far answers move a source on.
 
-ghost use Rattle.std.specs.Prelude.{◌≡◌, ◌≢◌, ◌++◌, ◌∷◌, [], ℕ, List, IfOk, IfErr, IfSome, OnOk};
+ghost use Rattle.std.specs.Prelude.{◌≡◌, ◌≢◌, ◌++◌, ◌∷◌, [], ℕ, List, Some, IfOk, IfErr, IfSome, OnOk};
 ghost use Rattle.std.specs.Io.KnownBytes.{Appends, Keeps};
 ghost use Rattle.jc_sender.specs.Failing.{AckFailsBy};
-ghost use Rattle.jc_sender.specs.Taken.{MovesBy, MovesPoint, TellsSomePoint, WhyNoAnswers, WhyNoPoint, point_line};
+ghost use Rattle.jc_sender.specs.Source.{WhyNoEntries, WhyNoSomeEntries};
+ghost use Rattle.jc_sender.specs.Taken.{MovesBy, MovesSender, TellsSomePoint, WhyNoPoint, point_line};
 
-use crate::answers::{read_answers, take_answers};
+use crate::answers::{answers_on, take_answers};
 use crate::resume_file::{read_resume, write_resume};
-use crate::source::{entries_of, read_source};
+use crate::source::{file_bytes, file_entries, open_source};
 use jc_args::{InputKind, Source};
-use jc_base::{Entry, Id128};
-use jc_console::{Failure, printed, read_whole, source_id};
-use jc_upload::{Resume, Uploader};
+use jc_base::{ByteStream, Ending, FromRead, Limits};
+use jc_console::{Failure, printed, source_id};
+use jc_export::{Stream, canonical_texts_read_back, one_reading};
+use jc_upload::{Answer, Resume, Uploader};
 use std::alloc::Global;
 use std::io::{Read, Write};
 use std::rt::Files;
@@ -31,44 +33,96 @@ pub fn ack<'a, R: Files + AllocGlobal, I: Read, O: Write>(
 {
     let id = source_id(source.id)?;
     let resume = read_resume(rt, source.resume)?;
-    let bytes = read_source(rt, source)?;
-    let moved = moved_by(rt.alloc(), source.kind, id, resume, &bytes, input)?;
+    let uploader = Uploader::new(id, resume);
+    let file = open_source(rt, source)?;
+    let moved = moved_by(rt.alloc(), uploader, source.kind, file, input)?;
     write_resume(rt, source.resume, &moved)?;
     tell_point(&moved, output)
 }
 
-/// The resume point to which the answers on standard input move a source with these bytes.
-fn moved_by<'a, I: Read>(
+/// The resume point to which the answers on standard input move the sender of a source whose bytes a reader gives. They are
+/// read before the source, and a fault of the source is told before one of theirs.
+fn moved_by<'a, F: Read + Drop, I: Read>(
     alloc: Global,
+    uploader: Uploader,
     kind: InputKind,
-    id: Id128,
-    resume: Resume,
-    bytes: &[u8],
+    file: F,
     input: &mut I,
 ) -> Result<Resume, Failure<'a>>
-    ensures moved { IfOk result (λ moved. (text : List ℕ) × IfSome (I.remaining input.old) (λ held. text ≡ held)
-        × MovesBy kind id resume bytes.now text moved) }
-    ensures failed { IfErr result (WhyNoPoint kind bytes.now (I.remaining input.old)) }
+    ensures moved { IfOk result (λ moved. (bytes : List ℕ) × (text : List ℕ)
+        × IfSome (I.remaining input.old) (λ held. text ≡ held)
+        × MovesBy kind uploader.source uploader.point bytes text moved) }
+    ensures failed { IfErr result (WhyNoPoint kind (I.remaining input.old)) }
 {
-    let entries = entries_of(alloc, kind, bytes)?;
-    let text = read_whole(alloc, input)?;
-    moved_point(alloc, id, resume, &entries, &text)
+    match answers_on(alloc, input) {
+        Ok(answers) => point_by(alloc, uploader, kind, file, &answers),
+        Err(failure) => {
+            let _unmoved = point_by(alloc, uploader, kind, file, &[])?;
+            Err(failure)
+        }
+    }
 }
 
-/// The resume point to which these lines of answers move a source.
-fn moved_point<'a>(
+/// The resume point to which these answers move the sender of a source whose bytes a reader gives.
+fn point_by<'a, F: Read + Drop>(
     alloc: Global,
-    id: Id128,
-    resume: Resume,
-    entries: &[Entry],
-    text: &[u8],
+    uploader: Uploader,
+    kind: InputKind,
+    file: F,
+    answers: &[Answer],
 ) -> Result<Resume, Failure<'a>>
-    ensures moved { IfOk result (MovesPoint id resume entries.now text.now) }
-    ensures failed { IfErr result (WhyNoAnswers text.now) }
+    ensures moved { IfOk result (λ moved. (bytes : List ℕ) × MovesSender kind uploader bytes answers.now moved) }
+    ensures failed { IfErr result (WhyNoSomeEntries kind) }
 {
-    let answers = read_answers(alloc, text)?;
-    let mut uploader = Uploader::new(id, resume);
-    take_answers(&mut uploader, entries, &answers);
+    match kind {
+        InputKind::Export => export_point(alloc, uploader, FromRead::new(file), answers),
+        InputKind::File => {
+            let bytes = file_bytes(alloc, file)?;
+            file_point(alloc, uploader, &bytes, answers)
+        }
+    }
+}
+
+/// The same of an export stream that a device gives. Its entries are read to their end, and none of them is kept.
+fn export_point<'a, R: ByteStream + Drop>(
+    alloc: Global,
+    mut uploader: Uploader,
+    device: R,
+    answers: &[Answer],
+) -> Result<Resume, Failure<'a>>
+    ensures moved { IfOk result (λ moved. (bytes : List ℕ)
+        × MovesSender InputKind.Export uploader bytes answers.now moved) }
+    ensures failed { IfErr result (WhyNoSomeEntries InputKind.Export) }
+    // If the device's bytes are known, the point is theirs.
+    ensures bytes { (bytes : List ℕ) → R.remaining device ≡ Some bytes → IfOk result (λ moved.
+        MovesSender InputKind.Export uploader bytes answers.now moved) }
+    ensures why { (bytes : List ℕ) → R.remaining device ≡ Some bytes → IfErr result (λ failure.
+        failure ≢ Failure.ReadFailed → WhyNoEntries InputKind.Export bytes failure) }
+{
+    // Do nothing: the proof has from them that the bytes have no other reading, and that entries which a stream may have
+    // are read back from their canonical texts.
+    one_reading();
+    canonical_texts_read_back();
+    let mut entries = Stream::new(alloc, device, Limits::default())?;
+    let ending = uploader.on_answers(alloc, &mut entries, answers)?;
+    match ending {
+        Ending::End { left: _ } => Ok(*uploader.resume()),
+        Ending::Bad(fault) => Err(Failure::Bad(fault)),
+    }
+}
+
+/// The same of a journal file with these bytes.
+fn file_point<'a>(
+    alloc: Global,
+    mut uploader: Uploader,
+    bytes: &[u8],
+    answers: &[Answer],
+) -> Result<Resume, Failure<'a>>
+    ensures moved { IfOk result (λ moved. MovesSender InputKind.File uploader bytes.now answers.now moved) }
+    ensures failed { IfErr result (WhyNoEntries InputKind.File bytes.now) }
+{
+    let entries = file_entries(alloc, bytes)?;
+    take_answers(&mut uploader, &entries, answers);
     Ok(*uploader.resume())
 }
 

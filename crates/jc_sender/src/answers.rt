@@ -1,18 +1,29 @@
 //! Lines of answers.
 
-ghost use Rattle.std.specs.Prelude.{◌≡◌, IfOk, IfErr};
-ghost use Rattle.jc_upload.specs.Upload.{Sender};
+ghost use Rattle.std.specs.Prelude.{◌≡◌, ℕ, List, IfOk, IfErr, IfSome};
+ghost use Rattle.jc_upload.specs.Upload.{Sender, TakesAnswer, TakesAnswers};
 ghost use Rattle.jc_console.specs.Lines.{AreAnswers};
-ghost use Rattle.jc_sender.specs.Taken.{TakesAnswer, TakesAnswers, WhyNoAnswers};
+ghost use Rattle.jc_sender.specs.Taken.{WhyNoAnswers, WhyNoneCame};
 
 use jc_base::Entry;
-use jc_console::{Failure, line_length};
+use jc_console::{Failure, line_length, read_whole};
 use jc_upload::{Answer, Uploader};
 use std::alloc::Global;
+use std::io::Read;
+
+/// The answers whose lines a reader gives.
+pub fn answers_on<'a, I: Read>(alloc: Global, input: &mut I) -> Result<Vec<Answer>, Failure<'a>>
+    ensures all { IfOk result (λ answers. (text : List ℕ) × IfSome (I.remaining input.old) (λ held. text ≡ held)
+        × AreAnswers answers.items text) }
+    ensures failed { IfErr result (WhyNoneCame (I.remaining input.old)) }
+{
+    let text = read_whole(alloc, input)?;
+    read_answers(alloc, &text)
+}
 
 /// The answers whose lines the text is. If a line isn't an answer's, the failure has the number of the first such line,
 /// from 1.
-pub fn read_answers<'a>(alloc: Global, text: &[u8]) -> Result<Vec<Answer>, Failure<'a>>
+fn read_answers<'a>(alloc: Global, text: &[u8]) -> Result<Vec<Answer>, Failure<'a>>
     ensures all { IfOk result (λ answers. AreAnswers answers.items text.now) }
     ensures failed { IfErr result (WhyNoAnswers text.now) }
 {

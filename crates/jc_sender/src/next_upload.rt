@@ -6,10 +6,10 @@ ghost use Rattle.jc_sender.specs.Failing.{UploadFailsBy};
 ghost use Rattle.jc_sender.specs.Sent.{MakesUpload, TellsSomeUpload, WhyNoSomeUpload, WhyNoUpload};
 
 use crate::resume_file::read_resume;
-use crate::source::{check_file, open_source};
+use crate::source::{check_file, file_bytes, open_source};
 use jc_args::{InputKind, Source};
 use jc_base::{ByteStream, Ending, FromRead, Limits};
-use jc_console::{Failure, printed, read_front, source_id};
+use jc_console::{Failure, printed, source_id};
 use jc_export::{Stream, canonical_texts_read_back, one_reading};
 use jc_upload::{Uploader, file_upload};
 use std::alloc::Global;
@@ -38,8 +38,7 @@ pub fn upload<'a, R: Files + AllocGlobal, O: Write>(
     write_out(&upload, output)
 }
 
-/// The next upload of a source whose bytes a reader gives. A journal file is read up to one byte over the limit of a file:
-/// more would change nothing.
+/// The next upload of a source whose bytes a reader gives.
 fn made_upload<'a, F: Read + Drop>(
     alloc: Global,
     uploader: &Uploader,
@@ -55,7 +54,7 @@ fn made_upload<'a, F: Read + Drop>(
     match kind {
         InputKind::Export => export_upload(alloc, uploader, limit, whole, FromRead::new(file)),
         InputKind::File => {
-            let bytes = read_front(alloc, file, Limits::default().file + 1)?;
+            let bytes = file_bytes(alloc, file)?;
             journal_upload(alloc, uploader, &bytes)
         }
     }

@@ -5,9 +5,10 @@ ghost use Rattle.std.specs.Io.KnownBytes.{Keeps};
 ghost use Rattle.jc_sender.specs.Verdict.{verdict_text, verdict_status, TellsReading, TellsBytes};
 
 use crate::entries::count_entries;
+use crate::source::file_bytes;
 use jc_args::InputKind;
 use jc_base::{ByteStream, Ending, FromRead, Limits};
-use jc_console::{Failure, Status, is_regular, open_file, printed, read_front};
+use jc_console::{Failure, Status, is_regular, open_file, printed};
 use jc_export::{Stream, one_reading};
 use jc_file::{ByteSpace, FileEntries, FileSpace, PagedSpace, SliceSpace};
 use std::alloc::Global;
@@ -91,8 +92,7 @@ fn verify_export<'a, R: ByteStream + Drop, O: Write>(
     tell(count, ending, output)
 }
 
-/// Prints how a file reads as a journal file. If its ranges can't be read it is read up to one byte over the limit of a
-/// file: more would change nothing.
+/// Prints how a file reads as a journal file. If it isn't a regular file, its ranges can't be read, and it is read whole.
 fn verify_file<'a, F: Read + Seek + OpenFile + Drop, O: Write>(
     alloc: Global,
     file: F,
@@ -106,7 +106,7 @@ fn verify_file<'a, F: Read + Seek + OpenFile + Drop, O: Write>(
         → Keeps (O.contents output.old) (O.contents output.new)) }
 {
     if !is_regular(&file) {
-        let bytes = read_front(alloc, file, Limits::default().file + 1)?;
+        let bytes = file_bytes(alloc, file)?;
         return verify_space(alloc, SliceSpace { bytes: &bytes }, output);
     }
     match FileSpace::new(file) {

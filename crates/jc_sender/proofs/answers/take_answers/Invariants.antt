@@ -1,6 +1,5 @@
 use Rattle.std.proofs.Common.{drop}
-use Rattle.jc_upload.specs.Upload.{Sender}
-use Rattle.jc_sender.specs.Taken.{TakesAnswers}
+use Rattle.jc_upload.specs.Upload.{Sender, TakesAnswers}
 use Rattle.jc_sender.proofs.answers.take_answers.Given as goal
 
 -- what the answers that are left do is what all of them do

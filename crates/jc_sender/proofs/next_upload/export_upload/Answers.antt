@@ -1,36 +1,47 @@
 -- The entries that the source gave up to its end, and for a device that tells its bytes those of the bytes' reading.
 use Rattle.std.proofs.Common.{Err, ap}
+use Rattle.jc_export.specs.Cut.{joined}
 use Rattle.jc_export.specs.Device.{limits_of}
-use Rattle.jc_sender.proofs.Uploads.{known_fault, known_refusal, known_upload, some_upload}
+use Rattle.jc_sender.proofs.Streams.{known_entries, known_fault, some_entries, some_fault}
+use Rattle.jc_sender.proofs.Uploads.{upload_made, upload_refused}
 use Rattle.jc_sender.proofs.next_upload.export_upload.Goals as goal
 
 pub returns-clause-made : goal.returns-clause-made
 returns-clause-made g c =
-    let gave = c.in_ok-excerpt.ensures.excerpt in
-    some_upload c.one_reading.ensures.some c.one_reading.ensures.only c.canonical_texts_read_back.ensures.whole
-    c.canonical_texts_read_back.ensures.ends c.default.result (limits_of c.in_ok-entries.entries) c.args.uploader.now c.args.limit c.args.whole
-    gave.0 c.in_ok-upload.upload.items c.default.ensures c.in_ok-entries.ensures.limits gave.2
-    (c.in_ok-upload.ensures.upload gave.0 c.args.limit gave.3)
+    let gave = c.in_ok-excerpt.ensures.excerpt in (
+      joined gave.0,
+      upload_made (joined gave.0) gave.0 c.args.uploader.now
+          (some_entries c.one_reading.ensures.some c.one_reading.ensures.only c.canonical_texts_read_back.ensures.whole
+          c.canonical_texts_read_back.ensures.ends c.default.result (limits_of c.in_ok-entries.entries) gave.0 c.default.ensures
+          c.in_ok-entries.ensures.limits gave.2)
+          c.args.limit c.args.whole c.in_ok-upload.upload.items (c.in_ok-upload.ensures.upload gave.0 c.args.limit gave.3),
+    )
 
 pub returns-clause-bytes : goal.returns-clause-bytes
 returns-clause-bytes g c = λ bytes told.
     let gave = c.in_ok-excerpt.ensures.excerpt in
-    known_upload bytes c.default.result _ _ gave.0 c.in_ok-excerpt.ending c.default.ensures told
-    c.in_ok-entries.ensures.reading (c.one_reading.ensures.only c.default.result 0 bytes) gave.1
-    c.args.uploader.now c.args.limit c.args.whole c.in-End.left c.in_ok-upload.upload.items c.in-End.is
-    (c.in_ok-upload.ensures.upload gave.0 c.args.limit gave.3)
+    upload_made bytes gave.0 c.args.uploader.now
+    (known_entries bytes c.default.result _ _ gave.0 c.in_ok-excerpt.ending c.default.ensures told c.in_ok-entries.ensures.reading
+    (c.one_reading.ensures.only c.default.result 0 bytes) gave.1 c.in-End.left c.in-End.is)
+    c.args.limit c.args.whole c.in_ok-upload.upload.items (c.in_ok-upload.ensures.upload gave.0 c.args.limit gave.3)
+
+pub returns-in-Bad-clause-failed : goal.returns-in-Bad-clause-failed
+returns-in-Bad-clause-failed g c =
+    some_fault c.one_reading.ensures.only c.default.result (limits_of c.in_ok-entries.entries) c.in_ok-excerpt.ending c.in-Bad.fault
+    c.default.ensures c.in_ok-entries.ensures.limits c.in-Bad.is c.in_ok-excerpt.ensures.stream
 
 pub returns-in-Bad-clause-why : goal.returns-in-Bad-clause-why
 returns-in-Bad-clause-why g c = λ bytes told other.
     let gave = c.in_ok-excerpt.ensures.excerpt in
-    known_fault bytes c.default.result _ _ gave.0 c.in_ok-excerpt.ending c.default.ensures told
-    c.in_ok-entries.ensures.reading (c.one_reading.ensures.only c.default.result 0 bytes) gave.1 c.in-Bad.fault c.in-Bad.is
+    known_fault bytes c.default.result _ _ gave.0 c.in_ok-excerpt.ending c.default.ensures told c.in_ok-entries.ensures.reading
+    (c.one_reading.ensures.only c.default.result 0 bytes) gave.1 c.in-Bad.fault c.in-Bad.is
 
 pub returns-in_err-upload-clause-why : goal.returns-in_err-upload-clause-why
 returns-in_err-upload-clause-why g c = λ bytes told.
     let gave = c.in_ok-excerpt.ensures.excerpt in
     let changed = c.in_err-upload.ensures.changed gave.0 c.args.limit gave.3 in
-    known_refusal bytes c.default.result _ _ gave.0 c.in_ok-excerpt.ending c.default.ensures told
-    c.in_ok-entries.ensures.reading (c.one_reading.ensures.only c.default.result 0 bytes) gave.1
-    c.args.uploader.now c.in-End.left c.in_err-upload.field-0.0 c.from_residual-in_err-upload.result c.in-End.is
-    (λ same. changed.0 (ap Err same)) c.from_residual-in_err-upload.ensures.1
+    upload_refused bytes gave.0 c.args.uploader.now
+    (known_entries bytes c.default.result _ _ gave.0 c.in_ok-excerpt.ending c.default.ensures told c.in_ok-entries.ensures.reading
+    (c.one_reading.ensures.only c.default.result 0 bytes) gave.1 c.in-End.left c.in-End.is)
+    c.in_err-upload.field-0.0 c.from_residual-in_err-upload.result (λ same. changed.0 (ap Err same))
+    c.from_residual-in_err-upload.ensures.1
