@@ -2,7 +2,7 @@
 """Measures what docs/LIMITS.md says: limits.py PROGRAM [ENTRIES..]
 
 For each number of entries (10,000 and 100,000 unless given): time and memory of each command, and the size of the database. Then
-uploads that are named at once, machines, and the greatest entry and file.
+a stream of 1 GB, uploads that are named at once, machines, and the greatest entry and file.
 """
 import os
 import resource
@@ -26,6 +26,11 @@ def source(kind, path):
     return ["--source", SOURCE, "--resume", RESUME, kind, path]
 
 
+def acked(program, kind, path, answers="/dev/null"):
+    """A run of `ack`, with these answers on standard input."""
+    return Run(["sh", "-c", 'answers=$1; shift; "$@" < "$answers"', "sh", answers, program, "ack", *source(kind, path)])
+
+
 def measure_machine(program, entries):
     """The commands of a machine, over a stream and a journal file with this number of entries."""
     stream = made(f"{entries}.stream", "make_upload.py", "stream", 1, entries)
@@ -34,8 +39,26 @@ def measure_machine(program, entries):
         print(f"  a source of {megabytes([path]):.0f} MB")
         say(f"verify {kind}", Run([program, "verify", kind, path]))
         say(f"upload {kind}", Run([program, "upload", *source(kind, path)]))
-        say(f"ack {kind}", Run(["sh", "-c", '"$@" < /dev/null', "sh", program, "ack", *source(kind, path)]))
+        say(f"ack {kind}", acked(program, kind, path))
         os.remove(RESUME)
+
+
+def measure_long_stream(program):
+    """A machine's commands over a stream of 1 GB. Nothing is acknowledged of it, and then all but one upload."""
+    entries = 1_200_000
+    stream = made("long.stream", "make_upload.py", "stream", 1, entries)
+    answers = os.path.join(OUT, "long.answers")
+    with open(answers, "w") as file:
+        file.write(f"ack {SOURCE} 0 {entries - 1000} 0 0\n")
+    print(f"a stream of {megabytes([stream]):.0f} MB")
+    say("verify", Run([program, "verify", "export", stream]))
+    for limit in (1_000, 20_000):
+        say(f"upload --limit {limit}", Run([program, "upload", "--limit", str(limit), *source("export", stream)]))
+    say("ack of nothing", acked(program, "export", stream))
+    say("ack of all but 1,000 entries", acked(program, "export", stream, answers))
+    say("upload of the last 1,000", Run([program, "upload", *source("export", stream)]))
+    for path in (RESUME, answers, stream):
+        os.remove(path)
 
 
 def measure_collector(program, entries):
@@ -125,6 +148,7 @@ def main():
         print(f"{entries:,} entries")
         measure_machine(program, entries)
         measure_collector(program, entries)
+    measure_long_stream(program)
     measure_uploads(program)
     measure_machines(program)
     measure_greatest(program)
