@@ -11,7 +11,7 @@ refuse_settings() {
 
 # configure [FILE]: sets the collector's values, and goes to its folder, which others can't look into.
 configure() {
-    FOLDER=/var/lib/journal-collect DATABASE_NAME=%Y-%m-%dT%H DATABASE_BYTES=1073741824
+    FOLDER=/var/lib/journal-collect DATABASE_NAME=%Y-%m-%dT%H DATABASE_BYTES=134217728
     KEEP_DAYS=30 KEEP_ANSWERS_DAYS=30
     UPLOAD_BYTES=67108864 UPLOADS_WAITING=64 FREE_BYTES=1073741824 POLL_SECONDS=2
     # shellcheck source=deploy/collector.conf
