@@ -9,12 +9,11 @@ import resource
 import struct
 import sys
 
-from measure import HERE, OUT, Run, forget, made, megabytes, output_of, say_machine
+from measure import OUT, Run, forget, made, megabytes, output_of, say_machine
 
 SOURCE = "a0a1a2a3a4a5a6a7a8a9aaabacadaeaf"
 SEQUENCE = bytes(range(16)).hex().encode()
 DATABASE = os.path.join(OUT, "limits.db")
-OLDER = os.path.join(OUT, "older.db")
 RESUME = os.path.join(OUT, "limits.resume")
 
 
@@ -74,11 +73,10 @@ def measure_collector(program, entries):
     say("collect an upload without entries", Run([program, "collect", DATABASE, empty]))
     for command in ("check", "export", "show"):
         say(command, Run([program, command, DATABASE]))
-    forget(OLDER)
-    Run([sys.executable, os.path.join(HERE, "make_older.py"), DATABASE, OLDER])
-    print(f"  the same in tables of version 1: {megabytes([OLDER]):.0f} MB")
-    say("migrate", Run([program, "migrate", OLDER]))
-    forget(OLDER)
+    forget(DATABASE)
+    Run(["cp", made(f"{entries}.old", "make_old.py", entries), DATABASE])
+    print(f"  a database of version 1 of {megabytes([DATABASE]):.0f} MB")
+    say("migrate", Run([program, "migrate", DATABASE]))
     forget(DATABASE)
 
 
