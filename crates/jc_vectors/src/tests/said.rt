@@ -2,7 +2,7 @@
 //!
 //! | Word | |
 //! |---|---|
-//! | `reads` | an export stream: `ok ENTRIES LEFT`, or `bad CODE PLACE` |
+//! | `reads` | an export stream: `ok ENTRIES LEFT`, or `bad CODE PLACE`; the same by a scanner, in pieces of each length |
 //! | `cut` | the same in pieces of each length: the entries' numbers, and then `ok LEFT` or `bad CODE PLACE` |
 //! | `file` | a journal file: `ok ENTRIES`, or `bad ENTRIES CODE PLACE` |
 //! | `arrays` | the same, and then the number of its arrays |
@@ -16,6 +16,7 @@
 use super::outcome::run;
 use super::pieces::cut;
 use super::rows::Given;
+use super::scanned::scanned;
 use super::values::field;
 use jc_base::{Ending, Entry, Fault, Id128, Key, Limits, OutOfMemory, is_text, split_pair};
 use jc_export::{fields_text, read_all, read_fields};
@@ -61,12 +62,21 @@ pub(super) fn bad(alloc: Global, fault: Fault) -> Result<Vec<u8>, OutOfMemory> {
     line(alloc, "bad", &[u64::from(fault.code.number()), fault.place])
 }
 
+/// How an export stream reads, and what a scanner says of its pieces where that is something else.
 fn reads(alloc: Global, limits: &Limits, bytes: &[u8]) -> Result<Vec<u8>, OutOfMemory> {
     let reading = read_all(alloc, bytes, limits)?;
-    match reading.end {
-        Ending::End { left } => line(alloc, "ok", &[reading.entries.len() as u64, left]),
-        Ending::Bad(fault) => bad(alloc, fault),
+    let mut said = match reading.end {
+        Ending::End { left } => line(alloc, "ok", &[reading.entries.len() as u64, left])?,
+        Ending::Bad(fault) => bad(alloc, fault)?,
+    };
+    for size in [1, 7, usize::MAX] {
+        let other = scanned(alloc, limits, bytes, size)?;
+        if other.as_slice() != said.as_slice() {
+            said.extend_from_slice(b" or ")?;
+            said.extend_from_slice(&other)?;
+        }
     }
+    Ok(said)
 }
 
 fn file(
