@@ -28,7 +28,7 @@ OVER = {
     "bad 64 0": ("migrated",),
 }
 # Of so many bytes one is tried as one that can't be read.
-ROT_STRIDE = 61
+ROT_STRIDE = 149
 # So many numbers are tried before it is asked whether there was anything to do at the last of them.
 CHUNK = 16
 
