@@ -21,7 +21,7 @@ mod text;
 mod to_write;
 mod vec_sink;
 
-pub use entry::Entry;
+pub use entry::{Entry, NUMBER_END};
 pub use failure::{OutOfMemory, ReadFailed, WriteFailed};
 pub use fault::{Code, Ending, Fault};
 pub use field::{Field, split_pair};

@@ -5,12 +5,9 @@ ghost use Rattle.jc_upload.specs.Resume.{HasLast, IsPoint, Point, resume_text, s
 ghost use Rattle.jc_upload.specs.Reading.{point_of, point_at, resume_at};
 
 use crate::line::{Line, Words};
-use jc_base::{Entry, Id128, Key, OutOfMemory};
+use jc_base::{Entry, Id128, Key, NUMBER_END, OutOfMemory};
 use std::alloc::Global;
 use std::marker::Model;
-
-/// One more than the greatest sequence number of an entry. (own)
-const NUMBER_END: u64 = 1 << 63;
 
 /// How many of a source's entries are acknowledged, and the key of the last of them, which is a lawful entry's. There is
 /// no such key exactly at position 0, which is the default.
