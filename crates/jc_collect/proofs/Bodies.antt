@@ -9,7 +9,7 @@ use Rattle.jc_base.specs.declared.fault.Fault.{Fault}
 use Rattle.jc_base.specs.declared.limits.Limits.{Limits}
 use Rattle.jc_base.specs.Reading.{Reading}
 use Rattle.jc_base.specs.Journal.{Journal}
-use Rattle.jc_export.specs.Streaming.{TellsReading}
+use Rattle.jc_stream.specs.Streaming.{TellsReading}
 use Rattle.jc_file.specs.Check.{first_failing}
 use Rattle.jc_file.specs.Header.{header_checks}
 use Rattle.jc_file.specs.FileReading.{IsFileReading}

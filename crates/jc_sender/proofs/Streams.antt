@@ -11,8 +11,8 @@ use Rattle.jc_base.specs.declared.limits.Limits.{Limits}
 use Rattle.jc_export.specs.Computed.Lines.{reading_of}
 use Rattle.jc_export.specs.Cut.{AllFit, ReadsBack, joined}
 use Rattle.jc_export.specs.Stream.{IsOnlyReading, StreamReading}
-use Rattle.jc_export.specs.StreamFault.{IsStreamFault}
-use Rattle.jc_export.specs.Streaming.{TellsReading}
+use Rattle.jc_stream.specs.StreamFault.{IsStreamFault}
+use Rattle.jc_stream.specs.Streaming.{TellsReading}
 use Rattle.jc_upload.specs.Excerpt.{AreOfStream, Gave, IsStreamEnding}
 use Rattle.jc_sender.proofs.Verdicts.{stream_reading}
 use Rattle.jc_sender.specs.Reads.{ReadsAs}

@@ -8,7 +8,7 @@ use Rattle.jc_base.specs.declared.fault.Ending.{Ending}
 use Rattle.jc_base.specs.declared.limits.Limits.{Limits}
 use Rattle.jc_export.specs.Computed.Lines.{reading_of}
 use Rattle.jc_export.specs.Stream.{IsOnlyReading}
-use Rattle.jc_export.specs.Streaming.{TellsReading}
+use Rattle.jc_stream.specs.Streaming.{TellsReading}
 use Rattle.jc_file.specs.FileReading.{IsFileReading}
 use Rattle.jc_sender.specs.Gathered.{HasCount}
 use Rattle.jc_sender.specs.Reads.{ReadsAs}

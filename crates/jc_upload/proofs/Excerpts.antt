@@ -16,7 +16,7 @@ use Rattle.jc_base.specs.declared.limits.Limits.{Limits}
 use Rattle.jc_base.specs.Reading.{Reading}
 use Rattle.jc_base.specs.Source.{Gives, GivesOf}
 use Rattle.jc_export.specs.Canonical.{canon}
-use Rattle.jc_export.specs.StreamFault.{GivesOfStream}
+use Rattle.jc_stream.specs.StreamFault.{GivesOfStream}
 use Rattle.jc_upload.specs.declared.excerpt.Excerpt.{Excerpt}
 use Rattle.jc_upload.specs.declared.head.Kind.TheVariants.{Export}
 use Rattle.jc_upload.specs.declared.head.UploadHead.{UploadHead}

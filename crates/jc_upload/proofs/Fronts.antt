@@ -12,8 +12,8 @@ use Rattle.jc_base.specs.declared.limits.Limits.{Limits}
 use Rattle.jc_base.specs.Limit.{AreKept}
 use Rattle.jc_base.specs.LogEntry.{IsEntry, LogEntry}
 use Rattle.jc_base.specs.Reading.{EndsWell, IsFront, Reading, reading}
-use Rattle.jc_export.specs.StreamFault.{IsStreamCode}
-use Rattle.jc_export.specs.StreamFaultLaws.{stream_code}
+use Rattle.jc_stream.specs.StreamFault.{IsStreamCode}
+use Rattle.jc_stream.specs.StreamFaultLaws.{stream_code}
 use Rattle.jc_export.specs.Cut.{AllFit, ReadsBack, joined}
 use Rattle.jc_export.specs.Stream.{StreamReading}
 use Rattle.jc_file.specs.Bytes.{part}

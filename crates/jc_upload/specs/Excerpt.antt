@@ -8,7 +8,7 @@ use Rattle.jc_base.specs.LogEntry.{IsEntry, LogEntry}
 use Rattle.jc_base.specs.Reading.{Reading}
 use Rattle.jc_export.specs.Canonical.{canon}
 use Rattle.jc_export.specs.Cut.{AllFit}
-use Rattle.jc_export.specs.StreamFault.{IsStreamFault}
+use Rattle.jc_stream.specs.StreamFault.{IsStreamFault}
 use Rattle.jc_upload.specs.declared.excerpt.Excerpt.{Excerpt}
 use Rattle.jc_upload.specs.declared.head.UploadHead.{UploadHead}
 use Rattle.jc_upload.specs.Front.{CutsOfSecond}

@@ -7,7 +7,7 @@ use Rattle.jc_base.specs.declared.limits.Limits.{Limits}
 use Rattle.jc_base.specs.LogEntry.{LogEntry}
 use Rattle.jc_base.specs.Reading.{EndsWell, IsFront, Reading, reading}
 use Rattle.jc_export.specs.Cut.{AllFit, ReadsBack}
-use Rattle.jc_export.specs.StreamFault.{IsStreamCode}
+use Rattle.jc_stream.specs.StreamFault.{IsStreamCode}
 use Rattle.jc_file.specs.Cut.{IsCutShort}
 use Rattle.jc_file.specs.FileReading.{IsFileReading}
 use Rattle.jc_upload.specs.Head.{fault_at}

@@ -6,13 +6,13 @@ ghost use Rattle.std.specs.BTreeMap.{get};
 ghost use Rattle.jc_base.specs.Device.{Rose};
 ghost use Rattle.jc_base.specs.LogEntry.{IsEntry, LogEntry};
 ghost use Rattle.jc_base.specs.declared.source.Stop.TheVariants.{ReadFailed};
-ghost use Rattle.jc_export.specs.Device.{limits_of};
+ghost use Rattle.jc_stream.specs.Device.{limits_of};
 ghost use Rattle.jc_upload.specs.Excerpt.{AreOfStream, Gave, IsStreamEnding};
 ghost use Rattle.jc_upload.specs.Upload.{acked_to, point_behind};
 
 use crate::{Answer, Resume};
 use jc_base::{ByteStream, Ending, Entry, EntrySource, OutOfMemory, Step, Stop};
-use jc_export::Stream;
+use jc_stream::Stream;
 use std::alloc::Global;
 use std::collections::BTreeMap;
 

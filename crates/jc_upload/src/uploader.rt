@@ -8,7 +8,7 @@ ghost use Rattle.jc_base.specs.Device.{Rose};
 ghost use Rattle.jc_base.specs.LogEntry.{IsEntry, LogEntry};
 ghost use Rattle.jc_base.specs.declared.source.Stop.TheVariants.{ReadFailed};
 ghost use Rattle.jc_export.specs.Canonical.{canon};
-ghost use Rattle.jc_export.specs.Device.{limits_of};
+ghost use Rattle.jc_stream.specs.Device.{limits_of};
 ghost use Rattle.jc_upload.specs.declared.head.Kind.TheVariants as kinds;
 ghost use Rattle.jc_upload.specs.declared.uploader.UploadFault.TheVariants as faults;
 ghost use Rattle.jc_upload.specs.Excerpt.{AreOfStream, Gave, IsExcerpt, IsStreamEnding, IsNextUpload, head_by};
@@ -23,7 +23,8 @@ use jc_base::{
     ByteSink, ByteStream, Ending, Entry, EntrySource, Id128, OutOfMemory, Step, Stop, VecSink,
     Written, write_all,
 };
-use jc_export::{Stream, write_entry};
+use jc_export::write_entry;
+use jc_stream::Stream;
 use std::alloc::Global;
 use std::error::Error;
 use std::fmt;

@@ -2,7 +2,7 @@
 
 use super::said::{bad, line};
 use jc_base::{Limits, OutOfMemory, Step};
-use jc_export::Scanner;
+use jc_stream::Scanner;
 use std::alloc::Global;
 
 /// What a scanner says of a stream that comes in pieces of `size` bytes: `ok ENTRIES LEFT`, or `bad CODE PLACE`; or

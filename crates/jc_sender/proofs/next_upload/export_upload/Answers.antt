@@ -1,7 +1,7 @@
 -- The entries that the source gave up to its end, and for a device that tells its bytes those of the bytes' reading.
 use Rattle.std.proofs.Common.{Err, ap}
 use Rattle.jc_export.specs.Cut.{joined}
-use Rattle.jc_export.specs.Device.{limits_of}
+use Rattle.jc_stream.specs.Device.{limits_of}
 use Rattle.jc_sender.proofs.Streams.{known_entries, known_fault, some_entries, some_fault}
 use Rattle.jc_sender.proofs.Uploads.{upload_made, upload_refused}
 use Rattle.jc_sender.proofs.next_upload.export_upload.Goals as goal

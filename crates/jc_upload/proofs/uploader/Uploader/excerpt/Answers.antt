@@ -1,7 +1,7 @@
 -- No entry was given at first, and one more with each.
 use Rattle.std.proofs.Common.{[], ◌∷◌, ◌++◌, arith, refl, rules}
-use Rattle.jc_export.specs.contracts.stream.StreamEntrySource.TheImpl.{remaining-value}
-use Rattle.jc_export.specs.Device.{limits_of}
+use Rattle.jc_stream.specs.contracts.stream.StreamEntrySource.TheImpl.{remaining-value}
+use Rattle.jc_stream.specs.Device.{limits_of}
 use Rattle.jc_upload.proofs.Excerpts.{follows_more, follows_none, grows, of_stream_end, of_stream_more, of_stream_none}
 use Rattle.jc_upload.proofs.uploader.Uploader.excerpt.Goals as goal
 

@@ -1,8 +1,8 @@
 use Rattle.std.proofs.Common.{◌≡◌, ◌+◌, ◌≤◌, List, Some, Err}
 use Rattle.jc_base.specs.LogEntry.{LogEntry}
 use Rattle.jc_base.specs.declared.source.Stop.TheVariants.{ReadFailed}
-use Rattle.jc_export.specs.contracts.stream.StreamEntrySource.TheImpl.{borrowed_device-value, bound-value, failures-value, last-value, remaining-value}
-use Rattle.jc_export.specs.Device.{limits_of}
+use Rattle.jc_stream.specs.contracts.stream.StreamEntrySource.TheImpl.{borrowed_device-value, bound-value, failures-value, last-value, remaining-value}
+use Rattle.jc_stream.specs.Device.{limits_of}
 use Rattle.jc_upload.specs.Excerpt.{AreOfStream, IsExcerpt}
 use Rattle.jc_upload.proofs.Excerpts.{FollowsOn}
 use Rattle.jc_upload.proofs.uploader.Uploader.excerpt.Given as goal
