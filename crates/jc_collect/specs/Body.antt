@@ -1,7 +1,6 @@
 -- What taking up the body of an upload does to a journal, and what is answered. (own)
 use Rattle.std.specs.Prelude.{ℕ, ◌≡◌, List, Option, Some, None, Result, Ok, Err, ⊤}
-use Rattle.jc_base.specs.declared.fault.Code.{Code}
-use Rattle.jc_base.specs.declared.fault.Code.TheVariants.{Conflict as ConflictCode, ReadFailed as ReadFailedCode, StoreFailed as StoreFailedCode, OutOfMemory as OutOfMemoryCode}
+use Rattle.jc_base.specs.declared.fault.Code.TheVariants.{Conflict as ConflictCode}
 use Rattle.jc_base.specs.declared.limits.Limits.{Limits}
 use Rattle.jc_base.specs.Fault.{number_of}
 use Rattle.jc_base.specs.Reading.{Reading}
@@ -9,8 +8,8 @@ use Rattle.jc_base.specs.Journal.{Journal}
 use Rattle.jc_keeper.specs.declared.keeper.Absorbed.{Absorbed}
 use Rattle.jc_keeper.specs.declared.keeper.Absorbed.TheVariants.{Taken, Conflict, Bad}
 use Rattle.jc_keeper.specs.declared.keeper.KeepStop.{KeepStop}
-use Rattle.jc_keeper.specs.declared.keeper.KeepStop.TheVariants.{ReadFailed, StoreFailed, OutOfMemory}
 use Rattle.jc_keeper.specs.Absorb.{Step}
+use Rattle.jc_keeper.specs.Keeping.{code_of_stop}
 use Rattle.jc_upload.specs.declared.answer.Answer.{Answer}
 use Rattle.jc_upload.specs.declared.answer.Answer.TheVariants.{Ack, No}
 use Rattle.jc_upload.specs.declared.head.Kind.{Kind}
@@ -28,11 +27,6 @@ SaysBody limits version kind (Some body) reading = BodySays limits version kind 
 abbrev pub AbsorbsBody : (Says : Reading → Type 0) → (before : Journal) → Result Absorbed KeepStop → (after : Journal) → Type 0
 AbsorbsBody Says before (Err stop) after = after ≡ before
 AbsorbsBody Says before (Ok absorbed) after = (reading : Reading) × Says reading × Step before reading absorbed after
-
-abbrev pub code_of_stop : KeepStop → Code
-code_of_stop ReadFailed = ReadFailedCode
-code_of_stop StoreFailed = StoreFailedCode
-code_of_stop OutOfMemory = OutOfMemoryCode
 
 -- the answer to an upload with this header, by what became of its body
 abbrev pub answer_to : UploadHead → Result Absorbed KeepStop → Answer

@@ -1,5 +1,5 @@
 -- What a sender keeps, the uploads that it makes, and what an answer to one changes. (own)
-use Rattle.std.specs.Prelude.{ℕ, zero, suc, ◌≡◌, ◌⊎◌, ◌+◌, ◌<◌, ◌≤◌, Bool, List, [], ◌∷◌, ◌++◌, length, take, drop, flat_map, slice_get, Option, None}
+use Rattle.std.specs.Prelude.{ℕ, zero, suc, ◌≡◌, ◌⊎◌, ◌+◌, ◌<◌, ◌≤◌, Bool, List, [], ◌∷◌, ◌++◌, codes, length, take, drop, flat_map, slice_get, Option, None}
 use Rattle.std.specs.Option.{option_map}
 use Rattle.jc_base.specs.declared.id.Id128.{Id128}
 use Rattle.jc_base.specs.declared.id.Key.{Key}
@@ -10,6 +10,8 @@ use Rattle.jc_upload.specs.declared.head.UploadHead.{UploadHead}
 use Rattle.jc_upload.specs.declared.head.Version.TheVariants.{V1, V2}
 use Rattle.jc_upload.specs.declared.answer.Answer.{Answer}
 use Rattle.jc_upload.specs.declared.answer.Answer.TheVariants.{Ack, No}
+use Rattle.jc_upload.specs.declared.uploader.UploadFault.{UploadFault}
+use Rattle.jc_upload.specs.declared.uploader.UploadFault.TheVariants.{SourceChanged, OutOfMemory}
 use Rattle.jc_upload.specs.Head.{head_text}
 use Rattle.jc_upload.specs.Resume.{Point}
 
@@ -17,6 +19,11 @@ use Rattle.jc_upload.specs.Resume.{Point}
 pub record Sender : Type 0 where
   pub source : Id128
   pub point : Point
+
+-- what is said of there being no next upload
+abbrev pub fault_text : UploadFault → List ℕ
+fault_text SourceChanged = codes "the source changed"
+fault_text OutOfMemory = codes "out of memory"
 
 -- ---- a source's entries and a resume point
 

@@ -15,7 +15,7 @@ ghost use Rattle.jc_upload.specs.Excerpt.{AreOfStream, Gave, IsExcerpt, IsStream
 ghost use Rattle.jc_upload.specs.Front.{CutsBy, CutsOfExport, CutsOfFile, CutsOfSecond};
 ghost use Rattle.jc_upload.specs.Head.{IsHead, head_text};
 ghost use Rattle.jc_upload.specs.Marks.{AsksFor, IsAsked, IsMarked};
-ghost use Rattle.jc_upload.specs.Upload.{Advances, Agrees, TakesAnswer, TakesAnswers, acked_to, export_head, file_head, file_upload_of, moved_to, next_upload2_of, next_upload_of, point_behind, second_head, sent_of};
+ghost use Rattle.jc_upload.specs.Upload.{Advances, Agrees, TakesAnswer, TakesAnswers, acked_to, export_head, fault_text, file_head, file_upload_of, moved_to, next_upload2_of, next_upload_of, point_behind, second_head, sent_of};
 
 use crate::marks::Marks;
 use crate::{Answer, Excerpt, Kind, Resume, UploadHead, Version, fronts_of_uploads};
@@ -39,6 +39,8 @@ pub enum UploadFault {
 }
 
 impl fmt::Display for UploadFault {
+    ghost output = { λ fault. Some (fault_text fault) };
+
     fn fmt<W: fmt::Write>(&self, f: &mut fmt::Formatter<W>) -> fmt::Result {
         match self {
             UploadFault::SourceChanged => write!(f, "the source changed"),
