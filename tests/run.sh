@@ -1,28 +1,72 @@
 #!/usr/bin/env bash
-# The gate: every proof from nothing, the must-fail edits, the tests and the stored run (rt ci); then the edits that
-# are judged in batches (tests/refused); then each script tests/test-*.sh over the program that rt ci built. The last
-# line is `N passed, M failed`, over all of them.
+# The gate: every proof from nothing, the must-fail edits, the tests and the stored run (rt ci), which needs the machine
+# for itself; then the edits that are judged in batches (tests/refused), and beside them each script tests/test-*.sh in
+# turn, over the program that rt ci built. The last line is `N passed, M failed`, over all of them.
 set -uo pipefail
 cd "$(dirname "$0")/.." || exit
 
 passed=0
 failed=0
-log=$(mktemp)
-trap 'rm -f "$log"' EXIT
+work=$(mktemp -d)
+trap clean_up EXIT
 
-# Runs a part whose last line is `N passed, M failed`, and adds its counts. A part that says no count, or whose status
-# its count doesn't explain, is a failure of its own.
+# Ends what still runs, as an interrupt at a terminal would, and then what doesn't end by that.
+clean_up() {
+    local signal running
+    for signal in INT TERM; do
+        mapfile -t running < <(jobs -rp)
+        [[ ${#running[@]} -gt 0 ]] || break
+        kill -s "$signal" -- "${running[@]/#/-}"
+        sleep 1
+    done
+    rm -rf "$work"
+}
+
+# Each part keeps what it says in a file of its name.
+
+ci() {
+    rt ci 2>&1 | tee "$work/ci"
+}
+
+edits() {
+    TMPDIR=$work python3 -ESB tests/refused
+} > "$work/edits" 2>&1
+
+scripts() {
+    local script passed=0 failed=0
+    for script in tests/test-*.sh; do
+        if [[ -x $PROGRAM ]] && bash "$script"; then
+            passed=$((passed + 1))
+        else
+            echo "FAILED: $script"
+            failed=$((failed + 1))
+        fi
+    done
+    echo "$passed passed, $failed failed"
+    [[ $failed -eq 0 ]]
+} > "$work/scripts" 2>&1
+
+# Starts a part in a group of processes of its own, which ends as one if the gate is interrupted.
+start() {
+    set -m
+    "$1" < /dev/null &
+    set +m
+}
+
+# Waits for a part, whose last line is `N passed, M failed`, and adds its counts. A part that says no count, or whose
+# status its count doesn't explain, is a failure of its own.
 count() {
-    local status=0 of_part=0
-    "$@" 2>&1 | tee "$log" || status=1
-    if [[ $(tail -n 1 "$log") =~ ^([0-9]+)\ passed,\ ([0-9]+)\ failed$ ]]; then
+    local part=$1 process=$2 status=0 of_part=0
+    wait "$process" || status=$?
+    [[ $part == ci ]] || cat "$work/$part"
+    if [[ $(tail -n 1 "$work/$part") =~ ^([0-9]+)\ passed,\ ([0-9]+)\ failed$ ]]; then
         passed=$((passed + BASH_REMATCH[1]))
         of_part=${BASH_REMATCH[2]}
     else
         status=1
     fi
     if [[ $status -ne 0 && $of_part -eq 0 ]]; then
-        echo "FAILED: $*"
+        echo "FAILED: $part"
         of_part=1
     fi
     failed=$((failed + of_part))
@@ -34,18 +78,17 @@ export RT_JOBS
 memory=$(awk '/^MemAvailable/ { print int($2 / 1e6) }' /proc/meminfo)
 echo "RT_JOBS=$RT_JOBS${given:+, as given}: $(nproc) processors, $memory GB of memory free"
 
-count rt ci
-count python3 -ESB tests/refused
+start ci
+count ci $!
 
 export PROGRAM=$PWD/crates/jc_cli/out/jc_cli
-for script in tests/test-*.sh; do
-    if [[ -x $PROGRAM ]] && bash "$script"; then
-        passed=$((passed + 1))
-    else
-        echo "FAILED: $script"
-        failed=$((failed + 1))
-    fi
-done
+echo "edits in batches, and the scripts beside them; what they say follows when they end"
+start edits
+edits=$!
+start scripts
+scripts=$!
+count edits $edits
+count scripts $scripts
 
 echo "$passed passed, $failed failed"
 [[ $failed -eq 0 ]]

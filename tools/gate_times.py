@@ -12,6 +12,7 @@ from __future__ import annotations
 
 import os
 import resource
+import signal
 import subprocess
 import sys
 import threading
@@ -128,7 +129,10 @@ def main(command: list[str]) -> int:
     watch, begin = Watch(), time.monotonic()
     looking = threading.Thread(target=watch.look_again, daemon=True)
     looking.start()
-    status = subprocess.run(command, check=False).returncode
+    with subprocess.Popen(command) as gate:
+        # an interrupt at the terminal reaches the gate too, which then ends all that it started
+        signal.signal(signal.SIGINT, signal.SIG_IGN)
+        status = gate.wait()
     watch.ended.set()
     looking.join()
     used = resource.getrusage(resource.RUSAGE_CHILDREN)
