@@ -1,7 +1,7 @@
 #!/usr/bin/env bash
-# The gate: every proof from nothing, the must-fail edits, the tests and the stored run (rt ci), which needs the machine
-# for itself; then the edits that are judged in batches (tests/refused), and beside them each script tests/test-*.sh in
-# turn, over the program that rt ci built. The last line is `N passed, M failed`, over all of them.
+# The gate: every proof from nothing, the tests and the stored run (rt ci), which needs the machine for itself; then the
+# edits (tests/refused), and beside them each script tests/test-*.sh in turn, over the program that rt ci built. The
+# last line is `N passed, M failed`, over all of them.
 set -uo pipefail
 cd "$(dirname "$0")/.." || exit
 
@@ -82,7 +82,7 @@ start ci
 count ci $!
 
 export PROGRAM=$PWD/crates/jc_cli/out/jc_cli
-echo "edits in batches, and the scripts beside them; what they say follows when they end"
+echo "the edits, and the scripts beside them; what they say follows when they end"
 start edits
 edits=$!
 start scripts
