@@ -33,6 +33,8 @@ upload head:2:0 set:7:50 set:9:1 put:40:1 JOURNAL_FILE => ack S 0 1 1 0
 stores METADATA "MESSAGE=hi\n" BOOT_FIELD "\n"
 upload head:2:0 set:7:50 set:9:1 put:40:2 JOURNAL_FILE => no S 0 5 1
 stores ""
+upload head:2:0 set:7:50 set:9:1 put:40:1 JOURNAL_FILE cut:447 => no S 0 38 96
+stores ""
 
 # headers
 upload head:1:0 set:7:50 set:9:2 ENTRY => no - - 4 9
