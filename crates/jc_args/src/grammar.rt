@@ -66,15 +66,11 @@ fn export_command<'a>(alloc: Global) -> Result<Command<'a>, AllocError>
 fn show_command<'a>(alloc: Global) -> Result<Command<'a>, AllocError>
     ensures { IfOk result (λ command. IsCommand command show_grammar) }
 {
-    let id = option_arg(alloc, "id", "HEX", texts::ID_HELP);
-    let first = number_arg(alloc, "from", texts::FIRST_HELP);
-    let last = number_arg(alloc, "to", texts::LAST_HELP);
-    let field = option_arg(alloc, "field", "NAME", texts::FIELD_HELP);
     database_command(alloc, "show", texts::SHOW, texts::SHOW_MORE)?
-        .arg(id)?
-        .arg(first)?
-        .arg(last)?
-        .arg(field)
+        .arg(option_arg(alloc, "id", "HEX", texts::ID_HELP))?
+        .arg(number_arg(alloc, "from", texts::FIRST_HELP))?
+        .arg(number_arg(alloc, "to", texts::LAST_HELP))?
+        .arg(option_arg(alloc, "field", "NAME", texts::FIELD_HELP))
 }
 
 fn check_command<'a>(alloc: Global) -> Result<Command<'a>, AllocError>
@@ -101,9 +97,9 @@ fn upload_command<'a>(alloc: Global) -> Result<Command<'a>, AllocError>
     ensures { IfOk result (λ command. (kinds : ValueParser) × AreKinds kinds × IsCommand command (upload_grammar kinds)) }
 {
     let command = new_command(alloc, "upload", texts::UPLOAD, texts::UPLOAD_MORE);
-    let limit = number_arg(alloc, "limit", texts::LIMIT_HELP);
-    let whole = flag_arg(alloc, "whole", texts::WHOLE_HELP);
-    with_source(alloc, command)?.arg(limit)?.arg(whole)
+    with_source(alloc, command)?
+        .arg(number_arg(alloc, "limit", texts::LIMIT_HELP))?
+        .arg(flag_arg(alloc, "whole", texts::WHOLE_HELP))
 }
 
 fn ack_command<'a>(alloc: Global) -> Result<Command<'a>, AllocError>

@@ -15,9 +15,9 @@ returns c =
     IfOk-weaker c.arg-2.result _ _ (λ command adds. (
       kinds,
       whole.ensures.1,
-      added c.in_ok-arg.field-0 c.flag_arg-whole.result command limited (flag_rule (codes "whole")) adds
-          (added whole.field-0 c.number_arg-limit.result c.in_ok-arg.field-0 (with_source kinds upload) (number_rule (codes "limit"))
+      added c.in_ok-arg.field-0 c.flag_arg.result command limited (flag_rule (codes "whole")) adds
+          (added whole.field-0 c.number_arg.result c.in_ok-arg.field-0 (with_source kinds upload) (number_rule (codes "limit"))
           c.in_ok-arg.ensures
           (with_source_of whole.field-0 kinds (app_of c.new_command-command.result) upload c.new_command-command.ensures.shape whole.ensures.2)
-          c.number_arg-limit.ensures) c.flag_arg-whole.ensures,
+          c.number_arg.ensures) c.flag_arg.ensures,
     )) c.arg-2.ensures
