@@ -12,6 +12,7 @@ mod pages;
 mod pieces;
 mod rows;
 mod said;
+mod same;
 mod scanned;
 mod spaces;
 mod streams;

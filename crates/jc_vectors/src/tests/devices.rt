@@ -1,11 +1,16 @@
 //! Streams and sinks in memory, and devices that fail once.
 
+use super::same::{same_bytes, same_number};
 use jc_base::faulty::{FailSink, FailStream};
-use jc_base::{ByteStream, FromRead, SliceStream, ToWrite, VecSink, Written, write_all};
-use std::alloc::Global;
-use std::test::Fail;
+use jc_base::{ByteSink, ByteStream, FromRead, SliceStream, ToWrite, VecSink, write_all};
+use std::alloc::{AllocError, Global};
+use std::process::Abort;
 
-fn read_to_end<R: ByteStream>(stream: &mut R, alloc: Global) -> Result<Option<Vec<u8>>, Fail> {
+/// What a stream gives until it ends; `None` if it fails.
+fn read_to_end<R: ByteStream>(
+    alloc: Global,
+    stream: &mut R,
+) -> Result<Option<Vec<u8>>, AllocError> {
     let mut bytes = Vec::new(alloc);
     let mut piece = [0; 3];
     for _ in 0..100 {
@@ -18,38 +23,52 @@ fn read_to_end<R: ByteStream>(stream: &mut R, alloc: Global) -> Result<Option<Ve
     Ok(None)
 }
 
-#[test]
-fn streams_give_their_bytes(rt: HostRuntime) -> Result<(), Fail> {
-    let alloc = rt.alloc();
-    let text = b"eight by".as_slice();
-    let read = read_to_end(&mut SliceStream::new(text), alloc)?.ok_or("failed")?;
-    assert_eq!(rt; read.as_slice() == text, true);
-    let read = read_to_end(&mut FromRead::new(text), alloc)?.ok_or("failed")?;
-    assert_eq!(rt; read.as_slice() == text, true);
-
-    let mut failing = FailStream::new(SliceStream::new(text), 2);
-    assert_eq!(rt; read_to_end(&mut failing, alloc)?.is_none(), true);
-    let rest = read_to_end(&mut failing, alloc)?.ok_or("failed twice")?;
-    assert_eq!(rt; rest.as_slice() == b"by".as_slice(), true);
+/// Ends the test unless a stream gives these bytes, and then ends.
+fn gives<R: ByteStream>(
+    rt: &impl Abort,
+    alloc: Global,
+    stream: &mut R,
+    wanted: &[u8],
+) -> Result<(), AllocError> {
+    match read_to_end(alloc, stream)? {
+        Some(bytes) => same_bytes(rt, &bytes, wanted),
+        None => same_bytes(rt, b"a failure", wanted),
+    }
     Ok(())
 }
 
 #[test]
-fn sinks_take_their_bytes(rt: HostRuntime) -> Result<(), Fail> {
+fn streams_give_their_bytes(rt: HostRuntime) -> Result<(), AllocError> {
+    let alloc = rt.alloc();
+    let text = b"eight by".as_slice();
+    gives(&rt, alloc, &mut SliceStream::new(text), text)?;
+    gives(&rt, alloc, &mut FromRead::new(text), text)?;
+
+    let mut failing = FailStream::new(SliceStream::new(text), 2);
+    assert!(rt; read_to_end(alloc, &mut failing)?.is_none());
+    gives(&rt, alloc, &mut failing, b"by")
+}
+
+/// How many bytes a sink took when it failed; `None` if it took all.
+fn taken<W: ByteSink>(sink: &mut W, text: &[u8]) -> Option<u64> {
+    match write_all(sink, text) {
+        Ok(()) => None,
+        Err(written) => Some(written.bytes),
+    }
+}
+
+#[test]
+fn sinks_take_their_bytes(rt: HostRuntime) {
     let alloc = rt.alloc();
     let mut sink = VecSink::new(alloc);
-    assert_eq!(rt; write_all(&mut sink, b"one").is_ok(), true);
+    assert!(rt; taken(&mut sink, b"one").is_none());
     let mut failing = FailSink::new(sink, 1);
-    assert_eq!(rt; write_all(&mut failing, b" two").is_ok(), true);
-    assert_eq!(rt;
-        write_all(&mut failing, b" lost").err(),
-        Some(Written { bytes: 0 })
-    );
-    assert_eq!(rt; write_all(&mut failing, b" three").is_ok(), true);
-    assert_eq!(rt; failing.inner.bytes() == b"one two three".as_slice(), true);
+    assert!(rt; taken(&mut failing, b" two").is_none());
+    same_number(&rt, taken(&mut failing, b" lost").unwrap_or(u64::MAX), 0);
+    assert!(rt; taken(&mut failing, b" three").is_none());
+    same_bytes(&rt, failing.inner.bytes(), b"one two three");
 
     let mut writer = ToWrite::new(Vec::new(alloc));
-    assert_eq!(rt; write_all(&mut writer, b"text").is_ok(), true);
-    assert_eq!(rt; writer.into_writer().as_slice() == b"text".as_slice(), true);
-    Ok(())
+    assert!(rt; taken(&mut writer, b"text").is_none());
+    same_bytes(&rt, &writer.into_writer(), b"text");
 }

@@ -1,7 +1,8 @@
 //! Rows that are wrong are told, each with its line.
 
 use super::rows::report_of;
-use std::test::Fail;
+use super::same::same_text;
+use jc_base::OutOfMemory;
 
 const WRONG: &str = r#"reads ENTRY => ok 2 0
 reads ENTRY => ok 1
@@ -47,9 +48,9 @@ line 19: Ok("no number") and not Ok("x")
 "#;
 
 #[test]
-fn wrong_rows_are_told(rt: HostRuntime) -> Result<(), Fail> {
+fn wrong_rows_are_told(rt: HostRuntime) -> Result<(), OutOfMemory> {
     let alloc = rt.alloc();
-    assert_eq!(rt; report_of(alloc, WRONG)?.as_str(), REPORT);
-    assert_eq!(rt; report_of(alloc, "# no rows")?.as_str(), "no rows\n");
+    same_text(&rt, &report_of(alloc, WRONG)?, REPORT);
+    same_text(&rt, &report_of(alloc, "# no rows")?, "no rows\n");
     Ok(())
 }

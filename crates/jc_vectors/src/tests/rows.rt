@@ -14,6 +14,7 @@ use super::said::said;
 use jc_base::{Limits, OutOfMemory};
 use jc_samples::add_pieces;
 use std::alloc::Global;
+use std::str::SplitWhitespace;
 use std::test::Fail;
 use std::{io, str};
 
@@ -130,10 +131,14 @@ fn parts(alloc: Global, row: &str) -> io::Result<(Vec<u8>, Vec<u8>)> {
 /// Limits, by their five numbers.
 fn limits_of(text: &str) -> Option<Limits> {
     let mut words = text.split_whitespace();
-    let name = words.next()?.parse::<u64>().ok()?;
-    let value = words.next()?.parse::<u64>().ok()?;
-    let fields = words.next()?.parse::<u64>().ok()?;
-    let entry = words.next()?.parse::<u64>().ok()?;
-    let file = words.next()?.parse::<u64>().ok()?;
+    let name = next_number(&mut words)?;
+    let value = next_number(&mut words)?;
+    let fields = next_number(&mut words)?;
+    let entry = next_number(&mut words)?;
+    let file = next_number(&mut words)?;
     Limits::new(name, value, fields, entry, file)
+}
+
+fn next_number(words: &mut SplitWhitespace<'_>) -> Option<u64> {
+    words.next()?.parse().ok()
 }

@@ -23,7 +23,7 @@ use jc_export::{fields_text, read_all, read_fields};
 use jc_file::{FileEntries, SliceSpace};
 use jc_samples::SEQNUM_ID;
 use jc_upload::{Answer, Resume};
-use std::alloc::Global;
+use std::alloc::{AllocError, Global};
 use std::str;
 
 /// What is said of the bytes; `None` if there is no such word.
@@ -53,9 +53,15 @@ pub(super) fn said(
 pub(super) fn line(alloc: Global, word: &str, numbers: &[u64]) -> Result<Vec<u8>, OutOfMemory> {
     let mut line = Vec::from_slice(alloc, word.as_bytes())?;
     for number in numbers {
-        line.extend_from_slice(format!(in alloc; " {number}")?.as_bytes())?;
+        line.push(b' ')?;
+        add_number(alloc, *number, &mut line)?;
     }
     Ok(line)
+}
+
+/// Adds a number in decimal digits.
+pub(super) fn add_number(alloc: Global, number: u64, text: &mut Vec<u8>) -> Result<(), AllocError> {
+    text.extend_from_slice(format!(in alloc; "{number}")?.as_bytes())
 }
 
 pub(super) fn bad(alloc: Global, fault: Fault) -> Result<Vec<u8>, OutOfMemory> {

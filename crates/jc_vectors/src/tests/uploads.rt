@@ -1,11 +1,12 @@
 //! Vectors of the texts, and the sender's part on worked cases.
 
 use super::rows::check_rows;
-use jc_base::{Code, Entry, Fault, Id128, Limits};
+use super::same::{same_bytes, same_bytes_at, same_number};
+use jc_base::{Code, Entry, Fault, Id128, Limits, OutOfMemory};
 use jc_export::read_all;
 use jc_samples::{ENTRY, EXPORT, SEQNUM_ID, SOURCE_ID, numbered_entry};
 use jc_upload::{Answer, Kind, Resume, UploadFault, UploadHead, Uploader, Version, file_upload};
-use std::alloc::Global;
+use std::alloc::{AllocError, Global};
 use std::process::Abort;
 use std::test::Fail;
 
@@ -30,32 +31,46 @@ fn ack(start: u64, count: u64) -> Answer {
     }
 }
 
-/// Entries with the numbers from 1 to `count` and one field.
-fn source(alloc: Global, count: u64) -> Result<Vec<Entry>, Fail> {
-    let mut text = Vec::new(alloc);
-    for seqnum in 1..=count {
-        text.extend_from_slice(numbered_entry(alloc, seqnum)?.as_bytes())?;
+/// Adds the texts of entries with these numbers and one field.
+fn add_entries(alloc: Global, numbers: &[u64], text: &mut Vec<u8>) -> Result<(), AllocError> {
+    for number in numbers {
+        text.extend_from_slice(numbered_entry(alloc, *number)?.as_bytes())?;
     }
+    Ok(())
+}
+
+/// Entries with these numbers and one field.
+fn source(alloc: Global, numbers: &[u64]) -> Result<Vec<Entry>, OutOfMemory> {
+    let mut text = Vec::new(alloc);
+    add_entries(alloc, numbers, &mut text)?;
     Ok(read_all(alloc, &text, &Limits::default())?.entries)
 }
 
 fn at(position: &str) -> Result<Uploader, Fail> {
-    let resume = Resume::read(position.as_bytes()).ok_or("a resume text")?;
-    Ok(Uploader::new(SOURCE, resume))
+    match Resume::read(position.as_bytes()) {
+        Some(resume) => Ok(Uploader::new(SOURCE, resume)),
+        None => Err(Fail::new("no resume text")),
+    }
+}
+
+/// Ends the test unless bytes, of which the one `at` a place was changed, read as this header, or with this fault.
+fn reads_as(rt: &impl Abort, at: usize, bytes: &[u8; 48], wanted: Result<UploadHead, Fault>) {
+    assert_eq!(rt; UploadHead::read(bytes), wanted, "byte {at}");
+}
+
+fn same_answer(rt: &impl Abort, got: Option<Answer>, wanted: Answer) {
+    assert_eq!(rt; got, Some(wanted));
 }
 
 #[test]
 fn headers(rt: HostRuntime) {
-    assert_eq!(rt; head(Kind::Export, 0).write(), EXPORT);
-    assert_eq!(rt; UploadHead::read(&EXPORT), Ok(head(Kind::Export, 0)));
+    same_bytes(&rt, &head(Kind::Export, 0).write(), &EXPORT);
+    reads_as(&rt, 8, &EXPORT, Ok(head(Kind::Export, 0)));
     let file = head(Kind::File, 0x0102_0304_0506_0708);
     let bytes = file.write();
-    assert_eq!(rt; bytes[8], 2);
-    assert_eq!(rt;
-        &bytes[32..40],
-        b"\x08\x07\x06\x05\x04\x03\x02\x01".as_slice()
-    );
-    assert_eq!(rt; UploadHead::read(&bytes), Ok(file));
+    assert!(rt; bytes[8] == 2);
+    same_bytes(&rt, &bytes[32..40], b"\x08\x07\x06\x05\x04\x03\x02\x01");
+    reads_as(&rt, 8, &bytes, Ok(file));
 }
 
 #[test]
@@ -74,8 +89,8 @@ fn second_headers(rt: HostRuntime) {
         bytes[7] = b'2';
         bytes[9] = flag;
         bytes[40..48].copy_from_slice(b"\x08\x07\x06\x05\x04\x03\x02\x01");
-        assert_eq!(rt; second.write(), bytes);
-        assert_eq!(rt; UploadHead::read(&bytes), Ok(second));
+        same_bytes(&rt, &second.write(), &bytes);
+        reads_as(&rt, 9, &bytes, Ok(second));
     }
 }
 
@@ -91,11 +106,7 @@ fn second_header_faults(rt: HostRuntime) {
         bytes[7] = b'2';
         assert!(rt; at < 48);
         bytes[at] = byte;
-        assert_eq!(rt;
-            UploadHead::read(&bytes),
-            Err(Fault { code, place }),
-            "byte {at}"
-        );
+        reads_as(&rt, at, &bytes, Err(Fault { code, place }));
     }
 }
 
@@ -111,11 +122,7 @@ fn header_faults(rt: HostRuntime) {
         let mut bytes = EXPORT;
         assert!(rt; at < 48);
         bytes[at] = byte;
-        assert_eq!(rt;
-            UploadHead::read(&bytes),
-            Err(Fault { code, place }),
-            "byte {at}"
-        );
+        reads_as(&rt, at, &bytes, Err(Fault { code, place }));
     }
 }
 
@@ -141,8 +148,8 @@ fn answer_lines(rt: HostRuntime) {
             "no - - 1 47\n",
         ),
     ] {
-        assert_eq!(rt; answer.line().bytes(), line.as_bytes());
-        assert_eq!(rt; Answer::read(line.as_bytes()), Some(answer), "{line}");
+        same_bytes(&rt, answer.line().bytes(), line.as_bytes());
+        same_answer(&rt, Answer::read(line.as_bytes()), answer);
     }
 }
 
@@ -155,8 +162,9 @@ fn the_longest_line(rt: HostRuntime) {
         new: u64::MAX,
         left: u64::MAX,
     };
-    assert_eq!(rt; longest.line().bytes().len(), 121);
-    assert_eq!(rt; Answer::read(longest.line().bytes()), Some(longest));
+    let line = longest.line();
+    same_number(&rt, line.bytes().len() as u64, 121);
+    same_answer(&rt, Answer::read(line.bytes()), longest);
 }
 
 const ROWS: &str = r#"# no answer's line
@@ -191,47 +199,56 @@ resume "resume 1 000102030405060708090A0B0C0D0E0F 1\n" => none
 
 #[test]
 fn lines_and_texts_are_read_as_their_rows_say(rt: HostRuntime) -> Result<(), Fail> {
-    assert_eq!(rt; Resume::read(b"resume 0 - -\n"), Some(Resume::default()));
+    same_resume(&rt, Resume::read(b"resume 0 - -\n"), Resume::default());
     check_rows(&rt, ROWS)
+}
+
+fn same_resume(rt: &impl Abort, got: Option<Resume>, wanted: Resume) {
+    assert_eq!(rt; got, Some(wanted));
+}
+
+/// Ends the test unless an answer moves the point, or doesn't move it, as is wanted.
+fn moves_by(
+    rt: &impl Abort,
+    uploader: &mut Uploader,
+    entries: &[Entry],
+    answer: Answer,
+    wanted: bool,
+) {
+    assert_eq!(rt; uploader.on_answer(entries, &answer), wanted, "{answer:?}");
 }
 
 #[test]
 fn acks_move_the_point(rt: HostRuntime) -> Result<(), Fail> {
-    let entries = source(rt.alloc(), 5)?;
+    let alloc = rt.alloc();
+    let entries = source(alloc, &[1, 2, 3, 4, 5])?;
     let second = "resume 2 000102030405060708090a0b0c0d0e0f 2\n";
-    let fourth = Resume::read(b"resume 4 000102030405060708090a0b0c0d0e0f 4\n");
-    let mut uploader = at(second)?;
-    assert!(rt; !uploader.on_answer(&entries, &ack(0, 2)));
-    assert!(rt; !uploader.on_answer(&entries, &ack(3, 2)));
-    assert!(rt; !uploader.on_answer(&entries, &ack(1, u64::MAX)));
-    let Answer::Ack {
-        start,
-        count,
-        new,
-        left,
-        ..
-    } = ack(1, 3)
-    else {
-        return Err("an ack")?;
-    };
+    let fourth = "resume 4 000102030405060708090a0b0c0d0e0f 4\n";
     let other = Answer::Ack {
         source: Id128(SEQNUM_ID),
-        start,
-        count,
-        new,
-        left,
+        start: 1,
+        count: 3,
+        new: 3,
+        left: 0,
     };
-    assert!(rt; !uploader.on_answer(&entries, &other));
-    assert!(rt; uploader.on_answer(&entries, &ack(1, 3)));
-    assert_eq!(rt; Some(*uploader.resume()), fourth);
-    assert!(rt; !uploader.on_answer(&entries, &ack(4, 2)));
-    assert_eq!(rt; Some(*uploader.resume()), fourth);
+    let mut uploader = at(second)?;
+    for (answer, moves, point) in [
+        (ack(0, 2), false, second),
+        (ack(3, 2), false, second),
+        (ack(1, u64::MAX), false, second),
+        (other, false, second),
+        (ack(1, 3), true, fourth),
+        (ack(4, 2), false, fourth),
+    ] {
+        moves_by(&rt, &mut uploader, &entries, answer, moves);
+        same_bytes(&rt, &uploader.resume().text(alloc)?, point.as_bytes());
+    }
     Ok(())
 }
 
 #[test]
 fn a_source_that_changed(rt: HostRuntime) -> Result<(), Fail> {
-    let entries = source(rt.alloc(), 1)?;
+    let entries = source(rt.alloc(), &[1])?;
     assert!(rt; !at("resume 2 000102030405060708090a0b0c0d0e0f 2\n")?.agrees(&entries));
     assert!(rt; !at("resume 1 000102030405060708090a0b0c0d0e0f 2\n")?.agrees(&entries));
     assert!(rt; at("resume 1 000102030405060708090a0b0c0d0e0f 1\n")?.agrees(&entries));
@@ -241,14 +258,14 @@ fn a_source_that_changed(rt: HostRuntime) -> Result<(), Fail> {
         &entries,
         1,
     );
-    assert_eq!(rt; changed.err(), Some(UploadFault::SourceChanged));
+    assert!(rt; matches!(changed, Err(UploadFault::SourceChanged)));
     Ok(())
 }
 
 #[test]
 fn next_uploads(rt: HostRuntime) -> Result<(), Fail> {
     let alloc = rt.alloc();
-    let entries = source(alloc, 5)?;
+    let entries = source(alloc, &[1, 2, 3, 4, 5])?;
     let at_three = "resume 3 000102030405060708090a0b0c0d0e0f 3\n";
     let at_end = "resume 5 000102030405060708090a0b0c0d0e0f 5\n";
     for (position, start, limit, sent) in [
@@ -257,46 +274,45 @@ fn next_uploads(rt: HostRuntime) -> Result<(), Fail> {
         (at_three, 3, 0, &[]),
         (at_end, 5, 1_000, &[]),
     ] {
-        let mut want = Vec::from_slice(alloc, &head(Kind::Export, start).write())?;
-        for seqnum in sent {
-            want.extend_from_slice(numbered_entry(alloc, *seqnum)?.as_bytes())?;
-        }
+        let mut wanted = Vec::from_slice(alloc, &head(Kind::Export, start).write())?;
+        add_entries(alloc, sent, &mut wanted)?;
         let upload = at(position)?.next_upload(alloc, &entries, limit)?;
-        assert_eq!(rt; upload.as_slice(), want.as_slice(), "{position}");
+        same_bytes_at(&rt, start, &upload, &wanted);
     }
     Ok(())
 }
 
 #[test]
 fn the_first_upload_has_169_bytes(rt: HostRuntime) -> Result<(), Fail> {
-    let entries = source(rt.alloc(), 1)?;
+    let entries = source(rt.alloc(), &[1])?;
     let upload = at("resume 0 - -\n")?.next_upload(rt.alloc(), &entries, 1_000)?;
-    let want = [EXPORT.as_slice(), ENTRY].concat(rt.alloc())?;
-    assert_eq!(rt; upload.len(), 169);
-    assert_eq!(rt; upload.as_slice(), want.as_slice());
+    same_number(&rt, upload.len() as u64, 169);
+    same_bytes(
+        &rt,
+        &upload,
+        &[EXPORT.as_slice(), ENTRY].concat(rt.alloc())?,
+    );
     Ok(())
 }
 
 #[test]
 fn a_whole_upload(rt: HostRuntime) -> Result<(), Fail> {
-    let entries = source(rt.alloc(), 2)?;
+    let entries = source(rt.alloc(), &[1, 2])?;
     let upload = at("resume 0 - -\n")?.next_upload2(rt.alloc(), &entries, 9, true)?;
-    let mut want = Vec::from_slice(rt.alloc(), &EXPORT)?;
-    want[7] = b'2';
-    want[9] = 1;
-    want[40] = 2;
-    for seqnum in [1, 2] {
-        want.extend_from_slice(numbered_entry(rt.alloc(), seqnum)?.as_bytes())?;
-    }
-    assert_eq!(rt; upload.len(), 290);
-    assert_eq!(rt; upload.as_slice(), want.as_slice());
+    let mut wanted = Vec::from_slice(rt.alloc(), &EXPORT)?;
+    wanted[7] = b'2';
+    wanted[9] = 1;
+    wanted[40] = 2;
+    add_entries(rt.alloc(), &[1, 2], &mut wanted)?;
+    same_number(&rt, upload.len() as u64, 290);
+    same_bytes(&rt, &upload, &wanted);
     Ok(())
 }
 
 #[test]
 fn a_file(rt: HostRuntime) -> Result<(), Fail> {
     let upload = file_upload(rt.alloc(), SOURCE, &[7; 400])?;
-    assert_eq!(rt; upload.len(), 448);
+    same_number(&rt, upload.len() as u64, 448);
     assert!(rt; upload.as_slice().starts_with(&head(Kind::File, 0).write()));
     assert!(rt; upload.as_slice().ends_with(&[7; 400]));
     Ok(())
