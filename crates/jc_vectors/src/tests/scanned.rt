@@ -18,15 +18,13 @@ pub(super) fn scanned(
     let mut entries: u64 = 0;
     let mut rest = bytes;
     for _ in 0..u64::MAX {
-        let (piece, _) = rest.split_at(rest.len().min(size));
-        if u64::MAX - scanner.position() < piece.len() as u64 {
+        let Some(left) = feed(&mut scanner, rest, size)? else {
             return line(alloc, "too many", &[]);
-        }
-        let used = scanner.feed(piece)?;
+        };
         if scanner.held() > most {
             return line(alloc, "holds", &[scanner.held()]);
         }
-        rest = rest.split_at(used).1;
+        rest = left;
         match scanner.take()? {
             Some(Step::Entry(_)) => entries = entries.saturating_add(1),
             Some(Step::Bad(fault)) => return bad(alloc, fault),
@@ -38,4 +36,19 @@ pub(super) fn scanned(
         Some(Step::End { left }) => line(alloc, "ok", &[entries, left]),
         _ => line(alloc, "no end", &[]),
     }
+}
+
+/// What is left of the bytes once a scanner took the next piece of them, or its beginning; `None` if it had more bytes
+/// than it can count.
+fn feed<'a>(
+    scanner: &mut Scanner,
+    bytes: &'a [u8],
+    size: usize,
+) -> Result<Option<&'a [u8]>, OutOfMemory> {
+    let (piece, _) = bytes.split_at(bytes.len().min(size));
+    if u64::MAX - scanner.position() < piece.len() as u64 {
+        return Ok(None);
+    }
+    let used = scanner.feed(piece)?;
+    Ok(Some(bytes.split_at(used).1))
 }
