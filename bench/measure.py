@@ -13,7 +13,8 @@ ROUNDS = 5
 
 
 class Run:
-    """What one run took: seconds, those in which the process itself computed, and its memory at its peak in MiB."""
+    """What one run took: seconds, those of a processor, those in which the process itself computed, and its memory at its peak
+    in MiB."""
 
     def __init__(self, command, output="/dev/null", errors=None, status=0):
         flags = os.O_WRONLY | os.O_CREAT | os.O_TRUNC
@@ -23,6 +24,7 @@ class Run:
         _, ended, usage = os.wait4(process, 0)
         self.seconds = time.monotonic() - start
         self.user = usage.ru_utime
+        self.processor = usage.ru_utime + usage.ru_stime
         self.peak = usage.ru_maxrss / 1024
         if os.waitstatus_to_exitcode(ended) != status:
             raise OSError(f"it failed: {' '.join(command[:4])}")
@@ -36,6 +38,7 @@ class Runs:
         best = min(runs, key=lambda run: run.seconds)
         self.seconds = best.seconds
         self.user = min(run.user for run in runs)
+        self.processor = min(run.processor for run in runs)
         self.peak = best.peak
 
     def spread(self):

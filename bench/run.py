@@ -35,8 +35,8 @@ def built_baseline():
 
 
 def rates(runs, entries, size):
-    return (f"{runs.seconds:7.3f} s (to +{runs.spread():.0f} %) {entries / runs.seconds:11,.0f} entries/s"
-            f" {size / runs.seconds:6.0f} MB/s {runs.peak:6.0f} MiB")
+    return (f"{runs.seconds:7.3f} s (to +{runs.spread():.0f} %) {runs.processor:7.3f} s of a processor"
+            f" {entries / runs.seconds:11,.0f} entries/s {size / runs.seconds:6.0f} MB/s {runs.peak:6.0f} MiB")
 
 
 def ratio(runs, opened=None):
@@ -81,7 +81,7 @@ class Collecting:
         for (name, _), each in zip(self.programs, runs):
             print(f"  {name:8} {rates(each, entries, size)}")
         if len(runs) == 2:
-            print(f"  {ratio(runs)}", flush=True)
+            print(f"  {ratio(runs)}, of processor times {runs[0].processor / runs[1].processor:.2f}", flush=True)
 
     def collect(self, what, which, uploads, entries, is_new=True):
         """Uploads into a new database, or once more into the one that has them."""
@@ -95,7 +95,8 @@ class Collecting:
         runs = interleaved([[path, "collect", database, self.empty]
                             for (_, path), database in zip(self.programs, self.databases(which))])
         for (name, _), each in zip(self.programs, runs):
-            print(f"opened, adopted and closed, {name}: {each.seconds:.3f} s, {each.peak:.0f} MiB")
+            print(f"opened, adopted and closed, {name}: {each.seconds:.3f} s, {each.processor:.3f} s of a processor, "
+                  f"{each.peak:.0f} MiB")
         return runs
 
     def open_alone(self, which):
@@ -108,7 +109,8 @@ class Collecting:
             print("no stock sqlite3 is here, so there is no figure for the opening alone")
         else:
             runs = best([self.programs[0][1], "check", database], status=1)
-            print(f"opened alone, program: {runs.seconds:.3f} s, {runs.peak:.0f} MiB", flush=True)
+            print(f"opened alone, program: {runs.seconds:.3f} s, {runs.processor:.3f} s of a processor, {runs.peak:.0f} MiB",
+                  flush=True)
         forget(database)
 
     def listing(self, command, which, opened, size):
@@ -116,7 +118,11 @@ class Collecting:
         self.report(f"{command} of {ENTRIES:,} entries", runs, ENTRIES, size)
         beside = [each.seconds - opening.seconds for each, opening in zip(runs, opened)]
         print(f"  without the opening: {', '.join(f'{seconds:.3f} s' for seconds in beside)}", end="")
-        print(f", {ratio(runs, opened)}" if len(beside) == 2 else "", flush=True)
+        computed = [each.processor - opening.processor for each, opening in zip(runs, opened)]
+        print(f"; {', '.join(f'{seconds:.3f} s' for seconds in computed)} of a processor", end="")
+        if len(beside) == 2:
+            print(f", {ratio(runs, opened)}, of processor times {computed[0] / computed[1]:.2f}", end="")
+        print(flush=True)
 
 
 def measure_collecting(program):
