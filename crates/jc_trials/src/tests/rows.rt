@@ -253,6 +253,20 @@ stores METADATA_2 BINARY_FRONT ENTRY "\n\n"
 upload head:1:0 METADATA "\n" => ack S 0 1 1 0
 stores METADATA "\n"
 
+# entries of 1, 3, 4, 5, 8 and 9 fields: tables take four of them at once
+upload head:1:0 METADATA "A=1\n\n" => ack S 0 1 1 0
+stores METADATA "A=1\n\n"
+upload head:1:0 METADATA "A=1\nB=2\nC=3\n\n" => ack S 0 1 1 0
+stores METADATA "A=1\nB=2\nC=3\n\n"
+upload head:1:0 METADATA "A=1\nB=2\nC=3\nD=4\n\n" => ack S 0 1 1 0
+stores METADATA "A=1\nB=2\nC=3\nD=4\n\n"
+upload head:1:0 METADATA "A=1\nB=2\nC=3\nD=4\nE=5\n\n" => ack S 0 1 1 0
+stores METADATA "A=1\nB=2\nC=3\nD=4\nE=5\n\n"
+upload head:1:0 METADATA "A=1\nB=2\nC=3\nD=4\nE=5\nF=6\nG=7\nH=8\n\n" => ack S 0 1 1 0
+stores METADATA "A=1\nB=2\nC=3\nD=4\nE=5\nF=6\nG=7\nH=8\n\n"
+upload head:1:0 METADATA "A=1\nB=2\nC=3\nD=4\nE=5\nF=6\nG=7\nH=8\nI=9\n\n" => ack S 0 1 1 0
+stores METADATA "A=1\nB=2\nC=3\nD=4\nE=5\nF=6\nG=7\nH=8\nI=9\n\n"
+
 # repeats and conflicts, after the upload of one entry
 upload head:1:0 ENTRY => ack S 0 1 1 0
 upload head:1:0 ENTRY => ack S 0 1 0 0
