@@ -3,3 +3,4 @@ pub mod Refusals
 pub mod Successive
 pub mod Judging
 pub mod Printing
+pub mod Buffering

@@ -4,6 +4,8 @@ use Rattle.std.specs.List.{Contains}
 use Rattle.jc_base.specs.declared.fault.Code.TheVariants.{BadRow, NotAJournal, OldSchema}
 use Rattle.jc_base.specs.declared.fault.Fault.{Fault}
 use Rattle.jc_base.specs.declared.id.Id128.{Id128}
+use Rattle.jc_base.specs.Journal.{Journal}
+use Rattle.jc_keeper.specs.Listing.{field_text, show_text}
 use Rattle.jc_console.specs.Ids.{IsIdOf, IsIdText}
 use Rattle.jc_console.specs.Names.{IsFieldName}
 use Rattle.jc_console.specs.declared.failure.Failure.{Failure}
@@ -63,6 +65,11 @@ abbrev pub AsksId : (digits : Option (List ℕ)) → Option Id128 → Type 0
 AsksId None id = id ≡ None
 AsksId (Some digits) None = ⊥
 AsksId (Some digits) (Some id) = IsIdOf digits id
+
+-- The lines of a journal's entries that are asked for, with the field of this name, or else with the message.
+abbrev pub asked_text : (name : Option (List ℕ)) → Journal → Option Id128 → (first last : ℕ) → List ℕ
+asked_text None m id first last = show_text m id first last
+asked_text (Some name) m id first last = field_text name m id first last
 
 -- Why `show` fails: no entry has a field of this name, the digits spell no id, or it fails as another command over a
 -- database does.

@@ -95,14 +95,14 @@ impl<O: Write> ByteSink for AnswerSink<'_, O> {
 }
 
 /// A count of failures with one more, up to the greatest count.
-fn one_more(failures: u64) -> u64
+pub fn one_more(failures: u64) -> u64
     ensures { Rose failures result }
 {
     failures.saturating_add(1)
 }
 
 /// Writes as much of a text as a writer takes, and answers how much that was.
-fn write_front<O: Write>(output: &mut O, text: &[u8]) -> usize
+pub fn write_front<O: Write>(output: &mut O, text: &[u8]) -> usize
     ensures within { result ≤ length text.now }
     ensures front { Appends (O.contents output.old) (O.contents output.new) (take result text.now) }
 {

@@ -11,6 +11,7 @@ mod judged;
 mod listed;
 mod listing;
 mod migrating;
+mod out_buffer;
 mod uploads;
 
 pub use collecting::collect;
