@@ -3,8 +3,11 @@ use Rattle.std.specs.Prelude.{ℕ, ◌≡◌, Bool, true, false, List, ◌∷◌
 use Rattle.std.specs.Io.KnownBytes.{Appends}
 use Rattle.std.specs.List.{All, list_any}
 use Rattle.std.proofs.Props.{props}
+use Rattle.jc_base.specs.declared.limits.Limits.{Limits}
+use Rattle.jc_base.specs.LimitBounds.{AreDefaults}
 use Rattle.jc_collect.specs.Answer.{is_failure, is_failure_code}
-use Rattle.jc_collect.specs.Run.{lines_of_answers}
+use Rattle.jc_collect.specs.declared.runs.RunEnd.TheVariants.{Done}
+use Rattle.jc_collect.specs.Run.{IsRun, Seen, lines_of_answers}
 use Rattle.jc_upload.specs.Answer.{IsAnswer}
 use Rattle.jc_upload.specs.declared.answer.Answer.{Answer}
 use Rattle.jc_upload.specs.declared.answer.Answer.TheVariants.{Ack, No}
@@ -27,6 +30,12 @@ pub record TellsAnswers (count : ℕ) (status : Status) (old new : Option (List 
   pub lawful : All IsAnswer answers
   pub is : status ≡ judged answers
   pub printed : Appends old new (lines_of_answers answers)
+
+-- Uploads were collected in one run under the default limits, and the line of each answer was printed.
+pub record RunsByDefault (uploads : List (List ℕ)) (before after : Seen) : Type 0 where
+  pub limits : Limits
+  pub defaults : AreDefaults limits.name limits.value limits.fields limits.entry limits.file
+  pub ran : IsRun limits uploads before Done after
 
 -- how many uploads there are: those that are named, or the one on standard input
 abbrev pub number_of_uploads : (named : ℕ) → ℕ
