@@ -10,6 +10,7 @@ mod memory;
 mod migrating;
 mod readings;
 mod rows;
+mod same;
 mod tables;
 mod whole_uploads;
 mod worlds;

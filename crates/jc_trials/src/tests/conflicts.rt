@@ -2,6 +2,7 @@
 
 use super::journals::{Journals, Maps, Tables, keeps};
 use super::readings::{FAULT, FailingSource, entries, source};
+use super::same::{same_absorbed, same_number};
 use jc_base::{EntrySource, Step};
 use jc_keeper::{Absorbed, KeepStop, Keeper};
 use jc_samples::{CHANGED_ENTRY, ENTRY, ENTRY_2, ENTRY_3};
@@ -45,19 +46,18 @@ fn takes_whole_readings_or_nothing<J: Journals>(
     ];
     let mut keeper = journals.empty()?;
     for (texts, faulty, wanted) in rows {
-        let absorbed = keeper.absorb(&mut source(alloc, texts, faulty)?)?;
-        assert_eq!(rt; absorbed, wanted);
+        let absorbed = keeper.absorb(&mut source(alloc, texts, faulty)?);
+        same_absorbed(rt, absorbed, Ok(wanted));
     }
-    let kept = keeps(alloc, &mut keeper, &[ENTRY, ENTRY_2, ENTRY_3])?;
-    assert_eq!(rt; kept, true);
+    assert!(rt; keeps(alloc, &mut keeper, &[ENTRY, ENTRY_2, ENTRY_3])?);
     Ok(())
 }
 
-/// The number of the next entry.
-fn next_number<S: EntrySource>(source: &mut S) -> Option<u64> {
+/// The number of the next entry, and 0 if there is none.
+fn next_number<S: EntrySource>(source: &mut S) -> u64 {
     match source.next() {
-        Ok(Step::Entry(entry)) => Some(entry.key().seqnum),
-        Ok(_) | Err(_) => None,
+        Ok(Step::Entry(entry)) => entry.key().seqnum,
+        Ok(_) | Err(_) => 0,
     }
 }
 
@@ -68,9 +68,9 @@ fn stops_at_a_conflict<J: Journals>(
     let alloc = rt.alloc();
     let mut keeper = journals.empty()?;
     let mut source = source(alloc, &[ENTRY, CHANGED_ENTRY, ENTRY_2], false)?;
-    assert_eq!(rt; keeper.absorb(&mut source)?, conflict(1));
-    assert_eq!(rt; next_number(&mut source), Some(2));
-    assert_eq!(rt; keeps(alloc, &mut keeper, &[])?, true);
+    same_absorbed(rt, keeper.absorb(&mut source), Ok(conflict(1)));
+    same_number(rt, next_number(&mut source), 2);
+    assert!(rt; keeps(alloc, &mut keeper, &[])?);
     Ok(())
 }
 
@@ -84,9 +84,11 @@ fn leaves_nothing_of_a_failed_reading<J: Journals>(
         entries: entries(alloc, &[ENTRY, ENTRY_2])?,
         failed: false,
     };
-    assert_eq!(rt; keeper.absorb(&mut source), Err(KeepStop::ReadFailed));
-    assert_eq!(rt; keeper.absorb(&mut source), Err(KeepStop::ReadFailed));
-    assert_eq!(rt; keeps(alloc, &mut keeper, &[])?, true);
+    for _ in 0..2 {
+        let absorbed = keeper.absorb(&mut source);
+        same_absorbed(rt, absorbed, Err(KeepStop::ReadFailed));
+    }
+    assert!(rt; keeps(alloc, &mut keeper, &[])?);
     Ok(())
 }
 
@@ -102,9 +104,9 @@ fn reads_nothing_after_a_conflict<J: Journals>(
         entries: entries(alloc, &[ENTRY_2, CHANGED_ENTRY])?,
         failed: false,
     };
-    assert_eq!(rt; keeper.absorb(&mut source)?, conflict(1));
-    assert_eq!(rt; source.failed, false);
-    assert_eq!(rt; keeps(alloc, &mut keeper, &[ENTRY])?, true);
+    same_absorbed(rt, keeper.absorb(&mut source), Ok(conflict(1)));
+    assert!(rt; !source.failed);
+    assert!(rt; keeps(alloc, &mut keeper, &[ENTRY])?);
     Ok(())
 }
 

@@ -2,6 +2,7 @@
 
 use super::answers::{ack, collect_space, collect_stream, no, unread};
 use super::journals::{Journals, Maps, Tables, keeps};
+use super::same::{same_answer, same_bytes, same_end, same_number};
 use jc_base::faulty::{FailSink, FailStream};
 use jc_base::{Limits, SliceStream, VecSink};
 use jc_collect::{Delivery, RunEnd, collect_one, run};
@@ -12,6 +13,7 @@ use jc_samples::{
     CHANGED_ENTRY, ENTRY, ENTRY_2, EXPORT, FILE, JOURNAL_FILE, Slow, answer_lines, bytewise,
 };
 use jc_upload::Answer;
+use std::alloc::Global;
 use std::process::Abort;
 use std::test::Fail;
 
@@ -22,9 +24,9 @@ fn goes_on<K: Keeper>(
     upload: &[u8],
     entries: u64,
 ) -> Result<(), Fail> {
-    assert_eq!(rt; keeps(rt.alloc(), keeper, &[])?, true);
+    assert!(rt; keeps(rt.alloc(), keeper, &[])?);
     let again = collect_stream(rt.alloc(), keeper, SliceStream::new(upload));
-    assert_eq!(rt; again, ack(entries, entries, 0));
+    same_answer(rt, 0, again, ack(entries, entries, 0));
     Ok(())
 }
 
@@ -37,6 +39,40 @@ fn told(passes: u64) -> Answer {
     }
 }
 
+/// An upload of so many entries from a stream that gives one byte at each read, whose reads fail after so many.
+fn a_read_fails<J: Journals>(
+    rt: &(impl Abort + AllocGlobal),
+    journals: &mut J,
+    upload: &[u8],
+    passes: u64,
+    entries: u64,
+) -> Result<(), Fail> {
+    let mut keeper = journals.empty()?;
+    let device = FailStream::new(bytewise(upload), passes);
+    let answer = collect_stream(rt.alloc(), &mut keeper, device);
+    same_answer(rt, passes, answer, told(passes));
+    goes_on(rt, &mut keeper, upload, entries)
+}
+
+/// An upload of one entry from a space whose reads fail after so many; the first one reads the header.
+fn a_range_fails<J: Journals>(
+    rt: &(impl Abort + AllocGlobal),
+    journals: &mut J,
+    upload: &[u8],
+    passes: u64,
+) -> Result<(), Fail> {
+    let mut keeper = journals.empty()?;
+    let space = FailSpace::new(SliceSpace { bytes: upload }, passes);
+    let answer = collect_space(rt.alloc(), &mut keeper, space);
+    let wanted = if passes == 0 {
+        unread(61, 0)
+    } else {
+        no(61, 0)
+    };
+    same_answer(rt, passes, answer, wanted);
+    goes_on(rt, &mut keeper, upload, 1)
+}
+
 /// Two entries, one byte at each read: each read fails in turn, also the one that shows the end.
 fn a_stream_fails<J: Journals>(
     rt: &(impl Abort + AllocGlobal),
@@ -44,17 +80,13 @@ fn a_stream_fails<J: Journals>(
 ) -> Result<(), Fail> {
     let alloc = rt.alloc();
     let upload = [EXPORT.as_slice(), ENTRY, ENTRY_2].concat(alloc)?;
-    assert_eq!(rt; upload.len(), 290);
-    for passes in 0..291u64 {
-        let mut keeper = journals.empty()?;
-        let device = FailStream::new(bytewise(&upload), passes);
-        let answer = collect_stream(alloc, &mut keeper, device);
-        assert_eq!(rt; answer, told(passes), "after {passes} reads");
-        goes_on(rt, &mut keeper, &upload, 2)?;
+    same_number(rt, upload.len() as u64, 290);
+    for passes in 0..291 {
+        a_read_fails(rt, journals, &upload, passes, 2)?;
     }
-    let mut keeper = journals.empty()?;
     let device = FailStream::new(bytewise(&upload), 291);
-    assert_eq!(rt; collect_stream(alloc, &mut keeper, device), ack(2, 2, 0));
+    let answer = collect_stream(alloc, &mut journals.empty()?, device);
+    same_answer(rt, 291, answer, ack(2, 2, 0));
     Ok(())
 }
 
@@ -67,14 +99,12 @@ fn a_conflict_comes_before_the_next_read<J: Journals>(
     let first = [EXPORT.as_slice(), ENTRY].concat(alloc)?;
     let mut keeper = journals.empty()?;
     let new = collect_stream(alloc, &mut keeper, SliceStream::new(&first));
-    assert_eq!(rt; new, ack(1, 1, 0));
+    same_answer(rt, 0, new, ack(1, 1, 0));
     let mut other = [EXPORT.as_slice(), CHANGED_ENTRY].concat(alloc)?;
-    for _ in 0..1_000 {
-        other.extend_from_slice(ENTRY)?;
-    }
+    other.extend_from_slice(&ENTRY.repeat(alloc, 1_000)?)?;
     let device = FailStream::new(SliceStream::new(&other), 2);
     let conflict = collect_stream(alloc, &mut keeper, device);
-    assert_eq!(rt; conflict, no(60, 0));
+    same_answer(rt, 2, conflict, no(60, 0));
     Ok(())
 }
 
@@ -89,13 +119,14 @@ fn reads_of<J: Journals>(
     let mut delivery: Delivery<SliceStream<'_>, _> = Delivery::Space(space);
     let mut keeper = journals.empty()?;
     let answer = collect_one(rt.alloc(), &mut keeper, &mut delivery, &Limits::default());
-    assert_eq!(rt; answer, ack(1, 1, 0));
-    match delivery {
-        Delivery::Space(space) => {
-            let left = space.passes.ok_or("it failed")?;
-            Ok(most.saturating_sub(left))
-        }
-        Delivery::Stream(_) => Err("no space")?,
+    same_answer(rt, most, answer, ack(1, 1, 0));
+    let left = match delivery {
+        Delivery::Space(space) => space.passes,
+        Delivery::Stream(_) => None,
+    };
+    match left {
+        Some(left) => Ok(most.saturating_sub(left)),
+        None => Err(Fail::new("it failed")),
     }
 }
 
@@ -104,50 +135,92 @@ fn a_space_fails<J: Journals>(
     rt: &(impl Abort + AllocGlobal),
     journals: &mut J,
 ) -> Result<(), Fail> {
-    let alloc = rt.alloc();
-    let upload = [FILE.as_slice(), &JOURNAL_FILE].concat(alloc)?;
+    let upload = [FILE.as_slice(), &JOURNAL_FILE].concat(rt.alloc())?;
     let reads = reads_of(rt, journals, &upload)?;
-    assert_eq!(rt; 1 < reads && reads < 1000, true);
+    assert!(rt; 1 < reads && reads < 1000);
     for passes in 0..reads {
-        let mut keeper = journals.empty()?;
-        let space = FailSpace::new(SliceSpace { bytes: &upload }, passes);
-        let answer = collect_space(alloc, &mut keeper, space);
-        let wanted = if passes == 0 {
-            unread(61, 0)
-        } else {
-            no(61, 0)
-        };
-        assert_eq!(rt; answer, wanted, "after {passes} reads");
-        goes_on(rt, &mut keeper, &upload, 1)?;
+        a_range_fails(rt, journals, &upload, passes)?;
     }
     Ok(())
 }
 
-/// The kinds the other way round: a journal file that comes as a stream, and an export stream in a space.
-fn other_devices_fail<J: Journals>(
+/// A journal file that comes as a stream.
+fn a_file_in_a_stream_fails<J: Journals>(
     rt: &(impl Abort + AllocGlobal),
     journals: &mut J,
 ) -> Result<(), Fail> {
-    let alloc = rt.alloc();
-    let file = [FILE.as_slice(), &JOURNAL_FILE].concat(alloc)?;
+    let file = [FILE.as_slice(), &JOURNAL_FILE].concat(rt.alloc())?;
     for passes in [0, 47, 48, 49, 447, 448] {
-        let mut keeper = journals.empty()?;
-        let device = FailStream::new(bytewise(&file), passes);
-        let answer = collect_stream(alloc, &mut keeper, device);
-        assert_eq!(rt; answer, told(passes), "after {passes} reads");
-        goes_on(rt, &mut keeper, &file, 1)?;
+        a_read_fails(rt, journals, &file, passes, 1)?;
     }
-    let export = [EXPORT.as_slice(), ENTRY].concat(alloc)?;
-    for (passes, wanted) in [(0, unread(61, 0)), (1, no(61, 0))] {
-        let mut keeper = journals.empty()?;
-        let space = FailSpace::new(SliceSpace { bytes: &export }, passes);
-        let answer = collect_space(alloc, &mut keeper, space);
-        assert_eq!(rt; answer, wanted, "after {passes} reads");
-        goes_on(rt, &mut keeper, &export, 1)?;
+    Ok(())
+}
+
+/// An export stream in a space.
+fn a_stream_in_a_space_fails<J: Journals>(
+    rt: &(impl Abort + AllocGlobal),
+    journals: &mut J,
+) -> Result<(), Fail> {
+    let export = [EXPORT.as_slice(), ENTRY].concat(rt.alloc())?;
+    for passes in [0, 1] {
+        a_range_fails(rt, journals, &export, passes)?;
     }
     let space = FailSpace::new(SliceSpace { bytes: &export }, 2);
-    let answer = collect_space(alloc, &mut journals.empty()?, space);
-    assert_eq!(rt; answer, ack(1, 1, 0));
+    let answer = collect_space(rt.alloc(), &mut journals.empty()?, space);
+    same_answer(rt, 2, answer, ack(1, 1, 0));
+    Ok(())
+}
+
+/// The end of a run of two deliveries, to a sink that takes one byte at each write and fails once, and what it took.
+fn run_to_a_failure<K: Keeper>(
+    alloc: Global,
+    keeper: &mut K,
+    space: &[u8],
+    stream: &[u8],
+    passes: u64,
+) -> (RunEnd, Vec<u8>) {
+    let mut deliveries: [Delivery<SliceStream<'_>, SliceSpace<'_>>; 2] = [
+        Delivery::Space(SliceSpace { bytes: space }),
+        Delivery::Stream(SliceStream::new(stream)),
+    ];
+    let inner = Slow {
+        inner: VecSink::new(alloc),
+    };
+    let mut sink = FailSink::new(inner, passes);
+    let end = run(
+        alloc,
+        keeper,
+        &mut deliveries,
+        &mut sink,
+        &Limits::default(),
+    );
+    (end, sink.inner.inner.into_bytes())
+}
+
+/// The sink fails after so many bytes: so many answers are written whole, and so many bytes of the next one.
+fn a_write_fails<J: Journals>(
+    rt: &(impl Abort + AllocGlobal),
+    journals: &mut J,
+    passes: u64,
+    (done, bytes): (u64, u64),
+    stored: &[&[u8]],
+) -> Result<(), Fail> {
+    let alloc = rt.alloc();
+    let first = [EXPORT.as_slice(), ENTRY].concat(alloc)?;
+    let second = [EXPORT.as_slice(), ENTRY_2].concat(alloc)?;
+    let mut keeper = journals.empty()?;
+    let (end, out) = run_to_a_failure(alloc, &mut keeper, &first, &second, passes);
+    let stopped = RunEnd::Stopped {
+        done,
+        written: bytes,
+    };
+    same_end(rt, end, stopped);
+    let both = answer_lines(alloc, &["ack S 0 1 1 0", "ack S 0 1 1 0"])?;
+    let front = both.as_bytes().get(..passes as usize).unwrap_or(b"");
+    same_bytes(rt, &out, front);
+    assert!(rt; keeps(alloc, &mut keeper, stored)?);
+    let again = collect_stream(alloc, &mut keeper, SliceStream::new(&first));
+    same_answer(rt, passes, again, ack(1, 0, 0));
     Ok(())
 }
 
@@ -156,46 +229,10 @@ fn the_sink_fails<J: Journals>(
     rt: &(impl Abort + AllocGlobal),
     journals: &mut J,
 ) -> Result<(), Fail> {
-    let alloc = rt.alloc();
-    let first = [EXPORT.as_slice(), ENTRY].concat(alloc)?;
-    let second = [EXPORT.as_slice(), ENTRY_2].concat(alloc)?;
-    let both = answer_lines(alloc, &["ack S 0 1 1 0", "ack S 0 1 1 0"])?;
-    let one = [ENTRY];
-    let two = [ENTRY, ENTRY_2];
-    for (passes, done, bytes, stored) in [
-        (10, 0, 10, one.as_slice()),
-        (44, 0, 44, one.as_slice()),
-        (45, 1, 0, two.as_slice()),
-        (48, 1, 3, two.as_slice()),
-    ] {
-        let mut keeper = journals.empty()?;
-        let mut deliveries: [Delivery<SliceStream<'_>, SliceSpace<'_>>; 2] = [
-            Delivery::Space(SliceSpace { bytes: &first }),
-            Delivery::Stream(SliceStream::new(&second)),
-        ];
-        let inner = Slow {
-            inner: VecSink::new(alloc),
-        };
-        let mut sink = FailSink::new(inner, passes);
-        let limits = Limits::default();
-        let end = run(alloc, &mut keeper, &mut deliveries, &mut sink, &limits);
-        let wanted = RunEnd::Stopped {
-            done,
-            written: bytes,
-        };
-        assert_eq!(rt; end, wanted);
-        assert_eq!(rt;
-            keeps(alloc, &mut keeper, stored)?,
-            true,
-            "after {passes} writes"
-        );
-        let out = sink.inner.inner.bytes();
-        assert_eq!(rt; out.len() as u64, passes);
-        assert_eq!(rt; both.as_bytes().starts_with(out), true);
-        let again = collect_stream(alloc, &mut keeper, SliceStream::new(&first));
-        assert_eq!(rt; again, ack(1, 0, 0));
-    }
-    Ok(())
+    a_write_fails(rt, journals, 10, (0, 10), &[ENTRY])?;
+    a_write_fails(rt, journals, 44, (0, 44), &[ENTRY])?;
+    a_write_fails(rt, journals, 45, (1, 0), &[ENTRY, ENTRY_2])?;
+    a_write_fails(rt, journals, 48, (1, 3), &[ENTRY, ENTRY_2])
 }
 
 fn devices_fail<J: Journals>(
@@ -204,7 +241,8 @@ fn devices_fail<J: Journals>(
 ) -> Result<(), Fail> {
     a_stream_fails(rt, journals)?;
     a_space_fails(rt, journals)?;
-    other_devices_fail(rt, journals)?;
+    a_file_in_a_stream_fails(rt, journals)?;
+    a_stream_in_a_space_fails(rt, journals)?;
     the_sink_fails(rt, journals)
 }
 

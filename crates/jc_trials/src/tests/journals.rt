@@ -52,7 +52,7 @@ impl Journals for OldTables {
         let conn = Connection::open_in_memory(self.0)?;
         match SqlKeeper1::create(self.0, conn) {
             Ok(keeper) => Ok(keeper),
-            Err(_) => Err("not created")?,
+            Err(_) => Err(Fail::new("not created")),
         }
     }
 }

@@ -2,6 +2,7 @@
 
 use super::journals::{Journals, OldTables};
 use super::readings::source;
+use super::same::{same_absorbed, same_bytes, same_number};
 use jc_base::{Code, VecSink};
 use jc_keeper::{Absorbed, Keeper};
 use jc_records::{SchemaTwo, SqlKeeper};
@@ -10,7 +11,6 @@ use jc_store::{AdoptFault, SqlKeeper1};
 use sqlite::{Alter, Connection};
 use std::alloc::Global;
 use std::process::Abort;
-use std::str;
 use std::test::Fail;
 
 /// Whether a journal has the entries with these texts, in this order, and no others.
@@ -20,26 +20,25 @@ fn check_entries<S: Alter>(
     texts: &[&[u8]],
 ) -> Result<(), Fail> {
     let mut sink = VecSink::new(rt.alloc());
-    assert_eq!(rt; keeper.export(&mut sink), Ok(texts.len() as u64));
-    let wanted = texts.concat(rt.alloc())?;
-    assert_eq!(rt;
-        str::from_utf8(&sink.into_bytes())?,
-        str::from_utf8(&wanted)?
-    );
+    match keeper.export(&mut sink) {
+        Ok(entries) => same_number(rt, entries, texts.len() as u64),
+        Err(stop) => panic!(rt; "{stop:?}"),
+    }
+    same_bytes(rt, &sink.into_bytes(), &texts.concat(rt.alloc())?);
     Ok(())
 }
 
 fn migrated<S: Alter + Drop>(keeper: SqlKeeper1<S>) -> Result<SqlKeeper<S>, Fail> {
     match keeper.migrate::<SchemaTwo>() {
         Ok(keeper) => Ok(keeper),
-        Err(_) => Err("not migrated")?,
+        Err(_) => Err(Fail::new("not migrated")),
     }
 }
 
 fn adopted<S: Alter + Drop>(alloc: Global, conn: Connection<S>) -> Result<SqlKeeper<S>, Fail> {
     match SqlKeeper::adopt(alloc, conn) {
         Ok(keeper) => Ok(keeper),
-        Err(_) => Err("not adopted")?,
+        Err(_) => Err(Fail::new("not adopted")),
     }
 }
 
@@ -49,7 +48,7 @@ fn refused<S: Alter + Drop>(
     conn: Connection<S>,
 ) -> Result<(AdoptFault, Connection<S>), Fail> {
     match SqlKeeper1::adopt(alloc, conn) {
-        Ok(_) => Err("adopted")?,
+        Ok(_) => Err(Fail::new("adopted")),
         Err(refused) => Ok(refused),
     }
 }
@@ -64,10 +63,13 @@ fn goes_over<S: Alter + Drop>(
     let mut keeper = migrated(old)?;
     check_entries(rt, &mut keeper, &[ENTRY, ENTRY_2, ENTRY_3])?;
     let (fault, conn) = refused(alloc, keeper.into_connection())?;
-    assert_eq!(rt; (fault.code, fault.row), (Code::NotAJournal, 0));
+    assert!(rt;
+        fault.code == Code::NotAJournal && fault.row == 0,
+        "{fault:?}"
+    );
     let mut keeper = adopted(alloc, conn)?;
-    let conflict = keeper.absorb(&mut source(alloc, &[LAST_ENTRY, CHANGED_ENTRY], false)?)?;
-    assert_eq!(rt; conflict, Absorbed::Conflict { index: 1 });
+    let conflict = keeper.absorb(&mut source(alloc, &[LAST_ENTRY, CHANGED_ENTRY], false)?);
+    same_absorbed(rt, conflict, Ok(Absorbed::Conflict { index: 1 }));
     keeper.absorb(&mut source(alloc, &[LAST_ENTRY], false)?)?;
     check_entries(rt, &mut keeper, &[ENTRY, ENTRY_2, ENTRY_3, LAST_ENTRY])
 }

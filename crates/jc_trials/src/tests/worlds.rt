@@ -2,13 +2,14 @@
 
 use super::journals::{Journals, Maps, Tables};
 use super::readings::entries;
+use super::same::{same_answers, same_number};
 use jc_base::{Id128, Limits};
 use jc_keeper::Keeper;
 use jc_samples::{
     BOOT_FIELD, CHANGED_ENTRY, ENTRY, ENTRY_2, ENTRY_3, HI, JOURNAL_FILE, METADATA, SOURCE_ID,
 };
 use jc_upload::Answer;
-use jc_world::{Event, Progress, World};
+use jc_world::{Event, World};
 use std::alloc::Global;
 use std::process::Abort;
 use std::test::Fail;
@@ -49,7 +50,7 @@ fn two_machines<J: Journals>(alloc: Global, journals: &mut J) -> Result<World<J:
     let sources = vec![in alloc; Id128(SOURCE_ID), Id128(OTHER_ID)]?;
     match World::new(alloc, journals.empty()?, sources, Limits::default())? {
         Some(world) => Ok(world),
-        None => Err("equal sources")?,
+        None => Err(Fail::new("equal sources")),
     }
 }
 
@@ -61,7 +62,7 @@ fn append<K: Keeper + Drop>(
     texts: &[&[u8]],
 ) -> Result<(), Fail> {
     for entry in entries(rt.alloc(), texts)? {
-        assert_eq!(rt; world.step(&Event::Append(machine, entry))?, true);
+        assert!(rt; world.step(&Event::Append(machine, entry))?);
     }
     Ok(())
 }
@@ -69,17 +70,26 @@ fn append<K: Keeper + Drop>(
 /// An event, whether it may happen, and afterwards the first machine's resume point and how many it saved.
 type Row = (Event, bool, u64, usize);
 
+/// The first machine's resume point, and how many it saved.
+fn first_of<K: Keeper + Drop>(world: &World<K>) -> (u64, usize) {
+    match (world.resume(0), world.saved(0)) {
+        (Some(point), Some(points)) => (point.position(), points.len()),
+        _ => (0, 0),
+    }
+}
+
 fn check<K: Keeper + Drop>(
     rt: &(impl Abort + AllocGlobal),
     world: &mut World<K>,
     rows: &[Row],
 ) -> Result<(), Fail> {
     for (event, taken, position, saved) in rows {
-        assert_eq!(rt; world.step(event)?, *taken, "{event:?}");
-        let point = world.resume(0).map(|point| point.position());
-        assert_eq!(rt; point, Some(*position), "after {event:?}");
-        let points = world.saved(0).map(|points| points.len());
-        assert_eq!(rt; points, Some(*saved), "after {event:?}");
+        assert!(rt; world.step(event)? == *taken, "{event:?}");
+        let (found, points) = first_of(world);
+        assert!(rt;
+            found == *position && points == *saved,
+            "{found}, {points} after {event:?}"
+        );
     }
     Ok(())
 }
@@ -121,7 +131,9 @@ fn refused<K: Keeper + Drop>(
     world: &mut World<K>,
 ) -> Result<(), Fail> {
     let alloc = rt.alloc();
-    let upload = world.uploads().first().ok_or("no upload")?;
+    let Some(upload) = world.uploads().first() else {
+        return Err(Fail::new("no upload"));
+    };
     let upload = Vec::from_slice(alloc, upload)?;
     let file = Vec::from_slice(alloc, &JOURNAL_FILE)?;
     check(
@@ -153,12 +165,18 @@ fn second_machine<K: Keeper + Drop>(
     )
 }
 
+fn check_lengths(rt: &impl Abort, uploads: &[Vec<u8>]) {
+    same_number(rt, uploads.len() as u64, 5);
+    for (upload, want) in uploads.iter().zip([290u64, 411, 290, 169, 448]) {
+        same_number(rt, upload.len() as u64, want);
+    }
+}
+
 fn worked_steps<J: Journals>(
     rt: &(impl Abort + AllocGlobal),
     journals: &mut J,
 ) -> Result<(), Fail> {
-    let alloc = rt.alloc();
-    let mut world = two_machines(alloc, journals)?;
+    let mut world = two_machines(rt.alloc(), journals)?;
     first_machine(rt, &mut world)?;
     refused(rt, &mut world)?;
     append(rt, &mut world, 0, &[CHANGED_ENTRY])?;
@@ -172,13 +190,8 @@ fn worked_steps<J: Journals>(
         ],
     )?;
     second_machine(rt, &mut world)?;
-    let lengths: Vec<usize> = world
-        .uploads()
-        .iter()
-        .map(|upload| upload.len())
-        .collect(alloc)?;
-    assert_eq!(rt; lengths.as_slice(), [290, 411, 290, 169, 448].as_slice());
-    assert_eq!(rt; world.answers(), worked_answers().as_slice());
+    check_lengths(rt, world.uploads());
+    same_answers(rt, world.answers(), &worked_answers());
     Ok(())
 }
 
@@ -210,7 +223,7 @@ fn whole_steps<J: Journals>(rt: &(impl Abort + AllocGlobal), journals: &mut J) -
         ack(0, 2, 1, 0),
         ack(2, 1, 1, 0),
     ];
-    assert_eq!(rt; world.answers(), answers.as_slice());
+    same_answers(rt, world.answers(), &answers);
     Ok(())
 }
 
@@ -241,14 +254,11 @@ fn a_run_takes_every_event(rt: HostRuntime) -> Result<(), Fail> {
     let bytes = Vec::from_slice(alloc, b"JCUPLD01")?;
     let events = [Event::Hand(0), Event::Alien(bytes), Event::Make(1, 1)];
     let progress = world.run(&events);
-    assert_eq!(rt;
-        progress,
-        Progress {
-            taken: 3,
-            refusal: None
-        }
+    assert!(rt;
+        progress.taken == 3 && progress.refusal.is_none(),
+        "{progress:?}"
     );
-    assert_eq!(rt; world.answers(), [no(None, 1, 8)].as_slice());
+    same_answers(&rt, world.answers(), &[no(None, 1, 8)]);
     Ok(())
 }
 
@@ -257,13 +267,13 @@ fn equal_sources_make_no_world(rt: HostRuntime) -> Result<(), Fail> {
     let alloc = rt.alloc();
     let sources = vec![in alloc; Id128(SOURCE_ID), Id128(OTHER_ID), Id128(SOURCE_ID)]?;
     let found = World::new(alloc, Maps(alloc).empty()?, sources, Limits::default())?;
-    assert_eq!(rt; found.is_none(), true);
+    assert!(rt; found.is_none());
     let none = World::new(
         alloc,
         Maps(alloc).empty()?,
         Vec::new(alloc),
         Limits::default(),
     )?;
-    assert_eq!(rt; none.is_some(), true);
+    assert!(rt; none.is_some());
     Ok(())
 }
