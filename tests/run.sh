@@ -1,7 +1,7 @@
 #!/usr/bin/env bash
-# The gate: every proof from nothing, the tests and the stored run (rt ci), which needs the machine for itself; then the
-# edits (tests/refused), and beside them each script tests/test-*.sh in turn, over the program that rt ci built. The
-# last line is `N passed, M failed`, over all of them.
+# The gate: every proof from nothing, the tests and the stored run (rt ci); beside it the edits (tests/refused), each
+# crate's from when it is proved; and when rt ci has ended each script tests/test-*.sh in turn, over the program that it
+# built. The last line is `N passed, M failed`, over all of them.
 set -uo pipefail
 cd "$(dirname "$0")/.." || exit
 
@@ -28,8 +28,9 @@ ci() {
     rt ci 2>&1 | tee "$work/ci"
 }
 
+# What rt ci has to do goes first: the edits' checks run at a lower priority, and wait for a processor that it leaves.
 edits() {
-    TMPDIR=$work python3 -ESB tests/refused
+    tail -n +1 -s 1 -f --pid="$ci" "$work/ci" | TMPDIR=$work nice python3 -ESB tests/refused --beside
 } > "$work/edits" 2>&1
 
 scripts() {
@@ -78,13 +79,15 @@ export RT_JOBS
 memory=$(awk '/^MemAvailable/ { print int($2 / 1e6) }' /proc/meminfo)
 echo "RT_JOBS=$RT_JOBS${given:+, as given}: $(nproc) processors, $memory GB of memory free"
 
+: > "$work/ci"
 start ci
-count ci $!
-
-export PROGRAM=$PWD/crates/jc_cli/out/jc_cli
-echo "the edits, and the scripts beside them; what they say follows when they end"
+ci=$!
 start edits
 edits=$!
+count ci $ci
+
+export PROGRAM=$PWD/crates/jc_cli/out/jc_cli
+echo "the scripts, and the edits that are left beside them; what they say follows when they end"
 start scripts
 scripts=$!
 count edits $edits

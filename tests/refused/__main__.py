@@ -1,6 +1,6 @@
 """Tries the edits crates/NAME/refused/*.edit: the prover must refuse each of them.
 
-usage: python3 tests/refused [--only CRATE] [--list]
+usage: python3 tests/refused [--only CRATE] [--list] [--beside]
 
 An edit gives one function another body, in the form that docs/GATE.md says. Many are applied at once, one a function,
 and each is judged by what the check says of its own function, while all others are taken at their word: a promise of
@@ -9,7 +9,9 @@ is proved, or refused only by arithmetic, by bounds or by what a call requires. 
 without its edits, and so must the crate, unless its library is built from the sources as they are.
 
 The libraries below a crate are taken as `rt ci` left them, and built if they aren't there or older than their sources.
-RT_JOBS is how many crates are judged side by side; without it, as many as there are processors and memory for.
+With --beside an `rt ci` runs meanwhile, and its words come on standard input until it ends: a crate's edits are judged
+from when it says that the crate is proved, in checks for which it leaves room.
+RT_JOBS is how many checks run side by side; without it, as many as there are processors and memory for.
 The last line is 'N passed, M failed'.
 """
 
@@ -24,6 +26,7 @@ from functools import partial
 from typing import Any
 
 import toolchain
+from beside import Ci, Turns
 from edits import Sources, read_edits
 from judging import Outcome, Waiting, judge, next_batch
 from libraries import libraries_stand
@@ -39,10 +42,13 @@ def main() -> int:
     if wanted.list:
         return _list(crates)
     toolchain.rt().rtlib.guarded()
-    # until this ends, no other run of rt changes these crates or their libraries
-    toolchain.rt().rtlib.lock([below for it in crates for below in [*it.below(), it]])
-    with ThreadPoolExecutor(checks_at_once()) as pool:
-        judged = [pool.submit(_judge, it) for it in _largest_first(crates)]
+    if not wanted.beside:
+        # until this ends, no other run of rt changes these crates or their libraries; `rt ci` holds the lock itself
+        toolchain.rt().rtlib.lock([below for it in crates for below in [*it.below(), it]])
+    ci = Ci(sys.stdin if wanted.beside else None)
+    turns = Turns(checks_at_once(), ci)
+    with ThreadPoolExecutor(len(crates)) as pool:
+        judged = [pool.submit(_judge, it, ci, turns) for it in crates]
         outcomes = [outcome for it in judged for outcome in it.result()]
     failed = sum(not it.is_well for it in outcomes)
     print(f"{len(outcomes) - failed} passed, {failed} failed")
@@ -53,6 +59,7 @@ def _arguments() -> argparse.Namespace:
     parser = argparse.ArgumentParser(prog="refused", description=__doc__.split("\n")[0])
     parser.add_argument("--only", metavar="CRATE", help="the edits of this crate alone")
     parser.add_argument("--list", action="store_true", help="show the first batches, and try nothing")
+    parser.add_argument("--beside", action="store_true", help="an rt ci runs, and its words come on standard input")
     return parser.parse_args()
 
 
@@ -60,17 +67,15 @@ def _crates() -> list[Any]:
     return toolchain.rt().rtlib.crates_below(os.getcwd())
 
 
-def _largest_first(crates: list[Any]) -> list[Any]:
-    return sorted(crates, key=lambda it: -it.count(rb"\n"))
-
-
-def _judge(crate: Any) -> list[Outcome]:
+def _judge(crate: Any, ci: Ci, turns: Turns) -> list[Outcome]:
     say = partial(print, flush=True)
+    turn = partial(turns.turn, crate.count(rb"\n"))
+    ci.wait_for({it.name for it in [*crate.below(), crate]})
     if (lacking := libraries_stand(crate)) is not None:
         outcomes = [Outcome("", False, f"its library {lacking} is NOT BUILT")]
     else:
         with tempfile.TemporaryDirectory(prefix="refused-") as kept:
-            outcomes = judge(crate, kept, say)
+            outcomes = judge(crate, kept, turn, say)
     for it in outcomes:
         say(f"refused {crate.name}{'/' * bool(it.name)}{it.name}: {it.text}")
     return outcomes

@@ -28,6 +28,10 @@ class BadEdit:
     why: str
 
 
+# What stands in the place of a body: it may be of any type, and calls nothing.
+NO_BODY = b"loop {}"
+
+
 class Sources:
     """The functions and the files of a crate, unedited."""
 
@@ -42,14 +46,21 @@ class Sources:
         with open(os.path.join(self.crate.folder, file), "rb") as it:
             return it.read()
 
-    def with_bodies(self, edits: list[Edit]) -> dict[str, str]:
-        """The edited files' texts, by their path in the crate. No two edits may be of one function."""
+    def with_bodies(self, edits: list[Edit], taken: list[Function]) -> dict[str, str]:
+        """The texts of the files that change, by their path in the crate, if these functions have the edits' bodies and
+        those `taken` none. No function may be named twice."""
+        bodies = {it.function: it.body for it in edits} | dict.fromkeys(taken)
         texts: dict[str, bytes] = {}
-        for edit in sorted(edits, key=lambda it: it.function.start, reverse=True):
-            place = edit.function
-            text = texts.get(place.file) or self.text(place.file)
-            texts[place.file] = text[: place.start] + edit.body + text[place.end :]
+        for it in sorted(bodies, key=lambda it: it.start, reverse=True):
+            text = texts.get(it.file) or self.text(it.file)
+            body = bodies[it] or _without_body(text[it.start : it.end])
+            texts[it.file] = text[: it.start] + body + text[it.end :]
         return {file: text.decode() for file, text in texts.items()}
+
+
+def _without_body(body: bytes) -> bytes:
+    """What takes the place of a body, with as many lines, so that what the checker says of a line is said of its own."""
+    return b"{" + NO_BODY + b"\n" * body.count(b"\n") + b"}"
 
 
 def read_edits(sources: Sources) -> tuple[list[Edit], list[BadEdit]]:

@@ -3,14 +3,18 @@
 from __future__ import annotations
 
 from collections.abc import Callable
+from contextlib import AbstractContextManager, nullcontext
 from dataclasses import dataclass, field, replace
 from typing import Any
 
 from checking import check
 from edits import BadEdit, Edit, Sources, read_edits
-from functions import Function
 from libraries import is_current
 from verdicts import Kind, Report, Ruling
+
+
+# What a check waits for, and holds while it runs.
+Turn = Callable[[], AbstractContextManager[None]]
 
 
 @dataclass(frozen=True)
@@ -50,16 +54,20 @@ def next_batch(waiting: list[Waiting]) -> list[Waiting]:
 
 
 class Judge:
-    """Judges a crate's edits over its libraries as they are built, and keeps its checks' work in the folder `kept`."""
+    """Judges a crate's edits over its libraries as they are built, each check in a turn of its own, and keeps its checks'
+    work in the folder `kept`."""
 
-    def __init__(self, crate: Any, kept: str, say: Callable[[str], None] = print) -> None:
+    def __init__(self, crate: Any, kept: str, turn: Turn, say: Callable[[str], None]) -> None:
         self.crate = crate
         self.kept = kept
+        self.turn = turn
         self.say = say
         self.sources = Sources(crate)
+        # functions that weren't proved in a check though they weren't edited
+        self.refused: set[str] = set()
 
     def outcomes(self, edits: list[Edit]) -> list[Outcome]:
-        """An outcome for each edit, and a last one for the crate without them."""
+        """An outcome for each edit, and if there are any a last one for the crate without them."""
         waiting, outcomes = [Waiting(it) for it in edits], []
         while waiting:
             batch = next_batch(waiting)
@@ -69,38 +77,40 @@ class Judge:
                     waiting.append(it.again(ruling.hidden_by))
                 else:
                     outcomes.append(_outcome(it.edit, ruling))
-        return [*outcomes, self._unedited(list(dict.fromkeys(it.function for it in edits)))] if edits else []
+        return [*outcomes, self._unedited()] if edits else []
 
     def _judged(self, batch: list[Waiting]) -> list[tuple[Waiting, Ruling]]:
         """What one check says of each edit. If the edited crate can't be read, its halves are checked."""
-        report = self._check([it.edit for it in batch], [it.edit.function for it in batch])
+        report = self._check([it.edit for it in batch])
         unread = report.unread()
         if unread is None:
+            self.refused |= set(report.refused_beside([it.edit.function for it in batch]))
             return [(it, report.ruling(it.edit.function)) for it in batch]
         if len(batch) == 1:
             return [(batch[0], Ruling(Kind.UNREAD, (unread,)))]
         half = len(batch) // 2
         return self._judged(batch[:half]) + self._judged(batch[half:])
 
-    def _unedited(self, functions: list[Function]) -> Outcome:
-        """Whether these functions are proved without their edits in such a check, and the crate as a whole: by its
-        library, which is built only if all of it is proved, or else by a check."""
-        report = self._check([], functions)
-        refused = [it.symbols[0] for it in functions if report.ruling(it).kind is not Kind.PROVED]
-        if (why := report.unread()) is not None or refused:
-            return Outcome("", False, f"without its edits it is NOT PROVED: {why or ', '.join(refused)}")
-        if not is_current(self.crate) and not (report := self._check([], [])).is_proved():
+    def _unedited(self) -> Outcome:
+        """Whether what isn't edited is proved: in each check, and as a crate by its library, which is built only if all
+        of it is proved, or else by a check."""
+        if self.refused:
+            return Outcome("", False, f"beside its edits it is NOT PROVED: {', '.join(sorted(self.refused))}")
+        if not is_current(self.crate) and not (report := self._check([])).is_proved():
             return Outcome("", False, f"without its edits it is NOT PROVED: {report.lines[-1]}")
         return Outcome("", True, "without its edits it is proved")
 
-    def _check(self, edits: list[Edit], functions: list[Function]) -> Report:
-        """What a check of these functions says, in which all others are taken at their word, or one of the whole crate
-        if there are none."""
-        self.say(f"{self.crate.name}: a check {f'of {len(edits)} edits' if edits else 'without edits'}")
-        texts = self.sources.with_bodies(edits)
+    def _check(self, edits: list[Edit]) -> Report:
+        """What a check of the edited functions says, in which all others are taken at their word, or one of the whole
+        crate if there are no edits."""
+        functions = [it.function for it in edits]
         asked = [word for it in functions for word in ("--only", it.asked)]
         others = [it for it in self.sources.functions if it not in functions and len(it.symbols) == 1]
-        ran = check(self.crate, texts, asked, self.kept, others if functions else [])
+        taken = others if edits else []
+        texts = self.sources.with_bodies(edits, taken)
+        with self.turn():
+            self.say(f"{self.crate.name}: a check {f'of {len(edits)} edits' if edits else 'without edits'}")
+            ran = check(self.crate, texts, asked, self.kept, taken)
         return Report(ran.returncode, ran.stdout, set(texts))
 
 
@@ -111,9 +121,9 @@ def _outcome(edit: Edit, ruling: Ruling) -> Outcome:
     return Outcome(edit.name, False, f"NOT REFUSED: {ruling.kind.value}" + (f": {goals}" if goals else ""))
 
 
-def judge(crate: Any, kept: str, say: Callable[[str], None] = print) -> list[Outcome]:
+def judge(crate: Any, kept: str, turn: Turn = nullcontext, say: Callable[[str], None] = print) -> list[Outcome]:
     """The outcomes of a crate's folder refused/: one for each file in it, and one for the crate without them."""
-    it = Judge(crate, kept, say)
+    it = Judge(crate, kept, turn, say)
     edits, bad = read_edits(it.sources)
     return [_bad(edit) for edit in bad] + it.outcomes(edits)
 

@@ -25,12 +25,13 @@ from enum import Enum
 import toolchain
 from functions import Function
 
+FUNCTION = re.compile(r"fn (\S+): (.*)")
 GOAL_AT_LINE = re.compile(
     r"note: (?:\./)?(src/\S+?):(\d+):\d+: (?:it is not proved that .*?|`search` found no proof) \(`([^`]+)`\)"
 )
 GOAL_OF_PROOF = re.compile(r"(?:\./)?(proofs/\S+)/\w+\.antt:\d+:\d+: error: `([^`]+)`: (.*)")
 SEARCHED = re.compile(r"`search` did not prove ((?:`[^`]+`(?:, | and )?)+)")
-CALLED = re.compile(r"; it [^;]*?((?:`[^`]+`(?:, | and )?)+), which (?:is|are) not proved")
+CALLED = re.compile(r"(?:; |no proof: )it [^;]*?((?:`[^`]+`(?:, | and )?)+), which (?:is|are) not proved")
 # A proof file that names what the edit took away says nothing of the contract.
 STALE = re.compile(r"has no field|is not in scope|has no `|was not admitted")
 # A goal of the function's own promises: its clauses, a loop's invariant, or what its type always keeps. The other goals
@@ -94,10 +95,16 @@ class Report:
         goals = tuple(dict.fromkeys([*_searched(found[0]), *self._goals_at(function)]))
         if any(PROMISE.match(it) for it in goals):
             return Ruling(Kind.REFUSED, goals)
-        called = CALLED.findall(found[0].replace("no proof: ", "; "))
+        called = CALLED.findall(found[0])
         if goals or not called:
             return Ruling(Kind.UNTELLING, goals)
         return Ruling(Kind.HIDDEN, hidden_by=frozenset(_ticked(" ".join(called))))
+
+    def refused_beside(self, functions: list[Function]) -> list[str]:
+        """The functions other than these that aren't proved, though they call nothing that isn't."""
+        named = {symbol for it in functions for symbol in it.symbols}
+        found = [it.groups() for line in self.lines if (it := FUNCTION.match(line))]
+        return [name for name, said in found if name not in named and not (PROVED.match(said) or CALLED.search(said))]
 
     def _goals_at(self, function: Function) -> list[str]:
         """The goals that the notes at a function's lines and the errors at its proof files name."""
