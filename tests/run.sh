@@ -33,10 +33,22 @@ edits() {
     tail -n +1 -s 1 -f --pid="$ci" "$work/ci" | TMPDIR=$work nice python3 -ESB tests/refused --beside
 } > "$work/edits" 2>&1
 
+# The scripts side by side, as many as there may be checks; what they say is printed in the order of their names.
 scripts() {
-    local script passed=0 failed=0
+    local script name passed=0 failed=0
+    mkdir "$work/said" "$work/passed"
     for script in tests/test-*.sh; do
-        if [[ -x $PROGRAM ]] && bash "$script"; then
+        name=${script#tests/}
+        { [[ -x $PROGRAM ]] && bash "$script" > "$work/said/$name" 2>&1 && touch "$work/passed/$name"; } &
+        while [[ $(jobs -rp | wc -l) -ge $RT_JOBS ]]; do
+            wait -n
+        done
+    done
+    wait
+    for script in tests/test-*.sh; do
+        name=${script#tests/}
+        cat "$work/said/$name"
+        if [[ -e $work/passed/$name ]]; then
             passed=$((passed + 1))
         else
             echo "FAILED: $script"
