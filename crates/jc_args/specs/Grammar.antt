@@ -1,5 +1,5 @@
 -- The program's commands and their arguments, in clap's own terms. (own)
-use Rattle.std.specs.Prelude.{◌≡◌, ◌^◌, ◌-◌, ◌∷◌, [], List, Some, true, false, codes, map}
+use Rattle.std.specs.Prelude.{◌≡◌, ◌^◌, ◌-◌, ◌∷◌, [], IfOk, IsOkAnd, List, Some, true, false, codes, map}
 use Rattle.clap.specs.Lexer.{usize_max}
 use Rattle.clap.specs.Words.{App, Rule, Text, app_of, new_app, new_rule, rule_of, with_rule, with_subcommand}
 use Rattle.clap.specs.declared.builder.action.ArgAction.TheVariants.{SetTrue}
@@ -9,6 +9,7 @@ use Rattle.clap.specs.declared.builder.command.Command.TheViews.{out-Command}
 use Rattle.clap.specs.Simple.{on_top}
 use Rattle.clap.specs.declared.builder.value_parser.ValueParser.{ValueParser}
 use Rattle.clap.specs.declared.builder.value_parser.ValueParser.TheVariants.{Names, Unsigned}
+use Rattle.jc_args.specs.declared.making.Making.{Making}
 use Rattle.jc_args.specs.declared.request.InputKind.{InputKind}
 use Rattle.jc_args.specs.declared.request.InputKind.TheVariants.{Export, File}
 
@@ -118,6 +119,14 @@ AreKinds kinds = names_of kinds ≡ all_kinds
 pub record IsCommand (command : Command) (app : App) : Type 0 where
   pub shape : app_of command ≡ app
   pub local : (out-Command command).has_globals ≡ false
+
+-- The command that is being made has this grammar, unless memory was refused.
+abbrev pub Makes : Making → App → Type 0
+Makes making app = IfOk making.command (λ command. IsCommand command app)
+
+-- ... and memory was not refused.
+abbrev pub IsMade : Making → App → Type 0
+IsMade making app = IsOkAnd making.command (λ command. IsCommand command app)
 
 -- The argument has this rule, for its own command alone.
 pub record IsRule (arg : Arg) (rule : Rule) : Type 0 where

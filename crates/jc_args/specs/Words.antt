@@ -83,6 +83,13 @@ abbrev pub AsksNothing : Option (Text × List Row) → Type 0
 AsksNothing None = ⊤
 AsksNothing (Some found) = (request : Request) → ¬ Asks found request
 
+-- The words are right, and name this command and these values of its arguments, or none if there is no command.
+pub record AreRight (words : List Text) (named : Option (Text × List Row)) : Type 0 where
+  pub app : App
+  pub ours : IsGrammar app
+  pub right : fault_of app words ≡ []
+  pub met : named ≡ subcommand_of app words
+
 -- The arguments are right, and ask for this.
 pub record AskFor (words : List Text) (request : Request) : Type 0 where
   pub app : App

@@ -1,15 +1,15 @@
 //! The arguments of the commands, as `clap` has them.
 
-ghost use Rattle.std.specs.Prelude.{◌≡◌, IfOk, codes, false};
-ghost use Rattle.clap.specs.Words.{app_of};
-ghost use Rattle.clap.specs.declared.builder.command.Command.TheViews.{out-Command};
+ghost use Rattle.std.specs.Prelude.{codes};
+ghost use Rattle.clap.specs.Words.{App};
 ghost use Rattle.clap.specs.declared.builder.value_parser.ValueParser.{ValueParser};
-ghost use Rattle.jc_args.specs.Grammar.{AreKinds, IsCommand, IsRule, flag_rule, kind_rule, number_rule, option_rule, place_rule, required_rule, uploads_rule, with_source};
+ghost use Rattle.jc_args.specs.Grammar.{AreKinds, IsRule, Makes, flag_rule, kind_rule, number_rule, option_rule, place_rule, required_rule, uploads_rule, with_source};
 
+use crate::making::Making;
 use crate::texts;
 use clap::builder::ValueParser;
-use clap::{Arg, ArgAction, Command};
-use std::alloc::{AllocError, Global};
+use clap::{Arg, ArgAction};
+use std::alloc::Global;
 
 static KINDS: [&str; 2] = ["export", "file"];
 
@@ -17,18 +17,14 @@ static KINDS: [&str; 2] = ["export", "file"];
 pub(crate) const MOST: u64 = (1 << 63) - 1;
 
 /// The command with the arguments that name a source.
-pub(crate) fn with_source<'a>(
-    alloc: Global,
-    command: Command<'a>,
-) -> Result<Command<'a>, AllocError>
-    requires { (out-Command command).has_globals ≡ false }
-    ensures { IfOk result (λ whole. (kinds : ValueParser) × AreKinds kinds
-        × IsCommand whole (with_source kinds (app_of command.entry))) }
+pub(crate) fn with_source<'a>(alloc: Global, command: Making<'a>) -> Making<'a>
+    ensures { (kinds : ValueParser) × AreKinds kinds
+        × ((app : App) → Makes command.entry app → Makes result (with_source kinds app)) }
 {
     command
-        .arg(source_arg(alloc))?
-        .arg(resume_arg(alloc))?
-        .arg(kind_arg(alloc))?
+        .arg(source_arg(alloc))
+        .arg(resume_arg(alloc))
+        .arg(kind_arg(alloc))
         .arg(place_arg(alloc, "IN", texts::FILE_HELP))
 }
 

@@ -1,6 +1,6 @@
 //! What the matches that `clap` found ask for.
 
-ghost use Rattle.std.specs.Prelude.{◌≡◌, ◌≢◌, ◌↔◌, ℕ, Some, IsSome, IsTrue, IfOk, IfSome, IfNone, MatchOption, codes, map, option_map};
+ghost use Rattle.std.specs.Prelude.{◌≡◌, ◌≢◌, ◌↔◌, ℕ, Some, IsSomeAnd, IsTrue, IfOk, MatchOption, codes, map, option_map};
 ghost use Rattle.clap.specs.Words.{first_of, subcommand_rows_of};
 ghost use Rattle.jc_args.specs.declared.request.Source.{Source as SourceWords};
 ghost use Rattle.jc_args.specs.Grammar.{kind_name};
@@ -19,10 +19,8 @@ pub(crate) fn requested<'a>(
     alloc: Global,
     matches: &ArgMatches<'a>,
 ) -> Result<Option<Request<'a>>, AllocError>
-    ensures found { IfOk result (λ asked. IfSome asked (λ request.
-        IfSome (subcommand_rows_of matches.now) (λ found. Asks found request))) }
-    ensures there { IfOk result (λ asked. IsSome asked → IsSome (subcommand_rows_of matches.now)) }
-    ensures none { IfOk result (λ asked. IfNone asked (AsksNothing (subcommand_rows_of matches.now))) }
+    ensures { IfOk result (λ asked. MatchOption asked (AsksNothing (subcommand_rows_of matches.now))
+        (λ request. IsSomeAnd (subcommand_rows_of matches.now) (λ found. Asks found request))) }
 {
     let Some((name, given)) = matches.subcommand() else {
         return Ok(None);
@@ -71,15 +69,13 @@ fn show_request<'a>(given: &ArgMatches<'a>) -> Option<Request<'a>>
     ensures { MatchOption result (AsksNone (given_rows given.now) (codes "show"))
         (λ request. (command_name request ≡ codes "show") × AskBy (given_rows given.now) request) }
 {
-    let database = text_given(given, "DB")?;
-    let field = text_given(given, "field");
-    let id = text_given(given, "id");
     let first = number_given(given, "from", 0)?;
     let last = number_given(given, "to", MOST)?;
+    let database = text_given(given, "DB")?;
     Some(Request::Show {
         database,
-        field,
-        id,
+        field: text_given(given, "field"),
+        id: text_given(given, "id"),
         first,
         last,
     })

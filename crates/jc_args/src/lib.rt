@@ -4,6 +4,7 @@
 mod arguments;
 mod asked;
 mod grammar;
+mod making;
 mod request;
 mod texts;
 mod words;

@@ -1,15 +1,15 @@
 //! The arguments of a command line, and what they ask for.
 
 ghost use Rattle.std.specs.Prelude.{◌≡◌, ◌⊎◌, IfOk, IfErr, map, string_bytes};
-ghost use Rattle.clap.specs.Words.{kind_of};
-ghost use Rattle.jc_args.specs.Words.{AreAnswered, AskFor};
+ghost use Rattle.clap.specs.Words.{kind_of, subcommand_rows_of};
+ghost use Rattle.jc_args.specs.Words.{AreAnswered, AreRight, AskFor};
 
 use crate::asked::requested;
 use crate::grammar::{collect_command, program};
 use crate::request::Request;
 use crate::texts;
-use clap::Error;
 use clap::error::ErrorKind;
+use clap::{ArgMatches, Error};
 use std::alloc::{AllocError, Global};
 
 /// Reads the arguments, the program's name first. The error is a mistake in them, a request for help or for the
@@ -19,8 +19,7 @@ pub fn parse<'a>(alloc: Global, words: &'a [String]) -> Result<Request<'a>, Erro
     ensures answer { IfErr result (λ e. (kind_of e ≡ ErrorKind.OutOfMemory)
         ⊎ AreAnswered (map string_bytes words.entry.now) (kind_of e)) }
 {
-    let mut program = program(alloc)?;
-    let matches = program.try_get_matches_from_mut(words)?;
+    let matches = found(alloc, words)?;
     let asked = requested(alloc, &matches)?;
     match asked {
         Some(request) => Ok(request),
@@ -28,11 +27,22 @@ pub fn parse<'a>(alloc: Global, words: &'a [String]) -> Result<Request<'a>, Erro
     }
 }
 
+/// What `clap` finds in the words.
+fn found<'a>(alloc: Global, words: &'a [String]) -> Result<ArgMatches<'a>, Error>
+    ensures right { IfOk result (λ matches. AreRight (map string_bytes words.entry.now) (subcommand_rows_of matches)) }
+    ensures answer { IfErr result (λ e. (kind_of e ≡ ErrorKind.OutOfMemory)
+        ⊎ AreAnswered (map string_bytes words.entry.now) (kind_of e)) }
+{
+    program(alloc)?.try_get_matches_from(words)
+}
+
 /// The mistake of a `collect` whose uploads are named in both ways, as `clap` puts it. All else that a command requires
 /// is there once `clap` has passed the arguments.
 fn two_lists(alloc: Global) -> Result<Error, AllocError>
     ensures { IfOk result (λ e. kind_of e ≡ ErrorKind.ArgumentConflict) }
 {
-    let mut collect = collect_command(alloc)?.bin_name(texts::COLLECT_NAME)?;
+    let mut collect = collect_command(alloc)
+        .command?
+        .bin_name(texts::COLLECT_NAME)?;
     collect.error(ErrorKind::ArgumentConflict, texts::TWO_LISTS)
 }
