@@ -7,7 +7,6 @@ mod failures;
 mod files;
 mod journals;
 mod memory;
-mod migrating;
 mod readings;
 mod rows;
 mod same;

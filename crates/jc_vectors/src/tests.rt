@@ -3,7 +3,6 @@
 //! Values that come in rows are scripts: `rows.rt` says what their lines mean, and compares them with what is said.
 
 mod canonical;
-mod devices;
 mod fields;
 mod files;
 mod mistakes;

@@ -1,11 +1,13 @@
 //! Devices that fail at every place: what is answered and stored then, and that the same delivery made anew is taken up.
 
-use super::answers::{ack, collect_space, collect_stream, no, unread};
+use super::answers::{
+    ack, collect_all, collect_delivery, collect_space, collect_stream, no, unread,
+};
 use super::journals::{Journals, Maps, Tables, keeps};
 use super::same::{same_answer, same_bytes, same_end, same_number};
 use jc_base::faulty::{FailSink, FailStream};
 use jc_base::{Limits, SliceStream, VecSink};
-use jc_collect::{Delivery, RunEnd, collect_one, run};
+use jc_collect::{Delivery, RunEnd};
 use jc_file::SliceSpace;
 use jc_file::faulty::FailSpace;
 use jc_keeper::Keeper;
@@ -118,7 +120,7 @@ fn reads_of<J: Journals>(
     let space = FailSpace::new(SliceSpace { bytes: upload }, most);
     let mut delivery: Delivery<SliceStream<'_>, _> = Delivery::Space(space);
     let mut keeper = journals.empty()?;
-    let answer = collect_one(rt.alloc(), &mut keeper, &mut delivery, &Limits::default());
+    let answer = collect_delivery(rt.alloc(), &mut keeper, &mut delivery, &Limits::default());
     same_answer(rt, most, answer, ack(1, 1, 0));
     let left = match delivery {
         Delivery::Space(space) => space.passes,
@@ -187,13 +189,7 @@ fn run_to_a_failure<K: Keeper>(
         inner: VecSink::new(alloc),
     };
     let mut sink = FailSink::new(inner, passes);
-    let end = run(
-        alloc,
-        keeper,
-        &mut deliveries,
-        &mut sink,
-        &Limits::default(),
-    );
+    let end = collect_all(alloc, keeper, &mut deliveries, &mut sink);
     (end, sink.inner.inner.into_bytes())
 }
 

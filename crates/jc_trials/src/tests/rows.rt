@@ -8,10 +8,11 @@
 //!
 //! `add_pieces` has the form of `PIECES`. Each run begins with an empty journal.
 
+use super::answers::collect_all;
 use super::journals::{Journals, Maps, OldTables, Tables, stored};
 use super::same::same_bytes;
-use jc_base::{ByteStream, Limits, SliceStream, VecSink};
-use jc_collect::{Delivery, RunEnd, run};
+use jc_base::{ByteStream, SliceStream, VecSink};
+use jc_collect::{Delivery, RunEnd};
 use jc_file::{ByteSpace, SliceSpace};
 use jc_keeper::Keeper;
 use jc_samples::{Pieces, add_pieces, answer_lines};
@@ -21,7 +22,7 @@ use std::str;
 use std::test::Fail;
 
 /// How uploads are delivered: as streams that give at most this many bytes at each read, or as spaces.
-#[derive(Clone, Copy, Debug)]
+#[derive(Clone, Copy)]
 enum Way {
     Pieces(usize),
     Spaces,
@@ -53,7 +54,7 @@ fn written<K: Keeper, R: ByteStream, B: ByteSpace>(
     deliveries: &mut [Delivery<R, B>],
 ) -> Result<Vec<u8>, Fail> {
     let mut sink = VecSink::new(alloc);
-    match run(alloc, keeper, deliveries, &mut sink, &Limits::default()) {
+    match collect_all(alloc, keeper, deliveries, &mut sink) {
         RunEnd::Done => Ok(sink.into_bytes()),
         RunEnd::Stopped { .. } => Err(Fail::new("the run stopped")),
     }

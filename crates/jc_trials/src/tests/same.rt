@@ -29,12 +29,8 @@ pub(super) fn same_answers(rt: &impl Abort, got: &[Answer], wanted: &[Answer]) {
 }
 
 /// What became of a reading.
-pub(super) fn same_absorbed(
-    rt: &impl Abort,
-    got: Result<Absorbed, KeepStop>,
-    wanted: Result<Absorbed, KeepStop>,
-) {
-    assert_eq!(rt; got, wanted);
+pub(super) fn same_absorbed(rt: &impl Abort, got: Result<Absorbed, KeepStop>, wanted: Absorbed) {
+    assert_eq!(rt; got, Ok(wanted));
 }
 
 pub(super) fn same_end(rt: &impl Abort, got: RunEnd, wanted: RunEnd) {

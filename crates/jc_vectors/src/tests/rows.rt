@@ -4,7 +4,6 @@
 //! |---|---|
 //! | `# TEXT` | a comment |
 //! | `limits NAME VALUE FIELDS ENTRY FILE` | the limits from here on; the rows before have the usual ones |
-//! | `number N` | the number of the entries from here on; before, it is 1 |
 //! | `WORD PIECES => TEXT` | this is said of the bytes |
 //! | `WORD PIECES == PIECES` | the bytes make these bytes |
 //!
@@ -14,9 +13,8 @@ use super::said::said;
 use jc_base::{Limits, OutOfMemory};
 use jc_samples::add_pieces;
 use std::alloc::Global;
-use std::str::SplitWhitespace;
+use std::io;
 use std::test::Fail;
-use std::{io, str};
 
 /// Fails unless every row of a script is right.
 pub(super) fn check_rows(rt: &HostRuntime, script: &str) -> Result<(), Fail> {
@@ -31,10 +29,7 @@ pub(super) fn check_rows(rt: &HostRuntime, script: &str) -> Result<(), Fail> {
 /// The rows of a script that are wrong, each with its line. A script without a row is wrong, too.
 pub(super) fn report_of(alloc: Global, script: &str) -> Result<String, OutOfMemory> {
     let mut rows = Rows {
-        given: Given {
-            limits: Limits::default(),
-            seqnum: 1,
-        },
+        limits: Limits::default(),
         has_row: false,
         line: 0,
         report: String::new(alloc),
@@ -49,17 +44,11 @@ pub(super) fn report_of(alloc: Global, script: &str) -> Result<String, OutOfMemo
     Ok(rows.report)
 }
 
-/// What holds for the rows that come next.
-#[derive(Clone, Copy)]
-pub(super) struct Given {
-    pub(super) limits: Limits,
-    pub(super) seqnum: u64,
-}
-
 /// How far a script has come.
 #[derive(Drop)]
 struct Rows {
-    given: Given,
+    /// Those of the rows that come next.
+    limits: Limits,
     has_row: bool,
     line: u64,
     report: String,
@@ -72,17 +61,10 @@ impl Rows {
             "" | "#" => Ok(()),
             "limits" => match limits_of(rest) {
                 Some(limits) => {
-                    self.given.limits = limits;
+                    self.limits = limits;
                     Ok(())
                 }
                 None => self.tell(alloc, b"no limits", rest.as_bytes()),
-            },
-            "number" => match rest.parse::<u64>() {
-                Ok(number) => {
-                    self.given.seqnum = number;
-                    Ok(())
-                }
-                Err(_) => self.tell(alloc, b"no number", rest.as_bytes()),
             },
             _ => self.judge(alloc, word, rest),
         }
@@ -94,7 +76,7 @@ impl Rows {
         let Ok((bytes, wanted)) = parts(alloc, rest) else {
             return self.tell(alloc, b"no row", rest.as_bytes());
         };
-        match said(alloc, &self.given, word, &bytes)? {
+        match said(alloc, &self.limits, word, &bytes)? {
             Some(said) if said.as_slice() == wanted.as_slice() => Ok(()),
             Some(said) => self.tell(alloc, &said, &wanted),
             None => self.tell(alloc, b"no such word", word.as_bytes()),
@@ -104,8 +86,8 @@ impl Rows {
     /// Adds to the report.
     fn tell(&mut self, alloc: Global, said: &[u8], wanted: &[u8]) -> Result<(), OutOfMemory> {
         let line = self.line;
-        let (said, wanted) = (str::from_utf8(said), str::from_utf8(wanted));
-        let text = format!(in alloc; "line {line}: {said:?} and not {wanted:?}\n")?;
+        let (said, wanted) = (said.escape_ascii(), wanted.escape_ascii());
+        let text = format!(in alloc; "line {line}: {said} and not {wanted}\n")?;
         self.report.push_str(text.as_str())?;
         Ok(())
     }
@@ -130,15 +112,19 @@ fn parts(alloc: Global, row: &str) -> io::Result<(Vec<u8>, Vec<u8>)> {
 
 /// Limits, by their five numbers.
 fn limits_of(text: &str) -> Option<Limits> {
-    let mut words = text.split_whitespace();
-    let name = next_number(&mut words)?;
-    let value = next_number(&mut words)?;
-    let fields = next_number(&mut words)?;
-    let entry = next_number(&mut words)?;
-    let file = next_number(&mut words)?;
+    let (name, text) = next_number(text)?;
+    let (value, text) = next_number(text)?;
+    let (fields, text) = next_number(text)?;
+    let (entry, text) = next_number(text)?;
+    let (file, _) = next_number(text)?;
     Limits::new(name, value, fields, entry, file)
 }
 
-fn next_number(words: &mut SplitWhitespace<'_>) -> Option<u64> {
-    words.next()?.parse().ok()
+/// The number that a text begins with, and what comes behind it.
+fn next_number(text: &str) -> Option<(u64, &str)> {
+    let (word, rest) = text.split_once(' ').unwrap_or((text, ""));
+    match word.parse() {
+        Ok(number) => Some((number, rest)),
+        Err(_) => None,
+    }
 }

@@ -6,47 +6,47 @@
 //! | `cut` | the same in pieces of each length: the entries' numbers, and then `ok LEFT` or `bad CODE PLACE` |
 //! | `file` | a journal file: `ok ENTRIES`, or `bad ENTRIES CODE PLACE` |
 //! | `arrays` | the same, and then the number of its arrays |
+//! | `first` | a journal file: the canonical text of its first entry, or `none` |
 //! | `fields` | a text of fields: `some NUMBER`, or `none` |
 //! | `text` | a value: whether it is a text, `yes` or `no` |
 //! | `value` | a value: the text of the field `MESSAGE` with it |
-//! | `entry` | fields, each on a line of its own, as an entry: `ok`, or `bad CODE PLACE` |
+//! | `head` | an upload's header: `first KIND START`, `second KIND START WHOLE ENTRIES`, or `bad CODE PLACE` |
 //! | `answer` | an answer's line: the line that is written for it, or `none` |
 //! | `resume` | a resume point's text: the text that is written for it, or `none` |
 
-use super::outcome::run;
+use super::outcome::outcome;
 use super::pieces::cut;
-use super::rows::Given;
 use super::scanned::scanned;
 use super::values::field;
-use jc_base::{Ending, Entry, Fault, Id128, Key, Limits, OutOfMemory, is_text, split_pair};
-use jc_export::{fields_text, read_all, read_fields};
+use jc_base::{Ending, Entry, EntrySource, Fault, Id128, Key, Limits, OutOfMemory, Step, is_text};
+use jc_export::{canonical, fields_text, read_all, read_fields};
 use jc_file::{FileEntries, SliceSpace};
-use jc_samples::SEQNUM_ID;
-use jc_upload::{Answer, Resume};
+use jc_samples::{SEQNUM_ID, SOURCE_ID};
+use jc_upload::{Answer, Kind, Resume, UploadHead, Version};
 use std::alloc::{AllocError, Global};
-use std::str;
 
 /// What is said of the bytes; `None` if there is no such word.
 pub(super) fn said(
     alloc: Global,
-    given: &Given,
+    limits: &Limits,
     word: &str,
     bytes: &[u8],
 ) -> Result<Option<Vec<u8>>, OutOfMemory> {
     let said = match word {
-        "reads" => reads(alloc, &given.limits, bytes)?,
-        "cut" => cut(alloc, bytes)?,
-        "file" => file(alloc, &given.limits, bytes, false)?,
-        "arrays" => file(alloc, &given.limits, bytes, true)?,
-        "fields" => fields(alloc, bytes)?,
-        "text" => line(alloc, if is_text(bytes) { "yes" } else { "no" }, &[])?,
-        "value" => value(alloc, bytes)?,
-        "entry" => entry(alloc, given, bytes)?,
-        "answer" => answer(alloc, bytes)?,
-        "resume" => resume(alloc, bytes)?,
+        "reads" => reads(alloc, limits, bytes),
+        "cut" => cut(alloc, bytes),
+        "file" => file(alloc, limits, bytes, false),
+        "arrays" => file(alloc, limits, bytes, true),
+        "first" => first(alloc, limits, bytes),
+        "fields" => fields(alloc, bytes),
+        "text" => line(alloc, if is_text(bytes) { "yes" } else { "no" }, &[]),
+        "value" => value(alloc, bytes),
+        "head" => head(alloc, bytes),
+        "answer" => answer(alloc, bytes),
+        "resume" => resume(alloc, bytes),
         _ => return Ok(None),
     };
-    Ok(Some(said))
+    Ok(Some(said?))
 }
 
 /// A word, and numbers after it.
@@ -61,7 +61,8 @@ pub(super) fn line(alloc: Global, word: &str, numbers: &[u64]) -> Result<Vec<u8>
 
 /// Adds a number in decimal digits.
 pub(super) fn add_number(alloc: Global, number: u64, text: &mut Vec<u8>) -> Result<(), AllocError> {
-    text.extend_from_slice(format!(in alloc; "{number}")?.as_bytes())
+    let digits = format!(in alloc; "{number}")?;
+    text.extend_from_slice(digits.as_bytes())
 }
 
 pub(super) fn bad(alloc: Global, fault: Fault) -> Result<Vec<u8>, OutOfMemory> {
@@ -92,14 +93,18 @@ fn file(
     is_counted: bool,
 ) -> Result<Vec<u8>, OutOfMemory> {
     let mut entries = FileEntries::new(alloc, SliceSpace { bytes }, *limits);
-    let Some(outcome) = run(&mut entries) else {
-        return line(alloc, "stopped", &[]);
-    };
-    let mut said = outcome.text(alloc)?;
+    let mut said = outcome(alloc, &mut entries)?;
     if is_counted {
         said.extend_from_slice(&line(alloc, "", &[entries.steps()])?)?;
     }
     Ok(said)
+}
+
+fn first(alloc: Global, limits: &Limits, bytes: &[u8]) -> Result<Vec<u8>, OutOfMemory> {
+    match FileEntries::new(alloc, SliceSpace { bytes }, *limits).next() {
+        Ok(Step::Entry(entry)) => canonical(alloc, &entry),
+        _ => line(alloc, "none", &[]),
+    }
 }
 
 fn fields(alloc: Global, bytes: &[u8]) -> Result<Vec<u8>, OutOfMemory> {
@@ -131,21 +136,31 @@ fn value(alloc: Global, bytes: &[u8]) -> Result<Vec<u8>, OutOfMemory> {
     }
 }
 
-fn entry(alloc: Global, given: &Given, bytes: &[u8]) -> Result<Vec<u8>, OutOfMemory> {
-    let mut fields = Vec::new(alloc);
-    for text in str::from_utf8(bytes).unwrap_or("").lines() {
-        let (name, value) = split_pair(text.as_bytes()).unwrap_or((b"", b""));
-        if let Some(field) = field(alloc, name, value)? {
-            fields.push(field)?;
-        }
-    }
-    let key = Key {
-        seqnum_id: Id128(SEQNUM_ID),
-        seqnum: given.seqnum,
+/// A header is told only if it is of the usual source, and is written as it was read.
+fn head(alloc: Global, bytes: &[u8]) -> Result<Vec<u8>, OutOfMemory> {
+    let Some(bytes) = bytes.first_chunk::<48>() else {
+        return line(alloc, "short", &[]);
     };
-    match Entry::from_pairs(alloc, key, 0, 0, fields, &given.limits)? {
-        Ok(_) => line(alloc, "ok", &[]),
-        Err(fault) => bad(alloc, fault),
+    let head = match UploadHead::read(bytes) {
+        Ok(head) => head,
+        Err(fault) => return bad(alloc, fault),
+    };
+    if head.source.0 != SOURCE_ID || head.write() != *bytes {
+        return line(alloc, "another", &[]);
+    }
+    let kind = match head.kind {
+        Kind::Export => 1,
+        Kind::File => 2,
+    };
+    match head.version {
+        Version::V1 => line(alloc, "first", &[kind, head.start]),
+        Version::V2 { whole, entries } => {
+            line(
+                alloc,
+                "second",
+                &[kind, head.start, u64::from(whole), entries],
+            )
+        }
     }
 }
 
