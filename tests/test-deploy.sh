@@ -113,7 +113,7 @@ done
 
 # whole schedules
 world() { python3 -B tests/deploy/world.py "$@"; }
-world "$library" --rounds 300 || differs "tests/deploy/world.py"
+world "$library" --rounds 100 || differs "tests/deploy/world.py"
 if world tests/deploy/old --old --rounds 60 > "$folder/told" 2>&1; then
     differs "the scripts that the guide had before pass"
 fi

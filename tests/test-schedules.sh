@@ -3,7 +3,7 @@
 set -uo pipefail
 . "$(dirname "$0")/expect.sh"
 
-export SCHEDULES=${SCHEDULES:-crates/jc_schedules/out/jc_schedules}
+export CALLS=${CALLS:-crates/jc_calls/out/jc_calls}
 export PYTHONPATH=tests:tests/collect PYTHONDONTWRITEBYTECODE=1
 python3 tests/schedules/schedules.py || differs tests/schedules/schedules.py
 finish

@@ -47,8 +47,8 @@ class Ci:
 
 
 class Turns:
-    """Which checks run at once: as many as are given, those of the largest crates first. While `rt ci` runs a check
-    begins only when a processor is idle and there is memory for the largest of its checks, and two at most."""
+    """Which checks run at once: as many as are given, those of the largest crates first. While `rt ci` runs it is one,
+    which begins only when a processor is idle and there is memory for the largest of the checks of `rt ci`."""
 
     def __init__(self, at_once: int, ci: Ci) -> None:
         self._at_once = at_once
@@ -77,7 +77,7 @@ class Turns:
     def _is_free(self) -> bool:
         if self._ci.has_ended:
             return self._running < self._at_once
-        return self._running < 2 and _checks() < self._at_once and int(toolchain.rt().free()) >= LARGEST
+        return self._running == 0 and _checks() < self._at_once and int(toolchain.rt().free()) >= LARGEST
 
 
 def _checks() -> int:

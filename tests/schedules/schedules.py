@@ -1,4 +1,4 @@
-"""Random schedules of two machines and their collector: each event's answer, and what there is at the end, as crates/jc_schedules prints it,
+"""Random schedules of two machines and their collector: each event's answer, and what there is at the end, as crates/jc_calls prints it,
 a program for tests, compared with a model of a few lists.
 """
 import os
@@ -12,7 +12,7 @@ from machines import World
 from make import JournalFile
 from model import Entry
 
-SCHEDULES = os.path.abspath(os.environ["SCHEDULES"])
+CALLS = os.path.abspath(os.environ["CALLS"])
 COUNT = int(os.environ.get("RANDOM_SCHEDULES", 10_000))
 LONGEST = 60
 SEED = 21
@@ -89,7 +89,7 @@ def words(folder, lines, given):
         paths.append(os.path.join(folder, name))
         with open(paths[-1], "wb") as file:
             file.write(data)
-    return [SCHEDULES, *paths]
+    return [CALLS, "schedules", ",".join(paths)]
 
 
 def main():

@@ -31,12 +31,16 @@
 //! | `export all` | the journal's entries |
 //! | `stored ID:NUMBER` | the entry under the key |
 //!
+//! `schedules PATH,PATH,PATH..` takes schedules of events, each in worlds of its own; `schedules.rt` says what the files
+//! are.
+//!
 //! Where a call answers that memory was refused, `refused` is printed in the place of what it makes.
 
 use crate::disks::{Disks, Harm};
+use crate::operands::number_in;
 use crate::tables::Task;
 use crate::told::no_meaning;
-use crate::{collecting, entries, readings};
+use crate::{collecting, entries, readings, schedules};
 use jc_base::Limits;
 use jc_keeper::MapKeeper;
 use std::alloc::Global;
@@ -85,6 +89,10 @@ impl Calls {
             "migrate" => self.disks.perform(&Task::Migrate, &mut self.told),
             "export" => self.disks.perform(&Task::Export, &mut self.told),
             "stored" => self.disks.perform(&Task::Get(operand), &mut self.told),
+            "schedules" => {
+                let files = read_files(rt, operand)?;
+                schedules::take_all(self.alloc, &files, &mut self.told)
+            }
             _ => {
                 let bytes = fs::read(rt, operand)?;
                 self.call(word, &bytes)
@@ -150,7 +158,7 @@ fn limits_in(operand: &str) -> Option<Limits> {
     let mut numbers = [0; 5];
     let mut texts = operand.split(',');
     for number in &mut numbers {
-        *number = texts.next()?.parse::<u64>().ok()?;
+        *number = number_in(texts.next()?)?;
     }
     let [name, value, fields, entry, file] = numbers;
     Limits::new(name, value, fields, entry, file)

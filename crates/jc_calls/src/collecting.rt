@@ -1,9 +1,10 @@
 //! Uploads that are collected into a journal, and entries of it.
 
+use crate::operands::numbered;
 use crate::recorded::{Asked, RecordedSpace};
-use crate::told::{no_meaning, tell_text};
+use crate::told::{no_meaning, tell_line, tell_run, tell_text};
 use jc_base::{Id128, Key, Limits, OutOfMemory, SliceStream, VecSink};
-use jc_collect::{Delivery, RunEnd, collect_one, run};
+use jc_collect::{Delivery, collect_one, run};
 use jc_export::canonical;
 use jc_file::SliceSpace;
 use jc_keeper::{KeepStop, Keeper};
@@ -24,10 +25,9 @@ pub fn space<K: Keeper>(
     told: &mut Vec<u8>,
 ) -> io::Result<()> {
     let asked = Asked::nothing();
-    let mut delivery: Delivery<SliceStream<'_>, _> = Delivery::Space(RecordedSpace {
-        bytes: upload,
-        asked: &asked,
-    });
+    let mut delivery: Delivery<SliceStream<'_>, _> = Delivery::Space(RecordedSpace::new(
+        upload, &asked,
+    ));
     let answer = collect_one(alloc, keeper, &mut delivery, limits);
     told.write_all(answer.line().bytes())?;
     asked.tell(told)
@@ -62,10 +62,8 @@ pub fn run_one<K: Keeper>(
         bytes: upload,
     })];
     let mut sink = VecSink::new(alloc);
-    match run(alloc, keeper, &mut deliveries, &mut sink, limits) {
-        RunEnd::Done => told.write_all(sink.bytes()),
-        RunEnd::Stopped { done, written } => writeln!(told, "stopped {done} {written}"),
-    }
+    let end = run(alloc, keeper, &mut deliveries, &mut sink, limits);
+    tell_run(told, end, sink.bytes())
 }
 
 /// Collects uploads by one run, as spaces, and writes what the run wrote.
@@ -81,10 +79,8 @@ pub fn run_all<K: Keeper>(
         deliveries.push(Delivery::Space(SliceSpace { bytes: upload }))?;
     }
     let mut sink = VecSink::new(alloc);
-    match run(alloc, keeper, &mut deliveries, &mut sink, limits) {
-        RunEnd::Done => told.write_all(sink.bytes()),
-        RunEnd::Stopped { done, written } => writeln!(told, "stopped {done} {written}"),
-    }
+    let end = run(alloc, keeper, &mut deliveries, &mut sink, limits);
+    tell_run(told, end, sink.bytes())
 }
 
 /// Writes the stored entry under a key, an id and a number with a colon between them.
@@ -98,16 +94,15 @@ pub fn get<K: Keeper>(
         return no_meaning();
     };
     match keeper.get(&key) {
-        Ok(None) => writeln!(told, "entry none"),
+        Ok(None) => tell_line(told, "entry none", &[]),
         Ok(Some(entry)) => tell_text(told, "entry", canonical(alloc, &entry)),
         Err(KeepStop::OutOfMemory) => tell_text(told, "entry", Err(OutOfMemory)),
-        Err(_) => writeln!(told, "entry failed"),
+        Err(_) => tell_line(told, "entry failed", &[]),
     }
 }
 
 fn key_of(named: &str) -> Option<Key> {
-    let (id, number) = named.split_once(':')?;
+    let (id, seqnum) = numbered(named)?;
     let seqnum_id = Id128::from_hex(id.as_bytes())?;
-    let seqnum = number.parse::<u64>().ok()?;
     Some(Key { seqnum_id, seqnum })
 }

@@ -1,12 +1,13 @@
 //! Two disks in memory for a database, and what befalls them.
 
+use crate::operands::numbered;
 use crate::tables::Task;
+use crate::told::tell_line;
 use crate::worn::Worn;
 use sqlite::{Connection, FileStore, Files, Options};
 use sqlite_disk::{Crash, Disk, Fuse, Memory};
 use std::alloc::Global;
 use std::io;
-use std::io::Write;
 
 /// More calls than a disk gets, and a place after the end of each disk.
 const NEVER: u64 = u64::MAX;
@@ -17,7 +18,7 @@ const SEED: u64 = 1;
 /// A disk in memory that any harm can befall.
 type Harmed = Worn<Fuse<Memory>>;
 
-#[derive(Clone, Copy, Debug, PartialEq, Eq)]
+#[derive(Clone, Copy)]
 enum Kind {
     Nothing,
     /// A disk does some calls, and fails each one after.
@@ -29,7 +30,7 @@ enum Kind {
 }
 
 /// What befalls the disks: its kind, and the number of calls, or the place of the byte, on either disk.
-#[derive(Clone, Copy, Debug, PartialEq, Eq)]
+#[derive(Clone, Copy)]
 pub struct Harm {
     kind: Kind,
     log: u64,
@@ -51,8 +52,7 @@ impl Harm {
             "rot" => Kind::Rot,
             _ => return None,
         };
-        let (disk, number) = operand.split_once(':')?;
-        let number = number.parse::<u64>().ok()?;
+        let (disk, number) = numbered(operand)?;
         let (log, db) = match disk {
             "log" => (number, NEVER),
             "db" => (NEVER, number),
@@ -65,8 +65,8 @@ impl Harm {
     fn tell(self, is_met: bool, told: &mut Vec<u8>) -> io::Result<()> {
         match (self.kind, is_met) {
             (Kind::Nothing, _) => Ok(()),
-            (_, true) => writeln!(told, "harmed"),
-            (_, false) => writeln!(told, "unharmed"),
+            (_, true) => tell_line(told, "harmed", &[]),
+            (_, false) => tell_line(told, "unharmed", &[]),
         }
     }
 }
@@ -100,28 +100,41 @@ impl Disks {
     pub fn perform(&mut self, task: &Task<'_>, told: &mut Vec<u8>) -> io::Result<()> {
         let harm = self.harm;
         self.harm = Harm::NOTHING;
-        let is_rotten = harm.kind == Kind::Rot
-            && (harm.log < self.log.len() as u64 || harm.db < self.db.len() as u64);
-        let files = Files {
-            log: disk(self.alloc, &self.log, harm.kind, harm.log)?,
-            db: disk(self.alloc, &self.db, harm.kind, harm.db)?,
-        };
-        let mut left = perform(self.alloc, files, task, told)?;
-        let is_met = is_rotten || has_stopped(&mut left.log) || has_stopped(&mut left.db);
-        harm.tell(is_met, told)?;
-        if harm.kind == Kind::Lose {
+        let is_rotten = self.has_rotten_byte(harm);
+        let files = self.harmed(harm)?;
+        let left = perform(self.alloc, files, task, told)?;
+        let has_stopped = self.take_back(left, harm.kind)?;
+        harm.tell(is_rotten || has_stopped, told)
+    }
+
+    /// Whether one of the files has the byte that can't be read.
+    fn has_rotten_byte(&self, harm: Harm) -> bool {
+        let is_here = harm.log < self.log.len() as u64 || harm.db < self.db.len() as u64;
+        is_here && matches!(harm.kind, Kind::Rot)
+    }
+
+    /// Disks with what the files have.
+    fn harmed(&self, harm: Harm) -> io::Result<Files<Harmed>> {
+        let log = disk(self.alloc, &self.log, harm.kind, harm.log)?;
+        let db = disk(self.alloc, &self.db, harm.kind, harm.db)?;
+        Ok(Files { log, db })
+    }
+
+    /// The files have what is left on these disks. Answers whether one of those answers no more.
+    fn take_back(&mut self, mut left: Files<Harmed>, kind: Kind) -> io::Result<bool> {
+        let has_stopped = has_stopped(&mut left.log) || has_stopped(&mut left.db);
+        if matches!(kind, Kind::Lose) {
             left.log.crash();
             left.db.crash();
         }
-        self.keep(left.log.disk().inner(), left.db.disk().inner())
+        self.log = copied(self.alloc, left.log.disk().inner().bytes())?;
+        self.db = copied(self.alloc, left.db.disk().inner().bytes())?;
+        Ok(has_stopped)
     }
+}
 
-    /// The files have what is on these disks from now on.
-    fn keep(&mut self, log: &Memory, db: &Memory) -> io::Result<()> {
-        self.log = Vec::from_slice(self.alloc, log.bytes())?;
-        self.db = Vec::from_slice(self.alloc, db.bytes())?;
-        Ok(())
-    }
+fn copied(alloc: Global, bytes: &[u8]) -> io::Result<Vec<u8>> {
+    Ok(Vec::from_slice(alloc, bytes)?)
 }
 
 /// A disk that harm of a kind befalls at a number. These bytes outlive a loss of power.
@@ -148,16 +161,26 @@ fn perform<D: Disk + Drop>(
     task: &Task<'_>,
     told: &mut Vec<u8>,
 ) -> io::Result<Files<D>> {
+    match open(alloc, files) {
+        Ok(conn) => close(task.perform(alloc, conn, told)?, told),
+        Err(files) => {
+            tell_line(told, "not opened", &[])?;
+            Ok(files)
+        }
+    }
+}
+
+/// The database on disks, or the disks, if it can't be opened.
+fn open<D: Disk + Drop>(
+    alloc: Global,
+    files: Files<D>,
+) -> Result<Connection<FileStore<D>>, Files<D>> {
     if !files.may_be_used() {
-        writeln!(told, "not opened")?;
-        return Ok(files);
+        return Err(files);
     }
     match Connection::open_files(alloc, files, Options::new(SEED)) {
-        Ok(conn) => close(task.perform(alloc, conn, told)?, told),
-        Err((_, left)) => {
-            writeln!(told, "not opened")?;
-            Ok(left.into_files())
-        }
+        Ok(conn) => Ok(conn),
+        Err((_, left)) => Err(left.into_files()),
     }
 }
 
@@ -169,7 +192,7 @@ fn close<D: Disk + Drop>(
     match conn.close_files() {
         Ok(files) => Ok(files),
         Err((_, store)) => {
-            writeln!(told, "not closed")?;
+            tell_line(told, "not closed", &[])?;
             Ok(store.close())
         }
     }

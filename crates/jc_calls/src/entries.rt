@@ -1,13 +1,12 @@
 //! Copies and texts of entries, and uploads that are made of them.
 
-use crate::told::{no_meaning, tell_text};
+use crate::told::{no_meaning, no_memory, tell_code, tell_line, tell_refused, tell_text};
 use jc_base::{Entry, Field, Id128, Limits, OutOfMemory};
 use jc_export::{Reading, canonical, fields_text, read_all, read_fields};
 use jc_samples::SOURCE_ID;
 use jc_upload::{Resume, UploadFault, Uploader, file_upload};
 use std::alloc::Global;
 use std::io;
-use std::io::Write;
 
 /// More entries than an upload has.
 const ALL: u64 = u64::MAX;
@@ -27,7 +26,10 @@ pub fn copies(alloc: Global, bytes: &[u8], limits: &Limits, told: &mut Vec<u8>) 
 
 /// The export stream's entries. That memory for them was refused is a failure of the program here.
 fn read_whole(alloc: Global, bytes: &[u8], limits: &Limits) -> io::Result<Reading> {
-    read_all(alloc, bytes, limits).map_err(|_| io::Error::from(io::ErrorKind::OutOfMemory))
+    match read_all(alloc, bytes, limits) {
+        Ok(reading) => Ok(reading),
+        Err(OutOfMemory) => no_memory(),
+    }
 }
 
 /// Writes an entry's canonical text. Another refusal, of the memory for that text, is a failure of the program.
@@ -37,14 +39,13 @@ fn tell_entry(
     name: &str,
     made: Result<Entry, OutOfMemory>,
 ) -> io::Result<()> {
-    let text = match made {
-        Ok(entry) => match canonical(alloc, &entry) {
-            Ok(text) => Ok(text),
-            Err(OutOfMemory) => return Err(io::Error::from(io::ErrorKind::OutOfMemory)),
-        },
-        Err(OutOfMemory) => Err(OutOfMemory),
+    let Ok(entry) = made else {
+        return tell_refused(told, name);
     };
-    tell_text(told, name, text)
+    match canonical(alloc, &entry) {
+        Ok(text) => tell_text(told, name, Ok(text)),
+        Err(OutOfMemory) => no_memory(),
+    }
 }
 
 /// An entry of the text of another one's fields.
@@ -58,8 +59,8 @@ fn tell_read_back(alloc: Global, told: &mut Vec<u8>, entry: &Entry) -> io::Resul
         text,
     ) {
         Ok(Some(read)) => tell_entry(alloc, told, "read back", Ok(read)),
-        Ok(None) => writeln!(told, "read back none"),
-        Err(OutOfMemory) => tell_entry(alloc, told, "read back", Err(OutOfMemory)),
+        Ok(None) => tell_line(told, "read back none", &[]),
+        Err(OutOfMemory) => tell_refused(told, "read back"),
     }
 }
 
@@ -67,14 +68,14 @@ fn tell_read_back(alloc: Global, told: &mut Vec<u8>, entry: &Entry) -> io::Resul
 fn tell_pairs(alloc: Global, told: &mut Vec<u8>, entry: &Entry, limits: &Limits) -> io::Result<()> {
     let fields = match read_fields(alloc, entry.fields_text()) {
         Ok(Some(fields)) => fields,
-        Ok(None) => return writeln!(told, "pairs none"),
-        Err(OutOfMemory) => return tell_entry(alloc, told, "pairs", Err(OutOfMemory)),
+        Ok(None) => return tell_line(told, "pairs none", &[]),
+        Err(OutOfMemory) => return tell_refused(told, "pairs"),
     };
     let (key, realtime, monotonic) = (entry.key(), entry.realtime(), entry.monotonic());
     match Entry::from_pairs(alloc, key, realtime, monotonic, fields, limits) {
         Ok(Ok(made)) => tell_entry(alloc, told, "pairs", Ok(made)),
-        Ok(Err(fault)) => writeln!(told, "pairs {} {}", fault.code, fault.place),
-        Err(OutOfMemory) => tell_entry(alloc, told, "pairs", Err(OutOfMemory)),
+        Ok(Err(fault)) => tell_code(told, "pairs", fault.code, fault.place),
+        Err(OutOfMemory) => tell_refused(told, "pairs"),
     }
 }
 
@@ -83,7 +84,7 @@ fn tell_field_copies(told: &mut Vec<u8>, alloc: Global, entry: &Entry) -> io::Re
     for field in entry.fields() {
         match Field::copied(alloc, field.name(), field.value()) {
             Ok(copy) => tell_same(told, &copy)?,
-            Err(OutOfMemory) => writeln!(told, "field refused")?,
+            Err(OutOfMemory) => tell_refused(told, "field")?,
         }
     }
     Ok(())
@@ -91,8 +92,11 @@ fn tell_field_copies(told: &mut Vec<u8>, alloc: Global, entry: &Entry) -> io::Re
 
 fn tell_same(told: &mut Vec<u8>, field: &Field) -> io::Result<()> {
     match field.try_clone() {
-        Ok(copy) => writeln!(told, "field {} {}", copy.name().len(), copy.value().len()),
-        Err(OutOfMemory) => writeln!(told, "field refused"),
+        Ok(copy) => {
+            let lengths = [copy.name().len() as u64, copy.value().len() as u64];
+            tell_line(told, "field", &lengths)
+        }
+        Err(OutOfMemory) => tell_refused(told, "field"),
     }
 }
 
@@ -103,7 +107,7 @@ pub fn upload(alloc: Global, bytes: &[u8], limits: &Limits, told: &mut Vec<u8>) 
     match uploader.next_upload(alloc, &entries, ALL) {
         Ok(upload) => tell_text(told, "upload", Ok(upload)),
         Err(UploadFault::OutOfMemory) => tell_text(told, "upload", Err(OutOfMemory)),
-        Err(_) => writeln!(told, "upload changed"),
+        Err(_) => tell_line(told, "upload changed", &[]),
     }
 }
 

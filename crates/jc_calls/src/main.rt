@@ -8,10 +8,14 @@ mod calls;
 mod collecting;
 mod disks;
 mod entries;
+mod operands;
 mod readings;
 mod recorded;
+mod schedules;
+mod stock;
 mod tables;
 mod told;
+mod worlds;
 mod worn;
 
 use calls::Calls;

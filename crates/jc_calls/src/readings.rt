@@ -2,7 +2,7 @@
 
 use crate::collecting::PIECE;
 use crate::recorded::{Asked, RecordedSpace};
-use crate::told::tell_end;
+use crate::told::{tell_end, tell_line, tell_words};
 use jc_base::{Ending, EntrySource, Limits, OutOfMemory, SliceStream, Step, Stop};
 use jc_export::read_all;
 use jc_file::{FileEntries, PagedSpace, SliceSpace};
@@ -10,7 +10,6 @@ use jc_samples::Pieces;
 use jc_stream::{Scanner, Stream};
 use std::alloc::Global;
 use std::io;
-use std::io::Write;
 
 /// Reads an export stream at once.
 pub fn read(alloc: Global, bytes: &[u8], limits: &Limits, told: &mut Vec<u8>) -> io::Result<()> {
@@ -47,7 +46,7 @@ pub fn scan(
             return tell_end(told, count, Err(Stop::OutOfMemory));
         };
         if scanner.held() > most {
-            return writeln!(told, "held {}", scanner.held());
+            return tell_line(told, "held", &[scanner.held()]);
         }
         rest = rest.split_at(used.min(rest.len())).1;
         match scanner.take() {
@@ -78,14 +77,15 @@ pub fn feed_whole(
     let mut rest = bytes;
     for _ in 0..u64::MAX {
         let Ok(used) = feed(&mut scanner, rest) else {
-            return writeln!(told, "refused");
+            return tell_line(told, "refused", &[]);
         };
         rest = rest.split_at(used.min(rest.len())).1;
-        write!(told, "feed {used} held {}", scanner.held())?;
+        tell_words(told, "feed", &[used as u64])?;
+        tell_words(told, " held", &[scanner.held()])?;
         tell_held(told, &scanner)?;
         match scanner.take() {
             Ok(taken) => tell_taken(told, taken)?,
-            Err(OutOfMemory) => return writeln!(told, " refused"),
+            Err(OutOfMemory) => return tell_line(told, " refused", &[]),
         }
         if used == 0 {
             break;
@@ -97,20 +97,22 @@ pub fn feed_whole(
 /// Writes the first field that a scanner holds, and how the stream would end here.
 fn tell_held(told: &mut Vec<u8>, scanner: &Scanner) -> io::Result<()> {
     if let Some((name, value)) = scanner.field_at(0) {
-        write!(told, " field {} {}", name.len(), value.len())?;
+        tell_words(told, " field", &[name.len() as u64, value.len() as u64])?;
     }
     match scanner.finish() {
-        Some(Step::End { left }) => write!(told, " left {left}"),
-        Some(Step::Bad(fault)) => write!(told, " bad {} {}", fault.code, fault.place),
-        _ => write!(told, " waits"),
+        Some(Step::End { left }) => tell_words(told, " left", &[left]),
+        Some(Step::Bad(fault)) => {
+            tell_words(told, " bad", &[fault.code.number() as u64, fault.place])
+        }
+        _ => tell_words(told, " waits", &[]),
     }
 }
 
 fn tell_taken(told: &mut Vec<u8>, taken: Option<Step>) -> io::Result<()> {
     match taken {
-        Some(Step::Entry(_)) => writeln!(told, " entry"),
-        Some(_) => writeln!(told, " fault"),
-        None => writeln!(told, " none"),
+        Some(Step::Entry(_)) => tell_line(told, " entry", &[]),
+        Some(_) => tell_line(told, " fault", &[]),
+        None => tell_line(told, " none", &[]),
     }
 }
 
@@ -125,13 +127,9 @@ fn feed(scanner: &mut Scanner, piece: &[u8]) -> Result<usize, OutOfMemory> {
 /// Reads a journal file by ranges, and writes how many arrays were visited and what was asked of the space.
 pub fn file(alloc: Global, bytes: &[u8], limits: Limits, told: &mut Vec<u8>) -> io::Result<()> {
     let asked = Asked::nothing();
-    let space = RecordedSpace {
-        bytes,
-        asked: &asked,
-    };
-    let mut source = FileEntries::new(alloc, space, limits);
+    let mut source = FileEntries::new(alloc, RecordedSpace::new(bytes, &asked), limits);
     tell_reading(told, &mut source)?;
-    writeln!(told, "steps {}", source.steps())?;
+    tell_line(told, "steps", &[source.steps()])?;
     asked.tell(told)
 }
 
@@ -146,7 +144,7 @@ fn tell_reading<S: EntrySource>(told: &mut Vec<u8>, source: &mut S) -> io::Resul
     let (count, end) = read_out(source);
     let (more, again) = read_out(source);
     if more > 0 || again != end {
-        writeln!(told, "another end")?;
+        tell_line(told, "another end", &[])?;
     }
     tell_end(told, count, end)
 }

@@ -3,11 +3,11 @@
 ghost use Rattle.std.specs.Prelude.{length};
 ghost use Rattle.jc_file.specs.SpaceLaws.{nothing_told};
 
+use crate::told::tell_line;
 use jc_base::ReadFailed;
-use jc_file::ByteSpace;
+use jc_file::{ByteSpace, SliceSpace};
 use std::cell::Cell;
 use std::io;
-use std::io::Write;
 
 /// What was asked of a space.
 #[derive(Drop)]
@@ -26,39 +26,46 @@ impl Asked {
         }
     }
 
+    fn add(&self, place: u64, size: u64) {
+        let end = place.saturating_add(size);
+        self.end.set(self.end.get().max(end));
+        self.bytes.set(self.bytes.get().saturating_add(size));
+    }
+
     pub fn tell(&self, told: &mut Vec<u8>) -> io::Result<()> {
-        writeln!(told, "asked {} {}", self.end.get(), self.bytes.get())
+        tell_line(told, "asked", &[self.end.get(), self.bytes.get()])
     }
 }
 
 /// The bytes of a slice. No contract tells them, so that what is known of its readers holds of any space.
 #[derive(Drop)]
 pub struct RecordedSpace<'a> {
-    pub bytes: &'a [u8],
-    pub asked: &'a Asked,
+    space: SliceSpace<'a>,
+    asked: &'a Asked,
+}
+
+impl<'a> RecordedSpace<'a> {
+    pub fn new(bytes: &'a [u8], asked: &'a Asked) -> RecordedSpace<'a> {
+        RecordedSpace {
+            space: SliceSpace { bytes },
+            asked,
+        }
+    }
 }
 
 impl ByteSpace for RecordedSpace<'_> {
-    ghost size = { λ s. length s.bytes.now };
+    ghost size = { λ s. length s.space.bytes.now };
 
     ghost failures = { λ _. 0 };
 
-    ghost whole = { λ s b h. nothing_told b (length s.bytes.now) h };
+    ghost whole = { λ s b h. nothing_told b (length s.space.bytes.now) h };
 
     fn len(&self) -> u64 {
-        self.bytes.len() as u64
+        self.space.len()
     }
 
     fn read_at(&mut self, place: u64, out: &mut [u8]) -> Result<(), ReadFailed> {
-        let size = out.len() as u64;
-        let end = place.saturating_add(size);
-        self.asked.end.set(self.asked.end.get().max(end));
-        self.asked
-            .bytes
-            .set(self.asked.bytes.get().saturating_add(size));
-        for (slot, byte) in out.iter_mut().zip(self.bytes.iter().skip(place as usize)) {
-            *slot = *byte;
-        }
-        Ok(())
+        self.asked.add(place, out.len() as u64);
+        self.space.read_at(place, out)
     }
 }

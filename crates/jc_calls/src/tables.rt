@@ -2,17 +2,16 @@
 //! here sees how it is stored.
 
 use crate::collecting;
-use crate::told::tell_text;
+use crate::told::{tell_code, tell_line, tell_text};
 use jc_base::{Limits, VecSink};
 use jc_records::SchemaTwo;
 use jc_store::{Listed, MigrateStop, SchemaOne, TableKeeper};
 use sqlite::{Alter, Connection};
 use std::alloc::Global;
 use std::io;
-use std::io::Write;
 
 /// What is done with a journal.
-#[derive(Clone, Copy, Debug)]
+#[derive(Clone, Copy)]
 pub enum Task<'a> {
     /// Uploads are collected by one run, into a journal that is made if there is none.
     Collect(&'a [Vec<u8>]),
@@ -57,13 +56,13 @@ fn journal<S: Alter + Drop, L: Listed + Drop>(
     } else if may_be_made {
         TableKeeper::create(alloc, conn)
     } else {
-        writeln!(told, "no tables")?;
+        tell_line(told, "no tables", &[])?;
         return Ok(Err(conn));
     };
     match found {
         Ok(keeper) => Ok(Ok(keeper)),
         Err((fault, conn)) => {
-            writeln!(told, "bad {} {}", fault.code, fault.row)?;
+            tell_code(told, "bad", fault.code, fault.row)?;
             Ok(Err(conn))
         }
     }
@@ -100,11 +99,11 @@ fn migrate<S: Alter + Drop>(
     };
     match keeper.migrate::<SchemaTwo>() {
         Ok(keeper) => {
-            writeln!(told, "migrated")?;
+            tell_line(told, "migrated", &[])?;
             Ok(keeper.into_connection())
         }
         Err(MigrateStop { code, keeper }) => {
-            writeln!(told, "stopped {code}")?;
+            tell_line(told, "stopped", &[code.number() as u64])?;
             Ok(keeper.into_connection())
         }
     }
@@ -122,7 +121,7 @@ fn export<S: Alter + Drop>(
     let mut sink = VecSink::new(alloc);
     match keeper.export(&mut sink) {
         Ok(_) => tell_text(told, "entries", Ok(sink.into_bytes()))?,
-        Err(stop) => writeln!(told, "stopped {} {}", stop.code, stop.written)?,
+        Err(stop) => tell_code(told, "stopped", stop.code, stop.written)?,
     }
     Ok(keeper.into_connection())
 }

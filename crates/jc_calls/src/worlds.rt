@@ -1,6 +1,7 @@
 //! What is printed of a world.
 
-use jc_base::Entry;
+use crate::told::{no_memory, tell_line};
+use jc_base::{Entry, OutOfMemory};
 use jc_keeper::{Keeper, MapKeeper};
 use jc_upload::Resume;
 use jc_world::World;
@@ -11,20 +12,25 @@ use std::io::Write;
 /// How many machines a world has.
 const MACHINES: usize = 2;
 
-/// Writes the uploads, each after its length, the answers' lines, and of each machine how many entries it has, its resume
-/// point and those that it saved.
-pub fn tell_world(alloc: Global, world: &World<MapKeeper>, told: &mut Vec<u8>) -> io::Result<()> {
+/// Writes the uploads, each after its length, the answers' lines, of each machine how many entries it has, its resume
+/// point and those that it saved, and which of these entries are stored.
+pub fn tell_world(
+    alloc: Global,
+    world: World<MapKeeper>,
+    entries: &[Entry],
+    told: &mut Vec<u8>,
+) -> io::Result<()> {
     for upload in world.uploads() {
-        writeln!(told, "upload {}", upload.len())?;
+        tell_line(told, "upload", &[upload.len() as u64])?;
         told.write_all(upload)?;
     }
     for answer in world.answers() {
         told.write_all(answer.line().bytes())?;
     }
     for machine in 0..MACHINES {
-        tell_machine(alloc, world, machine, told)?;
+        tell_machine(alloc, &world, machine, told)?;
     }
-    Ok(())
+    tell_stored(&mut world.into_keeper(), entries, told)
 }
 
 fn tell_machine(
@@ -33,11 +39,11 @@ fn tell_machine(
     machine: usize,
     told: &mut Vec<u8>,
 ) -> io::Result<()> {
-    writeln!(
-        told,
-        "machine {}",
-        world.entries(machine).map_or(0, |entries| entries.len())
-    )?;
+    let count = match world.entries(machine) {
+        Some(entries) => entries.len() as u64,
+        None => 0,
+    };
+    tell_line(told, "machine", &[count])?;
     if let Some(point) = world.resume(machine) {
         tell_point(alloc, point, told)?;
     }
@@ -52,23 +58,18 @@ fn tell_machine(
 fn tell_point(alloc: Global, point: &Resume, told: &mut Vec<u8>) -> io::Result<()> {
     match point.text(alloc) {
         Ok(text) => told.write_all(&text),
-        Err(_) => Err(io::Error::from(io::ErrorKind::OutOfMemory)),
+        Err(OutOfMemory) => no_memory(),
     }
 }
 
-/// Writes which of these entries are stored.
-pub fn tell_stored(
-    keeper: &mut MapKeeper,
-    entries: &[Entry],
-    told: &mut Vec<u8>,
-) -> io::Result<()> {
+fn tell_stored(keeper: &mut MapKeeper, entries: &[Entry], told: &mut Vec<u8>) -> io::Result<()> {
     for entry in entries {
         let is_stored = match keeper.get(&entry.key()) {
             Ok(Some(stored)) => stored.same(entry),
             Ok(None) => false,
-            Err(_) => return Err(io::Error::from(io::ErrorKind::OutOfMemory)),
+            Err(_) => return no_memory(),
         };
         told.write_all(if is_stored { b"1" } else { b"0" })?;
     }
-    writeln!(told)
+    tell_line(told, "", &[])
 }

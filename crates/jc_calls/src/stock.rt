@@ -12,7 +12,9 @@
 //! | `hand A 0` | answer A reaches the machine that it names |
 //! | `restart M P` | machine M goes back to its saved resume point P |
 
-use jc_base::{Entry, Limits};
+use crate::operands::number_in;
+use crate::told::{no_meaning, no_memory};
+use jc_base::{Entry, Limits, OutOfMemory};
 use jc_export::read_all;
 use jc_world::Event;
 use std::alloc::Global;
@@ -33,40 +35,42 @@ impl<'a> Stock<'a> {
                 entries: reading.entries,
                 bytes,
             }),
-            Err(_) => Err(io::Error::from(io::ErrorKind::OutOfMemory)),
+            Err(OutOfMemory) => no_memory(),
         }
     }
 
     /// The event that a text means.
     pub fn event(&self, text: &str) -> io::Result<Event> {
-        self.meant(text).ok_or_else(no_meaning)
+        match self.meant(text) {
+            Some(event) => Ok(event),
+            None => no_meaning(),
+        }
     }
 
     fn meant(&self, text: &str) -> Option<Event> {
         let mut words = text.split(' ');
         let name = words.next()?;
-        let first = words.next()?.parse::<usize>().ok()?;
-        let second = words.next()?.parse::<usize>().ok()?;
+        let first = number_in(words.next()?)? as usize;
+        let second = number_in(words.next()?)?;
         match name {
-            "append" => Some(Event::Append(first, self.entries.get(second)?.try_clone().ok()?)),
-            "make" => Some(Event::Make(first, second as u64)),
-            "whole" => Some(Event::Make2(first, second as u64, true)),
-            "parts" => Some(Event::Make2(first, second as u64, false)),
-            "file" => Some(Event::MakeFile(first, self.copied(second)?)),
-            "deliver" => Some(Event::Deliver(first, second)),
+            "append" => Some(Event::Append(first, self.entry(second as usize)?)),
+            "make" => Some(Event::Make(first, second)),
+            "whole" => Some(Event::Make2(first, second, true)),
+            "parts" => Some(Event::Make2(first, second, false)),
+            "file" => Some(Event::MakeFile(first, self.copied(second as usize)?)),
+            "deliver" => Some(Event::Deliver(first, second as usize)),
             "alien" => Some(Event::Alien(self.copied(first)?)),
             "hand" => Some(Event::Hand(first)),
-            "restart" => Some(Event::Restart(first, second)),
+            "restart" => Some(Event::Restart(first, second as usize)),
             _ => None,
         }
+    }
+
+    fn entry(&self, number: usize) -> Option<Entry> {
+        self.entries.get(number)?.try_clone().ok()
     }
 
     fn copied(&self, number: usize) -> Option<Vec<u8>> {
         Vec::from_slice(self.alloc, self.bytes.get(number)?).ok()
     }
-}
-
-/// The failure of a text that means nothing.
-pub fn no_meaning() -> io::Error {
-    io::Error::from(io::ErrorKind::InvalidInput)
 }
