@@ -19,7 +19,7 @@ use Rattle.jc_args.specs.declared.request.Request.TheVariants.{Verify, Upload, A
 use Rattle.jc_args.specs.declared.request.Request.TheVariants as requests
 use Rattle.jc_collect.specs.Answer.{is_failure}
 use Rattle.jc_args.specs.Answer.{IsAskedFor}
-use Rattle.jc_database.specs.Answered.{is_refusal}
+use Rattle.jc_answers.specs.Answered.{is_refusal}
 use Rattle.jc_database.specs.Checked.{health_status}
 use Rattle.jc_console.specs.Failure.{status_of}
 use Rattle.jc_command.specs.Run.{Ends, FailsBy, Performs, Stops, StopsAsked}

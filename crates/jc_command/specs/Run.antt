@@ -11,7 +11,7 @@ use Rattle.jc_console.specs.declared.status.Status.TheVariants.{Success, Refused
 use Rattle.jc_args.specs.declared.request.Request.{Request}
 use Rattle.jc_args.specs.declared.request.Request.TheVariants.{Collect, CollectListed, Show, Check, Migrate, Verify, Upload, Ack, ListCodes}
 use Rattle.jc_args.specs.declared.request.Request.TheVariants as request
-use Rattle.jc_database.specs.Answered.{TellsAnswers, number_of_uploads}
+use Rattle.jc_answers.specs.Answered.{TellsAnswers, number_of_uploads}
 use Rattle.jc_database.specs.Checked.{IsHealth, TellsHealth}
 use Rattle.jc_database.specs.Database.{CheckFailsBy, CollectFailsBy, DatabaseFailsBy, ShowFailsBy}
 use Rattle.jc_console.specs.Failure.{status_of}

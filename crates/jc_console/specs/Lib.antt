@@ -4,3 +4,5 @@ pub mod Ids
 pub mod Names
 pub mod Lines
 pub mod LineLaws
+pub mod Output
+pub mod OutputLaws

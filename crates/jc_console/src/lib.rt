@@ -6,6 +6,7 @@ mod file;
 mod ids;
 mod lines;
 mod names;
+mod out_buffer;
 mod output;
 mod status;
 
@@ -14,5 +15,6 @@ pub use file::{is_regular, open_file, read_front, read_whole};
 pub use ids::source_id;
 pub use lines::line_length;
 pub use names::field_name;
-pub use output::printed;
+pub use out_buffer::{OutBuffer, buffer_room};
+pub use output::{one_more, printed, write_front};
 pub use status::Status;

@@ -1,7 +1,8 @@
 //! What commands print.
 
-ghost use Rattle.std.specs.Prelude.{◌≡◌, Ok, OnOk, IfErr};
-ghost use Rattle.std.specs.Io.KnownBytes.{Keeps};
+ghost use Rattle.std.specs.Prelude.{◌≡◌, ◌≤◌, Ok, OnOk, IfErr, length, take};
+ghost use Rattle.std.specs.Io.KnownBytes.{Appends, Keeps};
+ghost use Rattle.jc_base.specs.Device.{Rose};
 
 use crate::Failure;
 use std::io;
@@ -16,4 +17,26 @@ pub fn printed<'a, O: Write>(written: io::Result<()>, output: &mut O) -> Result<
         return Err(Failure::WriteFailed);
     }
     Ok(())
+}
+
+/// A count of failures with one more, up to the greatest count.
+pub fn one_more(failures: u64) -> u64
+    ensures { Rose failures result }
+{
+    failures.saturating_add(1)
+}
+
+/// Writes as much of a text as a writer takes, and answers how much that was.
+pub fn write_front<O: Write>(output: &mut O, text: &[u8]) -> usize
+    ensures within { result ≤ length text.now }
+    ensures front { Appends (O.contents output.old) (O.contents output.new) (take result text.now) }
+{
+    let mut at = 0;
+    while at < text.len() {
+        match output.write(&text[at..]) {
+            Ok(count) if count > 0 => at += count,
+            _ => return at,
+        }
+    }
+    at
 }

@@ -1,6 +1,3 @@
-pub mod AnswerLines
 pub mod Refusals
-pub mod Successive
-pub mod Judging
 pub mod Printing
-pub mod Buffering
+pub mod Fronts

@@ -1,5 +1,6 @@
 -- The databases that commands work on, and why one of these commands fails. (own)
 use Rattle.std.specs.Prelude.{◌≡◌, ◌⊎◌, ℕ, List, take, Option, None, Some, IsSomeAnd, ⊤, codes}
+use Rattle.std.specs.Io.KnownBytes.{Appends, append_known}
 use Rattle.std.specs.List.{Contains}
 use Rattle.jc_base.specs.declared.fault.Code.TheVariants.{BadRow, NotAJournal, OldSchema}
 use Rattle.jc_base.specs.declared.fault.Fault.{Fault}
@@ -47,13 +48,6 @@ DatabaseFailsBy database BadDatabaseName = IsBadName database
 DatabaseFailsBy database WriteFailed = ⊤
 DatabaseFailsBy database failure = WhyNoJournal database failure
 
--- Why the uploads in files with these paths can't be read.
-abbrev pub WhyUnopened : (uploads : List (List ℕ)) → Failure → Type 0
-WhyUnopened uploads (CannotOpen path) = Contains uploads path.now
-WhyUnopened uploads ReadFailed = ⊤
-WhyUnopened uploads OutOfMemory = ⊤
-WhyUnopened uploads _ = ⊥
-
 -- The same of a command that reads uploads too, from files with these paths.
 abbrev pub CollectFailsBy : (database : List ℕ) → (uploads : List (List ℕ)) → Failure → Type 0
 CollectFailsBy database uploads (CannotOpen path) = (path.now ≡ database) ⊎ Contains uploads path.now
@@ -86,3 +80,9 @@ WhyNoHealth path failure = WhyNoJournal path failure
 abbrev pub CheckFailsBy : (database : List ℕ) → Failure → Type 0
 CheckFailsBy database (Bad fault) = ⊥
 CheckFailsBy database failure = DatabaseFailsBy database failure
+
+-- ---- what is printed in part
+
+-- What an output has now begins what it would have with the whole text behind what it had.
+abbrev pub PrintsFront : (old new : Option (List ℕ)) → (text : List ℕ) → Type 0
+PrintsFront old new text = (lacking : List ℕ) × Appends old (append_known new lacking) text

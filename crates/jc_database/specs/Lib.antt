@@ -1,5 +1,4 @@
 pub mod Stopped
-pub mod Answered
 pub mod Database
 pub mod Listed
 pub mod Checked

@@ -1,16 +1,19 @@
 //! `check`: whether a database has a journal, and how many entries it keeps.
 
 ghost use Rattle.std.specs.Prelude.{◌≡◌, ◌≢◌, Some, IfOk, IfErr};
+ghost use Rattle.std.specs.FinMap.{len};
 ghost use Rattle.std.specs.Io.KnownBytes.{Keeps};
 ghost use Rattle.jc_database.specs.Checked.{IsHealth, TellsHealth, health_text, health_status};
 ghost use Rattle.jc_database.specs.Database.{CheckFailsBy, IsStoreFailure, WhyNoHealth};
 ghost use Rattle.jc_console.specs.Failure.{status_of};
 
-use crate::database::{DatabaseStore, Databases, check_name, close, open_there};
+use crate::database::{Databases, check_name, close_after, open_there};
 use crate::failures::why_unanswered;
 use jc_base::Fault;
 use jc_console::{Failure, Status, printed};
+use jc_keeper::Keeper;
 use jc_records::SqlKeeper;
+use sqlite::Alter;
 use std::fmt;
 use std::io::Write;
 use std::rt::Files;
@@ -71,24 +74,25 @@ fn read_health<'a, R: Databases + Files + AllocGlobal>(
     ensures failed { IfErr result (WhyNoHealth database.now) }
 {
     match open_there(rt, database) {
-        Ok(keeper) => count(keeper),
+        Ok(mut keeper) => {
+            let counted = count(&mut keeper);
+            close_after(keeper, counted)
+        }
         Err(Failure::Bad(fault)) => Ok(Health::Bad(fault)),
         Err(failure) => Err(failure),
     }
 }
 
-/// How many entries a journal has. Its database is closed.
-pub fn count<'a, S: DatabaseStore>(mut keeper: SqlKeeper<S>) -> Result<Health, Failure<'a>>
+/// How many entries a keeper's journal has.
+pub fn count<'a, S: Alter>(keeper: &mut SqlKeeper<S>) -> Result<Health, Failure<'a>>
+    ensures counted { ⟦<SqlKeeper<S> as Keeper>⟧.sound keeper.old → ⟦<SqlKeeper<S> as Keeper>⟧.made keeper.old
+        → ⟦<SqlKeeper<S> as Keeper>⟧.sound keeper.new
+        → IfOk result (λ health. health ≡ Health.Whole (len (⟦<SqlKeeper<S> as Keeper>⟧.journal keeper.old))) }
     ensures health { IfOk result IsHealth }
     ensures failed { IfErr result IsStoreFailure }
 {
-    let counted = keeper.count();
-    let closed = close(keeper);
-    match counted {
-        Ok(count) => {
-            closed?;
-            Ok(Health::Whole(count))
-        }
+    match keeper.count() {
+        Ok(count) => Ok(Health::Whole(count)),
         Err(stop) => Err(why_unanswered(stop)),
     }
 }

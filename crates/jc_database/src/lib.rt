@@ -1,18 +1,14 @@
 //! The commands over the journal in a database: `collect`, `export`, `show`, `check` and `migrate`.
 #![tactic(auto)]
 
-mod answer_sink;
 mod collecting;
 mod database;
 mod failures;
 mod health;
 mod host;
-mod judged;
 mod listed;
 mod listing;
 mod migrating;
-mod out_buffer;
-mod uploads;
 
 pub use collecting::collect;
 pub use database::{DatabaseStore, Databases};

@@ -7,11 +7,13 @@ ghost use Rattle.jc_database.specs.Database.{CheckFailsBy, IsStoreFailure, WhyNo
 ghost use Rattle.jc_database.specs.declared.health.Health.{Health};
 ghost use Rattle.jc_console.specs.Failure.{status_of};
 
-use crate::database::{DatabaseStore, Databases, check_name, close_connection, open_old};
+use crate::database::{
+    DatabaseStore, Databases, check_name, close_after, close_connection, open_old,
+};
 use crate::health::{Health, count, tell};
 use jc_base::Code;
 use jc_console::{Failure, Status};
-use jc_records::SchemaTwo;
+use jc_records::{SchemaTwo, SqlKeeper};
 use jc_store::{MigrateStop, SqlKeeper1};
 use std::io::Write;
 use std::rt::Files;
@@ -42,19 +44,22 @@ fn migrated<'a, R: Databases + Files + AllocGlobal>(
     ensures failed { IfErr result (WhyNoHealth database.now) }
 {
     match open_old(rt, database) {
-        Ok(keeper) => go_over(keeper),
+        Ok(keeper) => {
+            let mut keeper = go_over(keeper)?;
+            let counted = count(&mut keeper);
+            close_after(keeper, counted)
+        }
         Err(Failure::Bad(fault)) => Ok(Health::Bad(fault)),
         Err(failure) => Err(failure),
     }
 }
 
-/// Puts a journal into tables of the present version, and counts its entries there. Its database is closed.
-fn go_over<'a, S: DatabaseStore>(keeper: SqlKeeper1<S>) -> Result<Health, Failure<'a>>
-    ensures health { IfOk result IsHealth }
-    ensures failed { IfErr result IsStoreFailure }
+/// Puts a journal into tables of the present version. If it stays where it is, its database is closed.
+fn go_over<'a, S: DatabaseStore>(keeper: SqlKeeper1<S>) -> Result<SqlKeeper<S>, Failure<'a>>
+    ensures { IfErr result IsStoreFailure }
 {
     match keeper.migrate::<SchemaTwo>() {
-        Ok(keeper) => count(keeper),
+        Ok(keeper) => Ok(keeper),
         Err(MigrateStop { code, keeper }) => {
             let _ = close_connection(keeper.into_connection());
             Err(why_stayed(code))

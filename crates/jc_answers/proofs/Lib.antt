@@ -1,0 +1,4 @@
+pub mod AnswerLines
+pub mod Successive
+pub mod Judging
+pub mod Printing

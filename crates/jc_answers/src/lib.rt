@@ -1,0 +1,12 @@
+//! Uploads are taken up into a journal, whatever keeps it, and each is answered by a line that is printed.
+#![tactic(auto)]
+
+mod answer_sink;
+mod answering;
+mod judged;
+mod named;
+mod uploads;
+
+pub use answering::answer_all;
+pub use named::answer_names;
+pub use uploads::{Upload, open_upload, open_uploads};
