@@ -1,7 +1,7 @@
 #!/usr/bin/env bash
 # The gate: every proof from nothing, the tests and the stored run (rt ci); beside it the edits (tests/refused), each
-# crate's from when it is proved; and when rt ci has ended each script tests/test-*.sh in turn, over the program that it
-# built. The last line is `N passed, M failed`, over all of them.
+# crate's from when it is proved; and when rt ci has ended the scripts tests/test-*.sh side by side, over the program
+# that it built. The last line is `N passed, M failed`, over all of them.
 set -uo pipefail
 cd "$(dirname "$0")/.." || exit
 

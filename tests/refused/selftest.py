@@ -9,7 +9,9 @@ import tempfile
 from typing import Any
 
 import toolchain
+from functions import Function
 from judging import Outcome, judge
+from verdicts import Report
 
 LIBRARY = """\
 //! Small functions, each with a contract.
@@ -106,9 +108,22 @@ WEAKER = LIBRARY.replace("number <= 9", "number <= 8").replace("result ↔ numbe
 WRONG = LIBRARY.replace("3 + 4", "3 + 3")
 
 
+# What a check of an edit of `small::edited` says of other functions; the first isn't proved, and calls nothing that isn't.
+BESIDE = """\
+fn small::alone: no proof: expected answers in ./proofs/alone/Answers.antt; `search` did not prove `returns`
+fn small::edited: not proved
+fn small::caller: no proof: it calls `small::edited`, which is not proved
+fn small::taken: depends on a hole in `Rattle.small.proofs.taken.Proof.taken_spec`
+fn small::derived: no holes
+only=5 holes=1
+"""
+
+
 def main() -> int:
     toolchain.rt().rtlib.guarded()
-    failures = []
+    edited = Function(("small::edited",), "src/lib.rt", 0, 0, range(0))
+    refused = Report(1, BESIDE, set()).refused_beside([edited])
+    failures = [] if refused == ["small::alone"] else [f"beside an edit: reported {refused}"]
     with tempfile.TemporaryDirectory(prefix="refused-test-") as root:
         small = Small(root)
         failures += small.failures("as it is", LIBRARY, EDITS, PROVED)
