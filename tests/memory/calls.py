@@ -108,13 +108,25 @@ class Case:
         self.words = [CALLS]
         for word, operand in calls:
             self.words += [word, operand if word in ("get", "stored") else trial.put([operand])[0]]
+        self.spared = spared
+
+    def requests_of(self, count):
+        """How many requests the first calls make."""
         # as many words, the last of which do nothing
-        self.spared = self.words[:1 + 2 * spared] + ["rot", "log:0"] * (len(calls) - spared)
+        words = self.words[:1 + 2 * count] + ["rot", "log:0"] * (len(self.calls) - count)
+        return len(refusal.run(self.trial.library, 0, 0, words)[1])
 
     def places(self, sizes):
-        """The numbers of the requests to refuse: each one, but for long rows of like ones as a database is opened."""
-        spared = len(refusal.run(self.trial.library, 0, 0, self.spared)[1])
-        return [number for number in refusal.places(sizes) if number > spared]
+        """The numbers of the requests to refuse: each one, but for long rows of like ones as a database is opened, and for those
+        of calls that open it anew as the first one does."""
+        spared = self.requests_of(self.spared)
+        numbers = [number for number in refusal.places(sizes) if number > spared]
+        if self.spared == 0:
+            return numbers
+        opened = self.requests_of(self.spared + 1)
+        first = [number for number in numbers if number <= opened]
+        earlier = {refusal.around(sizes, number) for number in first}
+        return first + refusal.unlike(sizes, [number for number in numbers if number > opened], earlier)
 
     def refusals_in(self, what, output):
         """How many refusals the output tells. All of it has to be what the calls may print."""

@@ -10,6 +10,10 @@ import preload
 LONG = 64
 ENDS = 8
 STRIDE = 100
+# A request is like an earlier one if it, the AROUND requests before it and those after it have the same sizes. One in ALIKE of
+# these is tried.
+AROUND = 8
+ALIKE = 10
 
 
 def built(folder):
@@ -33,3 +37,14 @@ def places(sizes):
             if count <= LONG or step < ENDS or step >= count - ENDS or step % STRIDE == 0:
                 yield number + step
         number += count
+
+
+def around(sizes, number):
+    """The sizes of a request and of those before and after it."""
+    return sizes[max(0, number - 1 - AROUND):number + AROUND]
+
+
+def unlike(sizes, numbers, earlier):
+    """Of the places of these numbers those that aren't like an earlier one, and some of the others."""
+    alike = [number for number in numbers if around(sizes, number) in earlier]
+    return sorted({*numbers} - {*alike} | {*alike[::ALIKE]})

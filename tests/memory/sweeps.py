@@ -41,6 +41,9 @@ def put(path, data):
 class Sweep:
     """A command that reads files and prints. Its arguments name no file that it writes."""
 
+    # what was around the places of earlier sweeps
+    earlier = set()
+
     def __init__(self, trial, name, words, usual=None, stdin=b""):
         self.trial = trial
         self.name = name
@@ -80,9 +83,16 @@ class Sweep:
         self.trial.expect(f"{self.name}, undisturbed", told, self.usual)
         return sizes
 
+    def places(self, sizes):
+        """The numbers of the requests to refuse. All commands read arguments alike, and open a database alike."""
+        numbers = list(refusal.places(sizes))
+        chosen = refusal.unlike(sizes, numbers, self.earlier)
+        self.earlier.update(refusal.around(sizes, number) for number in numbers)
+        return chosen
+
     def sweep(self, pool):
         sizes = self.all_sizes()
-        numbers = list(refusal.places(sizes))
+        numbers = self.places(sizes)
         alone = list(pool.map(lambda number: self.one(number, number), numbers))
         later = list(pool.map(lambda number: self.one(number, NEVER), numbers[::LATER]))
         beyond = len(sizes) + 1
