@@ -11,12 +11,18 @@ from typing import Any
 import toolchain
 from functions import Function
 
-# A proof that is left open: it says what there is to prove, and that a hole stands for it.
+# A proof that is left open: it says what there is to prove, and takes it at its word.
 OPEN_PROOF = """\
 use {module}.Statement.{{statement}}
+use Rattle.{crate}.proofs.AtItsWord.{{at_its_word}}
 
 pub {name}_spec : {{M : Type 1}} → statement M
-{name}_spec = ?
+{name}_spec = at_its_word
+"""
+# The hole that stands for all proofs that are left open: of a hole of its own for each, antt would print what it is for.
+AT_ITS_WORD = """\
+pub at_its_word {ℓ} : {A : Type ℓ} → A
+at_its_word = ?
 """
 
 
@@ -29,6 +35,10 @@ def check(crate: Any, texts: dict[str, str], words: list[str], kept: str, taken:
                 shutil.copytree(os.path.join(crate.folder, part), os.path.join(room, part))
         for path, text in texts.items():
             _write(os.path.join(room, path), text)
+        if taken:
+            _write(os.path.join(room, "proofs", "AtItsWord.antt"), AT_ITS_WORD)
+            with open(os.path.join(room, "proofs", "Lib.antt"), "a", encoding="utf-8") as modules:
+                modules.write("mod AtItsWord\n")
         for it in taken:
             _leave_open(room, it)
         rtlib = toolchain.rt().rtlib
@@ -46,7 +56,7 @@ def _leave_open(room: str, function: Function) -> None:
         if os.path.exists(written := os.path.join(room, folder, file)):
             os.remove(written)
     module = ".".join(["Rattle", crate, "proofs", *path])
-    _write(os.path.join(room, folder, "Proof.antt"), OPEN_PROOF.format(module=module, name=path[-1]))
+    _write(os.path.join(room, folder, "Proof.antt"), OPEN_PROOF.format(crate=crate, module=module, name=path[-1]))
 
 
 def _write(file: str, text: str) -> None:

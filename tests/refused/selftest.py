@@ -92,14 +92,18 @@ EDITS: Edits = {
     "beside-a-refused-function": ("{ Some(number) }", "{ Some(0) }", REFUSED + "returns"),
     "clause-turned": ("≡ number + 1", "≡ number + 2", "BAD EDIT: it changes more than the body"),
     "hidden-by-a-refused-function": ("    if is_digit(number) {", "    if !!is_digit(number) {", PASSED),
-    "name-of-nothing": ("self.number = number;", "self.number = nobody;", UNREAD),
-    "no-expression": ("    number + one", "    number + + one", UNREAD),
     "only-arithmetic": ("    given", "    given + 1 - 1", UNTELLING + "overflow_add"),
     "same-meaning": ("if one < other {", "if one <= other {", PASSED),
     "same-text": ("let one = 1;", "let one = 1;", "BAD EDIT: it changes nothing"),
     "stands-nowhere": ("number <= 10", "number <= 11", "BAD EDIT: an 'old:' text is in src/lib.rt 0 times"),
 }
 
+# Edits that can't be read, beside one that can: if a check can't be read, its halves are tried.
+UNREADABLE: Edits = {
+    "another-answer": EDITS["another-answer"],
+    "name-of-nothing": ("self.number = number;", "self.number = nobody;", UNREAD),
+    "no-expression": ("    number + one", "    number + + one", UNREAD),
+}
 
 ONE = {"another-answer": EDITS["another-answer"]}
 PROVED = "without its edits it is proved"
@@ -113,7 +117,7 @@ BESIDE = """\
 fn small::alone: no proof: expected answers in ./proofs/alone/Answers.antt; `search` did not prove `returns`
 fn small::edited: not proved
 fn small::caller: no proof: it calls `small::edited`, which is not proved
-fn small::taken: depends on a hole in `Rattle.small.proofs.taken.Proof.taken_spec`
+fn small::taken: depends on a hole in `Rattle.small.proofs.AtItsWord.at_its_word`
 fn small::derived: no holes
 only=5 holes=1
 """
@@ -129,12 +133,12 @@ def main() -> int:
         failures += small.failures("as it is", LIBRARY, EDITS, PROVED)
         failures += small.failures("over work on another text", LIBRARY, ONE, PROVED, before=WEAKER)
         small.build(LIBRARY)
-        failures += small.failures("built", LIBRARY, ONE, PROVED)
+        failures += small.failures("built", LIBRARY, UNREADABLE, PROVED)
         failures += small.failures("changed since it was built", WRONG, ONE, "without its edits it is NOT PROVED")
     for it in failures:
         print(f"tests/refused: {it}")
     if not failures:
-        print(f"tests/refused: {len(EDITS)} edits of a small library are judged as they must be")
+        print(f"tests/refused: {len(EDITS | UNREADABLE)} edits of a small library are judged as they must be")
     return 1 if failures else 0
 
 
