@@ -30,7 +30,7 @@ ci() {
 
 # What rt ci has to do goes first: the edits' checks run at a lower priority, and wait for a processor that it leaves.
 edits() {
-    tail -n +1 -s 1 -f --pid="$ci" "$work/ci" | TMPDIR=$work nice python3 -ESB tests/refused --beside
+    tail -n +1 -s 1 -f --pid="$ci" "$work/ci" | RT_JOBS=$at_once TMPDIR=$work nice python3 -ESB tests/refused --beside
 } > "$work/edits" 2>&1
 
 # The scripts side by side, as many as there may be checks; what they say is printed in the order of their names.
@@ -40,7 +40,7 @@ scripts() {
     for script in tests/test-*.sh; do
         name=${script#tests/}
         { [[ -x $PROGRAM ]] && bash "$script" > "$work/said/$name" 2>&1 && touch "$work/passed/$name"; } &
-        while [[ $(jobs -rp | wc -l) -ge $RT_JOBS ]]; do
+        while [[ $(jobs -rp | wc -l) -ge $at_once ]]; do
             wait -n
         done
     done
@@ -85,11 +85,9 @@ count() {
     failed=$((failed + of_part))
 }
 
-given=${RT_JOBS:-}
-RT_JOBS=$(python3 -ESB tests/refused/parallel.py)
-export RT_JOBS
+at_once=$(python3 -ESB tests/refused/parallel.py)
 memory=$(awk '/^MemAvailable/ { print int($2 / 1e6) }' /proc/meminfo)
-echo "RT_JOBS=$RT_JOBS${given:+, as given}: $(nproc) processors, $memory GB of memory free"
+echo "$at_once scripts, and checks of edits, at once${RT_JOBS:+, as RT_JOBS says}: $(nproc) processors, $memory GB of memory free"
 
 : > "$work/ci"
 start ci

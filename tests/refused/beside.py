@@ -2,18 +2,20 @@
 
 from __future__ import annotations
 
-import os
 import re
 import threading
+import time
 from collections.abc import Iterator
 from contextlib import contextmanager
 from typing import TextIO
 
 import toolchain
-from parallel import LARGEST
+from parallel import EACH, LARGEST
 
 # What `rt ci` says when a crate's library stands.
 STANDS = re.compile(r"rt: (\w+) (?:proved|is kept: .*)$")
+# The seconds between two checks that begin: so soon one takes a processor that was idle.
+BETWEEN = 3.0
 
 
 class Ci:
@@ -47,13 +49,14 @@ class Ci:
 
 
 class Turns:
-    """Which checks run at once: as many as are given, those of the largest crates first. While `rt ci` runs it is one,
-    which begins only when a processor is idle and there is memory for the largest of the checks of `rt ci`."""
+    """Which checks run at once: as many as are given, those of the largest crates first. While `rt ci` runs, one begins
+    only when a processor is idle and there is memory for it and for the largest of the checks of `rt ci`."""
 
     def __init__(self, at_once: int, ci: Ci) -> None:
         self._at_once = at_once
         self._ci = ci
         self._running = 0
+        self._latest = 0.0
         self._waiting: list[int] = []
         self._changed = threading.Condition()
 
@@ -67,6 +70,7 @@ class Turns:
                 self._changed.wait(1)
             self._waiting.remove(size)
             self._running += 1
+            self._latest = time.monotonic()
         try:
             yield
         finally:
@@ -75,20 +79,16 @@ class Turns:
                 self._changed.notify_all()
 
     def _is_free(self) -> bool:
+        if self._running >= self._at_once:
+            return False
         if self._ci.has_ended:
-            return self._running < self._at_once
-        return self._running == 0 and _checks() < self._at_once and int(toolchain.rt().free()) >= LARGEST
+            return True
+        if time.monotonic() < self._latest + BETWEEN or _busy() >= toolchain.rt().processors():
+            return False
+        return int(toolchain.rt().free()) >= LARGEST + EACH * self._running
 
 
-def _checks() -> int:
-    """How many processes of the checker run on this machine."""
-    return sum(it.isdigit() and _name(it) == "rattle\n" for it in os.listdir("/proc"))
-
-
-def _name(number: str) -> str:
-    try:
-        with open(f"/proc/{number}/comm", encoding="utf-8", errors="replace") as it:
-            return it.read()
-    except OSError:
-        # it has ended meanwhile
-        return ""
+def _busy() -> int:
+    """How many threads run on this machine, or wait for a processor, beside the one that asks."""
+    with open("/proc/loadavg", encoding="utf-8") as it:
+        return int(it.read().split()[3].partition("/")[0]) - 1
