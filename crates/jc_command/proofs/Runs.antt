@@ -48,7 +48,7 @@ pub performed : (words : List Text) (request : Request) (given output output' er
 performed words request given output output' errors errors' Success asks does quiet = (quiet refl, inr (request, asks, does))
 performed words request given output output' errors errors' Refused asks does quiet = inl (request, asks, does)
 performed words request given output output' errors errors' Failed asks does quiet = (request, asks, does)
-performed words (Verify k file) given output output' errors errors' Misused asks (count, ending, told) quiet = absurd (not_misused ending told.judged)
+performed words (Verify k file) given output output' errors errors' Misused asks does quiet = absurd (not_misused does.ending does.told.judged)
 performed words (Upload source limit whole) given output output' errors errors' Misused asks does quiet = let same : Misused ≡ Success = does.0 in cc
 performed words (Ack source) given output output' errors errors' Misused asks does quiet = let same : Misused ≡ Success = does.0 in cc
 performed words (requests.Collect database uploads) given output output' errors errors' Misused asks does quiet =

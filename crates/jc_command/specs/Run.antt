@@ -2,7 +2,6 @@
 use Rattle.std.specs.Prelude.{◌≡◌, ◌⊎◌, ◌∷◌, [], ⊤, ℕ, List, Option, length, map, option_map}
 use Rattle.std.specs.Io.KnownBytes.{Keeps}
 use Rattle.clap.specs.Words.{Text}
-use Rattle.jc_base.specs.declared.fault.Ending.{Ending}
 use Rattle.jc_database.specs.declared.health.Health.{Health}
 use Rattle.jc_console.specs.declared.failure.Failure.{Failure}
 use Rattle.jc_console.specs.declared.failure.Failure.TheVariants.{CannotOpen, OutOfMemory, ReadFailed, WriteFailed}
@@ -19,7 +18,7 @@ use Rattle.jc_database.specs.Listed.{TellsListed}
 use Rattle.jc_sender.specs.Sent.{TellsSomeUpload}
 use Rattle.jc_sender.specs.Failing.{AckFailsBy, UploadFailsBy}
 use Rattle.jc_sender.specs.Taken.{TellsSomePoint}
-use Rattle.jc_sender.specs.Verdict.{TellsReading}
+use Rattle.jc_sender.specs.Verdict.{TellsSomeReading}
 use Rattle.jc_args.specs.Words.{AreWrong, AskFor, AskForHelp}
 
 -- What standard output gains when a request is performed, over what standard input gives, and the status: from `verify` a
@@ -27,7 +26,7 @@ use Rattle.jc_args.specs.Words.{AreWrong, AskFor, AskForHelp}
 -- and `migrate` what there is of a journal. Nothing is said of listings, nor which answers come: no contract can name what
 -- a database's file holds.
 abbrev pub Performs : Request → (given old new : Option (List ℕ)) → Status → Type 0
-Performs (Verify kind file) given old new status = (count : ℕ) × (ending : Ending) × TellsReading count ending status old new
+Performs (Verify kind file) given old new status = TellsSomeReading kind status old new
 Performs (Upload source limit whole) given old new status = (status ≡ Success) × TellsSomeUpload source limit whole old new
 Performs (Ack source) given old new status = (status ≡ Success) × TellsSomePoint source given old new
 Performs (Collect database uploads) given old new status = TellsAnswers (number_of_uploads (length uploads.items)) status old new

@@ -11,13 +11,28 @@ use Rattle.jc_export.specs.Stream.{IsOnlyReading}
 use Rattle.jc_stream.specs.Streaming.{TellsReading}
 use Rattle.jc_file.specs.FileReading.{IsFileReading}
 use Rattle.jc_sender.specs.Gathered.{HasCount}
-use Rattle.jc_sender.specs.Reads.{ReadsAs}
+use Rattle.jc_sender.specs.Reads.{EndsAs, ReadsAs}
 use Rattle.jc_sender.specs.Verdict as V
-use Rattle.jc_sender.specs.Verdict.{TellsBytes}
+use Rattle.jc_sender.specs.Verdict.{TellsBytes, TellsSomeReading}
 use Rattle.jc_console.specs.declared.failure.Failure.{Failure}
 use Rattle.jc_console.specs.declared.status.Status.{Status}
 use Rattle.jc_args.specs.declared.request.InputKind.{InputKind}
 use Rattle.jc_args.specs.declared.request.InputKind.TheVariants.{Export, File}
+
+-- the line that was told is that of a reading of this kind
+pub tells_some : (kind : InputKind) (limits found : Limits) (count : ℕ) (ending : Ending) (r : Result Status Failure)
+    (old new : Option (List ℕ)) → AreDefaults limits.name limits.value limits.fields limits.entry limits.file
+    → found ≡ limits → EndsAs kind found ending → IfOk r (λ status. V.TellsReading count ending status old new)
+    → IfOk r (λ status. TellsSomeReading kind status old new)
+tells_some kind limits found count ending r old new defaults same ends told =
+    IfOk-weaker r _ _ (λ status tells. record {
+      limits = limits;
+      defaults = defaults;
+      count = count;
+      ending = ending;
+      ends = subst (λ (l : Limits). EndsAs kind l ending) same ends;
+      told = tells;
+    }) told
 
 -- the line that was told is that of the bytes' reading
 pub tells_bytes : (kind : InputKind) (bytes : List ℕ) (limits : Limits) (reading : Reading) (count : ℕ) (ending : Ending)

@@ -8,7 +8,7 @@ use Rattle.jc_base.specs.Reading.{Reading}
 use Rattle.jc_base.specs.declared.fault.Ending.{Ending}
 use Rattle.jc_base.specs.declared.fault.Ending.TheVariants.{End, Bad}
 use Rattle.jc_base.specs.declared.limits.Limits.{Limits}
-use Rattle.jc_sender.specs.Reads.{ReadsAs}
+use Rattle.jc_sender.specs.Reads.{EndsAs, ReadsAs}
 use Rattle.jc_console.specs.declared.status.Status.{Status}
 use Rattle.jc_console.specs.declared.status.Status.TheVariants.{Success, Refused}
 use Rattle.jc_args.specs.declared.request.InputKind.{InputKind}
@@ -26,6 +26,16 @@ verdict_status (Bad _) = Refused
 pub record TellsReading (count : ℕ) (ending : Ending) (status : Status) (old new : Option (List ℕ)) : Type 0 where
   pub judged : status ≡ verdict_status ending
   pub printed : Appends old new (verdict_text count ending ++ 10 ∷ [])
+
+-- The output gained the line of some reading, which ends as one of that kind under the default limits, and the status is
+-- that reading's.
+pub record TellsSomeReading (kind : InputKind) (status : Status) (old new : Option (List ℕ)) : Type 0 where
+  pub limits : Limits
+  pub defaults : AreDefaults limits.name limits.value limits.fields limits.entry limits.file
+  pub count : ℕ
+  pub ending : Ending
+  pub ends : EndsAs kind limits ending
+  pub told : TellsReading count ending status old new
 
 -- The output gained the line of what the bytes say under the default limits, and the status is that of this line.
 pub record TellsBytes (kind : InputKind) (bytes : List ℕ) (status : Status) (old new : Option (List ℕ)) : Type 0 where

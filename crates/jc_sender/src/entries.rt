@@ -3,19 +3,22 @@
 ghost use Rattle.std.specs.Prelude.{◌≡◌, Err, IfOk};
 ghost use Rattle.jc_base.specs.declared.source.Stop.TheVariants.{ReadFailed};
 ghost use Rattle.jc_sender.specs.Gathered.{FailedAtDevice, HasCount, HasEntries};
+ghost use Rattle.jc_sender.specs.Reads.{EndsAs};
 
+use crate::input_source::InputSource;
 use jc_base::{Ending, Entry, EntrySource, Step, Stop};
 use std::alloc::Global;
 
 /// How many entries the source gives, and how they end. No entry is kept.
-pub fn count_entries<S: EntrySource>(source: &mut S) -> Result<(u64, Ending), Stop>
+pub fn count_entries<S: InputSource>(source: &mut S) -> Result<(u64, Ending), Stop>
     ensures counted { IfOk result (λ told. HasCount (S.remaining source.old) told.0 told.1) }
+    ensures ending { IfOk result (λ told. EndsAs S.kind (S.limits source.old) told.1) }
     ensures failed { result ≡ Err ReadFailed → FailedAtDevice (S.last source.old) (S.failures source.old)
         (S.failures source.new) }
 {
     let mut count = 0;
     'entries: loop {
-        let step = source.next()?;
+        let step = source.next_step()?;
         match step {
             Step::Entry(_) => count += 1,
             Step::End { left } => return Ok((count, Ending::End { left })),

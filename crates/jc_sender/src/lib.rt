@@ -4,6 +4,7 @@
 mod acknowledge;
 mod answers;
 mod entries;
+mod input_source;
 mod next_upload;
 mod resume_file;
 mod source;
@@ -11,5 +12,6 @@ mod verdict;
 
 pub use acknowledge::ack;
 pub use entries::{all_entries, count_entries};
+pub use input_source::InputSource;
 pub use next_upload::upload;
 pub use verdict::verify;

@@ -2,7 +2,7 @@
 
 ghost use Rattle.std.specs.Prelude.{◌≡◌, ◌≢◌, ◌⊎◌, ℕ, List, Some, IfOk, IfErr};
 ghost use Rattle.std.specs.Io.KnownBytes.{Keeps};
-ghost use Rattle.jc_sender.specs.Verdict.{verdict_text, verdict_status, TellsReading, TellsBytes};
+ghost use Rattle.jc_sender.specs.Verdict.{verdict_text, verdict_status, TellsReading, TellsSomeReading, TellsBytes};
 
 use crate::entries::count_entries;
 use crate::source::file_bytes;
@@ -55,8 +55,8 @@ pub fn verify<'a, R: Files + AllocGlobal, O: Write>(
     file: &'a str,
     output: &mut O,
 ) -> Result<Status, Failure<'a>>
-    ensures told { IfOk result (λ status. (count : ℕ) × (ending : Ending)
-        × TellsReading count ending status (O.contents output.old) (O.contents output.new)) }
+    ensures told { IfOk result (λ status.
+        TellsSomeReading kind status (O.contents output.old) (O.contents output.new)) }
     ensures failed { IfErr result (λ failure. (failure ≡ Failure.CannotOpen file.entry) ⊎ (failure ≡ Failure.ReadFailed)
         ⊎ (failure ≡ Failure.WriteFailed) ⊎ (failure ≡ Failure.OutOfMemory)) }
     ensures untouched { IfErr result (λ failure. failure ≢ Failure.WriteFailed
@@ -77,8 +77,8 @@ fn verify_export<'a, R: ByteStream + Drop, O: Write>(
     device: R,
     output: &mut O,
 ) -> Result<Status, Failure<'a>>
-    ensures told { IfOk result (λ status. (count : ℕ) × (ending : Ending)
-        × TellsReading count ending status (O.contents output.old) (O.contents output.new)) }
+    ensures told { IfOk result (λ status.
+        TellsSomeReading InputKind.Export status (O.contents output.old) (O.contents output.new)) }
     ensures bytes { (bytes : List ℕ) → R.remaining device ≡ Some bytes → IfOk result (λ status.
         TellsBytes InputKind.Export bytes status (O.contents output.old) (O.contents output.new)) }
     ensures failed { IfErr result (λ failure. (failure ≡ Failure.ReadFailed) ⊎ (failure ≡ Failure.WriteFailed)
@@ -99,8 +99,8 @@ fn verify_file<'a, F: Read + Seek + OpenFile + Drop, O: Write>(
     file: F,
     output: &mut O,
 ) -> Result<Status, Failure<'a>>
-    ensures told { IfOk result (λ status. (count : ℕ) × (ending : Ending)
-        × TellsReading count ending status (O.contents output.old) (O.contents output.new)) }
+    ensures told { IfOk result (λ status.
+        TellsSomeReading InputKind.File status (O.contents output.old) (O.contents output.new)) }
     ensures failed { IfErr result (λ failure. (failure ≡ Failure.ReadFailed) ⊎ (failure ≡ Failure.WriteFailed)
         ⊎ (failure ≡ Failure.OutOfMemory)) }
     ensures untouched { IfErr result (λ failure. failure ≢ Failure.WriteFailed
@@ -122,8 +122,8 @@ fn verify_space<'a, B: ByteSpace + Drop, O: Write>(
     space: B,
     output: &mut O,
 ) -> Result<Status, Failure<'a>>
-    ensures told { IfOk result (λ status. (count : ℕ) × (ending : Ending)
-        × TellsReading count ending status (O.contents output.old) (O.contents output.new)) }
+    ensures told { IfOk result (λ status.
+        TellsSomeReading InputKind.File status (O.contents output.old) (O.contents output.new)) }
     ensures bytes { (bytes : List ℕ) → B.bytes space ≡ Some bytes → IfOk result (λ status.
         TellsBytes InputKind.File bytes status (O.contents output.old) (O.contents output.new)) }
     ensures failed { IfErr result (λ failure. (failure ≡ Failure.ReadFailed) ⊎ (failure ≡ Failure.WriteFailed)
