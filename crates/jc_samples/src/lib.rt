@@ -6,6 +6,7 @@ mod devices;
 mod entry;
 mod file;
 mod pieces;
+mod script;
 mod upload;
 
 pub use answer::answer_lines;
@@ -16,4 +17,5 @@ pub use entry::{
 };
 pub use file::{JOURNAL_FILE, LONG_HEADER_FILE, put, put_number};
 pub use pieces::{add_pieces, add_text, add_word};
+pub use script::{limits_of, line, parts};
 pub use upload::{EXPORT, FILE, SOURCE, SOURCE_ID, head};

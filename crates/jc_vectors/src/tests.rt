@@ -7,7 +7,6 @@ mod fields;
 mod files;
 mod mistakes;
 mod outcome;
-mod pages;
 mod pieces;
 mod rows;
 mod said;

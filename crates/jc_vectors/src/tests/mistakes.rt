@@ -7,7 +7,7 @@ use jc_base::OutOfMemory;
 const WRONG: &str = r#"reads ENTRY => ok 2 0
 reads ENTRY => ok 1
 reads METADATA "=x\n\n" => bad 10 108
-cut ENTRY => 2 ok 0
+cut ENTRY => ok 0
 file JOURNAL_FILE => ok 0
 file JOURNAL_FILE put:88:200 => ok 1
 arrays JOURNAL_FILE => ok 1 2
@@ -27,7 +27,7 @@ reads ENTRY => ok 1 0
 const REPORT: &str = r#"line 1: ok 1 0 and not ok 2 0
 line 2: ok 1 0 and not ok 1
 line 3: bad 10 109 and not bad 10 108
-line 4: 1 ok 0 and not 2 ok 0
+line 4: __REALTIME_TIMESTAMP=1000000\n__MONOTONIC_TIMESTAMP=5\n__SEQNUM=1\n__SEQNUM_ID=000102030405060708090a0b0c0d0e0f\nMESSAGE=hi\n\nok 0 and not ok 0
 line 5: ok 1 and not ok 0
 line 6: bad 0 32 88 and not ok 1
 line 7: ok 1 1 and not ok 1 2

@@ -11,9 +11,8 @@
 
 use super::said::said;
 use jc_base::{Limits, OutOfMemory};
-use jc_samples::add_pieces;
+use jc_samples::{limits_of, parts};
 use std::alloc::Global;
-use std::io;
 use std::test::Fail;
 
 /// Fails unless every row of a script is right.
@@ -90,41 +89,5 @@ impl Rows {
         let text = format!(in alloc; "line {line}: {said} and not {wanted}\n")?;
         self.report.push_str(text.as_str())?;
         Ok(())
-    }
-}
-
-/// The bytes of a row, and those that are wanted.
-fn parts(alloc: Global, row: &str) -> io::Result<(Vec<u8>, Vec<u8>)> {
-    let mut bytes = Vec::new(alloc);
-    let mut wanted = Vec::new(alloc);
-    if let Some((pieces, text)) = row.split_once(" => ") {
-        add_pieces(alloc, pieces, &mut bytes)?;
-        wanted.extend_from_slice(text.as_bytes())?;
-        return Ok((bytes, wanted));
-    }
-    let Some((pieces, others)) = row.split_once(" == ") else {
-        return Err(io::Error::from(io::ErrorKind::InvalidInput));
-    };
-    add_pieces(alloc, pieces, &mut bytes)?;
-    add_pieces(alloc, others, &mut wanted)?;
-    Ok((bytes, wanted))
-}
-
-/// Limits, by their five numbers.
-fn limits_of(text: &str) -> Option<Limits> {
-    let (name, text) = next_number(text)?;
-    let (value, text) = next_number(text)?;
-    let (fields, text) = next_number(text)?;
-    let (entry, text) = next_number(text)?;
-    let (file, _) = next_number(text)?;
-    Limits::new(name, value, fields, entry, file)
-}
-
-/// The number that a text begins with, and what comes behind it.
-fn next_number(text: &str) -> Option<(u64, &str)> {
-    let (word, rest) = text.split_once(' ').unwrap_or((text, ""));
-    match word.parse() {
-        Ok(number) => Some((number, rest)),
-        Err(_) => None,
     }
 }

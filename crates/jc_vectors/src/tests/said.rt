@@ -3,7 +3,7 @@
 //! | Word | |
 //! |---|---|
 //! | `reads` | an export stream: `ok ENTRIES LEFT`, or `bad CODE PLACE`; the same by a scanner, in pieces of each length |
-//! | `cut` | the same in pieces of each length: the entries' numbers, and then `ok LEFT` or `bad CODE PLACE` |
+//! | `cut` | the same in pieces of each length: the entries' canonical texts, and then `ok LEFT` or `bad CODE PLACE` |
 //! | `file` | a journal file: `ok ENTRIES`, or `bad ENTRIES CODE PLACE` |
 //! | `arrays` | the same, and then the number of its arrays |
 //! | `first` | a journal file: the canonical text of its first entry, or `none` |
@@ -21,9 +21,9 @@ use super::values::field;
 use jc_base::{Ending, Entry, EntrySource, Fault, Id128, Key, Limits, OutOfMemory, Step, is_text};
 use jc_export::{canonical, fields_text, read_all, read_fields};
 use jc_file::{FileEntries, SliceSpace};
-use jc_samples::{SEQNUM_ID, SOURCE_ID};
+use jc_samples::{SEQNUM_ID, SOURCE_ID, line};
 use jc_upload::{Answer, Kind, Resume, UploadHead, Version};
-use std::alloc::{AllocError, Global};
+use std::alloc::Global;
 
 /// What is said of the bytes; `None` if there is no such word.
 pub(super) fn said(
@@ -47,22 +47,6 @@ pub(super) fn said(
         _ => return Ok(None),
     };
     Ok(Some(said?))
-}
-
-/// A word, and numbers after it.
-pub(super) fn line(alloc: Global, word: &str, numbers: &[u64]) -> Result<Vec<u8>, OutOfMemory> {
-    let mut line = Vec::from_slice(alloc, word.as_bytes())?;
-    for number in numbers {
-        line.push(b' ')?;
-        add_number(alloc, *number, &mut line)?;
-    }
-    Ok(line)
-}
-
-/// Adds a number in decimal digits.
-pub(super) fn add_number(alloc: Global, number: u64, text: &mut Vec<u8>) -> Result<(), AllocError> {
-    let digits = format!(in alloc; "{number}")?;
-    text.extend_from_slice(digits.as_bytes())
 }
 
 pub(super) fn bad(alloc: Global, fault: Fault) -> Result<Vec<u8>, OutOfMemory> {

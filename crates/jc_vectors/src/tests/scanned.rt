@@ -1,7 +1,8 @@
 //! Export streams by a scanner, in pieces.
 
-use super::said::{bad, line};
+use super::said::bad;
 use jc_base::{Limits, OutOfMemory, Step};
+use jc_samples::line;
 use jc_stream::Scanner;
 use std::alloc::Global;
 
