@@ -1,10 +1,12 @@
-//! Deliveries that are collected, and what may be answered.
+//! Uploads that are collected, and what may be answered.
 
-use jc_base::{ByteSink, ByteStream, Id128, Limits, SliceStream};
+use jc_base::faulty::{FailSink, FailStream};
+use jc_base::{ByteSink, ByteStream, Id128, Limits, SliceStream, VecSink};
 use jc_collect::{Delivery, RunEnd, collect_one, run};
+use jc_file::faulty::FailSpace;
 use jc_file::{ByteSpace, SliceSpace};
 use jc_keeper::Keeper;
-use jc_samples::SOURCE_ID;
+use jc_samples::{Pieces, SOURCE_ID, Slow};
 use jc_upload::Answer;
 use std::alloc::Global;
 
@@ -34,9 +36,30 @@ pub(super) const fn unread(code: u16, place: u64) -> Answer {
     }
 }
 
+/// An upload that comes as a stream or as a space. Either fails once.
+pub(super) type Upload<'a> = Delivery<
+    FailStream<Pieces<SliceStream<'a>>>,
+    FailSpace<SliceSpace<'a>>,
+>;
+
+/// More reads and writes than there are.
+pub(super) const NEVER: u64 = u64::MAX;
+
+/// An upload from a stream that gives at most so many bytes at each read, and fails after so many reads.
+pub(super) fn stream(bytes: &[u8], most: usize, passes: u64) -> Upload<'_> {
+    let inner = SliceStream::new(bytes);
+    let most = most.max(1);
+    Delivery::Stream(FailStream::new(Pieces { inner, most }, passes))
+}
+
+/// An upload from a space that fails after so many reads.
+pub(super) fn space(bytes: &[u8], passes: u64) -> Upload<'_> {
+    Delivery::Space(FailSpace::new(SliceSpace { bytes }, passes))
+}
+
 /// What a delivery is answered with. What calls this has nothing of `collect_one`'s contract to prove with, so it is
 /// proved in less time.
-pub(super) fn collect_delivery<K: Keeper, R: ByteStream, B: ByteSpace>(
+fn collect_delivery<K: Keeper, R: ByteStream, B: ByteSpace>(
     alloc: Global,
     keeper: &mut K,
     delivery: &mut Delivery<R, B>,
@@ -46,7 +69,7 @@ pub(super) fn collect_delivery<K: Keeper, R: ByteStream, B: ByteSpace>(
 }
 
 /// The same of a run.
-pub(super) fn collect_all<K: Keeper, R: ByteStream, B: ByteSpace, W: ByteSink>(
+fn collect_deliveries<K: Keeper, R: ByteStream, B: ByteSpace, W: ByteSink>(
     alloc: Global,
     keeper: &mut K,
     deliveries: &mut [Delivery<R, B>],
@@ -55,40 +78,32 @@ pub(super) fn collect_all<K: Keeper, R: ByteStream, B: ByteSpace, W: ByteSink>(
     run(alloc, keeper, deliveries, sink, &Limits::default())
 }
 
-/// What a stream's upload is answered with, under the usual limits.
-pub(super) fn collect_stream<K: Keeper, R: ByteStream + Drop>(
+/// What an upload is answered with.
+pub(super) fn collect_within<K: Keeper>(
     alloc: Global,
     keeper: &mut K,
-    device: R,
-) -> Answer {
-    collect_stream_within(alloc, keeper, device, &Limits::default())
-}
-
-pub(super) fn collect_stream_within<K: Keeper, R: ByteStream + Drop>(
-    alloc: Global,
-    keeper: &mut K,
-    device: R,
+    upload: &mut Upload<'_>,
     limits: &Limits,
 ) -> Answer {
-    let mut delivery: Delivery<R, SliceSpace<'_>> = Delivery::Stream(device);
-    collect_delivery(alloc, keeper, &mut delivery, limits)
+    collect_delivery(alloc, keeper, upload, limits)
 }
 
-/// The same of an upload in a space.
-pub(super) fn collect_space<K: Keeper, B: ByteSpace + Drop>(
-    alloc: Global,
-    keeper: &mut K,
-    space: B,
-) -> Answer {
-    collect_space_within(alloc, keeper, space, &Limits::default())
+/// The same under the usual limits.
+pub(super) fn collect<K: Keeper>(alloc: Global, keeper: &mut K, upload: &mut Upload<'_>) -> Answer {
+    collect_within(alloc, keeper, upload, &Limits::default())
 }
 
-pub(super) fn collect_space_within<K: Keeper, B: ByteSpace + Drop>(
+/// How a run over uploads ends, to a sink that takes one byte at each write and fails after so many, and what it took.
+pub(super) fn collect_all<K: Keeper>(
     alloc: Global,
     keeper: &mut K,
-    space: B,
-    limits: &Limits,
-) -> Answer {
-    let mut delivery: Delivery<SliceStream<'_>, B> = Delivery::Space(space);
-    collect_delivery(alloc, keeper, &mut delivery, limits)
+    uploads: &mut [Upload<'_>],
+    passes: u64,
+) -> (RunEnd, Vec<u8>) {
+    let inner = Slow {
+        inner: VecSink::new(alloc),
+    };
+    let mut sink = FailSink::new(inner, passes);
+    let end = collect_deliveries(alloc, keeper, uploads, &mut sink);
+    (end, sink.inner.inner.into_bytes())
 }

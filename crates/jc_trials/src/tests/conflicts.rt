@@ -2,18 +2,20 @@
 
 use super::journals::{Journals, Maps, Tables, keeps};
 use super::readings::source;
-use super::same::{same_absorbed, same_number};
-use jc_base::{EntrySource, ListSource, Step};
+use super::same::{same_absorbed, same_bytes};
+use jc_base::{EntrySource, ListSource, OutOfMemory, Step};
+use jc_export::canonical;
 use jc_keeper::{Absorbed, KeepStop, Keeper};
 use jc_samples::{CHANGED_ENTRY, ENTRY, ENTRY_2, ENTRY_3};
+use std::alloc::Global;
 use std::process::Abort;
 use std::test::Fail;
 
-/// The number of the next entry, and 0 if there is none.
-fn next_number<S: EntrySource>(source: &mut S) -> u64 {
+/// The canonical text of the next entry, and no bytes if there is none.
+fn next_text<S: EntrySource>(alloc: Global, source: &mut S) -> Result<Vec<u8>, OutOfMemory> {
     match source.next() {
-        Ok(Step::Entry(entry)) => entry.key().seqnum,
-        Ok(_) | Err(_) => 0,
+        Ok(Step::Entry(entry)) => canonical(alloc, &entry),
+        Ok(_) | Err(_) => Ok(Vec::new(alloc)),
     }
 }
 
@@ -21,34 +23,27 @@ fn absorb<K: Keeper>(keeper: &mut K, reading: &mut ListSource) -> Result<Absorbe
     keeper.absorb(reading)
 }
 
-/// A reading whose second entry conflicts, with itself or with what is stored, and the number of its third.
+/// A reading whose second entry conflicts, with itself or with what is stored: its third is the next that it gives.
 fn stops_at_a_conflict<J: Journals>(
     rt: &(impl Abort + AllocGlobal),
     journals: &mut J,
     stored: &[&[u8]],
-    texts: &[&[u8]],
-    third: u64,
+    texts: [&[u8]; 3],
 ) -> Result<(), Fail> {
     let alloc = rt.alloc();
     let mut keeper = journals.empty()?;
     absorb(&mut keeper, &mut source(alloc, stored)?)?;
-    let mut reading = source(alloc, texts)?;
+    let mut reading = source(alloc, &texts)?;
     let absorbed = absorb(&mut keeper, &mut reading);
     same_absorbed(rt, absorbed, Absorbed::Conflict { index: 1 });
-    same_number(rt, next_number(&mut reading), third);
+    same_bytes(rt, &next_text(alloc, &mut reading)?, texts[2]);
     assert!(rt; keeps(alloc, &mut keeper, stored)?);
     Ok(())
 }
 
 fn conflicts<J: Journals>(rt: &(impl Abort + AllocGlobal), journals: &mut J) -> Result<(), Fail> {
-    stops_at_a_conflict(rt, journals, &[], &[ENTRY, CHANGED_ENTRY, ENTRY_2], 2)?;
-    stops_at_a_conflict(
-        rt,
-        journals,
-        &[ENTRY],
-        &[ENTRY_2, CHANGED_ENTRY, ENTRY_3],
-        3,
-    )
+    stops_at_a_conflict(rt, journals, &[], [ENTRY, CHANGED_ENTRY, ENTRY_2])?;
+    stops_at_a_conflict(rt, journals, &[ENTRY], [ENTRY_2, CHANGED_ENTRY, ENTRY_3])
 }
 
 #[test]

@@ -1,23 +1,17 @@
 //! Devices that fail at every place: what is answered and stored then, and that the same delivery made anew is taken up.
 
-use super::answers::{
-    ack, collect_all, collect_delivery, collect_space, collect_stream, no, unread,
-};
+use super::answers::{NEVER, ack, collect, collect_all, no, space, stream, unread};
 use super::journals::{Journals, Maps, Tables, keeps};
 use super::same::{same_answer, same_bytes, same_end, same_number};
-use jc_base::faulty::{FailSink, FailStream};
-use jc_base::{Limits, SliceStream, VecSink};
 use jc_collect::{Delivery, RunEnd};
-use jc_file::SliceSpace;
-use jc_file::faulty::FailSpace;
 use jc_keeper::Keeper;
-use jc_samples::{
-    CHANGED_ENTRY, ENTRY, ENTRY_2, EXPORT, FILE, JOURNAL_FILE, Slow, answer_lines, bytewise,
-};
+use jc_samples::{CHANGED_ENTRY, ENTRY, ENTRY_2, EXPORT, FILE, JOURNAL_FILE, answer_lines};
 use jc_upload::Answer;
-use std::alloc::Global;
 use std::process::Abort;
 use std::test::Fail;
+
+/// As many bytes as a read asks for.
+const WHOLE: usize = usize::MAX;
 
 /// Whether nothing is stored, and the upload is then taken up with its entries.
 fn goes_on<K: Keeper>(
@@ -27,7 +21,7 @@ fn goes_on<K: Keeper>(
     entries: u64,
 ) -> Result<(), Fail> {
     assert!(rt; keeps(rt.alloc(), keeper, &[])?);
-    let again = collect_stream(rt.alloc(), keeper, SliceStream::new(upload));
+    let again = collect(rt.alloc(), keeper, &mut stream(upload, WHOLE, NEVER));
     same_answer(rt, 0, again, ack(entries, entries, 0));
     Ok(())
 }
@@ -50,8 +44,7 @@ fn a_read_fails<J: Journals>(
     entries: u64,
 ) -> Result<(), Fail> {
     let mut keeper = journals.empty()?;
-    let device = FailStream::new(bytewise(upload), passes);
-    let answer = collect_stream(rt.alloc(), &mut keeper, device);
+    let answer = collect(rt.alloc(), &mut keeper, &mut stream(upload, 1, passes));
     same_answer(rt, passes, answer, told(passes));
     goes_on(rt, &mut keeper, upload, entries)
 }
@@ -64,8 +57,7 @@ fn a_range_fails<J: Journals>(
     passes: u64,
 ) -> Result<(), Fail> {
     let mut keeper = journals.empty()?;
-    let space = FailSpace::new(SliceSpace { bytes: upload }, passes);
-    let answer = collect_space(rt.alloc(), &mut keeper, space);
+    let answer = collect(rt.alloc(), &mut keeper, &mut space(upload, passes));
     let wanted = if passes == 0 {
         unread(61, 0)
     } else {
@@ -86,8 +78,8 @@ fn a_stream_fails<J: Journals>(
     for passes in 0..291 {
         a_read_fails(rt, journals, &upload, passes, 2)?;
     }
-    let device = FailStream::new(bytewise(&upload), 291);
-    let answer = collect_stream(alloc, &mut journals.empty()?, device);
+    let mut last = stream(&upload, 1, 291);
+    let answer = collect(alloc, &mut journals.empty()?, &mut last);
     same_answer(rt, 291, answer, ack(2, 2, 0));
     Ok(())
 }
@@ -100,12 +92,11 @@ fn a_conflict_comes_before_the_next_read<J: Journals>(
     let alloc = rt.alloc();
     let first = [EXPORT.as_slice(), ENTRY].concat(alloc)?;
     let mut keeper = journals.empty()?;
-    let new = collect_stream(alloc, &mut keeper, SliceStream::new(&first));
+    let new = collect(alloc, &mut keeper, &mut stream(&first, WHOLE, NEVER));
     same_answer(rt, 0, new, ack(1, 1, 0));
     let mut other = [EXPORT.as_slice(), CHANGED_ENTRY].concat(alloc)?;
     other.extend_from_slice(&ENTRY.repeat(alloc, 1_000)?)?;
-    let device = FailStream::new(SliceStream::new(&other), 2);
-    let conflict = collect_stream(alloc, &mut keeper, device);
+    let conflict = collect(alloc, &mut keeper, &mut stream(&other, WHOLE, 2));
     same_answer(rt, 2, conflict, no(60, 0));
     Ok(())
 }
@@ -117,10 +108,8 @@ fn reads_of<J: Journals>(
     upload: &[u8],
 ) -> Result<u64, Fail> {
     let most = 1000;
-    let space = FailSpace::new(SliceSpace { bytes: upload }, most);
-    let mut delivery: Delivery<SliceStream<'_>, _> = Delivery::Space(space);
-    let mut keeper = journals.empty()?;
-    let answer = collect_delivery(rt.alloc(), &mut keeper, &mut delivery, &Limits::default());
+    let mut delivery = space(upload, most);
+    let answer = collect(rt.alloc(), &mut journals.empty()?, &mut delivery);
     same_answer(rt, most, answer, ack(1, 1, 0));
     let left = match delivery {
         Delivery::Space(space) => space.passes,
@@ -167,30 +156,10 @@ fn a_stream_in_a_space_fails<J: Journals>(
     for passes in [0, 1] {
         a_range_fails(rt, journals, &export, passes)?;
     }
-    let space = FailSpace::new(SliceSpace { bytes: &export }, 2);
-    let answer = collect_space(rt.alloc(), &mut journals.empty()?, space);
+    let mut last = space(&export, 2);
+    let answer = collect(rt.alloc(), &mut journals.empty()?, &mut last);
     same_answer(rt, 2, answer, ack(1, 1, 0));
     Ok(())
-}
-
-/// The end of a run of two deliveries, to a sink that takes one byte at each write and fails once, and what it took.
-fn run_to_a_failure<K: Keeper>(
-    alloc: Global,
-    keeper: &mut K,
-    space: &[u8],
-    stream: &[u8],
-    passes: u64,
-) -> (RunEnd, Vec<u8>) {
-    let mut deliveries: [Delivery<SliceStream<'_>, SliceSpace<'_>>; 2] = [
-        Delivery::Space(SliceSpace { bytes: space }),
-        Delivery::Stream(SliceStream::new(stream)),
-    ];
-    let inner = Slow {
-        inner: VecSink::new(alloc),
-    };
-    let mut sink = FailSink::new(inner, passes);
-    let end = collect_all(alloc, keeper, &mut deliveries, &mut sink);
-    (end, sink.inner.inner.into_bytes())
 }
 
 /// The sink fails after so many bytes: so many answers are written whole, and so many bytes of the next one.
@@ -205,7 +174,8 @@ fn a_write_fails<J: Journals>(
     let first = [EXPORT.as_slice(), ENTRY].concat(alloc)?;
     let second = [EXPORT.as_slice(), ENTRY_2].concat(alloc)?;
     let mut keeper = journals.empty()?;
-    let (end, out) = run_to_a_failure(alloc, &mut keeper, &first, &second, passes);
+    let mut uploads = [space(&first, NEVER), stream(&second, WHOLE, NEVER)];
+    let (end, out) = collect_all(alloc, &mut keeper, &mut uploads, passes);
     let stopped = RunEnd::Stopped {
         done,
         written: bytes,
@@ -215,7 +185,7 @@ fn a_write_fails<J: Journals>(
     let front = both.as_bytes().get(..passes as usize).unwrap_or(b"");
     same_bytes(rt, &out, front);
     assert!(rt; keeps(alloc, &mut keeper, stored)?);
-    let again = collect_stream(alloc, &mut keeper, SliceStream::new(&first));
+    let again = collect(alloc, &mut keeper, &mut stream(&first, WHOLE, NEVER));
     same_answer(rt, passes, again, ack(1, 0, 0));
     Ok(())
 }

@@ -8,17 +8,14 @@
 //!
 //! `add_pieces` has the form of `PIECES`. Each run begins with an empty journal.
 
-use super::answers::collect_all;
+use super::answers::{NEVER, Upload, collect_all, space, stream};
 use super::journals::{Journals, Maps, OldTables, Tables, stored};
 use super::same::same_bytes;
-use jc_base::{ByteStream, SliceStream, VecSink};
-use jc_collect::{Delivery, RunEnd};
-use jc_file::{ByteSpace, SliceSpace};
+use jc_collect::RunEnd;
 use jc_keeper::Keeper;
-use jc_samples::{Pieces, add_pieces, answer_lines};
+use jc_samples::{add_pieces, answer_lines, line};
 use std::alloc::Global;
 use std::process::Abort;
-use std::str;
 use std::test::Fail;
 
 /// How uploads are delivered: as streams that give at most this many bytes at each read, or as spaces.
@@ -44,47 +41,31 @@ struct Rows {
     lines: String,
     has_run: bool,
     /// The rows that are wrong.
-    report: String,
+    report: Vec<u8>,
+}
+
+fn delivered(upload: &[u8], way: Way) -> Upload<'_> {
+    match way {
+        Way::Pieces(most) => stream(upload, most, NEVER),
+        Way::Spaces => space(upload, NEVER),
+    }
 }
 
 /// Collects, and answers what was written.
-fn written<K: Keeper, R: ByteStream, B: ByteSpace>(
-    alloc: Global,
-    keeper: &mut K,
-    deliveries: &mut [Delivery<R, B>],
-) -> Result<Vec<u8>, Fail> {
-    let mut sink = VecSink::new(alloc);
-    match collect_all(alloc, keeper, deliveries, &mut sink) {
-        RunEnd::Done => Ok(sink.into_bytes()),
-        RunEnd::Stopped { .. } => Err(Fail::new("the run stopped")),
-    }
-}
-
-fn as_streams<K: Keeper>(
+fn written<K: Keeper>(
     alloc: Global,
     keeper: &mut K,
     uploads: &[Vec<u8>],
-    most: usize,
+    way: Way,
 ) -> Result<Vec<u8>, Fail> {
-    let most = most.max(1);
-    let mut deliveries: Vec<Delivery<_, SliceSpace<'_>>> = Vec::new(alloc);
+    let mut deliveries = Vec::new(alloc);
     for upload in uploads {
-        let inner = SliceStream::new(upload);
-        deliveries.push(Delivery::Stream(Pieces { inner, most }))?;
+        deliveries.push(delivered(upload, way))?;
     }
-    written(alloc, keeper, &mut deliveries)
-}
-
-fn as_spaces<K: Keeper>(
-    alloc: Global,
-    keeper: &mut K,
-    uploads: &[Vec<u8>],
-) -> Result<Vec<u8>, Fail> {
-    let mut deliveries: Vec<Delivery<SliceStream<'_>, _>> = Vec::new(alloc);
-    for upload in uploads {
-        deliveries.push(Delivery::Space(SliceSpace { bytes: upload }))?;
+    match collect_all(alloc, keeper, &mut deliveries, NEVER) {
+        (RunEnd::Done, lines) => Ok(lines),
+        (RunEnd::Stopped { .. }, _) => Err(Fail::new("the run stopped")),
     }
-    written(alloc, keeper, &mut deliveries)
 }
 
 /// What a run over uploads leaves behind, into an empty journal.
@@ -95,10 +76,7 @@ fn left_by<J: Journals>(
     way: Way,
 ) -> Result<Left, Fail> {
     let mut keeper = journals.empty()?;
-    let lines = match way {
-        Way::Pieces(most) => as_streams(alloc, &mut keeper, uploads, most)?,
-        Way::Spaces => as_spaces(alloc, &mut keeper, uploads)?,
-    };
+    let lines = written(alloc, &mut keeper, uploads, way)?;
     let texts = stored(alloc, &mut keeper)?;
     Ok(Left { lines, texts })
 }
@@ -115,17 +93,17 @@ impl Rows {
             "" | "#" => Ok(()),
             "upload" => self.add(alloc, rest),
             "stores" => self.judge(alloc, journals, rest),
-            _ => self.tell(alloc, "no such word"),
+            _ => self.tell(alloc, b"no such word"),
         }
     }
 
     fn add(&mut self, alloc: Global, rest: &str) -> Result<(), Fail> {
         let Some((pieces, short)) = rest.split_once(" => ") else {
-            return self.tell(alloc, "no answer");
+            return self.tell(alloc, b"no answer");
         };
         let mut upload = Vec::new(alloc);
         if add_pieces(alloc, pieces, &mut upload).is_err() {
-            return self.tell(alloc, "no pieces");
+            return self.tell(alloc, b"no pieces");
         }
         self.uploads.push(upload)?;
         let answers = answer_lines(alloc, &[short])?;
@@ -142,7 +120,7 @@ impl Rows {
     ) -> Result<(), Fail> {
         let mut texts = Vec::new(alloc);
         if add_pieces(alloc, pieces, &mut texts).is_err() {
-            return self.tell(alloc, "no pieces");
+            return self.tell(alloc, b"no pieces");
         }
         let lines = Vec::from_slice(alloc, self.lines.as_bytes())?;
         self.compare_ways(alloc, journals, &Left { lines, texts })?;
@@ -173,20 +151,20 @@ impl Rows {
 
     fn compare(&mut self, alloc: Global, found: &Left, wanted: &Left) -> Result<(), Fail> {
         if found.lines.as_slice() != wanted.lines.as_slice() {
-            let lines = str::from_utf8(&found.lines).unwrap_or("no text");
-            return self.tell(alloc, lines);
+            return self.tell(alloc, &found.lines);
         }
         if found.texts.as_slice() != wanted.texts.as_slice() {
-            return self.tell(alloc, "other entries are stored");
+            return self.tell(alloc, b"other entries are stored");
         }
         Ok(())
     }
 
     /// Adds to the report.
-    fn tell(&mut self, alloc: Global, what: &str) -> Result<(), Fail> {
-        let line = self.line;
-        let text = format!(in alloc; "line {line}: {what:?}\n")?;
-        self.report.push_str(text.as_str())?;
+    fn tell(&mut self, alloc: Global, what: &[u8]) -> Result<(), Fail> {
+        let place = line(alloc, "line", &[self.line])?;
+        for part in [place.as_slice(), b": ", what, b"\n"] {
+            self.report.extend_from_slice(part)?;
+        }
         Ok(())
     }
 }
@@ -197,20 +175,20 @@ pub(super) fn report_of<J: Journals>(
     alloc: Global,
     journals: &mut J,
     script: &str,
-) -> Result<String, Fail> {
+) -> Result<Vec<u8>, Fail> {
     let mut rows = Rows {
         line: 0,
         uploads: Vec::new(alloc),
         lines: String::new(alloc),
         has_run: false,
-        report: String::new(alloc),
+        report: Vec::new(alloc),
     };
     for line in script.lines() {
         rows.line = rows.line.saturating_add(1);
         rows.take(alloc, journals, line)?;
     }
     if !rows.has_run || !rows.uploads.is_empty() {
-        rows.tell(alloc, "nothing is run")?;
+        rows.tell(alloc, b"nothing is run")?;
     }
     Ok(rows.report)
 }
@@ -319,7 +297,7 @@ stores ""
 
 fn worked_runs<J: Journals>(rt: &(impl Abort + AllocGlobal), journals: &mut J) -> Result<(), Fail> {
     let report = report_of(rt.alloc(), journals, ROWS)?;
-    same_bytes(rt, report.as_bytes(), b"");
+    same_bytes(rt, &report, b"");
     Ok(())
 }
 
@@ -349,26 +327,30 @@ stores "ENTRY
 upload head:1:0 ENTRY => ack S 0 1 1 0
 "#;
 
-const REPORT: &str = r#"line 2: "ack a0a1a2a3a4a5a6a7a8a9aaabacadaeaf 0 1 1 0\n"
-line 2: "ack a0a1a2a3a4a5a6a7a8a9aaabacadaeaf 0 1 1 0\n"
-line 2: "ack a0a1a2a3a4a5a6a7a8a9aaabacadaeaf 0 1 1 0\n"
-line 2: "ack a0a1a2a3a4a5a6a7a8a9aaabacadaeaf 0 1 1 0\n"
-line 4: "other entries are stored"
-line 4: "other entries are stored"
-line 4: "other entries are stored"
-line 4: "other entries are stored"
-line 5: "no answer"
-line 6: "no such word"
-line 7: "no pieces"
-line 8: "no pieces"
-line 9: "nothing is run"
+const REPORT: &str = r#"line 2: ack a0a1a2a3a4a5a6a7a8a9aaabacadaeaf 0 1 1 0
+
+line 2: ack a0a1a2a3a4a5a6a7a8a9aaabacadaeaf 0 1 1 0
+
+line 2: ack a0a1a2a3a4a5a6a7a8a9aaabacadaeaf 0 1 1 0
+
+line 2: ack a0a1a2a3a4a5a6a7a8a9aaabacadaeaf 0 1 1 0
+
+line 4: other entries are stored
+line 4: other entries are stored
+line 4: other entries are stored
+line 4: other entries are stored
+line 5: no answer
+line 6: no such word
+line 7: no pieces
+line 8: no pieces
+line 9: nothing is run
 "#;
 
 #[test]
 fn wrong_rows_are_told(rt: HostRuntime) -> Result<(), Fail> {
     let report = report_of(rt.alloc(), &mut Maps(rt.alloc()), WRONG)?;
-    same_bytes(&rt, report.as_bytes(), REPORT.as_bytes());
+    same_bytes(&rt, &report, REPORT.as_bytes());
     let report = report_of(rt.alloc(), &mut Maps(rt.alloc()), "# no rows")?;
-    same_bytes(&rt, report.as_bytes(), b"line 1: \"nothing is run\"\n");
+    same_bytes(&rt, &report, b"line 1: nothing is run\n");
     Ok(())
 }

@@ -36,3 +36,8 @@ pub(super) fn same_absorbed(rt: &impl Abort, got: Result<Absorbed, KeepStop>, wa
 pub(super) fn same_end(rt: &impl Abort, got: RunEnd, wanted: RunEnd) {
     assert_eq!(rt; got, wanted);
 }
+
+/// Ends the test unless the row of this number holds, from 0.
+pub(super) fn holds_at(rt: &impl Abort, number: u64, holds: bool) {
+    assert!(rt; holds, "row {number}");
+}

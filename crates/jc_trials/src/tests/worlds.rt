@@ -2,7 +2,7 @@
 
 use super::journals::{Journals, Maps, Tables};
 use super::readings::entries;
-use super::same::same_answers;
+use super::same::{holds_at, same_answers, same_number};
 use jc_base::{Id128, Limits, OutOfMemory};
 use jc_keeper::Keeper;
 use jc_samples::{
@@ -88,13 +88,11 @@ fn check<K: Keeper + Drop>(
     world: &mut World<K>,
     rows: &[Row],
 ) -> Result<(), Fail> {
-    for (event, taken, position, saved) in rows {
-        assert!(rt; step(world, event)? == *taken, "{event:?}");
+    for (number, (event, taken, position, saved)) in rows.iter().enumerate() {
+        let has_taken = step(world, event)?;
         let (found, points) = first_of(world);
-        assert!(rt;
-            found == *position && points == *saved,
-            "{found}, {points} after {event:?}"
-        );
+        let holds = has_taken == *taken && found == *position && points == *saved;
+        holds_at(rt, number as u64, holds);
     }
     Ok(())
 }
@@ -171,17 +169,10 @@ fn second_machine<K: Keeper + Drop>(
 }
 
 fn check_lengths(rt: &impl Abort, uploads: &[Vec<u8>]) {
-    let [first, second, third, fourth, fifth] = uploads else {
-        panic!(rt; "{} uploads", uploads.len());
-    };
-    let lengths = [
-        first.len(),
-        second.len(),
-        third.len(),
-        fourth.len(),
-        fifth.len(),
-    ];
-    assert!(rt; lengths == [290, 411, 290, 169, 448], "{lengths:?}");
+    same_number(rt, uploads.len() as u64, 5);
+    for (upload, len) in uploads.iter().zip([290, 411, 290, 169, 448]) {
+        same_number(rt, upload.len() as u64, len);
+    }
 }
 
 fn worked_steps<J: Journals>(

@@ -31,10 +31,7 @@ fn a_world_in_memory(rt: HostRuntime) -> Result<(), Fail> {
         Event::Alien(bytes),
     ];
     let (progress, world) = world_of(alloc, &events)?;
-    assert!(rt;
-        progress.taken == 5 && progress.refusal.is_none(),
-        "{progress:?}"
-    );
+    assert!(rt; progress.taken == 5 && progress.refusal.is_none());
     same_answers(&rt, world.answers(), &[ack(0, 0, 0, 0), no(None, 1, 8)]);
     Ok(())
 }
