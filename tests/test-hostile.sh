@@ -9,7 +9,7 @@ if [[ -d /dev/shm && -w /dev/shm ]]; then
 fi
 # less memory than the largest journal file has bytes
 ulimit -v 1000000
-export CALLS=${CALLS:-crates/jc_calls/out/jc_calls}
+export CALLS=${CALLS:-crates/jc_test_calls/out/jc_test_calls}
 export PROGRAM PYTHONPATH=tests:tests/collect PYTHONDONTWRITEBYTECODE=1
 for part in uploads bodies damaged; do
     python3 "tests/hostile/$part.py" || differs "tests/hostile/$part.py"

@@ -1,6 +1,6 @@
 #!/usr/bin/env bash
 # Memory is refused to every command at one request after another, alone and with all later ones; in a long row of requests
-# of one size, at some of them; and to calls of the libraries, as jc_calls makes them.
+# of one size, at some of them; and to calls of the libraries, as jc_test_calls makes them.
 # The library that refuses is preloaded, and compiled here by the compiler of the toolchain.
 set -uo pipefail
 . "$(dirname "$0")/expect.sh"
@@ -11,7 +11,7 @@ if [[ -d /dev/shm && -w /dev/shm ]]; then
 fi
 # The store takes 8 MB as it opens a database; in large pages that takes the system half of the time.
 export GLIBC_TUNABLES=glibc.malloc.hugetlb=1
-export CALLS=${CALLS:-crates/jc_calls/out/jc_calls}
+export CALLS=${CALLS:-crates/jc_test_calls/out/jc_test_calls}
 export PROGRAM PYTHONPATH=tests:tests/collect:tests/hostile:tests/schedules PYTHONDONTWRITEBYTECODE=1
 for part in sweeps calls worlds; do
     python3 "tests/memory/$part.py" || differs "tests/memory/$part.py"

@@ -3,7 +3,7 @@
 set -uo pipefail
 . "$(dirname "$0")/expect.sh"
 
-export CALLS=${CALLS:-crates/jc_calls/out/jc_calls}
+export CALLS=${CALLS:-crates/jc_test_calls/out/jc_test_calls}
 export PYTHONPATH=tests:tests/collect PYTHONDONTWRITEBYTECODE=1
 python3 tests/schedules/schedules.py || differs tests/schedules/schedules.py
 finish

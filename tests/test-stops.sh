@@ -11,7 +11,7 @@ if [[ -d /dev/shm && -w /dev/shm ]]; then
 fi
 # The store takes 8 MB as it opens a database; in large pages that takes the system half of the time.
 export GLIBC_TUNABLES=glibc.malloc.hugetlb=1
-export CALLS=${CALLS:-crates/jc_calls/out/jc_calls}
+export CALLS=${CALLS:-crates/jc_test_calls/out/jc_test_calls}
 export PROGRAM PYTHONPATH=tests:tests/collect PYTHONDONTWRITEBYTECODE=1
 for part in stops losses disks; do
     python3 "tests/stops/$part.py" || differs "tests/stops/$part.py"

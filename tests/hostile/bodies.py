@@ -1,5 +1,5 @@
 """Streams and journal files read, and collected as the bodies of uploads, under limits that the program itself has no words for: by
-crates/jc_calls, a program for tests that makes public calls over a journal in memory.
+crates/jc_test_calls, a program for tests that makes public calls over a journal in memory.
 
 The answers are worked out by the model's own reader. The spaces record what is asked of them: no range ends after the arena, each object
 is asked for once, and of a field no more than the limits let a pair have.

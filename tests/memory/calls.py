@@ -1,4 +1,4 @@
-"""Memory is refused at one place after another of the public calls that answer `out of memory`, each made by crates/jc_calls, a program
+"""Memory is refused at one place after another of the public calls that answer `out of memory`, each made by crates/jc_test_calls, a program
 for tests: calls.py [NAME..], or all of them.
 
 A run makes some calls twice, and looks at the journal between them. Each prints what it has to, or that memory was refused; the journal

@@ -1,4 +1,4 @@
-"""Memory is refused at one place after another of schedules of machines and their collector, as crates/jc_calls takes them, a program
+"""Memory is refused at one place after another of schedules of machines and their collector, as crates/jc_test_calls takes them, a program
 for tests: to the making of a world, to each of its events, and to a run of all of them in another one.
 
 A call that is refused is made once more, and then all has to be as if nothing had happened; or the collector answers a delivery with 63,

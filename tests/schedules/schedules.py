@@ -1,4 +1,4 @@
-"""Random schedules of two machines and their collector: each event's answer, and what there is at the end, as crates/jc_calls prints it,
+"""Random schedules of two machines and their collector: each event's answer, and what there is at the end, as crates/jc_test_calls prints it,
 a program for tests, compared with a model of a few lists.
 """
 import os

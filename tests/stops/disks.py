@@ -1,4 +1,4 @@
-"""A journal on two disks in memory, as crates/jc_calls has them: those of the library that the database stands on. A disk fails every
+"""A journal on two disks in memory, as crates/jc_test_calls has them: those of the library that the database stands on. A disk fails every
 call once it has done some, also with what wasn't synced lost then, or it has a byte that can't be read; one disk or the other, at one
 place after another.
 

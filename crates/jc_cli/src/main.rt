@@ -2,7 +2,7 @@
 #![tactic(auto)]
 
 pub use jc_command::command;
-use jc_console::Failure;
+use jc_command_shared::Failure;
 use std::process::ExitCode;
 use std::{env, io};
 

@@ -8,24 +8,24 @@ use Rattle.clap.specs.declared.error.kind.ErrorKind.{ErrorKind}
 use Rattle.clap.specs.declared.error.kind.ErrorKind.TheVariants as kind
 use Rattle.jc_base.specs.declared.fault.Ending.{Ending}
 use Rattle.jc_base.specs.declared.fault.Ending.TheVariants.{End, Bad}
-use Rattle.jc_database.specs.declared.health.Health.{Health}
-use Rattle.jc_database.specs.declared.health.Health.TheVariants as health
-use Rattle.jc_console.specs.declared.failure.Failure.{Failure}
-use Rattle.jc_console.specs.declared.failure.Failure.TheVariants as failures
-use Rattle.jc_console.specs.declared.status.Status.{Status}
-use Rattle.jc_console.specs.declared.status.Status.TheVariants.{Success, Refused, Misused, Failed}
-use Rattle.jc_args.specs.declared.request.Request.{Request}
-use Rattle.jc_args.specs.declared.request.Request.TheVariants.{Verify, Upload, Ack}
-use Rattle.jc_args.specs.declared.request.Request.TheVariants as requests
+use Rattle.jc_collector.specs.declared.health.Health.{Health}
+use Rattle.jc_collector.specs.declared.health.Health.TheVariants as health
+use Rattle.jc_command_shared.specs.declared.failure.Failure.{Failure}
+use Rattle.jc_command_shared.specs.declared.failure.Failure.TheVariants as failures
+use Rattle.jc_command_shared.specs.declared.status.Status.{Status}
+use Rattle.jc_command_shared.specs.declared.status.Status.TheVariants.{Success, Refused, Misused, Failed}
+use Rattle.jc_command_args.specs.declared.request.Request.{Request}
+use Rattle.jc_command_args.specs.declared.request.Request.TheVariants.{Verify, Upload, Ack}
+use Rattle.jc_command_args.specs.declared.request.Request.TheVariants as requests
 use Rattle.jc_collect.specs.Answer.{is_failure}
-use Rattle.jc_args.specs.Answer.{IsAskedFor}
-use Rattle.jc_answers.specs.Answered.{is_refusal}
-use Rattle.jc_database.specs.Checked.{health_status}
-use Rattle.jc_console.specs.Failure.{status_of}
+use Rattle.jc_command_args.specs.Answer.{IsAskedFor}
+use Rattle.jc_collector_answers.specs.Answered.{is_refusal}
+use Rattle.jc_collector.specs.Checked.{health_status}
+use Rattle.jc_command_shared.specs.Failure.{status_of}
 use Rattle.jc_command.specs.Run.{Ends, FailsBy, Performs, Stops, StopsAsked}
-use Rattle.jc_console.specs.Status.{number_of}
+use Rattle.jc_command_shared.specs.Status.{number_of}
 use Rattle.jc_sender.specs.Verdict.{verdict_status}
-use Rattle.jc_args.specs.Words.{AreAnswered, AskFor}
+use Rattle.jc_command_args.specs.Words.{AreAnswered, AskFor}
 
 -- a reading's status is one of two
 not_misused : (ending : Ending) → Misused ≡ verdict_status ending → ⊥

@@ -2,24 +2,24 @@
 use Rattle.std.specs.Prelude.{◌≡◌, ◌⊎◌, ◌∷◌, [], ⊤, ℕ, List, Option, length, map, option_map}
 use Rattle.std.specs.Io.KnownBytes.{Keeps}
 use Rattle.clap.specs.Words.{Text}
-use Rattle.jc_database.specs.declared.health.Health.{Health}
-use Rattle.jc_console.specs.declared.failure.Failure.{Failure}
-use Rattle.jc_console.specs.declared.failure.Failure.TheVariants.{CannotOpen, OutOfMemory, ReadFailed, WriteFailed}
-use Rattle.jc_console.specs.declared.status.Status.{Status}
-use Rattle.jc_console.specs.declared.status.Status.TheVariants.{Success, Refused, Misused, Failed}
-use Rattle.jc_args.specs.declared.request.Request.{Request}
-use Rattle.jc_args.specs.declared.request.Request.TheVariants.{Collect, CollectListed, Show, Check, Migrate, Verify, Upload, Ack, ListCodes}
-use Rattle.jc_args.specs.declared.request.Request.TheVariants as request
-use Rattle.jc_answers.specs.Answered.{TellsAnswers, number_of_uploads}
-use Rattle.jc_database.specs.Checked.{IsHealth, TellsHealth}
-use Rattle.jc_database.specs.Database.{CheckFailsBy, CollectFailsBy, DatabaseFailsBy, ShowFailsBy}
-use Rattle.jc_console.specs.Failure.{status_of}
-use Rattle.jc_database.specs.Listed.{TellsListed}
+use Rattle.jc_collector.specs.declared.health.Health.{Health}
+use Rattle.jc_command_shared.specs.declared.failure.Failure.{Failure}
+use Rattle.jc_command_shared.specs.declared.failure.Failure.TheVariants.{CannotOpen, OutOfMemory, ReadFailed, WriteFailed}
+use Rattle.jc_command_shared.specs.declared.status.Status.{Status}
+use Rattle.jc_command_shared.specs.declared.status.Status.TheVariants.{Success, Refused, Misused, Failed}
+use Rattle.jc_command_args.specs.declared.request.Request.{Request}
+use Rattle.jc_command_args.specs.declared.request.Request.TheVariants.{Collect, CollectListed, Show, Check, Migrate, Verify, Upload, Ack, ListCodes}
+use Rattle.jc_command_args.specs.declared.request.Request.TheVariants as request
+use Rattle.jc_collector_answers.specs.Answered.{TellsAnswers, number_of_uploads}
+use Rattle.jc_collector.specs.Checked.{IsHealth, TellsHealth}
+use Rattle.jc_collector.specs.Database.{CheckFailsBy, CollectFailsBy, DatabaseFailsBy, ShowFailsBy}
+use Rattle.jc_command_shared.specs.Failure.{status_of}
+use Rattle.jc_collector.specs.Listed.{TellsListed}
 use Rattle.jc_sender.specs.Sent.{TellsSomeUpload}
 use Rattle.jc_sender.specs.Failing.{AckFailsBy, UploadFailsBy}
 use Rattle.jc_sender.specs.Taken.{TellsSomePoint}
 use Rattle.jc_sender.specs.Verdict.{TellsSomeReading}
-use Rattle.jc_args.specs.Words.{AreWrong, AskFor, AskForHelp}
+use Rattle.jc_command_args.specs.Words.{AreWrong, AskFor, AskForHelp}
 
 -- What standard output gains when a request is performed, over what standard input gives, and the status: from `verify` a
 -- reading, from `upload` an upload, from `ack` a resume point, from `collect` an answer to each upload, and from `check`

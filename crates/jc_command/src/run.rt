@@ -3,14 +3,14 @@
 ghost use Rattle.std.specs.Prelude.{◌≡◌, ◌≢◌, ◌≤◌, ⊤, Ok, Err, OnOk, IfOk, IfErr, map, string_bytes};
 ghost use Rattle.std.specs.Io.KnownBytes.{Appends, Keeps};
 ghost use Rattle.clap.specs.Words.{kind_of};
-ghost use Rattle.jc_args.specs.Answer.{IsAskedFor};
-ghost use Rattle.jc_console.specs.Failure.{status_of};
+ghost use Rattle.jc_command_args.specs.Answer.{IsAskedFor};
+ghost use Rattle.jc_command_shared.specs.Failure.{status_of};
 ghost use Rattle.jc_command.specs.Run.{Ends, FailsBy, Performs, Stops};
 
 use clap::error::ErrorKind;
-use jc_args::{CODES, Request, parse};
-use jc_console::{Failure, Status, printed};
-use jc_database::{Databases, check, collect, collect_listed, export, migrate, show};
+use jc_collector::{Databases, check, collect, collect_listed, export, migrate, show};
+use jc_command_args::{CODES, Request, parse};
+use jc_command_shared::{Failure, Status, printed};
 use jc_sender::{ack, upload, verify};
 use std::io::{Read, Write};
 use std::rt::Files;

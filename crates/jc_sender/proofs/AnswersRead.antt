@@ -3,7 +3,7 @@ use Rattle.std.proofs.Common.{◌≡◌, ◌∙◌, ℕ, List, [], ◌∷◌, �
 use Rattle.std.specs.List.{All}
 use Rattle.jc_upload.specs.Answer.{IsAnswer, answer_text}
 use Rattle.jc_upload.specs.declared.answer.Answer.{Answer}
-use Rattle.jc_console.specs.Lines.{AreAnswers, lines_of}
+use Rattle.jc_command_shared.specs.Lines.{AreAnswers, lines_of}
 
 append_nil : (lines : List (List ℕ)) → lines ++ [] ≡ lines
 append_nil [] = refl

@@ -12,7 +12,7 @@ use Rattle.jc_file.specs.FileReading.{IsFileReading}
 use Rattle.jc_sender.proofs.Verdicts.{file_reading}
 use Rattle.jc_sender.specs.Gathered.{HasCount, HasEntries}
 use Rattle.jc_sender.specs.Source.{HasEntriesOf, HasFault, ReadsWell}
-use Rattle.jc_args.specs.declared.request.InputKind.TheVariants.{File}
+use Rattle.jc_command_args.specs.declared.request.InputKind.TheVariants.{File}
 
 module _
     (bytes : List ℕ) (limits : Limits) (told : Option Reading)

@@ -17,7 +17,7 @@ use Rattle.jc_upload.specs.Excerpt.{AreOfStream, Gave, IsStreamEnding}
 use Rattle.jc_sender.proofs.Verdicts.{stream_reading}
 use Rattle.jc_sender.specs.Reads.{ReadsAs}
 use Rattle.jc_sender.specs.Source.{HasEntriesOf, HasFault}
-use Rattle.jc_args.specs.declared.request.InputKind.TheVariants.{Export}
+use Rattle.jc_command_args.specs.declared.request.InputKind.TheVariants.{Export}
 
 -- Entries that a stream may have are read back from their canonical texts.
 module _

@@ -9,7 +9,7 @@ use Rattle.jc_upload.specs.declared.answer.Answer.{Answer}
 use Rattle.jc_sender.specs.Sent.{sender_of}
 use Rattle.jc_sender.specs.Source.{HasEntriesOf}
 use Rattle.jc_sender.specs.Taken.{MovesSender}
-use Rattle.jc_args.specs.declared.request.InputKind.{InputKind}
+use Rattle.jc_command_args.specs.declared.request.InputKind.{InputKind}
 
 pub takes_of : (entries : List LogEntry) (answer : Answer) (before after : Sender) (moves : Bool)
     → IsTrue moves ↔ Advances before entries answer

@@ -9,11 +9,11 @@ use Rattle.jc_upload.specs.Upload.{Agrees, Sender, sent_of}
 use Rattle.jc_sender.specs.Sent.{MakesUpload, WhyNoUpload, stream_upload_of}
 use Rattle.jc_upload.specs.declared.uploader.UploadFault.{UploadFault}
 use Rattle.jc_upload.specs.declared.uploader.UploadFault.TheVariants.{OutOfMemory, SourceChanged}
-use Rattle.jc_console.specs.Failure.{upload_failure}
-use Rattle.jc_console.specs.declared.failure.Failure.{Failure}
-use Rattle.jc_console.specs.declared.failure.Failure.TheVariants as failures
+use Rattle.jc_command_shared.specs.Failure.{upload_failure}
+use Rattle.jc_command_shared.specs.declared.failure.Failure.{Failure}
+use Rattle.jc_command_shared.specs.declared.failure.Failure.TheVariants as failures
 use Rattle.jc_sender.specs.Source.{HasEntriesOf}
-use Rattle.jc_args.specs.declared.request.InputKind.TheVariants.{Export}
+use Rattle.jc_command_args.specs.declared.request.InputKind.TheVariants.{Export}
 
 made_text : (whole : Bool) (sender : Sender) (limit : ℕ) (entries : List LogEntry) (upload : List ℕ)
     → upload ≡ head_text (head_by sender whole (length (sent_of sender entries limit))) ++ flat_map canon (sent_of sender entries limit)

@@ -14,10 +14,10 @@ use Rattle.jc_sender.specs.Gathered.{HasCount}
 use Rattle.jc_sender.specs.Reads.{EndsAs, ReadsAs}
 use Rattle.jc_sender.specs.Verdict as V
 use Rattle.jc_sender.specs.Verdict.{TellsBytes, TellsSomeReading}
-use Rattle.jc_console.specs.declared.failure.Failure.{Failure}
-use Rattle.jc_console.specs.declared.status.Status.{Status}
-use Rattle.jc_args.specs.declared.request.InputKind.{InputKind}
-use Rattle.jc_args.specs.declared.request.InputKind.TheVariants.{Export, File}
+use Rattle.jc_command_shared.specs.declared.failure.Failure.{Failure}
+use Rattle.jc_command_shared.specs.declared.status.Status.{Status}
+use Rattle.jc_command_args.specs.declared.request.InputKind.{InputKind}
+use Rattle.jc_command_args.specs.declared.request.InputKind.TheVariants.{Export, File}
 
 -- the line that was told is that of a reading of this kind
 pub tells_some : (kind : InputKind) (limits found : Limits) (count : ℕ) (ending : Ending) (r : Result Status Failure)

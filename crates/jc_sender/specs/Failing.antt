@@ -1,12 +1,12 @@
 -- Why `upload` and `ack` fail. (own)
 use Rattle.std.specs.Prelude.{◌≡◌, ◌⊎◌, ⊤, ℕ, List, Option, IfSome}
-use Rattle.jc_console.specs.Ids.{IsIdText}
-use Rattle.jc_console.specs.declared.failure.Failure.{Failure}
-use Rattle.jc_console.specs.declared.failure.Failure.TheVariants.{Bad, BadAnswer, BadId, BadResume, CannotOpen, OutOfMemory, ReadFailed, SourceChanged, WriteFailed}
+use Rattle.jc_command_shared.specs.Ids.{IsIdText}
+use Rattle.jc_command_shared.specs.declared.failure.Failure.{Failure}
+use Rattle.jc_command_shared.specs.declared.failure.Failure.TheVariants.{Bad, BadAnswer, BadId, BadResume, CannotOpen, OutOfMemory, ReadFailed, SourceChanged, WriteFailed}
 use Rattle.jc_sender.specs.Source.{HasFault}
 use Rattle.jc_sender.specs.Taken.{HasBadLine}
-use Rattle.jc_args.specs.declared.request.InputKind.TheVariants.{Export}
-use Rattle.jc_args.specs.declared.request.Source.{Source}
+use Rattle.jc_command_args.specs.declared.request.InputKind.TheVariants.{Export}
+use Rattle.jc_command_args.specs.declared.request.Source.{Source}
 
 -- Why nothing is known of a source: its id isn't one, one of its two files can't be opened or read, the resume file has
 -- no resume text, or the source's bytes have a fault.

@@ -11,8 +11,8 @@ use Rattle.jc_export.specs.Stream.{IsOnlyReading, StreamReading}
 use Rattle.jc_file.specs.FileFault.{IsFileCode}
 use Rattle.jc_file.specs.FileReading.{IsFileReading}
 use Rattle.jc_upload.specs.Excerpt.{IsStreamEnding}
-use Rattle.jc_args.specs.declared.request.InputKind.{InputKind}
-use Rattle.jc_args.specs.declared.request.InputKind.TheVariants.{Export, File}
+use Rattle.jc_command_args.specs.declared.request.InputKind.{InputKind}
+use Rattle.jc_command_args.specs.declared.request.InputKind.TheVariants.{Export, File}
 
 -- the bytes' one reading, as an export stream or as a journal file
 abbrev pub ReadsAs : InputKind → Limits → List ℕ → Reading → Type 0

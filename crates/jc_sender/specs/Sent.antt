@@ -4,15 +4,15 @@ use Rattle.std.specs.Io.KnownBytes.{Appends}
 use Rattle.jc_base.specs.LogEntry.{LogEntry}
 use Rattle.jc_base.specs.Reading.{Reading}
 use Rattle.jc_base.specs.declared.id.Id128.{Id128}
-use Rattle.jc_console.specs.Ids.{IsIdOf}
+use Rattle.jc_command_shared.specs.Ids.{IsIdOf}
 use Rattle.jc_upload.specs.Resume.{IsPoint, Point}
 use Rattle.jc_upload.specs.Upload.{Agrees, Sender, file_upload_of, next_upload2_of, next_upload_of}
 use Rattle.jc_sender.specs.Source.{HasFault, ReadsWell, WhyNoSomeEntries}
-use Rattle.jc_console.specs.declared.failure.Failure.{Failure}
-use Rattle.jc_console.specs.declared.failure.Failure.TheVariants.{Bad, OutOfMemory, SourceChanged}
-use Rattle.jc_args.specs.declared.request.InputKind.{InputKind}
-use Rattle.jc_args.specs.declared.request.InputKind.TheVariants.{Export, File}
-use Rattle.jc_args.specs.declared.request.Source.{Source}
+use Rattle.jc_command_shared.specs.declared.failure.Failure.{Failure}
+use Rattle.jc_command_shared.specs.declared.failure.Failure.TheVariants.{Bad, OutOfMemory, SourceChanged}
+use Rattle.jc_command_args.specs.declared.request.InputKind.{InputKind}
+use Rattle.jc_command_args.specs.declared.request.InputKind.TheVariants.{Export, File}
+use Rattle.jc_command_args.specs.declared.request.Source.{Source}
 
 abbrev pub sender_of : Id128 → Point → Sender
 sender_of id point = record { source = id; point = point }

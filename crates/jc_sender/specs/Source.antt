@@ -8,9 +8,9 @@ use Rattle.jc_base.specs.declared.fault.Ending.TheVariants.{End, Bad}
 use Rattle.jc_base.specs.declared.fault.Fault.{Fault}
 use Rattle.jc_base.specs.declared.limits.Limits.{Limits}
 use Rattle.jc_sender.specs.Reads.{ReadsAs}
-use Rattle.jc_console.specs.declared.failure.Failure.{Failure}
-use Rattle.jc_console.specs.declared.failure.Failure.TheVariants as failure
-use Rattle.jc_args.specs.declared.request.InputKind.{InputKind}
+use Rattle.jc_command_shared.specs.declared.failure.Failure.{Failure}
+use Rattle.jc_command_shared.specs.declared.failure.Failure.TheVariants as failure
+use Rattle.jc_command_args.specs.declared.request.InputKind.{InputKind}
 
 abbrev pub IsEnd : Ending → Type 0
 IsEnd ending = (left : ℕ) × (ending ≡ End left)

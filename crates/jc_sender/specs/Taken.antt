@@ -4,18 +4,18 @@ use Rattle.std.specs.List.{All}
 use Rattle.std.specs.Io.KnownBytes.{Appends}
 use Rattle.jc_base.specs.Reading.{Reading}
 use Rattle.jc_base.specs.declared.id.Id128.{Id128}
-use Rattle.jc_console.specs.Ids.{IsIdOf}
-use Rattle.jc_console.specs.Lines.{AreAnswers, lines_of}
+use Rattle.jc_command_shared.specs.Ids.{IsIdOf}
+use Rattle.jc_command_shared.specs.Lines.{AreAnswers, lines_of}
 use Rattle.jc_upload.specs.Answer.{IsAnswer, answer_text}
 use Rattle.jc_upload.specs.Resume.{IsPoint, Point}
 use Rattle.jc_upload.specs.Upload.{Sender, TakesAnswers}
 use Rattle.jc_upload.specs.declared.answer.Answer.{Answer}
 use Rattle.jc_sender.specs.Sent.{sender_of}
 use Rattle.jc_sender.specs.Source.{ReadsWell, WhyNoSomeEntries}
-use Rattle.jc_console.specs.declared.failure.Failure.{Failure}
-use Rattle.jc_console.specs.declared.failure.Failure.TheVariants.{BadAnswer, OutOfMemory, ReadFailed}
-use Rattle.jc_args.specs.declared.request.InputKind.{InputKind}
-use Rattle.jc_args.specs.declared.request.Source.{Source}
+use Rattle.jc_command_shared.specs.declared.failure.Failure.{Failure}
+use Rattle.jc_command_shared.specs.declared.failure.Failure.TheVariants.{BadAnswer, OutOfMemory, ReadFailed}
+use Rattle.jc_command_args.specs.declared.request.InputKind.{InputKind}
+use Rattle.jc_command_args.specs.declared.request.Source.{Source}
 
 -- The line of this number, from 1, is the first that isn't an answer.
 pub record HasBadLine (number : ℕ) (text : List ℕ) : Type 0 where

@@ -9,9 +9,9 @@ use Rattle.jc_base.specs.declared.fault.Ending.{Ending}
 use Rattle.jc_base.specs.declared.fault.Ending.TheVariants.{End, Bad}
 use Rattle.jc_base.specs.declared.limits.Limits.{Limits}
 use Rattle.jc_sender.specs.Reads.{EndsAs, ReadsAs}
-use Rattle.jc_console.specs.declared.status.Status.{Status}
-use Rattle.jc_console.specs.declared.status.Status.TheVariants.{Success, Refused}
-use Rattle.jc_args.specs.declared.request.InputKind.{InputKind}
+use Rattle.jc_command_shared.specs.declared.status.Status.{Status}
+use Rattle.jc_command_shared.specs.declared.status.Status.TheVariants.{Success, Refused}
+use Rattle.jc_command_args.specs.declared.request.InputKind.{InputKind}
 
 -- `ok <count> <left>` or `bad <code> <place>`, without the newline
 abbrev pub verdict_text : ℕ → Ending → List ℕ

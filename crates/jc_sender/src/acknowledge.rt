@@ -9,9 +9,9 @@ ghost use Rattle.jc_sender.specs.Taken.{MovesBy, MovesSender, TellsSomePoint, Wh
 use crate::answers::{answers_on, take_answers};
 use crate::resume_file::{read_resume, write_resume};
 use crate::source::{file_bytes, file_entries, open_source};
-use jc_args::{InputKind, Source};
 use jc_base::{ByteStream, Ending, FromRead, Limits};
-use jc_console::{Failure, printed, source_id};
+use jc_command_args::{InputKind, Source};
+use jc_command_shared::{Failure, printed, source_id};
 use jc_export::{canonical_texts_read_back, one_reading};
 use jc_stream::Stream;
 use jc_upload::{Answer, Resume, Uploader};

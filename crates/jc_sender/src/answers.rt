@@ -2,11 +2,11 @@
 
 ghost use Rattle.std.specs.Prelude.{◌≡◌, ℕ, List, IfOk, IfErr, IfSome};
 ghost use Rattle.jc_upload.specs.Upload.{Sender, TakesAnswer, TakesAnswers};
-ghost use Rattle.jc_console.specs.Lines.{AreAnswers};
+ghost use Rattle.jc_command_shared.specs.Lines.{AreAnswers};
 ghost use Rattle.jc_sender.specs.Taken.{WhyNoAnswers, WhyNoneCame};
 
 use jc_base::Entry;
-use jc_console::{Failure, line_length, read_whole};
+use jc_command_shared::{Failure, line_length, read_whole};
 use jc_upload::{Answer, Uploader};
 use std::alloc::Global;
 use std::io::Read;

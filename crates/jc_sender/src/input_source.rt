@@ -1,8 +1,8 @@
 //! Sources of the entries of an export stream or of a journal file.
 
 ghost use Rattle.std.specs.Prelude.{◌≡◌};
-ghost use Rattle.jc_args.specs.declared.request.InputKind.{InputKind};
-ghost use Rattle.jc_args.specs.declared.request.InputKind.TheVariants.{Export, File};
+ghost use Rattle.jc_command_args.specs.declared.request.InputKind.{InputKind};
+ghost use Rattle.jc_command_args.specs.declared.request.InputKind.TheVariants.{Export, File};
 ghost use Rattle.jc_base.specs.Source.{FallsWithEach, Gives, HasCause, Repeats, final_answer};
 ghost use Rattle.jc_base.specs.declared.limits.Limits.{Limits};
 ghost use Rattle.jc_sender.specs.Reads.{StepsAs};

@@ -7,9 +7,9 @@ ghost use Rattle.jc_sender.specs.Sent.{MakesUpload, TellsSomeUpload, WhyNoSomeUp
 
 use crate::resume_file::read_resume;
 use crate::source::{check_file, file_bytes, open_source};
-use jc_args::{InputKind, Source};
 use jc_base::{ByteStream, Ending, FromRead, Limits};
-use jc_console::{Failure, printed, source_id};
+use jc_command_args::{InputKind, Source};
+use jc_command_shared::{Failure, printed, source_id};
 use jc_export::{canonical_texts_read_back, one_reading};
 use jc_stream::Stream;
 use jc_upload::{Uploader, file_upload};

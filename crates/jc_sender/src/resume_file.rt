@@ -4,7 +4,7 @@ ghost use Rattle.std.specs.Prelude.{◌≡◌, ◌≢◌, ◌⊎◌, IfOk, IfErr
 ghost use Rattle.std.specs.Io.KnownBytes.{Appends};
 ghost use Rattle.jc_upload.specs.Resume.{IsPoint, Point, resume_text};
 
-use jc_console::{Failure, read_front};
+use jc_command_shared::{Failure, read_front};
 use jc_upload::Resume;
 use std::alloc::Global;
 use std::fs::OpenFile;

@@ -5,9 +5,9 @@ ghost use Rattle.jc_base.specs.Reading.{Reading};
 ghost use Rattle.jc_sender.specs.Source.{HasEntriesOf, ReadsWell, WhyNoEntries};
 
 use crate::entries::{all_entries, count_entries};
-use jc_args::{InputKind, Source};
 use jc_base::{Ending, Entry, Limits};
-use jc_console::{Failure, open_file, read_front};
+use jc_command_args::{InputKind, Source};
+use jc_command_shared::{Failure, open_file, read_front};
 use jc_file::{FileEntries, SliceSpace};
 use std::alloc::Global;
 use std::io::Read;

@@ -6,9 +6,9 @@ ghost use Rattle.jc_sender.specs.Verdict.{verdict_text, verdict_status, TellsRea
 
 use crate::entries::count_entries;
 use crate::source::file_bytes;
-use jc_args::InputKind;
 use jc_base::{ByteStream, Ending, FromRead, Limits};
-use jc_console::{Failure, Status, is_regular, open_file, printed};
+use jc_command_args::InputKind;
+use jc_command_shared::{Failure, Status, is_regular, open_file, printed};
 use jc_export::one_reading;
 use jc_file::{ByteSpace, FileEntries, FileSpace, PagedSpace, SliceSpace};
 use jc_stream::Stream;

@@ -2,8 +2,8 @@
 use Rattle.std.proofs.Common.{sym, subst, inl, inr, map, string_bytes}
 use Rattle.std.specs.Prelude.{IfOk, Result}
 use Rattle.clap.specs.Words.{kind_of}
-use Rattle.jc_console.specs.declared.failure.Failure.{Failure}
-use Rattle.jc_console.specs.declared.status.Status.{Status}
+use Rattle.jc_command_shared.specs.declared.failure.Failure.{Failure}
+use Rattle.jc_command_shared.specs.declared.status.Status.{Status}
 use Rattle.jc_command.specs.Run.{Ends}
 use Rattle.jc_command.proofs.Runs.{failed, performed, told, told_stops, IfErr-both, IfOk-both}
 use Rattle.jc_command.proofs.run.answered.Goals as goal

@@ -1,7 +1,7 @@
 -- The number says which status it was.
 use Rattle.std.proofs.Common.{◌∙◌, ap, inl, inr, map, refl, string_bytes}
-use Rattle.jc_console.specs.declared.status.Status.TheVariants.{Success, Refused, Misused}
-use Rattle.jc_console.specs.Status.{number_of}
+use Rattle.jc_command_shared.specs.declared.status.Status.TheVariants.{Success, Refused, Misused}
+use Rattle.jc_command_shared.specs.Status.{number_of}
 use Rattle.jc_command.proofs.Runs.{by_number, stops_by_number}
 use Rattle.jc_command.proofs.run.command.Goals as goal
 

@@ -1,5 +1,5 @@
 -- The entries that the stream gave up to its end, and for a device that tells its bytes those of the bytes' reading.
-use Rattle.jc_args.specs.declared.request.InputKind.TheVariants.{Export}
+use Rattle.jc_command_args.specs.declared.request.InputKind.TheVariants.{Export}
 use Rattle.jc_export.specs.Cut.{joined}
 use Rattle.jc_stream.specs.Device.{limits_of}
 use Rattle.jc_sender.proofs.Streams.{known_entries, known_fault, some_entries, some_fault}

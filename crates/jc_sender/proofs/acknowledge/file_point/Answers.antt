@@ -2,7 +2,7 @@
 use Rattle.std.proofs.Common.{subst, List}
 use Rattle.jc_upload.specs.Upload.{TakesAnswers}
 use Rattle.jc_base.specs.LogEntry.{LogEntry}
-use Rattle.jc_args.specs.declared.request.InputKind.TheVariants.{File}
+use Rattle.jc_command_args.specs.declared.request.InputKind.TheVariants.{File}
 use Rattle.jc_sender.proofs.Taking.{sender_moved}
 use Rattle.jc_sender.proofs.acknowledge.file_point.Goals as goal
 

@@ -1,7 +1,7 @@
 use Rattle.std.proofs.Common.{◌≡◌, ◌++◌, map, length}
 use Rattle.std.specs.List.{All}
 use Rattle.jc_upload.specs.Answer.{IsAnswer, answer_text}
-use Rattle.jc_console.specs.Lines.{lines_of}
+use Rattle.jc_command_shared.specs.Lines.{lines_of}
 use Rattle.jc_sender.proofs.answers.read_answers.Given as goal
 
 abbrev pub invariant-loop-rest : goal.invariant-loop-rest

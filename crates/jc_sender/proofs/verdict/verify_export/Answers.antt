@@ -1,7 +1,7 @@
 -- The source's ending is one of its kind, and what it gave over a device that tells its bytes is those bytes' reading.
 use Rattle.jc_sender.proofs.Verdicts.{tells_some, tells_stream}
 use Rattle.jc_sender.proofs.verdict.verify_export.Goals as goal
-use Rattle.jc_args.specs.declared.request.InputKind.TheVariants.{Export}
+use Rattle.jc_command_args.specs.declared.request.InputKind.TheVariants.{Export}
 
 pub returns-clause-told : goal.returns-clause-told
 returns-clause-told g c =

@@ -1,7 +1,7 @@
 -- The source's ending is one of its kind, and what it gave over a space that tells its bytes is those bytes' reading.
 use Rattle.jc_sender.proofs.Verdicts.{tells_file, tells_some}
 use Rattle.jc_sender.proofs.verdict.verify_space.Goals as goal
-use Rattle.jc_args.specs.declared.request.InputKind.TheVariants.{File}
+use Rattle.jc_command_args.specs.declared.request.InputKind.TheVariants.{File}
 
 pub returns-clause-told : goal.returns-clause-told
 returns-clause-told g c =

@@ -1,5 +1,0 @@
--- The error's kind is the one that it was made with.
-use Rattle.jc_args.proofs.words.two_lists.Goals as goal
-
-pub returns : goal.returns
-returns c = c.error.ensures.kind

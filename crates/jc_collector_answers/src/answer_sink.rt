@@ -1,0 +1,94 @@
+//! The sink that answers are printed through.
+
+ghost use Rattle.std.specs.Prelude.{◌≡◌, [], ◌∷◌, List, ℕ, Option, Some, IfSome, false};
+ghost use Rattle.std.specs.Io.KnownBytes.{Appends};
+ghost use Rattle.std.specs.List.{All};
+ghost use Rattle.jc_collector_answers.specs.Answered.{Appends-prop, begun, judged};
+ghost use Rattle.jc_collect.specs.Run.{lines_of_answers};
+ghost use Rattle.jc_upload.specs.Answer.{IsAnswer};
+ghost use Rattle.jc_upload.specs.declared.answer.Answer.{Answer};
+
+use crate::judged::status_of_lines;
+use jc_base::{ByteSink, WriteFailed};
+use jc_command_shared::{Status, one_more, write_front};
+use std::io::Write;
+use std::snapshot::Snapshot;
+
+/// Passes answer lines on to a writer, each of them as one piece, flushes it after each, and keeps what was printed.
+/// Once it has failed it takes no more.
+#[derive(Drop)]
+pub struct AnswerSink<'a, O: Write> {
+    output: &'a mut O,
+    /// The writer as it was before the first line.
+    before: Snapshot<O>,
+    /// What was printed.
+    lines: &'a mut Vec<u8>,
+    failed: bool,
+    failures: u64,
+    ghost printed: { failed ≡ false → Appends (O.contents before.value) (O.contents output.now) lines.now.items } by { Prim.hlevel (Appends-prop) },
+}
+
+impl<'a, O: Write> AnswerSink<'a, O> {
+    /// A sink that keeps in `lines` what it prints.
+    pub fn new(output: &'a mut O, lines: &'a mut Vec<u8>) -> AnswerSink<'a, O>
+        requires { lines.old.items ≡ [] }
+        ensures written { ⟦<AnswerSink<'a, O> as ByteSink>⟧.written result ≡ Some (begun (O.contents output.old) []) }
+        ensures borrowed_device { ⟦<AnswerSink<'a, O> as ByteSink>⟧.borrowed_device result ≡ output.entry.ghost_name ∷ [] }
+    {
+        AnswerSink {
+            before: Snapshot::of(output),
+            output,
+            lines,
+            failed: false,
+            failures: 0,
+        }
+    }
+
+    /// The writer, and the status by the answers that were printed; `None` if the sink has failed.
+    pub fn end(self) -> (&'a mut O, Option<Status>)
+        ensures borrowed_device { result.0.ghost_name ∷ [] ≡ ⟦<AnswerSink<'a, O> as ByteSink>⟧.borrowed_device self.entry }
+        ensures told { IfSome result.1 (λ status. (before : Option (List ℕ)) (answers : List Answer) → All IsAnswer answers
+            → ⟦<AnswerSink<'a, O> as ByteSink>⟧.written self.entry ≡ Some (begun before (lines_of_answers answers))
+            → (status ≡ judged answers) × Appends before (O.contents result.0.now) (lines_of_answers answers)) }
+    {
+        let AnswerSink {
+            output,
+            before,
+            lines,
+            failed,
+            failures: _,
+        } = self;
+        drop(before);
+        if failed {
+            return (output, None);
+        }
+        (output, Some(status_of_lines(lines)))
+    }
+}
+
+impl<O: Write> ByteSink for AnswerSink<'_, O> {
+    // What the writer had comes with the lines, so that a proof over any sink keeps it.
+    ghost written = { λ s. Some (begun (O.contents s.before.value) s.lines.now.items) };
+
+    ghost failures = { λ s. s.failures };
+
+    ghost borrowed_device = { λ s. s.output.ghost_name ∷ [] };
+
+    #[tactic(auto, using(crate::proofs::Printing::goes_on))]
+    fn write(&mut self, line: &[u8]) -> Result<usize, WriteFailed> {
+        let failed = self.failed;
+        // Until the line is printed whole, the sink counts as failed.
+        self.failed = true;
+        if failed || self.lines.reserve(line.len()).is_err() {
+            self.failures = one_more(self.failures);
+            return Err(WriteFailed);
+        }
+        if write_front(self.output, line) < line.len() || self.output.flush().is_err() {
+            self.failures = one_more(self.failures);
+            return Err(WriteFailed);
+        }
+        self.lines.extend_from_slice(line).unwrap();
+        self.failed = false;
+        Ok(line.len())
+    }
+}

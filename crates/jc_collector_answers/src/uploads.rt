@@ -1,0 +1,46 @@
+//! UPLOAD files as deliveries.
+
+ghost use Rattle.std.specs.Prelude.{◌≡◌, ◌⊎◌, IfOk, IfErr, length, map};
+ghost use Rattle.jc_collector_answers.specs.Opened.{WhyUnopened};
+
+use jc_base::FromRead;
+use jc_collect::Delivery;
+use jc_command_shared::{Failure, is_regular, open_file};
+use jc_file::{FileSpace, PagedSpace};
+use std::rt::Files;
+
+/// An UPLOAD file: read by ranges if it is a regular one, and otherwise as a stream.
+pub type Upload<F> = Delivery<FromRead<F>, PagedSpace<FileSpace<F>>>;
+
+/// Opens the files at these paths, in order.
+pub fn open_uploads<'a, R: Files + AllocGlobal>(
+    rt: &R,
+    paths: &[&'a str],
+) -> Result<Vec<Upload<R::File>>, Failure<'a>>
+    ensures each { IfOk result (λ uploads. length uploads.items ≡ length paths.now) }
+    ensures failed { IfErr result (WhyUnopened (map (λ path. path.now) paths.now)) }
+{
+    let mut uploads = Vec::new(rt.alloc());
+    for path in paths {
+        uploads.push(open_upload(rt, path)?)?;
+    }
+    Ok(uploads)
+}
+
+/// Opens the file at a path.
+pub fn open_upload<'a, R: Files + AllocGlobal>(
+    rt: &R,
+    path: &'a str,
+) -> Result<Upload<R::File>, Failure<'a>>
+    ensures { IfErr result (λ failure. (failure ≡ Failure.CannotOpen path.entry) ⊎ (failure ≡ Failure.ReadFailed)
+        ⊎ (failure ≡ Failure.OutOfMemory)) }
+{
+    let file = open_file(rt, path)?;
+    if !is_regular(&file) {
+        return Ok(Delivery::Stream(FromRead::new(file)));
+    }
+    match FileSpace::new(file) {
+        Ok(space) => Ok(Delivery::Space(PagedSpace::new(rt.alloc(), space))),
+        Err(_) => Err(Failure::ReadFailed),
+    }
+}

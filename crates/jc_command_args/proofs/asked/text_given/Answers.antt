@@ -1,0 +1,8 @@
+-- What the matches hold under an id is the first value of its row.
+use Rattle.std.proofs.Common.{◌∙◌}
+use Rattle.clap.specs.Words.{found_of}
+use Rattle.clap.proofs.WalkLemmas.{first_value-rows}
+use Rattle.jc_command_args.proofs.asked.text_given.Goals as goal
+
+pub returns : goal.returns
+returns c = c.get_str.ensures ∙ first_value-rows (found_of c.args.given.now) c.args.name.now

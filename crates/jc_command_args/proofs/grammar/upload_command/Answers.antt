@@ -1,0 +1,18 @@
+-- The arguments of a source, then the limit, and the flag.
+use Rattle.std.proofs.Common.{codes}
+use Rattle.clap.specs.Words.{new_app, with_rule}
+use Rattle.jc_command_args.specs.Grammar.{flag_rule, number_rule, with_source}
+use Rattle.jc_command_args.proofs.Commands.{made}
+use Rattle.jc_command_args.proofs.grammar.upload_command.Goals as goal
+
+pub returns : goal.returns
+returns c =
+    let kinds = c.with_source.ensures.0 in
+    let none = new_app (codes "upload") in
+    let sourced = with_source kinds none in (
+      kinds,
+      c.with_source.ensures.1,
+      c.arg-2.ensures (with_rule sourced (number_rule (codes "limit"))) (flag_rule (codes "whole"))
+          (c.arg.ensures sourced (number_rule (codes "limit")) (c.with_source.ensures.2 none (made c.new_command-command.result none c.new_command-command.ensures))
+          c.number_arg.ensures) c.flag_arg.ensures,
+    )

@@ -1,0 +1,144 @@
+-- The program's commands and their arguments, in clap's own terms. (own)
+use Rattle.std.specs.Prelude.{◌≡◌, ◌^◌, ◌-◌, ◌∷◌, [], IfOk, IsOkAnd, List, Some, true, false, codes, map}
+use Rattle.clap.specs.Lexer.{usize_max}
+use Rattle.clap.specs.Words.{App, Rule, Text, app_of, new_app, new_rule, rule_of, with_rule, with_subcommand}
+use Rattle.clap.specs.declared.builder.action.ArgAction.TheVariants.{SetTrue}
+use Rattle.clap.specs.declared.builder.arg.Arg.{Arg}
+use Rattle.clap.specs.declared.builder.command.Command.{Command}
+use Rattle.clap.specs.declared.builder.command.Command.TheViews.{out-Command}
+use Rattle.clap.specs.Simple.{on_top}
+use Rattle.clap.specs.declared.builder.value_parser.ValueParser.{ValueParser}
+use Rattle.clap.specs.declared.builder.value_parser.ValueParser.TheVariants.{Names, Unsigned}
+use Rattle.jc_command_args.specs.declared.making.Making.{Making}
+use Rattle.jc_command_args.specs.declared.request.InputKind.{InputKind}
+use Rattle.jc_command_args.specs.declared.request.InputKind.TheVariants.{Export, File}
+
+-- ---- arguments
+
+-- a value that has its place, and has to be given
+abbrev pub place_rule : Text → Rule
+place_rule name = record (new_rule name) { required = true }
+
+-- UPLOAD.., any number of values, after those that have their place
+abbrev pub uploads_rule : Rule
+uploads_rule = record (new_rule (codes "UPLOAD")) {
+  range = Some (record { start_inclusive = 0; end_inclusive = usize_max });
+}
+
+-- KIND, one of some names
+abbrev pub kind_rule : ValueParser → Rule
+kind_rule kinds = record (place_rule (codes "KIND")) { parser = Some kinds }
+
+-- `--name VALUE`
+abbrev pub option_rule : Text → Rule
+option_rule name = record (new_rule name) { long = Some name; value_names = 1 }
+
+-- ..., which has to be given
+abbrev pub required_rule : Text → Rule
+required_rule name = record (option_rule name) { required = true }
+
+-- `--name N`, a number from 0 to 2^63 - 1
+abbrev pub number_rule : Text → Rule
+number_rule name = record (option_rule name) { parser = Some (Unsigned 0 (2 ^ 63 - 1)) }
+
+-- `--name`, which is true where it is given
+abbrev pub flag_rule : Text → Rule
+flag_rule name = record (new_rule name) { long = Some name; action = Some SetTrue }
+
+-- ---- commands
+
+-- a command of this name over `DB`
+abbrev pub database_grammar : Text → App
+database_grammar name = with_rule (new_app name) (place_rule (codes "DB"))
+
+-- `collect DB [--files-from FILE] [UPLOAD..]`
+abbrev pub collect_grammar : App
+collect_grammar = with_rule (with_rule (database_grammar (codes "collect")) uploads_rule) (option_rule (codes "files-from"))
+
+-- `show DB [--id HEX] [--from N] [--to N] [--field NAME]`
+abbrev pub show_grammar : App
+show_grammar =
+    with_rule (with_rule (with_rule (with_rule (database_grammar (codes "show")) (option_rule (codes "id")))
+    (number_rule (codes "from"))) (number_rule (codes "to"))) (option_rule (codes "field"))
+
+-- `verify KIND FILE`
+abbrev pub verify_grammar : ValueParser → App
+verify_grammar kinds = with_rule (with_rule (new_app (codes "verify")) (kind_rule kinds)) (place_rule (codes "FILE"))
+
+-- `--source HEX --resume FILE KIND IN`
+abbrev pub with_source : ValueParser → App → App
+with_source kinds app =
+    with_rule (with_rule (with_rule (with_rule app (required_rule (codes "source"))) (required_rule (codes "resume")))
+    (kind_rule kinds)) (place_rule (codes "IN"))
+
+-- `upload`, which has `--limit N` and `--whole` too
+abbrev pub upload_grammar : ValueParser → App
+upload_grammar kinds =
+    with_rule (with_rule (with_source kinds (new_app (codes "upload"))) (number_rule (codes "limit"))) (flag_rule (codes "whole"))
+
+abbrev pub ack_grammar : ValueParser → App
+ack_grammar kinds = with_source kinds (new_app (codes "ack"))
+
+-- ---- the program
+
+-- The program has a version, and one of its commands has to be named.
+abbrev pub top_grammar : App
+top_grammar = on_top (λ s. record s { has_version = true; arg_required_else_help = true; subcommand_required = true })
+    (new_app (codes "journal-collect"))
+
+-- the commands over a database
+abbrev pub collector_grammar : App
+collector_grammar =
+    with_subcommand (with_subcommand (with_subcommand (with_subcommand (with_subcommand top_grammar collect_grammar.top)
+    (database_grammar (codes "export")).top) show_grammar.top) (database_grammar (codes "check")).top)
+    (database_grammar (codes "migrate")).top
+
+-- ... those over files, and `codes`
+abbrev pub grammar : (verify upload ack : ValueParser) → App
+grammar verify upload ack =
+    with_subcommand (with_subcommand (with_subcommand (with_subcommand collector_grammar (verify_grammar verify).top)
+    (upload_grammar upload).top) (ack_grammar ack).top) (new_app (codes "codes")).top
+
+abbrev pub kind_name : InputKind → Text
+kind_name Export = codes "export"
+kind_name File = codes "file"
+
+abbrev pub all_kinds : List Text
+all_kinds = kind_name Export ∷ kind_name File ∷ []
+
+-- the texts that a parser of names takes
+abbrev pub names_of : ValueParser → List Text
+names_of (Names names) = map (λ name. name.now) names.now
+names_of _ = []
+
+-- a parser of the kinds' names
+abbrev pub AreKinds : ValueParser → Type 0
+AreKinds kinds = names_of kinds ≡ all_kinds
+
+-- The command has this grammar, and nothing that holds for other commands too.
+pub record IsCommand (command : Command) (app : App) : Type 0 where
+  pub shape : app_of command ≡ app
+  pub local : (out-Command command).has_globals ≡ false
+
+-- The command that is being made has this grammar, unless memory was refused.
+abbrev pub Makes : Making → App → Type 0
+Makes making app = IfOk making.command (λ command. IsCommand command app)
+
+-- ... and memory was not refused.
+abbrev pub IsMade : Making → App → Type 0
+IsMade making app = IsOkAnd making.command (λ command. IsCommand command app)
+
+-- The argument has this rule, for its own command alone.
+pub record IsRule (arg : Arg) (rule : Rule) : Type 0 where
+  pub shape : rule_of arg ≡ rule
+  pub local : arg.global ≡ false
+
+-- the program's grammar, in which each kind goes by its name
+pub record IsGrammar (app : App) : Type 0 where
+  pub verify : ValueParser
+  pub verify_kinds : AreKinds verify
+  pub upload : ValueParser
+  pub upload_kinds : AreKinds upload
+  pub ack : ValueParser
+  pub ack_kinds : AreKinds ack
+  pub whole : app ≡ grammar verify upload ack

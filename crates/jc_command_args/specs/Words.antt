@@ -1,0 +1,115 @@
+-- What the arguments of the command line ask for, in clap's own terms. (own)
+use Rattle.std.specs.Prelude.{◌≡◌, ◌⊎◌, ◌↔◌, ◌<◌, ◌^◌, ◌-◌, ⊤, ℕ, IsTrue, [], List, Option, Some, None, codes, map, option_map, unwrap_or}
+use Rattle.std.specs.Str.Parse.{IsNumeral, digits_value, without_leading_plus}
+use Rattle.clap.specs.Words.{App, Text, Row, all_of, first_of, fault_of, found_of, IsAmong, rows_of, subcommand_of}
+use Rattle.clap.specs.declared.parser.matches.ArgMatches.{ArgMatches}
+use Rattle.clap.specs.declared.error.kind.ErrorKind.{ErrorKind}
+use Rattle.clap.specs.declared.error.kind.ErrorKind.TheVariants.{ArgumentConflict}
+use Rattle.jc_command_args.specs.Answer.{IsAskedFor}
+use Rattle.jc_command_args.specs.Grammar.{IsGrammar, kind_name}
+use Rattle.jc_command_args.specs.declared.request.Request.{Request}
+use Rattle.jc_command_args.specs.declared.request.Request.TheVariants.{Collect, CollectListed, Export, Show, Check, Migrate, Verify, Upload, Ack, ListCodes}
+use Rattle.jc_command_args.specs.declared.request.Source.{Source}
+
+abbrev pub command_name : Request → Text
+command_name (Collect database uploads) = codes "collect"
+command_name (CollectListed database list) = codes "collect"
+command_name (Export database) = codes "export"
+command_name (Show database field id first last) = codes "show"
+command_name (Check database) = codes "check"
+command_name (Migrate database) = codes "migrate"
+command_name (Verify kind file) = codes "verify"
+command_name (Upload source limit whole) = codes "upload"
+command_name (Ack source) = codes "ack"
+command_name ListCodes = codes "codes"
+
+-- the value of an argument is this text
+abbrev pub IsGiven : List Row → (name text : Text) → Type 0
+IsGiven rows name text = first_of name rows ≡ Some text
+
+-- the values of an argument, in their order on the command line
+abbrev pub all_given : List Row → Text → List Text
+all_given rows name = unwrap_or (all_of name rows) []
+
+-- The values of a command's arguments name this source.
+pub record NameSource (rows : List Row) (source : Source) : Type 0 where
+  pub kind : IsGiven rows (codes "KIND") (kind_name source.kind)
+  pub id : IsGiven rows (codes "source") source.id.now
+  pub resume : IsGiven rows (codes "resume") source.resume.now
+  pub file : IsGiven rows (codes "IN") source.file.now
+
+-- The number that an argument's value is, in decimal digits; a given one if there is no value.
+abbrev pub IsNumberOr : (unless_given : ℕ) → Option Text → ℕ → Type 0
+IsNumberOr unless_given None number = number ≡ unless_given
+IsNumberOr unless_given (Some text) number =
+    IsNumeral 10 (without_leading_plus text) × (digits_value 10 (without_leading_plus text) ≡ number) × (number < 2 ^ 64)
+
+-- The values of a command's arguments ask for this. Without `--limit` it is 1,000, and without `--from` and `--to` the range is
+-- that of all numbers. clap's value of `--whole` is `true` where it is given.
+abbrev pub AskBy : List Row → Request → Type 0
+AskBy rows (Collect database uploads) =
+    IsGiven rows (codes "DB") database.now × (map (λ upload. upload.now) uploads.items ≡ all_given rows (codes "UPLOAD"))
+    × (first_of (codes "files-from") rows ≡ None)
+AskBy rows (CollectListed database list) =
+    IsGiven rows (codes "DB") database.now × IsGiven rows (codes "files-from") list.now × (all_given rows (codes "UPLOAD") ≡ [])
+AskBy rows (Export database) = IsGiven rows (codes "DB") database.now
+AskBy rows (Show database field id first last) =
+    IsGiven rows (codes "DB") database.now × (option_map (λ name. name.now) field ≡ first_of (codes "field") rows)
+    × (option_map (λ hex. hex.now) id ≡ first_of (codes "id") rows)
+    × IsNumberOr 0 (first_of (codes "from") rows) first × IsNumberOr (2 ^ 63 - 1) (first_of (codes "to") rows) last
+AskBy rows (Check database) = IsGiven rows (codes "DB") database.now
+AskBy rows (Migrate database) = IsGiven rows (codes "DB") database.now
+AskBy rows (Verify kind file) = IsGiven rows (codes "KIND") (kind_name kind) × IsGiven rows (codes "FILE") file.now
+AskBy rows (Upload source limit whole) =
+    NameSource rows source × IsNumberOr 1000 (first_of (codes "limit") rows) limit
+    × (IsTrue whole ↔ IsGiven rows (codes "whole") (codes "true"))
+AskBy rows (Ack source) = NameSource rows source
+AskBy rows ListCodes = ⊤
+
+-- ... or for nothing that this command does.
+abbrev pub AsksNone : List Row → Text → Type 0
+AsksNone rows name = (request : Request) → command_name request ≡ name → ¬ AskBy rows request
+
+-- the values of a command's arguments
+abbrev pub given_rows : ArgMatches → List Row
+given_rows given = rows_of (found_of given)
+
+-- A command and the values of its arguments ask for this.
+abbrev pub Asks : Text × List Row → Request → Type 0
+Asks found request = (found.0 ≡ command_name request) × AskBy found.1 request
+
+-- ... or for nothing that there is.
+abbrev pub AsksNothing : Option (Text × List Row) → Type 0
+AsksNothing None = ⊤
+AsksNothing (Some found) = (request : Request) → ¬ Asks found request
+
+-- The words are right, and name this command and these values of its arguments, or none if there is no command.
+pub record AreRight (words : List Text) (named : Option (Text × List Row)) : Type 0 where
+  pub app : App
+  pub ours : IsGrammar app
+  pub right : fault_of app words ≡ []
+  pub met : named ≡ subcommand_of app words
+
+-- The arguments are right, and ask for this.
+pub record AskFor (words : List Text) (request : Request) : Type 0 where
+  pub app : App
+  pub ours : IsGrammar app
+  pub right : fault_of app words ≡ []
+  pub found : Text × List Row
+  pub met : subcommand_of app words ≡ Some found
+  pub asked : Asks found request
+
+-- The words are refused with a kind of error, or answered with help or the version; they are in conflict too if clap
+-- passes them and they ask for nothing that there is, as words that name uploads in both ways.
+pub record AreAnswered (words : List Text) (kind : ErrorKind) : Type 0 where
+  pub app : App
+  pub ours : IsGrammar app
+  pub why : IsAmong kind (fault_of app words) ⊎ ((kind ≡ ArgumentConflict) × AsksNothing (subcommand_of app words))
+
+-- the arguments ask for help or for the version
+abbrev pub AskForHelp : List Text → Type 0
+AskForHelp words = (kind : ErrorKind) × IsAskedFor kind × AreAnswered words kind
+
+-- the arguments are a mistake
+abbrev pub AreWrong : List Text → Type 0
+AreWrong words = (kind : ErrorKind) × ¬ IsAskedFor kind × AreAnswered words kind

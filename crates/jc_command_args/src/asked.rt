@@ -1,0 +1,213 @@
+//! What the matches that `clap` found ask for.
+
+ghost use Rattle.std.specs.Prelude.{◌≡◌, ◌≢◌, ◌↔◌, ℕ, Some, IsSomeAnd, IsTrue, IfOk, MatchOption, codes, map, option_map};
+ghost use Rattle.clap.specs.Words.{first_of, subcommand_rows_of};
+ghost use Rattle.jc_command_args.specs.declared.request.Source.{Source as SourceWords};
+ghost use Rattle.jc_command_args.specs.Grammar.{kind_name};
+ghost use Rattle.jc_command_args.specs.Words.{AskBy, Asks, AsksNone, AsksNothing, IsGiven, IsNumberOr, NameSource, all_given, command_name, given_rows};
+
+use crate::arguments::MOST;
+use crate::request::{InputKind, Request, Source};
+use clap::ArgMatches;
+use std::alloc::{AllocError, Global};
+
+/// How many entries an upload has at most if no limit is given.
+const ENTRIES: u64 = 1000;
+
+/// What the matches ask for; `None` if they lack what a command requires, or name uploads in both ways.
+pub(crate) fn requested<'a>(
+    alloc: Global,
+    matches: &ArgMatches<'a>,
+) -> Result<Option<Request<'a>>, AllocError>
+    ensures { IfOk result (λ asked. MatchOption asked (AsksNothing (subcommand_rows_of matches.now))
+        (λ request. IsSomeAnd (subcommand_rows_of matches.now) (λ found. Asks found request))) }
+{
+    let Some((name, given)) = matches.subcommand() else {
+        return Ok(None);
+    };
+    match name {
+        "collect" => collect_request(alloc, given),
+        "export" => Ok(export_request(given)),
+        "show" => Ok(show_request(given)),
+        "check" => Ok(check_request(given)),
+        "migrate" => Ok(migrate_request(given)),
+        "verify" => Ok(verify_request(given)),
+        "upload" => Ok(upload_request(given)),
+        "ack" => Ok(ack_request(given)),
+        "codes" => Ok(Some(Request::ListCodes)),
+        _ => Ok(None),
+    }
+}
+
+fn collect_request<'a>(
+    alloc: Global,
+    given: &ArgMatches<'a>,
+) -> Result<Option<Request<'a>>, AllocError>
+    ensures { IfOk result (λ asked. MatchOption asked (AsksNone (given_rows given.now) (codes "collect"))
+        (λ request. (command_name request ≡ codes "collect") × AskBy (given_rows given.now) request)) }
+{
+    let Some(database) = text_given(given, "DB") else {
+        return Ok(None);
+    };
+    let uploads = texts_given(alloc, given, "UPLOAD")?;
+    match text_given(given, "files-from") {
+        None => Ok(Some(Request::Collect { database, uploads })),
+        Some(list) if uploads.is_empty() => Ok(Some(Request::CollectListed { database, list })),
+        Some(_) => Ok(None),
+    }
+}
+
+fn export_request<'a>(given: &ArgMatches<'a>) -> Option<Request<'a>>
+    ensures { MatchOption result (AsksNone (given_rows given.now) (codes "export"))
+        (λ request. (command_name request ≡ codes "export") × AskBy (given_rows given.now) request) }
+{
+    let database = text_given(given, "DB")?;
+    Some(Request::Export { database })
+}
+
+fn show_request<'a>(given: &ArgMatches<'a>) -> Option<Request<'a>>
+    ensures { MatchOption result (AsksNone (given_rows given.now) (codes "show"))
+        (λ request. (command_name request ≡ codes "show") × AskBy (given_rows given.now) request) }
+{
+    let first = number_given(given, "from", 0)?;
+    let last = number_given(given, "to", MOST)?;
+    let database = text_given(given, "DB")?;
+    Some(Request::Show {
+        database,
+        field: text_given(given, "field"),
+        id: text_given(given, "id"),
+        first,
+        last,
+    })
+}
+
+fn check_request<'a>(given: &ArgMatches<'a>) -> Option<Request<'a>>
+    ensures { MatchOption result (AsksNone (given_rows given.now) (codes "check"))
+        (λ request. (command_name request ≡ codes "check") × AskBy (given_rows given.now) request) }
+{
+    let database = text_given(given, "DB")?;
+    Some(Request::Check { database })
+}
+
+fn migrate_request<'a>(given: &ArgMatches<'a>) -> Option<Request<'a>>
+    ensures { MatchOption result (AsksNone (given_rows given.now) (codes "migrate"))
+        (λ request. (command_name request ≡ codes "migrate") × AskBy (given_rows given.now) request) }
+{
+    let database = text_given(given, "DB")?;
+    Some(Request::Migrate { database })
+}
+
+fn verify_request<'a>(given: &ArgMatches<'a>) -> Option<Request<'a>>
+    ensures { MatchOption result (AsksNone (given_rows given.now) (codes "verify"))
+        (λ request. (command_name request ≡ codes "verify") × AskBy (given_rows given.now) request) }
+{
+    let kind = kind_given(given)?;
+    let file = text_given(given, "FILE")?;
+    Some(Request::Verify { kind, file })
+}
+
+fn upload_request<'a>(given: &ArgMatches<'a>) -> Option<Request<'a>>
+    ensures { MatchOption result (AsksNone (given_rows given.now) (codes "upload"))
+        (λ request. (command_name request ≡ codes "upload") × AskBy (given_rows given.now) request) }
+{
+    let source = source_given(given)?;
+    let limit = number_given(given, "limit", ENTRIES)?;
+    let whole = is_set(given, "whole");
+    Some(Request::Upload {
+        source,
+        limit,
+        whole,
+    })
+}
+
+fn ack_request<'a>(given: &ArgMatches<'a>) -> Option<Request<'a>>
+    ensures { MatchOption result (AsksNone (given_rows given.now) (codes "ack"))
+        (λ request. (command_name request ≡ codes "ack") × AskBy (given_rows given.now) request) }
+{
+    let source = source_given(given)?;
+    Some(Request::Ack { source })
+}
+
+fn source_given<'a>(given: &ArgMatches<'a>) -> Option<Source<'a>>
+    ensures { MatchOption result ((source : SourceWords) → ¬ NameSource (given_rows given.now) source)
+        (NameSource (given_rows given.now)) }
+{
+    let kind = kind_given(given)?;
+    let id = text_given(given, "source")?;
+    let resume = text_given(given, "resume")?;
+    let file = text_given(given, "IN")?;
+    Some(Source {
+        kind,
+        id,
+        resume,
+        file,
+    })
+}
+
+/// The number that is an argument's value, or another if it has none.
+fn number_given(given: &ArgMatches<'_>, name: &str, unless_given: u64) -> Option<u64>
+    ensures { MatchOption result
+        ((number : ℕ) → ¬ IsNumberOr unless_given (first_of name.now (given_rows given.now)) number)
+        (IsNumberOr unless_given (first_of name.now (given_rows given.now))) }
+{
+    match text_given(given, name) {
+        Some(text) => number_of(text),
+        None => Some(unless_given),
+    }
+}
+
+/// The number that an argument is.
+fn number_of(word: &str) -> Option<u64>
+    ensures { MatchOption result ((number : ℕ) → ¬ IsNumberOr 0 (Some word.now) number) (IsNumberOr 0 (Some word.now)) }
+{
+    word.parse().ok()
+}
+
+/// Whether an argument without a value is given: `clap` has a text for it.
+fn is_set(given: &ArgMatches<'_>, name: &str) -> bool
+    ensures { IsTrue result ↔ IsGiven (given_rows given.now) name.now (codes "true") }
+{
+    match text_given(given, name) {
+        Some(text) => text == "true",
+        None => false,
+    }
+}
+
+fn kind_given(given: &ArgMatches<'_>) -> Option<InputKind>
+    ensures { MatchOption result ((kind : InputKind) → ¬ IsGiven (given_rows given.now) (codes "KIND") (kind_name kind))
+        (λ kind. IsGiven (given_rows given.now) (codes "KIND") (kind_name kind)) }
+{
+    let word = text_given(given, "KIND")?;
+    kind_of(word)
+}
+
+fn kind_of(text: &str) -> Option<InputKind>
+    ensures { MatchOption result ((kind : InputKind) → kind_name kind ≢ text.now) (λ kind. kind_name kind ≡ text.now) }
+{
+    match text {
+        "export" => Some(InputKind::Export),
+        "file" => Some(InputKind::File),
+        _ => None,
+    }
+}
+
+/// The first value of an argument.
+fn text_given<'a>(given: &ArgMatches<'a>, name: &str) -> Option<&'a str>
+    ensures { option_map (λ s. s.now) result ≡ first_of name.now (given_rows given.now) }
+{
+    given.get_str(name)
+}
+
+/// All values of an argument, in the order of the command line.
+fn texts_given<'a>(
+    alloc: Global,
+    given: &ArgMatches<'a>,
+    name: &str,
+) -> Result<Vec<&'a str>, AllocError>
+    ensures { IfOk result (λ texts. map (λ text. text.now) texts.items ≡ all_given (given_rows given.now) name.now) }
+{
+    match given.get_strs(name) {
+        Some(values) => Vec::from_slice(alloc, values),
+        None => Ok(Vec::new(alloc)),
+    }
+}

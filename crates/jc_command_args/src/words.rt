@@ -1,0 +1,48 @@
+//! The arguments of a command line, and what they ask for.
+
+ghost use Rattle.std.specs.Prelude.{◌≡◌, ◌⊎◌, IfOk, IfErr, map, string_bytes};
+ghost use Rattle.clap.specs.Words.{kind_of, subcommand_rows_of};
+ghost use Rattle.jc_command_args.specs.Words.{AreAnswered, AreRight, AskFor};
+
+use crate::asked::requested;
+use crate::grammar::{collect_command, program};
+use crate::request::Request;
+use crate::texts;
+use clap::error::ErrorKind;
+use clap::{ArgMatches, Error};
+use std::alloc::{AllocError, Global};
+
+/// Reads the arguments, the program's name first. The error is a mistake in them, a request for help or for the
+/// version, or refused memory.
+pub fn parse<'a>(alloc: Global, words: &'a [String]) -> Result<Request<'a>, Error>
+    ensures request { IfOk result (AskFor (map string_bytes words.entry.now)) }
+    ensures answer { IfErr result (λ e. (kind_of e ≡ ErrorKind.OutOfMemory)
+        ⊎ AreAnswered (map string_bytes words.entry.now) (kind_of e)) }
+{
+    let matches = found(alloc, words)?;
+    let asked = requested(alloc, &matches)?;
+    match asked {
+        Some(request) => Ok(request),
+        None => Err(two_lists(alloc)?),
+    }
+}
+
+/// What `clap` finds in the words.
+fn found<'a>(alloc: Global, words: &'a [String]) -> Result<ArgMatches<'a>, Error>
+    ensures right { IfOk result (λ matches. AreRight (map string_bytes words.entry.now) (subcommand_rows_of matches)) }
+    ensures answer { IfErr result (λ e. (kind_of e ≡ ErrorKind.OutOfMemory)
+        ⊎ AreAnswered (map string_bytes words.entry.now) (kind_of e)) }
+{
+    program(alloc)?.try_get_matches_from(words)
+}
+
+/// The mistake of a `collect` whose uploads are named in both ways, as `clap` puts it. All else that a command requires
+/// is there once `clap` has passed the arguments.
+fn two_lists(alloc: Global) -> Result<Error, AllocError>
+    ensures { IfOk result (λ e. kind_of e ≡ ErrorKind.ArgumentConflict) }
+{
+    let mut collect = collect_command(alloc)
+        .command?
+        .bin_name(texts::COLLECT_NAME)?;
+    collect.error(ErrorKind::ArgumentConflict, texts::TWO_LISTS)
+}

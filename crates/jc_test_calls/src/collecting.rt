@@ -1,0 +1,108 @@
+//! Uploads that are collected into a journal, and entries of it.
+
+use crate::operands::numbered;
+use crate::recorded::{Asked, RecordedSpace};
+use crate::told::{no_meaning, tell_line, tell_run, tell_text};
+use jc_base::{Id128, Key, Limits, OutOfMemory, SliceStream, VecSink};
+use jc_collect::{Delivery, collect_one, run};
+use jc_export::canonical;
+use jc_file::SliceSpace;
+use jc_keeper::{KeepStop, Keeper};
+use jc_test_samples::Pieces;
+use std::alloc::Global;
+use std::io;
+use std::io::Write;
+
+/// So many bytes are given at each read of a stream.
+pub const PIECE: usize = 7;
+
+/// Collects an upload as a space, and writes the answer's line and what was asked of the space.
+pub fn space<K: Keeper>(
+    alloc: Global,
+    keeper: &mut K,
+    upload: &[u8],
+    limits: &Limits,
+    told: &mut Vec<u8>,
+) -> io::Result<()> {
+    let asked = Asked::nothing();
+    let mut delivery: Delivery<SliceStream<'_>, _> = Delivery::Space(RecordedSpace::new(
+        upload, &asked,
+    ));
+    let answer = collect_one(alloc, keeper, &mut delivery, limits);
+    told.write_all(answer.line().bytes())?;
+    asked.tell(told)
+}
+
+/// Collects an upload as a stream, and writes the answer's line.
+pub fn stream<K: Keeper>(
+    alloc: Global,
+    keeper: &mut K,
+    upload: &[u8],
+    limits: &Limits,
+    told: &mut Vec<u8>,
+) -> io::Result<()> {
+    let mut delivery: Delivery<_, SliceSpace<'_>> = Delivery::Stream(Pieces {
+        inner: SliceStream::new(upload),
+        most: PIECE,
+    });
+    let answer = collect_one(alloc, keeper, &mut delivery, limits);
+    told.write_all(answer.line().bytes())
+}
+
+/// Collects an upload by a run, and writes what the run wrote. Its sink takes memory: without it the run stops, and what was
+/// written then is no line.
+pub fn run_one<K: Keeper>(
+    alloc: Global,
+    keeper: &mut K,
+    upload: &[u8],
+    limits: &Limits,
+    told: &mut Vec<u8>,
+) -> io::Result<()> {
+    let mut deliveries: [Delivery<SliceStream<'_>, _>; 1] = [Delivery::Space(SliceSpace {
+        bytes: upload,
+    })];
+    let mut sink = VecSink::new(alloc);
+    let end = run(alloc, keeper, &mut deliveries, &mut sink, limits);
+    tell_run(told, end, sink.bytes())
+}
+
+/// Collects uploads by one run, as spaces, and writes what the run wrote.
+pub fn run_all<K: Keeper>(
+    alloc: Global,
+    keeper: &mut K,
+    uploads: &[Vec<u8>],
+    limits: &Limits,
+    told: &mut Vec<u8>,
+) -> io::Result<()> {
+    let mut deliveries: Vec<Delivery<SliceStream<'_>, _>> = Vec::new(alloc);
+    for upload in uploads {
+        deliveries.push(Delivery::Space(SliceSpace { bytes: upload }))?;
+    }
+    let mut sink = VecSink::new(alloc);
+    let end = run(alloc, keeper, &mut deliveries, &mut sink, limits);
+    tell_run(told, end, sink.bytes())
+}
+
+/// Writes the stored entry under a key, an id and a number with a colon between them.
+pub fn get<K: Keeper>(
+    alloc: Global,
+    keeper: &mut K,
+    named: &str,
+    told: &mut Vec<u8>,
+) -> io::Result<()> {
+    let Some(key) = key_of(named) else {
+        return no_meaning();
+    };
+    match keeper.get(&key) {
+        Ok(None) => tell_line(told, "entry none", &[]),
+        Ok(Some(entry)) => tell_text(told, "entry", canonical(alloc, &entry)),
+        Err(KeepStop::OutOfMemory) => tell_text(told, "entry", Err(OutOfMemory)),
+        Err(_) => tell_line(told, "entry failed", &[]),
+    }
+}
+
+fn key_of(named: &str) -> Option<Key> {
+    let (id, seqnum) = numbered(named)?;
+    let seqnum_id = Id128::from_hex(id.as_bytes())?;
+    Some(Key { seqnum_id, seqnum })
+}

@@ -1,0 +1,79 @@
+//! Empty journals, over each kind of keeper, and what is stored in one.
+
+use jc_base::{Id128, Key};
+use jc_export::canonical;
+use jc_keeper::{Keeper, MapKeeper};
+use jc_store::SqlKeeper1;
+use jc_test_samples::SEQNUM_ID;
+use jc_theorem_database::MemoryKeeper;
+use sqlite::{Connection, MemStore};
+use std::alloc::Global;
+use std::test::Fail;
+
+/// Makes keepers of empty journals.
+pub(super) trait Journals {
+    type Kept: Keeper + Drop;
+
+    fn empty(&mut self) -> Result<Self::Kept, Fail>;
+}
+
+/// Journals in maps.
+#[derive(Drop)]
+pub(super) struct Maps(pub(super) Global);
+
+impl Journals for Maps {
+    type Kept = MapKeeper;
+
+    fn empty(&mut self) -> Result<MapKeeper, Fail> {
+        Ok(MapKeeper::new(self.0))
+    }
+}
+
+/// Journals in the tables that new databases get, each in a database in memory of its own.
+#[derive(Drop)]
+pub(super) struct Tables(pub(super) Global);
+
+impl Journals for Tables {
+    type Kept = MemoryKeeper;
+
+    fn empty(&mut self) -> Result<MemoryKeeper, Fail> {
+        Ok(MemoryKeeper::new(self.0)?)
+    }
+}
+
+/// Journals in the tables of schema 1, each in a database in memory of its own.
+#[derive(Drop)]
+pub(super) struct OldTables(pub(super) Global);
+
+impl Journals for OldTables {
+    type Kept = SqlKeeper1<MemStore>;
+
+    fn empty(&mut self) -> Result<SqlKeeper1<MemStore>, Fail> {
+        let conn = Connection::open_in_memory(self.0)?;
+        match SqlKeeper1::create(self.0, conn) {
+            Ok(keeper) => Ok(keeper),
+            Err(_) => Err(Fail::new("not created")),
+        }
+    }
+}
+
+/// The canonical texts of the entries that are stored under the numbers 1 to 4, one after the other.
+pub(super) fn stored<K: Keeper>(alloc: Global, keeper: &mut K) -> Result<Vec<u8>, Fail> {
+    let seqnum_id = Id128(SEQNUM_ID);
+    let mut text = Vec::new(alloc);
+    for seqnum in 1..=4u64 {
+        if let Some(entry) = keeper.get(&Key { seqnum_id, seqnum })? {
+            text.extend_from_slice(&canonical(alloc, &entry)?)?;
+        }
+    }
+    Ok(text)
+}
+
+/// Whether the entries with these canonical texts are stored under the numbers 1 to 4, and no others.
+pub(super) fn keeps<K: Keeper>(
+    alloc: Global,
+    keeper: &mut K,
+    texts: &[&[u8]],
+) -> Result<bool, Fail> {
+    Ok(stored(alloc, keeper)? == texts.concat(alloc)?)
+}

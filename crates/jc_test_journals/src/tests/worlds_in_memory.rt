@@ -1,0 +1,37 @@
+//! Machines and a collector over a database in memory.
+
+use super::same::same_answers;
+use super::worlds::{ack, no};
+use jc_base::{Id128, Limits};
+use jc_test_samples::SOURCE_ID;
+use jc_theorem_database::{MemoryKeeper, world_after};
+use jc_world::{Event, Progress, World};
+use std::alloc::Global;
+use std::test::Fail;
+
+/// A world of one machine that took events, and how many it took.
+fn world_of(alloc: Global, events: &[Event]) -> Result<(Progress, World<MemoryKeeper>), Fail> {
+    let sources = vec![in alloc; Id128(SOURCE_ID)]?;
+    match world_after(alloc, sources, Limits::default(), events) {
+        Ok(Some(ran)) => Ok(ran),
+        _ => Err(Fail::new("no world")),
+    }
+}
+
+/// A run takes every event, also one that names no machine.
+#[test]
+fn a_world_in_memory(rt: HostRuntime) -> Result<(), Fail> {
+    let alloc = rt.alloc();
+    let bytes = Vec::from_slice(alloc, b"JCUPLD01")?;
+    let events = [
+        Event::Make(0, 1),
+        Event::Deliver(0, 48),
+        Event::Hand(0),
+        Event::Make(1, 1),
+        Event::Alien(bytes),
+    ];
+    let (progress, world) = world_of(alloc, &events)?;
+    assert!(rt; progress.taken == 5 && progress.refusal.is_none());
+    same_answers(&rt, world.answers(), &[ack(0, 0, 0, 0), no(None, 1, 8)]);
+    Ok(())
+}
