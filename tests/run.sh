@@ -85,9 +85,14 @@ count() {
     failed=$((failed + of_part))
 }
 
-at_once=$(python3 -ESB tests/refused/parallel.py)
+# it loads the toolchain's parts, and says so if they aren't those that it knows
+at_once=$(python3 -ESB tests/refused/parallel.py) || {
+    echo "0 passed, 1 failed"
+    exit 1
+}
 memory=$(awk '/^MemAvailable/ { print int($2 / 1e6) }' /proc/meminfo)
-echo "$at_once scripts, and checks of edits, at once${RT_JOBS:+, as RT_JOBS says}: $(nproc) processors, $memory GB of memory free"
+echo "$at_once scripts, and checks of edits, at once${RT_JOBS:+, as RT_JOBS says}:" \
+    "$(nproc) processors, $memory GB of memory free"
 
 : > "$work/ci"
 start ci
@@ -103,5 +108,7 @@ scripts=$!
 count edits $edits
 count scripts $scripts
 
+# what no tool was there for, once more above the sum: it isn't among what passed
+grep -h '^skipped: ' "$work/scripts" | sort -u
 echo "$passed passed, $failed failed"
 [[ $failed -eq 0 ]]
