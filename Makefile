@@ -9,7 +9,7 @@ DOC := $(DESTDIR)$(PREFIX)/share/doc/journal-collect
 LIB := $(DESTDIR)$(PREFIX)/lib
 
 .DELETE_ON_ERROR:
-.PHONY: build help demo install uninstall deb test gate-times bench clean always
+.PHONY: build help demo check lint install uninstall deb test gate-times bench clean always
 
 build: $(PROGRAM) ## prove and build the program: the first goal, and make without one
 
@@ -18,6 +18,12 @@ help: ## this listing
 
 demo: $(PROGRAM) ## the main job on samples: uploads of two machines are collected, shown and exported
 	@bash examples/demo.sh $(PROGRAM)
+
+check: ## prove the crates that changed, and what stands on them; with SINCE=REVISION only what git says has changed
+	@python3 -ESB tools/check.py $(if $(SINCE),--since "$(SINCE)")
+
+lint: ## shell, Python and the layout of all texts; what isn't installed is told as skipped
+	@python3 -ESB tools/lint
 
 install: $(PROGRAM) ## journal-collect, its man page, its documents and deploy/, below PREFIX (/usr/local)
 	install -d "$(BIN)" "$(MAN)" "$(DOC)"

@@ -1,8 +1,8 @@
 #!/usr/bin/env python3
 """Measures what docs/LIMITS.md says: limits.py PROGRAM [ENTRIES..]
 
-For each number of entries (10,000 and 100,000 unless given): time and memory of each command, and the size of the database. Then
-a stream of 1 GB, uploads that are named at once, machines, and the greatest entry and file.
+For each number of entries (10,000 and 100,000 unless given): time and memory of each command, and the size of the
+database. Then a stream of 1 GB, uploads that are named at once, machines, and the greatest entry and file.
 """
 import os
 import resource
@@ -63,7 +63,8 @@ def measure_long_stream(program):
 def measure_collector(program, entries):
     """The commands over a database, which gets this number of entries."""
     empty = made("empty.upload", "make_upload.py", "export", 1, 0)
-    uploads = [made(f"{first}.upload", "make_upload.py", "export", first, first + 999) for first in range(1, entries, 1000)]
+    uploads = [made(f"{first}.upload", "make_upload.py", "export", first, first + 999)
+               for first in range(1, entries, 1000)]
     for what, paths in (("one export upload", [made(f"{entries}.upload", "make_upload.py", "export", 1, entries)]),
                         ("one journal file", [made(f"{entries}.file-upload", "make_upload.py", "file", entries)]),
                         (f"{len(uploads)} export uploads", uploads)):
@@ -110,7 +111,8 @@ def measure_machines(program):
     print("9,000 entries")
     say("of 900 machines, in 900 uploads", Run([program, "collect", DATABASE, *paths]))
     forget(DATABASE)
-    uploads = [made(f"{first}.upload", "make_upload.py", "export", first, first + 999) for first in range(1, 9000, 1000)]
+    uploads = [made(f"{first}.upload", "make_upload.py", "export", first, first + 999)
+               for first in range(1, 9000, 1000)]
     say("of 1 machine, in 9 uploads", Run([program, "collect", DATABASE, *uploads]))
     for path in paths:
         os.remove(path)

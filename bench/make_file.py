@@ -1,8 +1,8 @@
 #!/usr/bin/env python3
 """Writes a journal file with a number of entries: make_file.py ENTRIES > FILE
 
-An entry has 20 fields, _BOOT_ID aside; six are the same in all entries, or in many, and are stored once. The same number
-gives the same file. `Journal` makes a file of any entries.
+An entry has 20 fields, _BOOT_ID aside; six are the same in all entries, or in many, and are stored once. The same
+number gives the same file. `Journal` makes a file of any entries.
 """
 import struct
 import sys

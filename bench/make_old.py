@@ -1,7 +1,8 @@
 #!/usr/bin/env python3
 """Writes a database of schema 1: make_old.py LAST > FILE
 
-It has the entries of make_file.py from number 1 to LAST, and is made by the sqlite3 of Python, in pages of 4,096 bytes and closed.
+It has the entries of make_file.py from number 1 to LAST, and is made by the sqlite3 of Python, in pages of 4,096 bytes
+and closed.
 """
 import os
 import sqlite3

@@ -1,8 +1,8 @@
 #!/usr/bin/env python3
 """Writes an export stream of about a number of bytes: make_stream.py BYTES > FILE
 
-The entries are like those of a busy machine: 24 fields and five of metadata, most of them short texts, every tenth entry with
-a message of several lines in the binary spelling. The same size gives the same stream.
+The entries are like those of a busy machine: 24 fields and five of metadata, most of them short texts, every tenth
+entry with a message of several lines in the binary spelling. The same size gives the same stream.
 """
 import struct
 import sys

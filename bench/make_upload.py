@@ -2,7 +2,8 @@
 """Writes an upload: make_upload.py export FIRST LAST > FILE, or make_upload.py file LAST > FILE
 
 The entries are those of make_file.py, from number FIRST to number LAST, either as an export stream with the lines that
-journalctl writes, or as the journal file. Both say the same of an entry. `stream FIRST LAST` writes the export stream alone.
+journalctl writes, or as the journal file. Both say the same of an entry. `stream FIRST LAST` writes the export stream
+alone.
 """
 import struct
 import sys

@@ -1,7 +1,7 @@
 """What the measurements share: runs of programs, inputs, and what there is to say of the machine.
 
-A process begins with the memory of the one that starts it, so little is imported here, and measurements are run without site
-packages (python3 -ES).
+A process begins with the memory of the one that starts it, so little is imported here, and measurements are run without
+site packages (python3 -ES).
 """
 import os
 import sys
@@ -13,12 +13,13 @@ ROUNDS = 5
 
 
 class Run:
-    """What one run took: seconds, those of a processor, those in which the process itself computed, and its memory at its peak
-    in MiB."""
+    """What one run took: seconds, those of a processor, those in which the process itself computed, and its memory at
+    its peak in MiB."""
 
     def __init__(self, command, output="/dev/null", errors=None, status=0):
         flags = os.O_WRONLY | os.O_CREAT | os.O_TRUNC
-        files = [(os.POSIX_SPAWN_OPEN, number, path, flags, 0o644) for number, path in ((1, output), (2, errors)) if path]
+        files = [(os.POSIX_SPAWN_OPEN, number, path, flags, 0o644)
+                 for number, path in ((1, output), (2, errors)) if path]
         start = time.monotonic()
         process = os.posix_spawnp(command[0], command, os.environ, file_actions=files)
         _, ended, usage = os.wait4(process, 0)
@@ -68,7 +69,8 @@ def makers_changed():
 
 
 def made(name, script, *arguments):
-    """A file that a script writes for some arguments. It is made if it isn't there, or if a script has changed since."""
+    """A file that a script writes for some arguments. It is made if it isn't there, or if a script has changed
+    since."""
     path = os.path.join(OUT, name)
     if not os.path.exists(path) or os.path.getmtime(path) < makers_changed():
         Run([sys.executable, os.path.join(HERE, script), *map(str, arguments)], path + ".part")

@@ -92,7 +92,8 @@ static void finish(Draft *draft, Bytes *values, const uint8_t *first, const uint
 }
 
 /* One field at `at`; where it ends, or NULL if the stream ends in it. */
-static const uint8_t *next_field(Draft *draft, Bytes *values, const uint8_t *at, const uint8_t *end, const uint8_t *start)
+static const uint8_t *next_field(
+    Draft *draft, Bytes *values, const uint8_t *at, const uint8_t *end, const uint8_t *start)
 {
     const uint8_t *line = memchr(at, '\n', (size_t)(end - at));
     const uint8_t *equal = memchr(at, '=', (size_t)((line ? line : end) - at));

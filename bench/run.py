@@ -1,10 +1,10 @@
 #!/usr/bin/env python3
 """Measures how fast the program is: run.py PROGRAM
 
-Reading: `verify export` of streams of 10 MB and of 100 MB in turn with the C parser of parser.c, `verify file` of a journal
-file. Collecting: new databases of 1,000 to 100,000 entries with 20 fields each, from export uploads and from journal files, the
-same uploads again, and listings of what is stored; each in turn with the C baseline of baseline.c. What is in C is left out if
-it can't be built. `migrate` of databases of schema 1. Each figure is the best of five runs.
+Reading: `verify export` of streams of 10 MB and of 100 MB in turn with the C parser of parser.c, `verify file` of a
+journal file. Collecting: new databases of 1,000 to 100,000 entries with 20 fields each, from export uploads and from
+journal files, the same uploads again, and listings of what is stored; each in turn with the C baseline of baseline.c.
+What is in C is left out if it can't be built. `migrate` of databases of schema 1. Each figure is the best of five runs.
 """
 import os
 import sys
@@ -22,7 +22,8 @@ def built(name, *libraries):
     try:
         Run(["cc", "-O2", "-o", path, os.path.join(HERE, f"{name}.c"), *libraries], errors="/dev/null")
     except OSError:
-        print(f"no {name}: cc or what it needs ({', '.join(['stdio.h', *libraries])}) isn't here, so there are no ratios to it")
+        needed = ", ".join(["stdio.h", *libraries])
+        print(f"no {name}: cc or what it needs ({needed}) isn't here, so there are no ratios to it")
         return None
     return path
 
@@ -42,7 +43,8 @@ def rates(runs, entries, size):
 def ratio(runs, opened=None):
     """The ratio of the program's time to the baseline's, of the best runs and of each round."""
     aside = [each.seconds for each in opened] if opened else [0, 0]
-    ratios = [(ours.seconds - aside[0]) / (theirs.seconds - aside[1]) for ours, theirs in zip(runs[0].runs, runs[1].runs)]
+    ratios = [(ours.seconds - aside[0]) / (theirs.seconds - aside[1])
+              for ours, theirs in zip(runs[0].runs, runs[1].runs)]
     whole = (runs[0].seconds - aside[0]) / (runs[1].seconds - aside[1])
     return f"ratio {whole:.2f} (in rounds {min(ratios):.2f} to {max(ratios):.2f})"
 
@@ -55,7 +57,8 @@ def measure_reading(program):
         runs = interleaved(commands)
         for name, each in zip(("program", "parser"), runs):
             print(f"verify export, {size} MB, {name}: {each.seconds:.3f} s (to +{each.spread():.0f} %), of them "
-                  f"{each.user:.3f} s the process's own, {megabytes([path]) / each.seconds:.0f} MB/s, {each.peak:.0f} MiB")
+                  f"{each.user:.3f} s the process's own, {megabytes([path]) / each.seconds:.0f} MB/s, "
+                  f"{each.peak:.0f} MiB")
         if parser:
             print(f"  {ratio(runs)}, of the processes' own time {runs[0].user / runs[1].user:.2f}", flush=True)
     path = made(f"{ENTRIES}.journal", "make_file.py", ENTRIES)
@@ -91,7 +94,8 @@ class Collecting:
         self.report(what, runs, entries, megabytes(uploads))
 
     def open(self, which):
-        """What opening takes: a run that collects an upload without entries, which opens, adopts and closes the database."""
+        """What opening takes: a run that collects an upload without entries, which opens, adopts and closes the
+        database."""
         runs = interleaved([[path, "collect", database, self.empty]
                             for (_, path), database in zip(self.programs, self.databases(which))])
         for (name, _), each in zip(self.programs, runs):
@@ -100,7 +104,8 @@ class Collecting:
         return runs
 
     def open_alone(self, which):
-        """What the library's open takes: `check` of a database whose version is another, which looks at nothing else."""
+        """What the library's open takes: `check` of a database whose version is another, which looks at nothing
+        else."""
         database = self.database("other", which)
         try:
             Run(["cp", self.database("program", which), database])
@@ -109,12 +114,13 @@ class Collecting:
             print("no stock sqlite3 is here, so there is no figure for the opening alone")
         else:
             runs = best([self.programs[0][1], "check", database], status=1)
-            print(f"opened alone, program: {runs.seconds:.3f} s, {runs.processor:.3f} s of a processor, {runs.peak:.0f} MiB",
-                  flush=True)
+            print(f"opened alone, program: {runs.seconds:.3f} s, {runs.processor:.3f} s of a processor, "
+                  f"{runs.peak:.0f} MiB", flush=True)
         forget(database)
 
     def listing(self, command, which, opened, size):
-        runs = interleaved([[path, command, database] for (_, path), database in zip(self.programs, self.databases(which))])
+        databases = self.databases(which)
+        runs = interleaved([[path, command, database] for (_, path), database in zip(self.programs, databases)])
         self.report(f"{command} of {ENTRIES:,} entries", runs, ENTRIES, size)
         beside = [each.seconds - opening.seconds for each, opening in zip(runs, opened)]
         print(f"  without the opening: {', '.join(f'{seconds:.3f} s' for seconds in beside)}", end="")
@@ -131,7 +137,8 @@ def measure_collecting(program):
                for first in range(1, ENTRIES, UPLOAD)]
     print(f"memory under {Run(['true']).peak:.0f} MiB can't be measured: it is that of the process that starts a run")
     for count in (1, 10, 100):
-        both.collect(f"collect {count} export uploads of {UPLOAD:,} entries", "uploads", uploads[:count], count * UPLOAD)
+        what = f"collect {count} export uploads of {UPLOAD:,} entries"
+        both.collect(what, "uploads", uploads[:count], count * UPLOAD)
     opened = both.open("uploads")
     both.open_alone("uploads")
     both.collect("the same 100 uploads again", "uploads", uploads, ENTRIES, is_new=False)

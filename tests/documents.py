@@ -1,39 +1,37 @@
 #!/usr/bin/env python3
-"""Compares the documents with each other and with the sources: documents.py PROGRAM
+"""Compares the documents with each other and with the sources: documents.py PROGRAM [FOLDER]
 
-One version, one table of codes, which the program prints too, a README that stays short, and lines that fit a screen.
-Prints what differs.
+One version, one toolchain, one table of codes, which the program prints too, a list of crates and of scripts that is
+whole, and a README that stays short. Prints what differs.
 """
 import re
 import subprocess
 import sys
+from collections.abc import Iterator
 from pathlib import Path
 
-ROOT = Path(__file__).resolve().parent.parent
-WIDTH = 120
+ROOT = Path(sys.argv[2]) if len(sys.argv) > 2 else Path(__file__).resolve().parent.parent
 # The code that the library alone has: in its place the program prints `write failed`.
 UNPRINTED = (66, "WriteFailed")
 README_LINES = 200
-PAGES = ("README.md", "CHANGELOG.md", "docs/DECISIONS.md", "docs/FAULTS.md", "docs/FORMATS.md", "docs/GATE.md", "docs/LIMITS.md",
-         "docs/PERFORMANCE.md", "docs/PROOFS.md")
 
 
-def text_of(path):
+def text_of(path: str) -> str:
     return (ROOT / path).read_text()
 
 
-def found(pattern, path):
+def found(pattern: str, path: str) -> str | None:
     """What the pattern's group is in a file, at its first place."""
     match = re.search(pattern, text_of(path), re.MULTILINE)
     return match[1] if match else None
 
 
-def printed(program, *words):
+def printed(program: str, *words: str) -> str:
     """What a command prints."""
     return subprocess.run([program, *words], capture_output=True, text=True, check=True).stdout
 
 
-def versions(program):
+def versions(program: str) -> dict[str, str | None]:
     """The version, by where it stands."""
     return {
         "--version": printed(program, "--version").removeprefix("journal-collect ").strip(),
@@ -43,24 +41,24 @@ def versions(program):
     }
 
 
-def codes_of_sources():
-    return {(int(number), name)
-            for name, number in re.findall(r"^number_of (\w+) = (\d+)$", text_of("crates/jc_base/specs/Fault.antt"), re.MULTILINE)}
+def codes_of_sources() -> set[tuple[int, str]]:
+    text = text_of("crates/jc_base/specs/Fault.antt")
+    return {(int(number), name) for name, number in re.findall(r"^number_of (\w+) = (\d+)$", text, re.MULTILINE)}
 
 
-def codes_of_table():
+def codes_of_table() -> set[tuple[int, str]]:
     table = text_of("docs/FORMATS.md").split("\n## Codes\n")[1]
     return {(int(number), name) for number, name in re.findall(r"^\| (\d+) \| (\w+) \|", table, re.MULTILINE)}
 
 
-def lines_of_table():
+def lines_of_table() -> str:
     """The lines that the program has to print: a code that something reports, its name, its meaning."""
     table = text_of("docs/FORMATS.md").split("\n## Codes\n")[1]
     rows = re.findall(r"^\| (\d+) \| (\w+) \| [a-z ]+ \| (.*) \|$", table, re.MULTILINE)
     return "".join(f"{number:<3} {name:<20}{meaning}\n" for number, name, meaning in rows)
 
 
-def printed_codes(program):
+def printed_codes(program: str) -> Iterator[str]:
     """Whether `codes` and `help codes` print the table, and which codes in it aren't the sources'."""
     codes = printed(program, "codes")
     if codes != lines_of_table():
@@ -72,14 +70,27 @@ def printed_codes(program):
     yield from (f"code {code} isn't both printed and in the sources" for code in sorted(told ^ known))
 
 
-def long_lines():
-    for page in PAGES:
-        for number, line in enumerate(text_of(page).splitlines(), 1):
-            if len(line) > WIDTH:
-                yield f"{page}:{number}: {len(line)} characters"
+def toolchains() -> Iterator[str]:
+    """Pages that say another toolchain than tools/kit.py knows."""
+    tried = text_of("tools/kit.py").partition("TRIED = ")[2].partition("\n")[0]
+    for path in ("README.md", "docs/PROOFS.md"):
+        if (said := found(r"(rattle-kit-\w+)", path)) is None or f'"{said} ' not in tried:
+            yield f"{path} is for {said}, which tools/kit.py doesn't know"
 
 
-def differences(program):
+def lists() -> Iterator[str]:
+    """Crates and scripts that docs/ARCHITECTURE.md doesn't have in its tables, and those that it has and aren't."""
+    page = text_of("docs/ARCHITECTURE.md")
+    table = page.split("\n## Crates\n")[1].split("\n## ")[0]
+    crates = {it.split(":")[0] for it in text_of("crates.txt").splitlines() if it and it[0] != "#"}
+    scripts = {it.name for it in (ROOT / "tests").glob("test-*.sh")}
+    tables = ("crate", crates, set(re.findall(r"^\| (jc_\w+) \|", table, re.MULTILINE))), (
+        "script", scripts, set(re.findall(r"`(test-[\w-]+\.sh)`", page)))
+    for what, there, listed in tables:
+        yield from (f"docs/ARCHITECTURE.md: the {what} {it} isn't both there and listed" for it in sorted(there ^ listed))
+
+
+def differences(program: str) -> Iterator[str]:
     known = versions(program)
     if len(set(known.values())) != 1:
         yield f"versions: {known}"
@@ -87,10 +98,11 @@ def differences(program):
     if len(text_of("README.md").splitlines()) >= README_LINES:
         yield f"README.md has {README_LINES} lines or more"
     yield from printed_codes(program)
-    yield from long_lines()
+    yield from toolchains()
+    yield from lists()
 
 
-def main():
+def main() -> int:
     mistakes = list(differences(sys.argv[1]))
     for mistake in mistakes:
         print(mistake, file=sys.stderr)

@@ -1,3 +1,4 @@
+# shellcheck shell=bash
 # What the test scripts share. `expect STATUS OUTPUT ERRORS COMMAND..` runs the command and compares; OUTPUT and ERRORS
 # are a whole text without its last newline, or a pattern after `~`. Each script ends with `finish`.
 mistakes=0
@@ -10,6 +11,7 @@ differs() {
 matches() {
     local text=$1 wanted=$2
     if [[ $wanted == "~"* ]]; then
+        # shellcheck disable=SC2053 # it is a pattern
         [[ $text == ${wanted#"~"} ]]
     else
         [[ $text == "$wanted" ]]

@@ -1,4 +1,5 @@
-"""Small libraries that are preloaded into the program: compiled by the toolchain's own compiler, and set by variables."""
+"""Small libraries that are preloaded into the program: compiled by the toolchain's own compiler, and set by
+variables."""
 import os
 import shutil
 import subprocess
@@ -18,8 +19,8 @@ def built(source, folder):
     """The library of a source, compiled into a folder. No other compiler, linker or header is needed."""
     toolchain = os.path.join(os.path.dirname(os.path.realpath(shutil.which("rt"))), "..", "toolchain", "bin")
     library = os.path.join(folder, os.path.basename(source) + ".so")
-    subprocess.run([os.path.join(toolchain, "clang"), "-fuse-ld=lld", "-O1", "-fPIC", "-shared", "-nostdlib", "-fno-builtin",
-                    "-Wall", "-Werror", "-o", library, source], check=True)
+    options = ["-fuse-ld=lld", "-O1", "-fPIC", "-shared", "-nostdlib", "-fno-builtin", "-Wall", "-Werror"]
+    subprocess.run([os.path.join(toolchain, "clang"), *options, "-o", library, source], check=True)
     return library
 
 
@@ -27,7 +28,8 @@ def run(library, prefix, settings, words, stdin=b"", **options):
     """A run with the library, whose variables have a prefix; PREFIX_NOTE is the descriptor that it notes to."""
     with tempfile.TemporaryFile() as note:
         variables = {f"{prefix}_{name}": str(value) for name, value in {**settings, "NOTE": note.fileno()}.items()}
-        told = subprocess.run(words, input=stdin, stdout=subprocess.PIPE, stderr=subprocess.PIPE, check=False, timeout=60,
-                              env=dict(os.environ, LD_PRELOAD=library, **variables), pass_fds=[note.fileno()], **options)
+        environment = dict(os.environ, LD_PRELOAD=library, **variables)
+        told = subprocess.run(words, input=stdin, stdout=subprocess.PIPE, stderr=subprocess.PIPE, check=False,
+                              timeout=60, env=environment, pass_fds=[note.fileno()], **options)
         note.seek(0)
         return Told(told.stdout, told.stderr.decode(errors="replace"), told.returncode, note.read())

@@ -1,10 +1,11 @@
 #!/usr/bin/env python3
 """Compares the page on proofs with the sources: proofs_page.py [PAGE]
 
-The page has a section for each crate. A claim there names a function in bold, and its clauses in brackets after it; `(unnamed)`
-is one clause without a name. `impl TRAIT for TYPE` in bold stands for a contract that the trait has. "`NAME` in `specs/FILE`" is a
-definition. Each of these has to be in the sources of that crate, and each public function of a library on the page. The list of what the
-main theorem rests on has to have all definitions that its own file uses, and what these use; that of jc_world those that are more.
+The page has a section for each crate. A claim there names a function in bold, and its clauses in brackets after it;
+`(unnamed)` is one clause without a name. `impl TRAIT for TYPE` in bold stands for a contract that the trait has.
+"`NAME` in `specs/FILE`" is a definition. Each of these has to be in the sources of that crate, and each public function
+of a library on the page. The list of what the main theorem rests on has to have all definitions that its own file uses,
+and what these use; that of jc_world those that are more.
 """
 import re
 import sys
@@ -145,7 +146,8 @@ def main():
     mistakes += [f"{crate} has no section" for crate in sorted(crates - set(about))]
     rests_on = definitions_below("jc_collect", ["Run"])
     of_worlds = definitions_below("jc_world", ["Kept", "Schedule", "World"]) - rests_on
-    for title, wanted, listed in ("the main theorem", rests_on, found[THEOREM]), ("jc_world", of_worlds, found["jc_world"]):
+    lists = ("the main theorem", rests_on, found[THEOREM]), ("jc_world", of_worlds, found["jc_world"])
+    for title, wanted, listed in lists:
         differing = sorted(wanted ^ listed_definitions(listed))
         mistakes += [f"{title}'s list: {crate}, {name}" for crate, name in differing]
     for mistake in mistakes:

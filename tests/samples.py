@@ -1,5 +1,4 @@
 """The sample entries, journal files and uploads that the scripts share, as docs/FORMATS.md spells them."""
-import os
 import struct
 
 SOURCE = bytes(range(0xa0, 0xb0))

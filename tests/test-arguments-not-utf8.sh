@@ -1,5 +1,6 @@
 #!/usr/bin/env bash
-# Arguments that aren't UTF-8 are a wrong command line: status 2, one line on standard error, nothing on standard output.
+# Arguments that aren't UTF-8 are a wrong command line: status 2, one line on standard error, nothing on standard
+# output.
 set -uo pipefail
 . "$(dirname "$0")/expect.sh"
 

@@ -1,8 +1,8 @@
 #!/usr/bin/env bash
-# Collecting into a database, as only processes show it: many uploads in one run, a collector that is killed, a full disk, several
-# collectors at once, files that can't be read, databases of other programs, and of the first version of the tables. What is stored
-# is read by the stock sqlite3 too.
-# The random choices come from a seed that each part prints; SEED=N makes the same choices again.
+# Collecting into a database, as only processes show it: many uploads in one run, a collector that is killed, a full
+# disk, several collectors at once, files that can't be read, databases of other programs, and of the first version of
+# the tables. What is stored is read by the stock sqlite3 too. The random choices come from a seed that each part
+# prints; SEED=N makes the same choices again.
 set -uo pipefail
 . "$(dirname "$0")/expect.sh"
 
@@ -95,7 +95,8 @@ if stock; then
     expect_empty "$folder/tables"
     # an entry that the stock sqlite3 puts in, and one that reads as none
     stock "$db" "INSERT INTO record SELECT seqid, 2, 7, 8 FROM record"
-    stock "$db" "INSERT INTO field SELECT seqid, 2, 0, CAST('MESSAGE' AS BLOB), CAST('ho' AS BLOB) FROM record WHERE seqnum = 1"
+    stock "$db" "INSERT INTO field SELECT seqid, 2, 0, CAST('MESSAGE' AS BLOB), CAST('ho' AS BLOB) FROM record
+        WHERE seqnum = 1"
     expect 0 "000102030405060708090a0b0c0d0e0f 2 7 8 ho" "" "$PROGRAM" show "$db" --from 2
     stock "$db" "INSERT INTO record SELECT seqid, 3, -1, 8 FROM record WHERE seqnum = 1"
     expect 1 "bad 65 2" "" "$PROGRAM" check "$db"

@@ -1,6 +1,7 @@
 #!/usr/bin/env bash
-# Journal files and exports that systemd itself wrote (tests/fixtures says how each was made): what `verify` says of them, how
-# `collect` answers them, and what `export` then writes. What is expected comes from what journalctl printed of the same files.
+# Journal files and exports that systemd itself wrote (tests/fixtures says how each was made): what `verify` says of
+# them, how `collect` answers them, and what `export` then writes. What is expected comes from what journalctl printed
+# of the same files.
 set -uo pipefail
 . "$(dirname "$0")/expect.sh"
 

@@ -1,5 +1,6 @@
 #!/usr/bin/env bash
-# docs/PROOFS.md names functions, clauses and definitions that are in the sources, and a page with a wrong name is refused.
+# docs/PROOFS.md names functions, clauses and definitions that are in the sources, and a page with a wrong name is
+# refused.
 set -uo pipefail
 . "$(dirname "$0")/expect.sh"
 
@@ -14,9 +15,11 @@ refuses() {
 }
 
 refuses 's/(`some`, `only`)/(`some`, `alone`)/' "jc_export: one_reading has no clause alone"
-refuses 's/\*\*`split_pair`\*\*/**`cut_pair`**/' $'jc_base: there is no cut_pair\njc_base: split_pair isn\'t on the page'
+refuses 's/\*\*`split_pair`\*\*/**`cut_pair`**/' \
+    $'jc_base: there is no cut_pair\njc_base: split_pair isn\'t on the page'
 refuses 's/\*\*`read_fields`\*\* (unnamed)/**`read_fields`**/' "jc_export: read_fields is there without its clauses"
-refuses 's/`impl ByteSpace for FileSpace`/`impl ByteSpace for NoSpace`/' "jc_file: there is no impl ByteSpace for NoSpace"
+refuses 's/`impl ByteSpace for FileSpace`/`impl ByteSpace for NoSpace`/' \
+    "jc_file: there is no impl ByteSpace for NoSpace"
 refuses 's/`StreamReading` in/`StreamRiding` in/' "jc_export: there is no StreamRiding in specs/Stream.antt"
 refuses 's/^- jc_keeper: `Agree`, /- jc_keeper: /' "the main theorem's list: jc_keeper, Agree"
 refuses 's/^- jc_upload: `Resume`, /- jc_upload: /' "jc_world's list: jc_upload, Resume"

@@ -1,5 +1,6 @@
 #!/usr/bin/env bash
-# Resume files and pipes, as only a process shows them: what a failure leaves of the old file, and sources that come once.
+# Resume files and pipes, as only a process shows them: what a failure leaves of the old file, and sources that come
+# once.
 set -uo pipefail
 . "$(dirname "$0")/expect.sh"
 
@@ -36,7 +37,8 @@ expect 1 "bad 30 121" "" "$PROGRAM" verify file /dev/stdin < <(cat "$in")
 
 # standard output that takes nothing: the resume file was written before
 rm "$resume"
-expect 3 "" "write failed" bash -c "'$PROGRAM' ack --source $id --resume '$resume' export '$in' < '$folder/answers' > /dev/full"
+expect 3 "" "write failed" bash -c \
+    "'$PROGRAM' ack --source $id --resume '$resume' export '$in' < '$folder/answers' > /dev/full"
 holds "$point"
 rm "$resume"
 expect 3 "" "write failed" bash -c "'$PROGRAM' upload --source $id --resume '$resume' export '$in' > /dev/full"
@@ -72,7 +74,8 @@ expect 1 "" "bad resume" upload export "$in"
 # a journal file that memory has no room for
 truncate -s 1G "$folder/large"
 resume=$folder/resume
-expect 3 "" "out of memory" bash -c "ulimit -v 400000; '$PROGRAM' upload --source $id --resume '$resume' file '$folder/large'"
+expect 3 "" "out of memory" bash -c \
+    "ulimit -v 400000; '$PROGRAM' upload --source $id --resume '$resume' file '$folder/large'"
 expect 1 "bad 31 0" "" bash -c "ulimit -v 400000; '$PROGRAM' verify file '$folder/large'"
 rm "$folder/large"
 

@@ -1,5 +1,6 @@
 #!/usr/bin/env bash
-# Random schedules of machines and their collector: each event's answer and what there is afterwards, against a model of its own.
+# Random schedules of machines and their collector: each event's answer and what there is afterwards, against a model of
+# its own.
 set -uo pipefail
 . "$(dirname "$0")/expect.sh"
 

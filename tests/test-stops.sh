@@ -1,7 +1,7 @@
 #!/usr/bin/env bash
-# The program stopped at each of its writes, over devices that fail, and after power was lost; and a journal over disks in memory, of the
-# library that the database stands on, that do the same or have a byte that can't be read.
-# The library that stops it is preloaded, and compiled here by the compiler of the toolchain.
+# The program stopped at each of its writes, over devices that fail, and after power was lost; and a journal over disks
+# in memory, of the library that the database stands on, that do the same or have a byte that can't be read. The library
+# that stops it is preloaded, and compiled here by the compiler of the toolchain.
 set -uo pipefail
 . "$(dirname "$0")/expect.sh"
 

@@ -39,8 +39,8 @@ def _command() -> str:
         wanted = " or ".join(f"'{it}'" for it in TRIED)
         sys.exit(
             f"'{found} version' says '{lines[0]}', and wanted is {wanted}: tools/ and tests/refused use parts of the "
-            "toolchain that another one may not have. If tests/test-refused.sh passes with it in TRIED of tools/kit.py, "
-            "it belongs there"
+            "toolchain that another one may not have. Add it to TRIED in tools/kit.py, and keep it there if "
+            "tests/test-refused.sh and tests/test-tools.sh pass"
         )
     return os.path.realpath(found)
 

@@ -19,7 +19,8 @@ SIZES = 50
 
 
 class Task:
-    """Uploads that agree with one another, each with something new, and the journals that they make one after another."""
+    """Uploads that agree with one another, each with something new, and the journals that they make one after
+    another."""
 
     def __init__(self, trial):
         first, second = Machine(trial.dice, 60), Machine(trial.dice, 60)
@@ -55,7 +56,8 @@ def pauses(trial, task):
 
 
 def after_kill(trial, what, database, task, before, told):
-    """How many uploads are stored after a stopped run that printed these lines, over as many as were there before it."""
+    """How many uploads are stored after a stopped run that printed these lines, over as many as were there before
+    it."""
     trial.expect(f"{what}: lines", told, task.answers(before)[:len(told)])
     found = trial.left(what, database, task.journals)
     # all that is acknowledged is stored, and beside it at most the upload whose line was still to come
@@ -146,8 +148,8 @@ def main():
         within = within_uploads(trial, task)
         sizes = at_sizes(trial, task)
         trial.expect("writes that ended a run", sizes > 0, True)
-        trial.finish(f"{kills + within} kills by SIGKILL ({making} before there was a journal, {within} while a part of "
-                     f"an upload had come)", f"{sizes} by SIGXFSZ within a write")
+        trial.finish(f"{kills + within} kills by SIGKILL ({making} before there was a journal, {within} while a part "
+                     f"of an upload had come)", f"{sizes} by SIGXFSZ within a write")
 
 
 if __name__ == "__main__":

@@ -1,4 +1,5 @@
-"""Machines, and the uploads that they make: all of them chosen by a generator of random numbers that the caller seeds."""
+"""Machines, and the uploads that they make: all of them chosen by a generator of random numbers that the caller
+seeds."""
 import os
 import struct
 import sys

@@ -1,5 +1,5 @@
-"""Databases of the first version of the tables, as an earlier program left them and as the stock sqlite3 makes them: `migrate` takes
-their journals over, also where it is killed or a file can't grow, and no other command does.
+"""Databases of the first version of the tables, as an earlier program left them and as the stock sqlite3 makes them:
+`migrate` takes their journals over, also where it is killed or a file can't grow, and no other command does.
 
 After a stop the database has the whole journal, in the old tables or in the new ones.
 """
@@ -65,7 +65,8 @@ def older(trial, journal):
 
 
 def old_rows(journal):
-    return "".join(f"{e.seqnum_id.hex()} {e.seqnum} {e.realtime} {e.monotonic} {e.body().hex()}\n" for e in journal.in_order())
+    return "".join(f"{e.seqnum_id.hex()} {e.seqnum} {e.realtime} {e.monotonic} {e.body().hex()}\n"
+                   for e in journal.in_order())
 
 
 def usual(journal):
@@ -155,12 +156,14 @@ def main():
     with Trial("older") as trial:
         machine = Machine(trial.dice, 110)
         for name in EARLIER:
-            one_after_the_other(trial, name, earlier(trial, name), earlier_journal(), [machine.stream(0, 10), machine.file(20)])
+            uploads = [machine.stream(0, 10), machine.file(20)]
+            one_after_the_other(trial, name, earlier(trial, name), earlier_journal(), uploads)
         if not IS_HERE:
             trial.finish(f"{len(EARLIER)} databases of an earlier program")
         for count in (0, 1, 100):
             journal = Journal(machine.entries[:count])
-            one_after_the_other(trial, f"{count} entries", older(trial, journal), journal, [machine.stream(0, count + 10)])
+            uploads = [machine.stream(0, count + 10)]
+            one_after_the_other(trial, f"{count} entries", older(trial, journal), journal, uploads)
         journal = Journal(Machine(trial.dice, 60).entries)
         kills, before = at_moments(trial, journal)
         at_sizes(trial, journal)

@@ -29,7 +29,8 @@ IS_HERE = HAS_MODULE or tool_version() >= STRICT_SINCE
 def stock(path, statement):
     """The answers of a statement, a line for each row; None if it is refused."""
     if not HAS_MODULE:
-        told = subprocess.run(["sqlite3", path, statement], stdout=subprocess.PIPE, stderr=subprocess.DEVNULL, check=False)
+        words = ["sqlite3", path, statement]
+        told = subprocess.run(words, stdout=subprocess.PIPE, stderr=subprocess.DEVNULL, check=False)
         return told.stdout.decode() if told.returncode == 0 else None
     connection = sqlite3.connect(path, timeout=0)
     try:

@@ -1,4 +1,5 @@
-"""What the tests with random choices share: the program that is tried, what a database has to hold, the count of mistakes."""
+"""What the tests with random choices share: the program that is tried, what a database has to hold, the count of
+mistakes."""
 import os
 import random
 import shutil
@@ -29,7 +30,8 @@ SELECT line FROM (
            lower(hex(seqid)) || ' ' || seqnum || ' ' || realtime || ' ' || monotonic AS line FROM record
     UNION ALL
     SELECT seqid, seqnum, pos,
-           lower(hex(seqid)) || ' ' || seqnum || ' ' || pos || ' ' || lower(hex(name)) || ' ' || lower(hex(value)) FROM field
+           lower(hex(seqid)) || ' ' || seqnum || ' ' || pos || ' ' || lower(hex(name)) || ' ' || lower(hex(value))
+    FROM field
 ) ORDER BY seqid, seqnum, pos
 """
 # How many mistakes of a script are printed.

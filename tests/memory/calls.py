@@ -1,9 +1,10 @@
-"""Memory is refused at one place after another of the public calls that answer `out of memory`, each made by crates/jc_test_calls, a program
-for tests: calls.py [NAME..], or all of them.
+"""Memory is refused at one place after another of the public calls that answer `out of memory`, each made by
+crates/jc_test_calls, a program for tests: calls.py [NAME..], or all of them.
 
-A run makes some calls twice, and looks at the journal between them. Each prints what it has to, or that memory was refused; the journal
-has what was acknowledged and nothing else then, and the same call made anew succeeds. If the refusal hits the program itself, while it
-reads its files or gathers what it prints, it says so and ends, and such a run shows nothing.
+A run makes some calls twice, and looks at the journal between them. Each prints what it has to, or that memory was
+refused; the journal has what was acknowledged and nothing else then, and the same call made anew succeeds. If the
+refusal hits the program itself, while it reads its files or gathers what it prints, it says so and ends, and such a run
+shows nothing.
 """
 import os
 import re
@@ -39,7 +40,8 @@ def refused(name):
 
 
 def collected(word, upload, journal):
-    """An upload, as a space, as a stream or in a run. A run that can't write its line has collected the upload all the same."""
+    """An upload, as a space, as a stream or in a run. A run that can't write its line has collected the upload all the
+    same."""
     after = journal.copy()
     line = after.take(upload).encode() + b"\n"
     whose = b" ".join(line.split(b" ")[1:3])
@@ -81,7 +83,8 @@ def copied(data, journal):
         for name in (b"clone", b"read back", b"pairs"):
             yield made(name, whole, journal)
         for name, value in sorted(entry.pairs):
-            yield iter([Told(b"field %d %d\n" % (len(name), len(value)), journal, False), Told(refused(b"field"), journal, True)])
+            yield iter([Told(b"field %d %d\n" % (len(name), len(value)), journal, False),
+                        Told(refused(b"field"), journal, True)])
 
 
 def told_by(word, operand, journal):
@@ -99,7 +102,8 @@ def told_by(word, operand, journal):
 
 
 class Case:
-    """Calls of one run: pairs of a word and of the bytes that it is about, or of a key. The first ones are refused nothing."""
+    """Calls of one run: pairs of a word and of the bytes that it is about, or of a key. The first ones are refused
+    nothing."""
 
     def __init__(self, trial, name, calls, spared=0):
         self.trial = trial
@@ -117,8 +121,8 @@ class Case:
         return len(refusal.run(self.trial.library, 0, 0, words)[1])
 
     def places(self, sizes):
-        """The numbers of the requests to refuse: each one, but for long rows of like ones as a database is opened, and for those
-        of calls that open it anew as the first one does."""
+        """The numbers of the requests to refuse: each one, but for long rows of like ones as a database is opened, and
+        for those of calls that open it anew as the first one does."""
         spared = self.requests_of(self.spared)
         numbers = [number for number in refusal.places(sizes) if number > spared]
         if self.spared == 0:
@@ -161,8 +165,8 @@ class Case:
         self.trial.expect(f"{self.name}, undisturbed: refusals", self.refusals_in(self.name, told[0]), 0)
         ends = list(pool.map(self.one, self.places(sizes)))
         self.trial.expect(f"{self.name}: a call was refused memory", ends.count(True) > 0, True)
-        print(f"memory of calls: {self.name}: {len(ends)} requests; {ends.count(True)} refusals were told by a call, {ends.count(None)} "
-              f"hit the program itself, {ends.count(False)} did no harm")
+        print(f"memory of calls: {self.name}: {len(ends)} requests; {ends.count(True)} refusals were told by a call, "
+              f"{ends.count(None)} hit the program itself, {ends.count(False)} did no harm")
         return ends
 
 

@@ -1,17 +1,18 @@
-"""The program with requests for memory refused: a small library that is preloaded counts them, and refuses the chosen ones."""
+"""The program with requests for memory refused: a small library that is preloaded counts them, and refuses the chosen
+ones."""
 import itertools
 import os
 import struct
 
 import preload
 
-# Requests of one size that follow one another are alike (the pages of the store's cache). In a run of more than LONG of them the
-# first and the last ENDS are tried, and between them one in STRIDE.
+# Requests of one size that follow one another are alike (the pages of the store's cache). In a run of more than LONG of
+# them the first and the last ENDS are tried, and between them one in STRIDE.
 LONG = 64
 ENDS = 8
 STRIDE = 100
-# A request is like an earlier one if it, the AROUND requests before it and those after it have the same sizes. One in ALIKE of
-# these is tried.
+# A request is like an earlier one if it, the AROUND requests before it and those after it have the same sizes. One in
+# ALIKE of these is tried.
 AROUND = 8
 ALIKE = 10
 
@@ -22,8 +23,8 @@ def built(folder):
 
 
 def run(library, first, last, words, stdin=b"", **options):
-    """A run in which the requests from one number to another are refused; from 0 to 0, none is. What it prints, its status,
-    and the sizes of the requests that were refused, or of all if none was to be."""
+    """A run in which the requests from one number to another are refused; from 0 to 0, none is. What it prints, its
+    status, and the sizes of the requests that were refused, or of all if none was to be."""
     *told, noted = preload.run(library, "REFUSE", {"FIRST": first, "LAST": last}, words, stdin, **options)
     return tuple(told), struct.unpack(f"<{len(noted) // 8}Q", noted)
 

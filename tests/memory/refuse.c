@@ -1,6 +1,6 @@
-/* Preloaded into a program, this refuses some of its requests for memory: from the one numbered REFUSE_FIRST to the one numbered
- * REFUSE_LAST, counted from 1 as the program starts. Each refusal writes its size, 8 bytes, to the descriptor REFUSE_NOTE. If
- * REFUSE_FIRST is 0, none is refused, and the size of each request is written.
+/* Preloaded into a program, this refuses some of its requests for memory: from the one numbered REFUSE_FIRST to the one
+ * numbered REFUSE_LAST, counted from 1 as the program starts. Each refusal writes its size, 8 bytes, to the descriptor
+ * REFUSE_NOTE. If REFUSE_FIRST is 0, none is refused, and the size of each request is written.
  * It is compiled without headers, so what it needs of the C library is declared here. */
 typedef __SIZE_TYPE__ size_t;
 

@@ -1,8 +1,8 @@
-"""Memory is refused at one place after another of every command, until a run asks for no more: once there alone, and once there and at
-all later ones.
+"""Memory is refused at one place after another of every command, until a run asks for no more: once there alone, and
+once there and at all later ones.
 
-A command then answers as ever, or that memory was refused. The journal holds what is acknowledged and nothing else, the resume file
-is the old or the new one whole, and the same command run anew succeeds.
+A command then answers as ever, or that memory was refused. The journal holds what is acknowledged and nothing else, the
+resume file is the old or the new one whole, and the same command run anew succeeds.
 """
 import os
 import shutil
@@ -101,8 +101,8 @@ class Sweep:
         tried = alone + later
         self.trial.expect(f"{self.name}: places without a refusal", [count for count, _ in tried].count(0), 0)
         unseen = [seen for _, seen in tried].count(False)
-        print(f"memory: {self.name}: {len(sizes)} requests, {len(alone)} refused alone, {len(later)} with all later ones; "
-              f"{unseen} of these runs went as usual")
+        print(f"memory: {self.name}: {len(sizes)} requests, {len(alone)} refused alone, {len(later)} with all later "
+              f"ones; {unseen} of these runs went as usual")
         return len(tried)
 
 
@@ -220,7 +220,8 @@ def copied(base, folder):
 
 
 class Migrate(Sweep):
-    """A journal that goes over to the tables of the present version: it is whole, in the old tables or in the new ones."""
+    """A journal that goes over to the tables of the present version: it is whole, in the old tables or in the new
+    ones."""
 
     def __init__(self, trial, name):
         self.journal = older.earlier_journal()
@@ -278,7 +279,8 @@ def collecting(trial, base):
     one, two, three = samples.E1, samples.E2, samples.E3
     row, file = samples.stream(one), samples.head(2) + samples.FILE
     conflict = samples.stream(two, three, samples.H1)
-    several = [row, samples.stream(two, one), conflict, b"JCUPLD", samples.stream(three, b"=x"), samples.stream(three), file]
+    several = [row, samples.stream(two, one), conflict, b"JCUPLD", samples.stream(three, b"=x"), samples.stream(three),
+               file]
     yield Collect(trial, "collect into a new database", [row])
     yield Collect(trial, "collect into a journal", [samples.stream(two, three)], base, [row])
     yield Collect(trial, "collect of a conflict", [conflict], base, [row])
@@ -312,7 +314,8 @@ def main():
     with Trial("memory") as trial, ThreadPoolExecutor(os.cpu_count()) as pool:
         trial.library = refusal.built(trial.base)
         base = trial.database()
-        trial.expect("the journal that others begin with", run("collect", base, *trial.put([samples.stream(samples.E1)])),
+        trial.expect("the journal that others begin with",
+                     run("collect", base, *trial.put([samples.stream(samples.E1)])),
                      (f"ack {samples.SOURCE.hex()} 0 1 1 0\n".encode(), "", 0))
         sweeps = [*collecting(trial, base), *reading(trial, base)]
         wanted = sys.argv[1:]

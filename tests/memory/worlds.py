@@ -1,8 +1,10 @@
-"""Memory is refused at one place after another of schedules of machines and their collector, as crates/jc_test_calls takes them, a program
-for tests: to the making of a world, to each of its events, and to a run of all of them in another one.
+"""Memory is refused at one place after another of schedules of machines and their collector, as crates/jc_test_calls
+takes them, a program for tests: to the making of a world, to each of its events, and to a run of all of them in another
+one.
 
-A call that is refused is made once more, and then all has to be as if nothing had happened; or the collector answers a delivery with 63,
-and all goes on from there. If the refusal hits the program itself, while it reads or prints, it says so and ends.
+A call that is refused is made once more, and then all has to be as if nothing had happened; or the collector answers a
+delivery with 63, and all goes on from there. If the refusal hits the program itself, while it reads or prints, it says
+so and ends.
 """
 import os
 import random
@@ -58,7 +60,8 @@ class Case:
         return "".join("01"[world.take(*event)] for event in self.events).encode() + b"\n", world.text()
 
     def one(self, number):
-        """What the refusal of a request came to: `again`, `63`, or None if the program itself was hit, or it did no harm."""
+        """What the refusal of a request came to: `again`, `63`, or None if the program itself was hit, or it did no
+        harm."""
         (output, errors, status), sizes = refusal.run(self.trial.library, number, number, self.words)
         what = f"{self.name}, request {number}"
         self.trial.expect(f"{what}: refused", len(sizes), 1)
@@ -78,8 +81,8 @@ class Case:
         told, sizes = refusal.run(self.trial.library, 0, 0, self.words)
         self.trial.expect(f"{self.name}, undisturbed", told, (self.usual, "", 0))
         ends = list(pool.map(self.one, refusal.places(sizes)))
-        print(f"memory of worlds: {self.name}: {len(self.events)} events, {len(ends)} requests; {ends.count('again')} calls were refused "
-              f"and made again, {ends.count('63')} deliveries answered 63")
+        print(f"memory of worlds: {self.name}: {len(self.events)} events, {len(ends)} requests; {ends.count('again')} "
+              f"calls were refused and made again, {ends.count('63')} deliveries answered 63")
         self.trial.expect(f"{self.name}: each kind of refusal was met", {"again", "63"} <= set(ends), True)
         return ends
 
@@ -92,7 +95,8 @@ def cases(trial):
         schedule = next(drawn)
         if schedule.count(";") >= LEAST:
             chosen.append(schedule)
-    trial.expect("events that are tried", {event.split()[0] for schedule in chosen for event in schedule.split(";")}, set(schedules.EVENTS))
+    tried = {event.split()[0] for schedule in chosen for event in schedule.split(";")}
+    trial.expect("events that are tried", tried, set(schedules.EVENTS))
     return [Case(trial, f"schedule {number}", schedule, given) for number, schedule in enumerate(chosen)]
 
 
@@ -100,7 +104,8 @@ def main():
     with Trial("memory of worlds") as trial, ThreadPoolExecutor(os.cpu_count()) as pool:
         trial.library = refusal.built(trial.base)
         ends = [end for case in cases(trial) for end in case.sweep(pool)]
-        trial.finish(f"{len(ends)} runs with memory refused", f"{ends.count('again')} calls made again", f"{ends.count('63')} answers 63")
+        trial.finish(f"{len(ends)} runs with memory refused", f"{ends.count('again')} calls made again",
+                     f"{ends.count('63')} answers 63")
 
 
 if __name__ == "__main__":

@@ -19,7 +19,8 @@ use Rattle.{crate}.proofs.AtItsWord.{{at_its_word}}
 pub {name}_spec : {{M : Type 1}} → statement M
 {name}_spec = at_its_word
 """
-# The hole that stands for all proofs that are left open: of a hole of its own for each, antt would print what it is for.
+# The hole that stands for all proofs that are left open: of a hole of its own for each, antt would print what it is
+# for.
 AT_ITS_WORD = """\
 pub at_its_word {ℓ} : {A : Type ℓ} → A
 at_its_word = ?

@@ -59,7 +59,8 @@ class Sources:
 
 
 def _without_body(body: bytes) -> bytes:
-    """What takes the place of a body, with as many lines, so that what the checker says of a line is said of its own."""
+    """What takes the place of a body, with as many lines, so that what the checker says of a line is said of its
+    own."""
     return b"{" + NO_BODY + b"\n" * body.count(b"\n") + b"}"
 
 

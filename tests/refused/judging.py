@@ -54,8 +54,8 @@ def next_batch(waiting: list[Waiting]) -> list[Waiting]:
 
 
 class Judge:
-    """Judges a crate's edits over its libraries as they are built, each check in a turn of its own, and keeps its checks'
-    work in the folder `kept`."""
+    """Judges a crate's edits over its libraries as they are built, each check in a turn of its own, and keeps its
+    checks' work in the folder `kept`."""
 
     def __init__(self, crate: Any, kept: str, turn: Turn, say: Callable[[str], None]) -> None:
         self.crate = crate

@@ -112,7 +112,8 @@ WEAKER = LIBRARY.replace("number <= 9", "number <= 8").replace("result ↔ numbe
 WRONG = LIBRARY.replace("3 + 4", "3 + 3")
 
 
-# What a check of an edit of `small::edited` says of other functions; the first isn't proved, and calls nothing that isn't.
+# What a check of an edit of `small::edited` says of other functions; the first isn't proved, and calls nothing that
+# isn't.
 BESIDE = """\
 fn small::alone: no proof: expected answers in ./proofs/alone/Answers.antt; `search` did not prove `returns`
 fn small::edited: not proved

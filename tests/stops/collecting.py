@@ -44,7 +44,8 @@ class Collecting:
         return database, *device.run(self.trial.library, mode, first, last, words, **how)
 
     def left(self, what, database, answered):
-        """What a run leaves that ended after this many answers: all of those uploads, and none or all of the next one."""
+        """What a run leaves that ended after this many answers: all of those uploads, and none or all of the next
+        one."""
         self.holds_one_of(what, database, self.journals[answered:answered + 2])
 
     def failed(self, what, database, told):
@@ -62,8 +63,8 @@ class Collecting:
         self.holds_one_of(what, database, self.after_failures(what, lines))
 
     def after_failures(self, what, lines):
-        """The journals that a run with these answers may leave: all that is acknowledged, and with it perhaps the first upload that is
-        answered by a failure of the store."""
+        """The journals that a run with these answers may leave: all that is acknowledged, and with it perhaps the first
+        upload that is answered by a failure of the store."""
         journal = self.journals[0].copy()
         failed = []
         for line, upload in zip(lines, self.uploads):
@@ -81,8 +82,8 @@ class Collecting:
         return [journal, and_failed]
 
     def holds_one_of(self, what, database, journals):
-        """The database holds one of some journals, and the same uploads complete it. If there was none before the run, and one may
-        be empty, there may be none yet."""
+        """The database holds one of some journals, and the same uploads complete it. If there was none before the run,
+        and one may be empty, there may be none yet."""
         trial = self.trial
         told = run("export", database)
         found = [journal for journal in journals if told == (journal.text(), "", 0)]

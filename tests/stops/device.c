@@ -1,14 +1,14 @@
-/* Preloaded into a program, this counts its calls that read and change files, and interferes with some of them: those numbered from
- * DEVICE_FIRST to DEVICE_LAST, counted from 1 as the program starts. DEVICE_MODE says how:
+/* Preloaded into a program, this counts its calls that read and change files, and interferes with some of them: those
+ * numbered from DEVICE_FIRST to DEVICE_LAST, counted from 1 as the program starts. DEVICE_MODE says how:
  *   k  the program is killed before the call
  *   h  half of what a call writes is written, and then the program is killed
  *   f  the call fails with EIO, and does nothing
  *   n  none is interfered with, and each that changes a file is noted
- * Reads are counted in mode f if DEVICE_READS is 1, and not in the other modes. If DEVICE_ONLY names a file, calls on others are left
- * alone and not counted. Each call that was interfered with, and in mode n each
- * change, is written to the descriptor DEVICE_NOTE: an operation and a file as two bytes, an offset and a length as eight bytes each,
- * and then as many bytes. The files are d, a path that ends in "/db", l, one that ends in "/db-wal", and o, any other; 1 is standard
- * output. Standard output and standard error never fail.
+ * Reads are counted in mode f if DEVICE_READS is 1, and not in the other modes. If DEVICE_ONLY names a file, calls on
+ * others are left alone and not counted. Each call that was interfered with, and in mode n each change, is written to
+ * the descriptor DEVICE_NOTE: an operation and a file as two bytes, an offset and a length as eight bytes each, and
+ * then as many bytes. The files are d, a path that ends in "/db", l, one that ends in "/db-wal", and o, any other; 1 is
+ * standard output. Standard output and standard error never fail.
  * It is compiled without headers, so what it needs of the C library is declared here. */
 typedef __SIZE_TYPE__ size_t;
 typedef __PTRDIFF_TYPE__ ssize_t;
@@ -75,7 +75,8 @@ static void tell(char operation, char kind, off_t offset, size_t size, const voi
         put(note, bytes, size);
 }
 
-/* Whether a call has to fail. If the program is to be killed within it, this returns in mode h alone, with `half` set. */
+/* Whether a call has to fail. If the program is to be killed within it, this returns in mode h alone, with `half`
+ * set. */
 static int interferes(char operation, char kind, off_t offset, size_t size, const void *bytes, int *half)
 {
     int is_read = operation == 'r';
@@ -154,7 +155,8 @@ ssize_t pwrite(int descriptor, const void *bytes, size_t size, off_t offset)
     ssize_t written;
     if (interferes('w', kind_of(descriptor), offset, size, bytes, &half))
         return -1;
-    written = ((ssize_t(*)(int, const void *, size_t, off_t))NEXT("pwrite"))(descriptor, bytes, half ? size / 2 : size, offset);
+    written = ((ssize_t(*)(int, const void *, size_t, off_t))NEXT("pwrite"))(
+        descriptor, bytes, half ? size / 2 : size, offset);
     if (half)
         raise(KILL);
     return written;

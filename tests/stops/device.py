@@ -1,4 +1,5 @@
-"""The program over a device that stops, fails, or notes what is written: a small library that is preloaded counts the calls."""
+"""The program over a device that stops, fails, or notes what is written: a small library that is preloaded counts the
+calls."""
 import os
 import struct
 from typing import NamedTuple
@@ -23,8 +24,9 @@ def built(folder):
 
 
 def run(library, mode, first, last, words, stdin=b"", reads=False, only=""):
-    """A run in which the calls from one number to another are interfered with, as device.c says of the mode; those on one kind of
-    file, if one is given. What it prints, its status, and those calls; all of them, if the mode is to note them."""
+    """A run in which the calls from one number to another are interfered with, as device.c says of the mode; those on
+    one kind of file, if one is given. What it prints, its status, and those calls; all of them, if the mode is to note
+    them."""
     settings = {"MODE": mode, "FIRST": first, "LAST": last, "READS": int(reads), "ONLY": only}
     *told, noted = preload.run(library, "DEVICE", settings, words, stdin)
     return tuple(told), list(calls_in(noted, mode == "n"))
@@ -72,8 +74,8 @@ class Disk:
         return bytes(data)
 
     def after_loss(self, dice):
-        """What a loss of power may leave: of each change nothing, all, a beginning, or some of its sectors. What lies past the end
-        that was synced and wasn't written is zeros or anything."""
+        """What a loss of power may leave: of each change nothing, all, a beginning, or some of its sectors. What lies
+        past the end that was synced and wasn't written is zeros or anything."""
         fill = dice.choice((bytes, dice.randbytes))
         data = bytearray(self.synced)
         for call in self.changes:

@@ -1,8 +1,9 @@
-"""A journal on two disks in memory, as crates/jc_test_calls has them: those of the library that the database stands on. A disk fails every
-call once it has done some, also with what wasn't synced lost then, or it has a byte that can't be read; one disk or the other, at one
-place after another.
+"""A journal on two disks in memory, as crates/jc_test_calls has them: those of the library that the database stands on.
+A disk fails every call once it has done some, also with what wasn't synced lost then, or it has a byte that can't be
+read; one disk or the other, at one place after another.
 
-What is asked of the journal afterwards is what stops.py asks. A journal that goes over to other tables has its entries in one of both.
+What is asked of the journal afterwards is what stops.py asks. A journal that goes over to other tables has its entries
+in one of both.
 """
 import os
 import re
@@ -18,8 +19,8 @@ DISKS = ("log", "db")
 # What a store that failed says: of an upload, or where it isn't opened or makes no journal.
 FAILED = f"no {samples.SOURCE.hex()} 0 62 0"
 CLOSED = (["not opened"], ["bad 62 0"])
-# What `migrate` says over a disk that stops, and what it may say once more over sound ones: that the journal goes over now, or that it has
-# gone over before.
+# What `migrate` says over a disk that stops, and what it may say once more over sound ones: that the journal goes over
+# now, or that it has gone over before.
 OVER = {
     "migrated": ("bad 64 0",),
     "stopped 62": ("migrated", "bad 64 0"),
@@ -100,8 +101,8 @@ class Case:
         return is_met
 
     def journals_after(self, what, lines):
-        """What a run with these answers may leave: all that is acknowledged, and with it perhaps the first upload whose answer is a
-        failure of the store."""
+        """What a run with these answers may leave: all that is acknowledged, and with it perhaps the first upload whose
+        answer is a failure of the store."""
         journal, failed = Journal(), []
         if lines in CLOSED:
             return [journal]
@@ -137,8 +138,9 @@ class Case:
         raise ValueError("no upload is ever answered")
 
     def rotten(self, disk, place, closing):
-        """A byte of a whole journal can't be read while the uploads are sent again and the entries are listed; answers whether there is
-        such a byte, and whether it was noticed. What is stored is in the log if the database had stopped as it was closed."""
+        """A byte of a whole journal can't be read while the uploads are sent again and the entries are listed; answers
+        whether there is such a byte, and whether it was noticed. What is stored is in the log if the database had
+        stopped as it was closed."""
         what = f"{self.name}, rot {disk} {place}" + ", not closed" * (closing is not None)
         left = () if closing is None else ("stop", f"db:{closing}")
         rot = ("rot", f"{disk}:{place}")
@@ -163,8 +165,8 @@ class Migration(Case):
 
     def stopped(self, kind, disk, number):
         what = f"{self.name}, {kind} {disk} {number}"
-        told = self.run(what, "collect-old", self.collect[1], kind, f"{disk}:{number}", "migrate", "all", "migrate", "all", *self.collect,
-                        "export", "all")
+        told = self.run(what, "collect-old", self.collect[1], kind, f"{disk}:{number}", "migrate", "all",
+                        "migrate", "all", *self.collect, "export", "all")
         self.trial.expect(f"{what}: answers", told.answers(len(self.uploads)), self.usual)
         line, is_met = told.line(), told.is_harmed()
         if not is_met:
@@ -177,7 +179,8 @@ class Migration(Case):
 
 
 def upwards(pool, attempt, step=1):
-    """Tries one number after another until an attempt finds nothing to do at it; answers what was found at those before."""
+    """Tries one number after another until an attempt finds nothing to do at it; answers what was found at those
+    before."""
     found = []
     while True:
         numbers = range(len(found) * step, (len(found) + CHUNK) * step, step)
@@ -194,7 +197,8 @@ def stops(trial, pool):
              Migration(trial, "two uploads that go over", [row, rest]))
     for case in cases:
         for kind in ("stop", "lose"):
-            counts = [len(upwards(pool, lambda number, disk=disk: (case.stopped(kind, disk, number),))) for disk in DISKS]
+            counts = [len(upwards(pool, lambda number, disk=disk: (case.stopped(kind, disk, number),)))
+                      for disk in DISKS]
             print(f"disks: {case.name}, {kind}: {counts[0]} calls of the log, {counts[1]} of the database")
             trial.expect(f"{case.name}, {kind}: each disk was stopped", all(counts), True)
             tried += sum(counts)
@@ -205,7 +209,8 @@ def rot(trial, pool):
     case = Case(trial, "two uploads", [samples.stream(samples.E1), samples.stream(samples.E2, samples.E3)])
     tried = 0
     for closing, left in ((None, "closed"), (case.closing(), "not closed")):
-        found = [one for disk in DISKS for one in upwards(pool, lambda place, disk=disk: case.rotten(disk, place, closing), ROT_STRIDE)]
+        found = [one for disk in DISKS
+                 for one in upwards(pool, lambda place, disk=disk: case.rotten(disk, place, closing), ROT_STRIDE)]
         count = sum(noticed for _, noticed in found)
         print(f"disks: {left}: {len(found)} bytes that can't be read, {count} of them noticed")
         trial.expect(f"{left}: some bytes are noticed, and some are of no use to anybody", 0 < count < len(found), True)

@@ -1,10 +1,11 @@
 """Power is lost between any two calls that change a file: what wasn't synced is gone, or there in part.
 
-What a run writes is noted, and from that the files are made as a device may have them: of each change since a file was last synced
-nothing, all, a beginning or some sectors, each sector old or new below the end that was synced, and anything past it. Every upload that
-was acknowledged before the loss has its entries in the journal then, beside these there are none or all of the next one, and the same
-uploads complete it. A journal that goes over to tables of the present version is whole, in the old tables or in the new ones. All this
-rests on a device that keeps what it said is synced, finishes each sector that it begins, and changes none that it wasn't asked to.
+What a run writes is noted, and from that the files are made as a device may have them: of each change since a file was
+last synced nothing, all, a beginning or some sectors, each sector old or new below the end that was synced, and
+anything past it. Every upload that was acknowledged before the loss has its entries in the journal then, beside these
+there are none or all of the next one, and the same uploads complete it. A journal that goes over to tables of the
+present version is whole, in the old tables or in the new ones. All this rests on a device that keeps what it said is
+synced, finishes each sector that it begins, and changes none that it wasn't asked to.
 """
 import os
 from concurrent.futures import ThreadPoolExecutor

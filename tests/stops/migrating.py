@@ -1,5 +1,5 @@
-"""A journal that goes over to tables of the present version on a device that stops or fails: it is whole then, in the tables of one
-version or of the other."""
+"""A journal that goes over to tables of the present version on a device that stops or fails: it is whole then, in the
+tables of one version or of the other."""
 import os
 import shutil
 

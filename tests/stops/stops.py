@@ -1,10 +1,10 @@
-"""The program is stopped at each call that changes a file, and within each write; and a device fails at each of its calls, alone and with
-all later ones.
+"""The program is stopped at each call that changes a file, and within each write; and a device fails at each of its
+calls, alone and with all later ones.
 
-Every upload that was acknowledged has its entries in the journal afterwards. Beside these there are all or none of the first upload that
-wasn't answered, or was answered by a failure of the store, and nothing else. The same uploads sent again complete the journal. A journal
-that goes over to tables of the present version is whole, in the old tables or in the new ones. A resume file is the old or the new one
-whole.
+Every upload that was acknowledged has its entries in the journal afterwards. Beside these there are all or none of the
+first upload that wasn't answered, or was answered by a failure of the store, and nothing else. The same uploads sent
+again complete the journal. A journal that goes over to tables of the present version is whole, in the old tables or in
+the new ones. A resume file is the old or the new one whole.
 """
 import os
 import shutil
@@ -42,7 +42,8 @@ def stopped(scenario, mode, number):
 
 def failing(scenario, number, last, reads, only=""):
     """A device, or one of the two files alone, fails from one call to another; answers whether it did."""
-    what = f"{scenario.name}, calls {number} to {last} fail{', reads too' if reads else ''}{only and ', on file ' + only}"
+    also = f"{', reads too' if reads else ''}{only and ', on file ' + only}"
+    what = f"{scenario.name}, calls {number} to {last} fail{also}"
     database, told, calls = scenario.run("f", number, last, reads=reads, only=only)
     scenario.failed(what, database, told)
     return bool(calls)
@@ -68,10 +69,11 @@ def sweep(trial, pool, scenario, step=1):
         alone = upwards(pool, lambda number: failing(scenario, number, number, reads), step)
         later = upwards(pool, lambda number: failing(scenario, number, NEVER, reads), step)
         counts.append(alone + later)
-    fuses = {name: upwards(pool, lambda number: failing(scenario, number, NEVER, True, only), step) for name, only in FILES.items()}
+    fuses = {name: upwards(pool, lambda number: failing(scenario, number, NEVER, True, only), step)
+             for name, only in FILES.items()}
     alone = " and ".join(f"{count} of the {name} alone" for name, count in fuses.items())
-    print(f"stops: {scenario.name}: {len(calls)} calls that change a file; {stops} stops, {counts[0]} failures of these calls, "
-          f"{counts[1]} of reads too, {alone}")
+    print(f"stops: {scenario.name}: {len(calls)} calls that change a file; {stops} stops, {counts[0]} failures of "
+          f"these calls, {counts[1]} of reads too, {alone}")
     return stops + sum(counts) + sum(fuses.values())
 
 

@@ -1,0 +1,132 @@
+#!/usr/bin/env bash
+# tools/ and tests/refused say so if the toolchain isn't one that they know, before they load any part of it. `make
+# check` proves exactly what isn't proved as it is, lowest first: over a small repository, and an rt that only notes
+# where it checks.
+set -uo pipefail
+. "$(dirname "$0")/expect.sh"
+cd "$(dirname "$0")/.." || exit
+
+folder=$(mktemp -d)
+trap 'rm -rf "$folder"' EXIT
+tools=$PWD/tools
+real=$(realpath "$(command -v rt)")
+
+# another version, one that fails, and none at all
+mkdir "$folder/other" "$folder/failing" "$folder/none"
+printf '#!/bin/sh\n[ "$*" = version ] && echo rattle-kit-12a logic 0\n' > "$folder/other/rt"
+printf '#!/bin/sh\n%s version\nexit 1\n' "$real" > "$folder/failing/rt"
+chmod 755 "$folder"/*/rt
+python=$(python3 -c 'import sys; print(sys.executable)')
+for program in "tools/build.py jc_cli" "tools/check.py --list" "tests/refused --list" tests/refused/parallel.py; do
+    # shellcheck disable=SC2086 # its words
+    told=$(PATH=$folder/other "$python" -ESB $program 2>&1)
+    status=$?
+    wanted="'$folder/other/rt version' says 'rattle-kit-12a logic 0', and wanted is 'rattle-kit-"
+    [[ $status -eq 1 && $told == "$wanted"* ]] ||
+        differs "$program, with another toolchain: $told"
+done
+expect 1 "" "~*'$folder/failing/rt version' says 'rattle-kit-*" \
+    env PATH="$folder/failing:$PATH" "$python" -ESB tests/refused/parallel.py
+expect 1 "" "~there is no rt on the PATH: *" env PATH="$folder/none" "$python" -ESB tests/refused/parallel.py
+expect 1 "0 passed, 1 failed" "~*'rattle-kit-12a logic 0'*" env PATH="$folder/other:$PATH" tests/run.sh
+
+# a repository of three crates, and an rt that notes what it checks: a crate that has a file `refused` isn't proved, and
+# one with a file `late` changes meanwhile
+mkdir "$folder/rt" "$folder/tree" "$folder/tree/crates"
+cat > "$folder/rt/rt" << END
+#!$python
+import importlib.machinery, importlib.util, os, sys
+if __name__ == "__main__":
+    if sys.argv[1:] != ["check"]:
+        os.execv("$real", ["$real", *sys.argv[1:]])
+    with open("$folder/checked", "a") as it:
+        it.write(os.path.basename(os.getcwd()) + "\\n")
+    if os.path.exists("late"):
+        open("src/late.rt", "a").write("x")
+    sys.exit(os.path.exists("refused"))
+loader = importlib.machinery.SourceFileLoader("real", "$real")
+module = importlib.util.module_from_spec(importlib.util.spec_from_loader("real", loader))
+loader.exec_module(module)
+rtlib = module.rtlib
+END
+chmod 755 "$folder/rt/rt"
+export PATH=$folder/rt:$PATH
+cd "$folder/tree" || exit
+for name in top low mid aside; do
+    mkdir -p "crates/$name/src"
+    echo "//! $name" > "crates/$name/src/lib.rt"
+done
+printf '%s\n' '# the highest first' 'top: mid' 'mid: low' 'aside:' 'low:' > crates.txt
+
+# checks STATUS CRATES: what a check says first, and which crates it went into
+checks() {
+    local status=$1 crates=$2 got
+    shift 2
+    rm -f "$folder/checked"
+    "$python" -ESB "$tools/check.py" "$@" > "$folder/said" 2>&1
+    got=$?
+    [[ $got -eq $status ]] || differs "status $got, not $status: $(cat "$folder/said")"
+    [[ $(cat "$folder/checked" 2> /dev/null | xargs) == "$crates" ]] ||
+        differs "checked $(cat "$folder/checked" 2> /dev/null | xargs), not $crates: $(cat "$folder/said")"
+}
+
+checks 0 "aside low mid top"
+checks 0 ""
+grep -qx '0 of 4 crates: nothing to prove' "$folder/said" || differs "nothing to prove: $(cat "$folder/said")"
+echo "// changed" >> crates/mid/src/lib.rt
+checks 0 "" --list
+[[ $(xargs < "$folder/said") == "mid top" ]] || differs "the list: $(cat "$folder/said")"
+checks 0 "mid top"
+
+# one that isn't proved: nothing above it is tried, and the next check begins with it
+mkdir crates/low/specs
+echo "-- new" > crates/low/specs/New.antt
+touch crates/low/refused
+checks 1 "low"
+grep -qx 'low is NOT PROVED; what stands on it wasn.t looked at' "$folder/said" || differs "$(cat "$folder/said")"
+checks 1 "low"
+rm crates/low/refused
+checks 0 "low mid top"
+rm -r crates/low/specs
+touch crates/mid/late
+checks 0 "low mid top"
+rm crates/mid/late
+checks 0 "mid"
+
+# other libraries
+sed -i 's/^aside:/aside: low/' crates.txt
+checks 0 "aside"
+rm -r build
+
+# by git: what has changed since a revision, new files too, and what stands on it
+git init -q . 2> /dev/null
+git_here() {
+    git -c user.name=t -c user.email=t@example.com -c commit.gpgsign=false "$@"
+}
+printf '/build/\n' > .gitignore
+git_here add -A
+git_here commit -q -m one
+checks 0 "" --since HEAD
+echo "// changed" >> crates/mid/src/lib.rt
+checks 0 "mid top" --since HEAD
+checks 0 "" --since HEAD
+rm -r build
+git_here commit -q -a -m two
+mkdir crates/aside/proofs
+echo "-- new" > crates/aside/proofs/New.antt
+sed -i 's/^top: mid/top: low mid/' crates.txt
+checks 0 "aside top" --since HEAD
+checks 1 "" --since nothing
+grep -q '^git diff .* nothing .*: fatal: bad revision' "$folder/said" || differs "no revision: $(cat "$folder/said")"
+
+# a library that rt has built is proved, without a note
+rm -r build
+mkdir -p crates/low/out/rlib/low.rlib
+"$python" -ESB - "$tools" > crates/low/out/rlib/stamp << 'END'
+import os, sys
+sys.path.append(sys.argv[1])
+import kit
+print(next(it for it in kit.rt().rtlib.crates_below(os.getcwd()) if it.name == "low").stamp(), end="")
+END
+checks 0 "aside mid top"
+finish
