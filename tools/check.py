@@ -14,10 +14,13 @@ the end.
 from __future__ import annotations
 
 import argparse
+import functools
 import os
 import subprocess
 import sys
 import time
+from collections.abc import Iterator
+from contextlib import contextmanager
 from typing import Any
 
 import kit
@@ -28,7 +31,8 @@ CHECKED = os.path.join("build", "checked")
 def main() -> int:
     wanted = _arguments()
     crates = kit.rt().rtlib.crates_below(os.getcwd())
-    todo = [it for it in crates if not is_proved(it)]
+    with each_read_once():
+        todo = [it for it in crates if not is_proved(it)]
     if wanted.since is not None:
         changed = changed_since(wanted.since)
         todo = [it for it in todo if any(below.name in changed for below in [*it.below(), it])]
@@ -49,6 +53,18 @@ def _arguments() -> argparse.Namespace:
     parser.add_argument("--list", action="store_true", help="name the crates, and prove nothing")
     parser.add_argument("--since", metavar="REVISION", help="only what has changed since this revision, by git")
     return parser.parse_args()
+
+
+@contextmanager
+def each_read_once() -> Iterator[None]:
+    """Meanwhile the sum of a crate's sources, which has those of the crates below it, is made once."""
+    kind = kit.rt().rtlib.Crate
+    made = kind.stamp
+    kind.stamp = functools.cache(made)
+    try:
+        yield
+    finally:
+        kind.stamp = made
 
 
 def is_proved(crate: Any) -> bool:
@@ -84,15 +100,20 @@ def _git(*words: str) -> str:
 
 def _check(crate: Any) -> int:
     """Proves a crate by `rt check` in its folder, which builds the libraries below it if they have changed."""
-    stamp, begin = crate.stamp(), time.monotonic()
+    stamp, begin = _stamp(crate), time.monotonic()
     print(f"== {crate.name}", flush=True)
     status = subprocess.run(["rt", "check"], cwd=crate.folder, check=False).returncode
-    if not status and stamp == crate.stamp():
+    if not status and stamp == _stamp(crate):
         os.makedirs(CHECKED, exist_ok=True)
         with open(os.path.join(CHECKED, crate.name), "w", encoding="utf-8") as it:
             it.write(stamp)
     print(f"== {crate.name}: {'not proved' if status else 'proved'}, in {time.monotonic() - begin:.0f} s", flush=True)
     return status
+
+
+def _stamp(crate: Any) -> str:
+    with each_read_once():
+        return crate.stamp()
 
 
 def _tell_what_is_left(proved: list[Any]) -> None:
