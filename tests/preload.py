@@ -1,10 +1,13 @@
 """Small libraries that are preloaded into the program: compiled by the toolchain's own compiler, and set by
 variables."""
+from __future__ import annotations
+
 import os
 import shutil
 import subprocess
 import tempfile
-from typing import NamedTuple
+from collections.abc import Mapping, Sequence
+from typing import Any, NamedTuple
 
 
 class Told(NamedTuple):
@@ -15,7 +18,7 @@ class Told(NamedTuple):
     noted: bytes
 
 
-def built(source, folder):
+def built(source: str, folder: str) -> str:
     """The library of a source, compiled into a folder. No other compiler, linker or header is needed."""
     toolchain = os.path.join(os.path.dirname(os.path.realpath(shutil.which("rt"))), "..", "toolchain", "bin")
     library = os.path.join(folder, os.path.basename(source) + ".so")
@@ -24,7 +27,9 @@ def built(source, folder):
     return library
 
 
-def run(library, prefix, settings, words, stdin=b"", **options):
+def run(
+    library: str, prefix: str, settings: Mapping[str, Any], words: Sequence[str], stdin: bytes = b"", **options: Any
+) -> Told:
     """A run with the library, whose variables have a prefix; PREFIX_NOTE is the descriptor that it notes to."""
     with tempfile.TemporaryFile() as note:
         variables = {f"{prefix}_{name}": str(value) for name, value in {**settings, "NOTE": note.fileno()}.items()}

@@ -7,8 +7,11 @@ The page has a section for each crate. A claim there names a function in bold, a
 of a library on the page. The list of what the main theorem rests on has to have all definitions that its own file uses,
 and what these use; that of jc_world those that are more.
 """
+from __future__ import annotations
+
 import re
 import sys
+from collections.abc import Iterable, Iterator
 from pathlib import Path
 from typing import NamedTuple
 
@@ -30,11 +33,11 @@ class Function(NamedTuple):
     clauses: set
 
     @property
-    def path(self):
+    def path(self) -> str:
         return f"{self.owner}::{self.name}" if self.owner else self.name
 
 
-def plain(name):
+def plain(name: str) -> str:
     """A type's or a trait's name without its module and its parameters."""
     return re.sub(r"<.*", "", name).split("::")[-1].split(":")[0].strip()
 
@@ -42,13 +45,13 @@ def plain(name):
 class Sources:
     """The functions of some files with their clauses, and the implementations of traits there."""
 
-    def __init__(self, paths):
+    def __init__(self, paths: Iterable[Path]) -> None:
         self.functions = []
         self.implementations = {}
         for path in sorted(paths):
             self.read(path)
 
-    def read(self, path):
+    def read(self, path: Path) -> None:
         owner, known = "", set()
         for line in path.read_text().splitlines():
             block = BLOCK.match(line)
@@ -66,14 +69,14 @@ class Sources:
             elif clause := CLAUSE.match(line):
                 known.add(clause[1] or clause[2] or "unnamed")
 
-    def clauses(self, name):
+    def clauses(self, name: str) -> set[str] | None:
         """The clauses of the functions or the implementation of this name, or None."""
         if name.startswith("impl "):
             return self.implementations.get(name)
         found = [function.clauses for function in self.functions if function.path == name]
         return set().union(*found) if found else None
 
-    def public(self, library):
+    def public(self, library: Path) -> set[str]:
         """The functions with a contract that other crates can call, by the library's table of contents."""
         if not library.exists():
             return set()
@@ -84,13 +87,13 @@ class Sources:
                 and (function.module in modules or (function.owner or function.name) in names)}
 
 
-def sections(page):
+def sections(page: str) -> dict[str, str]:
     """The sections of the page."""
     parts = re.split(r"^## (.*)$", page, flags=re.MULTILINE)
     return dict(zip(parts[1::2], parts[2::2]))
 
 
-def definitions_below(crate, names):
+def definitions_below(crate: str, names: Iterable[str]) -> set[tuple[str, str]]:
     """These files of definitions of a crate, and those that they use."""
     found, waiting = set(), [(crate, name) for name in names]
     while waiting:
@@ -102,13 +105,13 @@ def definitions_below(crate, names):
     return found
 
 
-def listed_definitions(text):
+def listed_definitions(text: str) -> set[tuple[str, str]]:
     """The files that a list has of what a theorem rests on."""
     return {(crate, name) for crate, names in re.findall(r"^- (jc_\w+): (.*(?:\n  .*)*)", text, re.MULTILINE)
             for name in re.findall(r"`([\w.]+)`", names)}
 
 
-def mistaken_claims(title, text, sources):
+def mistaken_claims(title: str, text: str, sources: Sources) -> Iterator[str]:
     """What a section says of functions that isn't in the sources."""
     for name, brackets in CLAIM.findall(text):
         known = sources.clauses(name)
@@ -121,7 +124,7 @@ def mistaken_claims(title, text, sources):
         yield from (f"{title}: {name} has no clause {clause}" for clause in sorted(clauses - known))
 
 
-def mistakes_in(title, text):
+def mistakes_in(title: str, text: str) -> Iterator[str]:
     """What a section says that its crate has not, and what it leaves out."""
     folder = ROOT / "crates" / title
     if not folder.is_dir():
@@ -137,7 +140,7 @@ def mistakes_in(title, text):
     yield from (f"{title}: {name} isn't on the page" for name in sorted(sources.public(folder / "src/lib.rt") - named))
 
 
-def main():
+def main() -> int:
     page = Path(sys.argv[1]) if len(sys.argv) > 1 else ROOT / "docs/PROOFS.md"
     found = sections(page.read_text())
     about = {title: " ".join(text.split()) for title, text in found.items() if title.startswith("jc_")}

@@ -1,4 +1,6 @@
 """The sample entries, journal files and uploads that the scripts share, as docs/FORMATS.md spells them."""
+from __future__ import annotations
+
 import struct
 
 SOURCE = bytes(range(0xa0, 0xb0))
@@ -6,7 +8,7 @@ SEQNUM_ID = bytes(range(16))
 BOOT_ID = bytes(range(16, 32))
 
 
-def entry_text(number, message=b"hi"):
+def entry_text(number: int, message: bytes = b"hi") -> bytes:
     """An entry as an export stream has it."""
     return (b"__REALTIME_TIMESTAMP=1000000\n__MONOTONIC_TIMESTAMP=5\n__SEQNUM=%d\n__SEQNUM_ID=%s\nMESSAGE=%s\n\n"
             % (number, SEQNUM_ID.hex().encode(), message))
@@ -16,17 +18,17 @@ def entry_text(number, message=b"hi"):
 HEAD = 48
 
 
-def head(kind, start=0):
+def head(kind: int, start: int = 0) -> bytes:
     """An upload's header."""
     return b"JCUPLD01" + bytes([kind]) + bytes(7) + SOURCE + struct.pack("<QQ", start, 0)
 
 
-def stream(*texts, start=0):
+def stream(*texts: bytes, start: int = 0) -> bytes:
     """An upload of an export stream."""
     return head(1, start) + b"".join(texts)
 
 
-def edited(data, edits):
+def edited(data: bytes, edits: dict[int, bytes | int]) -> bytes:
     """Bytes with others put over them at their places; numbers take 8 bytes."""
     made = bytearray(data)
     for place, new in edits.items():

@@ -1,4 +1,6 @@
 """Collectors on one database at once: one has it, the others are refused with one line, and nothing is lost."""
+from __future__ import annotations
+
 import subprocess
 
 from make import Machine
@@ -10,7 +12,7 @@ RACES = 10
 RACERS = 4
 
 
-def while_one_waits(trial):
+def while_one_waits(trial: Trial) -> None:
     """A collector has printed its first line and waits for its second upload, while others try to open the database."""
     machine = Machine(trial.dice, 30)
     database = trial.database()
@@ -33,7 +35,7 @@ def while_one_waits(trial):
     trial.holds("after both", database, journal)
 
 
-def race(trial, what):
+def race(trial: Trial, what: str) -> int:
     """Several start at one moment over a database that isn't there; each is refused, or gets all its answers."""
     machines = [Machine(trial.dice, 20) for _ in range(RACERS)]
     database = trial.database()
@@ -59,7 +61,7 @@ def race(trial, what):
     return len(refusals)
 
 
-def main():
+def main() -> None:
     with Trial("at once") as trial:
         while_one_waits(trial)
         refusals = sum(race(trial, f"race {number}") for number in range(RACES))

@@ -3,8 +3,11 @@
 What was acknowledged is stored, an upload that was answered 62 is stored whole or not at all, and the same uploads sent
 again with room for them complete the journal.
 """
+from __future__ import annotations
+
 import resource
 import signal
+from collections.abc import Callable
 
 from make import Machine
 from model import Journal
@@ -13,7 +16,7 @@ from trial import Trial, as_output, run, status_of
 SIZES = 60
 
 
-def limited(size):
+def limited(size: int) -> Callable[[], None]:
     """What a process does first, so that no file of it grows past a size."""
     def limit():
         signal.signal(signal.SIGXFSZ, signal.SIG_IGN)
@@ -21,7 +24,7 @@ def limited(size):
     return limit
 
 
-def journals_of(trial, what, lines, uploads):
+def journals_of(trial: Trial, what: str, lines: list[str], uploads: list[bytes]) -> tuple[list[Journal], int]:
     """What a run with these answers may leave: all that is acknowledged, and perhaps with it the first upload that is
     answered by a failure of the store."""
     journal = Journal()
@@ -39,7 +42,7 @@ def journals_of(trial, what, lines, uploads):
     return [journal, and_failed], len(failed)
 
 
-def try_size(trial, size, uploads, names):
+def try_size(trial: Trial, size: int, uploads: list[bytes], names: list[str]) -> int:
     what = f"full at {size} bytes"
     database = trial.database()
     told, errors, status = run("collect", database, *names, preexec_fn=limited(size))
@@ -61,7 +64,7 @@ def try_size(trial, size, uploads, names):
     return failures
 
 
-def main():
+def main() -> None:
     with Trial("full disk") as trial:
         machine = Machine(trial.dice, 60)
         uploads = [machine.stream(first, first + trial.dice.randint(1, 20)) for first in range(0, 60, 4)]

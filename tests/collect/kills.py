@@ -4,6 +4,8 @@ same uploads sent again complete it.
 The moments lie before a run's first line (when the database is made), between any two lines, and after the last (when
 it is closed). A run that is killed leaves its database to the next, until one gets through.
 """
+from __future__ import annotations
+
 import resource
 import signal
 import subprocess
@@ -22,7 +24,7 @@ class Task:
     """Uploads that agree with one another, each with something new, and the journals that they make one after
     another."""
 
-    def __init__(self, trial):
+    def __init__(self, trial: Trial) -> None:
         first, second = Machine(trial.dice, 60), Machine(trial.dice, 60)
         second.entries.append(second.entry(61)._replace(pairs=frozenset({(b"LONG", b"x" * 200_000)})))
         self.uploads = []
@@ -36,13 +38,13 @@ class Task:
             journal.take(upload)
             self.journals.append(journal.copy())
 
-    def answers(self, before):
+    def answers(self, before: int) -> list[bytes]:
         """The lines of a run over the journal that has this many of the uploads."""
         journal = self.journals[before].copy()
         return as_output(journal.take(upload) for upload in self.uploads).splitlines(keepends=True)
 
 
-def pauses(trial, task):
+def pauses(trial: Trial, task: Task) -> list[float]:
     """How long a run takes to its first line, from line to line, and from the last line to its end."""
     moments = [time.monotonic()]
     told = []
@@ -55,7 +57,7 @@ def pauses(trial, task):
     return [later - sooner for sooner, later in zip(moments, moments[1:])]
 
 
-def after_kill(trial, what, database, task, before, told):
+def after_kill(trial: Trial, what: str, database: str, task: Task, before: int, told: list[bytes]) -> int | None:
     """How many uploads are stored after a stopped run that printed these lines, over as many as were there before
     it."""
     trial.expect(f"{what}: lines", told, task.answers(before)[:len(told)])
@@ -67,14 +69,14 @@ def after_kill(trial, what, database, task, before, told):
     return found
 
 
-def complete(trial, what, database, task, before):
+def complete(trial: Trial, what: str, database: str, task: Task, before: int) -> None:
     """The same uploads, sent again."""
     told = run("collect", database, *task.names)
     trial.expect(f"{what}: sent again", told, (b"".join(task.answers(before)), "", 0))
     trial.holds(f"{what}: complete", database, task.journals[-1])
 
 
-def at_moments(trial, task):
+def at_moments(trial: Trial, task: Task) -> tuple[int, int]:
     """Answers how many runs were killed, and how many of them before there was a journal."""
     dice = trial.dice
     gaps = pauses(trial, task)
@@ -100,7 +102,7 @@ def at_moments(trial, task):
     return kills, making
 
 
-def within_uploads(trial, task):
+def within_uploads(trial: Trial, task: Task) -> int:
     """Kills while an upload comes through a pipe, of which a part has come."""
     dice = trial.dice
     for number in range(WITHIN):
@@ -122,7 +124,7 @@ def within_uploads(trial, task):
     return WITHIN
 
 
-def at_sizes(trial, task):
+def at_sizes(trial: Trial, task: Task) -> int:
     """No file may grow past a size, and the signal that says so ends the run within the write."""
     kills = 0
     for number in range(SIZES):
@@ -141,7 +143,7 @@ def at_sizes(trial, task):
     return kills
 
 
-def main():
+def main() -> None:
     with Trial("kills") as trial:
         task = Task(trial)
         kills, making = at_moments(trial, task)

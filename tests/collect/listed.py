@@ -2,9 +2,13 @@
 
 Every line, the status and the export are held against the model's, and against the same uploads among the arguments.
 """
+from __future__ import annotations
+
 import resource
 import select
 import subprocess
+from collections.abc import Iterable
+from random import Random
 
 from make import Machine
 from model import Journal
@@ -17,16 +21,16 @@ ONE_BY_ONE = 20
 PATIENCE = 60
 
 
-def few_files():
+def few_files() -> None:
     """Lets the process have few files open."""
     resource.setrlimit(resource.RLIMIT_NOFILE, (OPEN_FILES, OPEN_FILES))
 
 
-def as_list(names):
+def as_list(names: Iterable[str]) -> bytes:
     return "".join(name + "\n" for name in names).encode()
 
 
-def uploads_of(dice, count):
+def uploads_of(dice: Random, count: int) -> list[bytes]:
     """Uploads of a few entries each; some were made before, some are in conflict or broken."""
     machine = Machine(dice, count)
     made = []
@@ -37,13 +41,13 @@ def uploads_of(dice, count):
     return made
 
 
-def answered(journal, uploads):
+def answered(journal: Journal, uploads: list[bytes]) -> tuple[bytes, str, int]:
     """What a run over a journal prints, which then has what is accepted."""
     lines = [journal.take(upload) for upload in uploads]
     return as_output(lines), "", status_of(lines)
 
 
-def many_in_a_list(trial):
+def many_in_a_list(trial: Trial) -> int:
     """The list is a file, and then standard input: the answers are those to the same uploads among the arguments."""
     uploads = uploads_of(trial.dice, MANY)
     names = trial.put(uploads)
@@ -60,7 +64,7 @@ def many_in_a_list(trial):
     return len(uploads)
 
 
-def without_files(trial):
+def without_files(trial: Trial) -> None:
     """A name that can't be opened after each upload: every one is answered and reported."""
     uploads = uploads_of(trial.dice, 30)
     journal = Journal()
@@ -75,7 +79,7 @@ def without_files(trial):
     trial.holds("missing", database, journal)
 
 
-def next_line(process):
+def next_line(process: subprocess.Popen[bytes]) -> bytes:
     """The next line of a process that is running, or what came of it in time."""
     line = b""
     while not line.endswith(b"\n") and select.select([process.stdout], [], [], PATIENCE)[0]:
@@ -86,7 +90,7 @@ def next_line(process):
     return line
 
 
-def one_by_one(trial):
+def one_by_one(trial: Trial) -> None:
     """A name comes once the answer to the one before it is out, and the pipe stays open. It may come in two pieces."""
     uploads = uploads_of(trial.dice, ONE_BY_ONE)
     journal = Journal()
@@ -104,14 +108,14 @@ def one_by_one(trial):
     trial.holds("one by one", database, journal)
 
 
-def many_by_arguments_need_more(trial):
+def many_by_arguments_need_more(trial: Trial) -> None:
     """Among the arguments these are too many uploads for so few open files, so the lists above show something."""
     names = trial.put([Machine(trial.dice, 1).stream(0, 1)]) * OPEN_FILES
     told = run("collect", trial.database(), *names, preexec_fn=few_files)
     trial.expect("by arguments, with few files", told, (b"", f"cannot open {names[0]}\n", 3))
 
 
-def main():
+def main() -> None:
     with Trial("listed") as trial:
         count = many_in_a_list(trial)
         without_files(trial)

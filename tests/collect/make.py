@@ -1,8 +1,11 @@
 """Machines, and the uploads that they make: all of them chosen by a generator of random numbers that the caller
 seeds."""
+from __future__ import annotations
+
 import os
 import struct
 import sys
+from random import Random
 
 from model import KNOWN, Entry, spelled
 
@@ -17,29 +20,29 @@ VALUES = [b"", b"hi", b"=", b"a=b", b"tab\there", b"two\nlines", b"\x00\x01", b"
 class Machine:
     """A source of entries under one sequence id. The entry at index i has the number i + 1."""
 
-    def __init__(self, dice, entries):
+    def __init__(self, dice: Random, entries: int) -> None:
         self.dice = dice
         self.source = dice.randbytes(16)
         self.seqnum_id = dice.randbytes(16)
         self.boot_id = dice.randbytes(16)
         self.entries = [self.entry(number) for number in range(1, entries + 1)]
 
-    def entry(self, number):
+    def entry(self, number: int) -> Entry:
         pairs = {(self.dice.choice(NAMES), self.dice.choice(VALUES)) for _ in range(self.dice.randint(0, 12))}
         pairs.add((b"NOTE", b"%d:" % number + self.dice.randbytes(self.dice.choice((4, 40, 400)))))
         pairs.add((b"_BOOT_ID", self.boot_id.hex().encode()))
         return Entry(self.seqnum_id, number, self.dice.randrange(2**50), self.dice.choice((0, 2**63 - 1, number)),
                      frozenset(pairs))
 
-    def head(self, kind, start):
+    def head(self, kind: int, start: int) -> bytes:
         return b"JCUPLD01" + bytes([kind]) + bytes(7) + self.source + struct.pack("<QQ", start, 0)
 
-    def stream(self, first, last):
+    def stream(self, first: int, last: int) -> bytes:
         """An upload of the entries from one index to before another."""
         texts = [loose_text(self.dice, entry) for entry in self.entries[first:last]]
         return self.head(1, first) + b"".join(texts)
 
-    def file(self, last):
+    def file(self, last: int) -> bytes:
         """An upload of a journal file that has the entries before an index."""
         journal = JournalFile()
         for entry in self.entries[:last]:
@@ -48,13 +51,13 @@ class Machine:
             journal.add(entry.seqnum, entry.realtime, entry.monotonic, self.boot_id, payloads)
         return self.head(2, 0) + b"".join(journal.pieces(self.seqnum_id))
 
-    def other(self, index):
+    def other(self, index: int) -> bytes:
         """An upload of an entry that says another thing under the number of one of this machine's."""
         entry = self.entries[index]
         return self.head(1, index) + entry._replace(realtime=entry.realtime + 1).text()
 
 
-def loose_text(dice, entry):
+def loose_text(dice: Random, entry: Entry) -> bytes:
     """One of the many texts that read as an entry."""
     number = lambda value: b"%0*d" % (dice.choice((0, 19)), value)
     digits = entry.seqnum_id.hex()

@@ -3,6 +3,8 @@
 
 After a stop the database has the whole journal, in the old tables or in the new ones.
 """
+from __future__ import annotations
+
 import gzip
 import os
 import resource
@@ -37,13 +39,13 @@ KILLS = 60
 SIZES = 40
 
 
-def earlier_journal():
+def earlier_journal() -> Journal:
     """The journal that the databases of an earlier program have."""
     with open(os.path.join(FIXTURES, "systemd-254", "regular.export"), "rb") as file:
         return Journal(read_stream(file.read()))
 
 
-def earlier(trial, name):
+def earlier(trial: Trial, name: str) -> str:
     """A database as an earlier program left it."""
     database = trial.database()
     for end in ("", "-wal"):
@@ -54,7 +56,7 @@ def earlier(trial, name):
     return database
 
 
-def older(trial, journal):
+def older(trial: Trial, journal: Journal) -> str:
     """A database of the first version with this journal, which the stock sqlite3 makes."""
     database = trial.database()
     rows = ", ".join(f"(x'{e.seqnum_id.hex()}', {e.seqnum}, {e.realtime}, {e.monotonic}, x'{e.body().hex()}')"
@@ -64,17 +66,17 @@ def older(trial, journal):
     return database
 
 
-def old_rows(journal):
+def old_rows(journal: Journal) -> str:
     return "".join(f"{e.seqnum_id.hex()} {e.seqnum} {e.realtime} {e.monotonic} {e.body().hex()}\n"
                    for e in journal.in_order())
 
 
-def usual(journal):
+def usual(journal: Journal) -> tuple[bytes, str, int]:
     """What `migrate` prints of a journal that isn't over yet, and its status."""
     return as_output([f"ok {len(journal.entries)}"]), "", 0
 
 
-def is_over(trial, what, database, journal):
+def is_over(trial: Trial, what: str, database: str, journal: Journal) -> bool:
     """Whether the journal is in the new tables; it is whole in either. The database is left as it is."""
     over = run("check", trial.copy(database)) != REFUSED
     copied = trial.copy(database)
@@ -88,7 +90,7 @@ def is_over(trial, what, database, journal):
     return over
 
 
-def holds_rows(trial, what, database, journal):
+def holds_rows(trial: Trial, what: str, database: str, journal: Journal) -> None:
     """The stock sqlite3 finds just this journal in the new tables, and nothing in the old one."""
     if IS_HERE:
         copied = trial.copy(database)
@@ -99,14 +101,14 @@ def holds_rows(trial, what, database, journal):
         shutil.rmtree(os.path.dirname(copied))
 
 
-def migrate(trial, what, database, journal):
+def migrate(trial: Trial, what: str, database: str, journal: Journal) -> None:
     """The journal goes over, if it hasn't yet."""
     told = (b"bad 64 0\n", "", 1) if is_over(trial, what, database, journal) else usual(journal)
     trial.expect(f"{what}: migrate", run("migrate", database), told)
     trial.expect(f"{what}: it is over", is_over(trial, f"{what}, then", database, journal), True)
 
 
-def one_after_the_other(trial, what, database, journal, uploads):
+def one_after_the_other(trial: Trial, what: str, database: str, journal: Journal, uploads: list[bytes]) -> None:
     """Every other command refuses the old tables and changes nothing; once the journal is over, more is collected."""
     for words in (["export"], ["show"], ["collect"]):
         told = run(words[0], database, *words[1:], stdin=uploads[0])
@@ -119,7 +121,7 @@ def one_after_the_other(trial, what, database, journal, uploads):
     is_over(trial, f"{what} and more", database, journal)
 
 
-def at_moments(trial, journal):
+def at_moments(trial: Trial, journal: Journal) -> tuple[int, int]:
     """Answers how many runs were killed, and how many of these had not yet gone over."""
     database = older(trial, journal)
     began = time.monotonic()
@@ -138,7 +140,7 @@ def at_moments(trial, journal):
     return kills, before
 
 
-def at_sizes(trial, journal):
+def at_sizes(trial: Trial, journal: Journal) -> int:
     """No file may grow past a size: the signal that says so ends the run within the write."""
     for number in range(SIZES):
         size = 4096 * number
@@ -152,7 +154,7 @@ def at_sizes(trial, journal):
         migrate(trial, f"ended at {size} bytes", database, journal)
 
 
-def main():
+def main() -> None:
     with Trial("older") as trial:
         machine = Machine(trial.dice, 110)
         for name in EARLIER:

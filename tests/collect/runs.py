@@ -2,6 +2,10 @@
 
 Every line, the status, the export, listings and the stock sqlite3's rows are held against the model's.
 """
+from __future__ import annotations
+
+from random import Random
+
 from make import NAMES, Machine
 from model import Journal
 from trial import Trial, as_output, run, status_of
@@ -10,7 +14,7 @@ ROUNDS = 8
 UPLOADS = 40
 
 
-def delivery(dice, machines, made):
+def delivery(dice: Random, machines: list[Machine], made: list[bytes]) -> bytes:
     """An upload, often one that is harmed or was made before."""
     machine = dice.choice(machines)
     count = len(machine.entries)
@@ -26,7 +30,9 @@ def delivery(dice, machines, made):
     ))
 
 
-def collect(trial, what, database, uploads, journal, by_files=True):
+def collect(
+    trial: Trial, what: str, database: str, uploads: list[bytes], journal: Journal, by_files: bool = True
+) -> int:
     """The uploads are collected in one run, or one by standard input; what is accepted is put into the journal too."""
     lines = [journal.take(upload) for upload in uploads]
     told = run("collect", database, *trial.put(uploads)) if by_files else run("collect", database, stdin=uploads[0])
@@ -34,7 +40,7 @@ def collect(trial, what, database, uploads, journal, by_files=True):
     return len(lines)
 
 
-def listings(trial, what, database, journal, machines):
+def listings(trial: Trial, what: str, database: str, journal: Journal, machines: list[Machine]) -> None:
     dice = trial.dice
     trial.expect(f"{what}: check", run("check", database), (as_output([f"ok {len(journal.entries)}"]), "", 0))
     trial.expect(f"{what}: show", run("show", database), (journal.lines(), "", 0))
@@ -48,7 +54,7 @@ def listings(trial, what, database, journal, machines):
         trial.expect(f"{what}: show {words}", run("show", database, *words), (journal.lines(field=field), "", 0))
 
 
-def one_round(trial, what):
+def one_round(trial: Trial, what: str) -> int:
     dice = trial.dice
     machines = [Machine(dice, dice.randint(1, 40)) for _ in range(3)]
     database = trial.database()
@@ -68,7 +74,7 @@ def one_round(trial, what):
     return answers
 
 
-def main():
+def main() -> None:
     with Trial("runs") as trial:
         answers = sum(one_round(trial, f"round {number}") for number in range(ROUNDS))
         trial.finish(f"{answers} answers in {ROUNDS} rounds")

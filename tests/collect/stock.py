@@ -3,6 +3,8 @@
 stock.py DATABASE STATEMENT runs a statement and prints its one column of answers; without words its status says whether
 there is a stock sqlite3.
 """
+from __future__ import annotations
+
 import shutil
 import subprocess
 import sys
@@ -15,7 +17,7 @@ except ImportError:
 STRICT_SINCE = (3, 37)
 
 
-def tool_version():
+def tool_version() -> tuple[int, ...]:
     if not shutil.which("sqlite3"):
         return (0,)
     told = subprocess.run(["sqlite3", "--version"], stdout=subprocess.PIPE, check=True).stdout.decode()
@@ -26,7 +28,7 @@ HAS_MODULE = sqlite3 is not None and sqlite3.sqlite_version_info >= STRICT_SINCE
 IS_HERE = HAS_MODULE or tool_version() >= STRICT_SINCE
 
 
-def stock(path, statement):
+def stock(path: str, statement: str) -> str | None:
     """The answers of a statement, a line for each row; None if it is refused."""
     if not HAS_MODULE:
         words = ["sqlite3", path, statement]

@@ -1,5 +1,7 @@
 """What the tests with random choices share: the program that is tried, what a database has to hold, the count of
 mistakes."""
+from __future__ import annotations
+
 import os
 import random
 import shutil
@@ -7,7 +9,10 @@ import subprocess
 import sys
 import tempfile
 import time
+from collections.abc import Iterable, Sequence
+from typing import Any
 
+from model import Journal
 from stock import IS_HERE, stock
 
 PROGRAM = os.environ["PROGRAM"]
@@ -38,32 +43,32 @@ SELECT line FROM (
 SHOWN = 10
 
 
-def start(*words, **options):
+def start(*words: str, **options: Any) -> subprocess.Popen[bytes]:
     """The program, running. Its outputs are pipes without a buffer of their own."""
     return subprocess.Popen([PROGRAM, *words], stdout=subprocess.PIPE, stderr=subprocess.PIPE, bufsize=0, **options)
 
 
-def run(*words, stdin=b"", **options):
+def run(*words: str, stdin: bytes = b"", **options: Any) -> tuple[bytes, str, int]:
     """The standard output, the standard error and the status of the program."""
     told = subprocess.run([PROGRAM, *words], input=stdin, stdout=subprocess.PIPE, stderr=subprocess.PIPE, check=False,
                           timeout=120, **options)
     return told.stdout, told.stderr.decode(), told.returncode
 
 
-def status_of(lines):
+def status_of(lines: Iterable[str]) -> int:
     """The status of a `collect` that printed these lines: those of failures go before those of refusals."""
     codes = {line.split(" ")[3] for line in lines if line.startswith("no ")}
     return 3 if {"61", "62", "63"} & codes else 1 if codes else 0
 
 
-def as_output(lines):
+def as_output(lines: Iterable[str]) -> bytes:
     return "".join(line + "\n" for line in lines).encode()
 
 
 class Trial:
     """One script's trials, in a folder of their own, with the random choices of a seed that is printed."""
 
-    def __init__(self, name):
+    def __init__(self, name: str) -> None:
         self.name = name
         self.seed = int(os.environ.get("SEED", time.time_ns() % 10**9))
         self.dice = random.Random(self.seed)
@@ -72,27 +77,27 @@ class Trial:
         if not IS_HERE:
             print(f"{name}: there is no stock sqlite3 of 3.37 or later, so what it reads isn't tried")
 
-    def __enter__(self):
+    def __enter__(self) -> Trial:
         return self
 
-    def __exit__(self, *_):
+    def __exit__(self, *_: object) -> None:
         shutil.rmtree(self.base)
 
-    def expect(self, what, got, wanted):
+    def expect(self, what: str, got: object, wanted: object) -> bool:
         if got != wanted:
             self.mistakes += 1
             if self.mistakes <= SHOWN:
                 print(f"{self.name}: {what}: {short(got)}, not {short(wanted)} (SEED={self.seed})", file=sys.stderr)
         return got == wanted
 
-    def folder(self):
+    def folder(self) -> str:
         return tempfile.mkdtemp(dir=self.base)
 
-    def database(self):
+    def database(self) -> str:
         """The path of a database that isn't there yet."""
         return os.path.join(self.folder(), "db")
 
-    def put(self, uploads):
+    def put(self, uploads: Sequence[bytes]) -> list[str]:
         """The uploads as files."""
         folder = self.folder()
         names = [os.path.join(folder, f"upload-{number}") for number in range(len(uploads))]
@@ -101,7 +106,7 @@ class Trial:
                 file.write(upload)
         return names
 
-    def copy(self, database):
+    def copy(self, database: str) -> str:
         """The database's files copied as they lie, so that whoever reads the copy changes nothing."""
         name = self.database()
         for end in ("", "-wal"):
@@ -109,12 +114,12 @@ class Trial:
                 shutil.copyfile(database + end, name + end)
         return name
 
-    def holds(self, what, database, journal):
+    def holds(self, what: str, database: str, journal: Journal) -> None:
         """The database is read by the program and by the stock sqlite3, and each finds just this journal."""
         self.expect(f"{what}: export", run("export", self.copy(database)), (journal.text(), "", 0))
         self.holds_rows(what, database, journal)
 
-    def holds_rows(self, what, database, journal):
+    def holds_rows(self, what: str, database: str, journal: Journal) -> None:
         if IS_HERE:
             copied = self.copy(database)
             self.expect(f"{what}: tables", (stock(copied, TABLES) or "").split(), SCHEMA.split())
@@ -122,7 +127,7 @@ class Trial:
             self.expect(f"{what}: rows", stock(copied, ROWS), journal.rows())
             self.expect(f"{what}: integrity", stock(copied, "PRAGMA integrity_check"), "ok\n")
 
-    def left(self, what, database, journals):
+    def left(self, what: str, database: str, journals: Iterable[Journal]) -> int | None:
         """Which of these journals the database holds; None if it has no table yet, or if that is a mistake."""
         copied = self.copy(database)
         told = run("export", copied)
@@ -136,12 +141,12 @@ class Trial:
         self.expect(f"{what}: export", told, "one of the journals that may be there")
         return None
 
-    def finish(self, *counts):
+    def finish(self, *counts: str) -> None:
         print(f"{self.name}: {', '.join(counts)}; SEED={self.seed}")
         sys.exit(self.mistakes > 0)
 
 
-def short(value):
+def short(value: object) -> str:
     """A value for a message, without the middle of a long one."""
     text = repr(value)
     return text if len(text) <= 600 else f"{text[:300]} .. {text[-300:]}"

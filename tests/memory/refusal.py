@@ -1,8 +1,12 @@
 """The program with requests for memory refused: a small library that is preloaded counts them, and refuses the chosen
 ones."""
+from __future__ import annotations
+
 import itertools
 import os
 import struct
+from collections.abc import Collection, Iterable, Iterator, Sequence
+from typing import Any
 
 import preload
 
@@ -17,19 +21,21 @@ AROUND = 8
 ALIKE = 10
 
 
-def built(folder):
+def built(folder: str) -> str:
     """The library, compiled into a folder."""
     return preload.built(os.path.join(os.path.dirname(os.path.abspath(__file__)), "refuse.c"), folder)
 
 
-def run(library, first, last, words, stdin=b"", **options):
+def run(
+    library: str, first: int, last: int, words: Sequence[str], stdin: bytes = b"", **options: Any
+) -> tuple[tuple[bytes, str, int], tuple[int, ...]]:
     """A run in which the requests from one number to another are refused; from 0 to 0, none is. What it prints, its
     status, and the sizes of the requests that were refused, or of all if none was to be."""
     *told, noted = preload.run(library, "REFUSE", {"FIRST": first, "LAST": last}, words, stdin, **options)
     return tuple(told), struct.unpack(f"<{len(noted) // 8}Q", noted)
 
 
-def places(sizes):
+def places(sizes: Iterable[int]) -> Iterator[int]:
     """The numbers of the requests to refuse, given the sizes of all."""
     number = 1
     for _, alike in itertools.groupby(sizes):
@@ -40,12 +46,12 @@ def places(sizes):
         number += count
 
 
-def around(sizes, number):
+def around(sizes: Sequence[int], number: int) -> Sequence[int]:
     """The sizes of a request and of those before and after it."""
     return sizes[max(0, number - 1 - AROUND):number + AROUND]
 
 
-def unlike(sizes, numbers, earlier):
+def unlike(sizes: Sequence[int], numbers: Iterable[int], earlier: Collection[Sequence[int]]) -> list[int]:
     """Of the places of these numbers those that aren't like an earlier one, and some of the others."""
     alike = [number for number in numbers if around(sizes, number) in earlier]
     return sorted({*numbers} - {*alike} | {*alike[::ALIKE]})

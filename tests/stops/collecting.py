@@ -1,10 +1,14 @@
 """Uploads that are collected in one run over a device that stops or fails, and what the journal has to hold then."""
+from __future__ import annotations
+
 import os
 import shutil
+from collections.abc import Sequence
+from typing import Any
 
 import device
 from model import Journal
-from trial import PROGRAM, as_output, run, status_of
+from trial import PROGRAM, Trial, as_output, run, status_of
 
 NEVER = 10**12
 
@@ -12,7 +16,7 @@ NEVER = 10**12
 class Collecting:
     """Uploads, and a database that has some entries already or isn't there."""
 
-    def __init__(self, trial, name, uploads, before=()):
+    def __init__(self, trial: Trial, name: str, uploads: list[bytes], before: Sequence[bytes] = ()) -> None:
         self.trial = trial
         self.name = name
         self.uploads = uploads
@@ -30,25 +34,27 @@ class Collecting:
             self.journals.append(journal.copy())
         self.usual = answers(self.journals[0].copy(), uploads)
 
-    def prepare(self):
+    def prepare(self) -> str:
         database = self.trial.database()
         if self.base:
             for end in ("", "-wal"):
                 shutil.copyfile(self.base + end, database + end)
         return database
 
-    def run(self, mode, first, last, **how):
+    def run(
+        self, mode: str, first: int, last: int, **how: Any
+    ) -> tuple[str, tuple[bytes, str, int], list[device.Call]]:
         """The database, what the run printed, and the calls."""
         database = self.prepare()
         words = [PROGRAM, "collect", database, *self.names]
         return database, *device.run(self.trial.library, mode, first, last, words, **how)
 
-    def left(self, what, database, answered):
+    def left(self, what: str, database: str, answered: int) -> None:
         """What a run leaves that ended after this many answers: all of those uploads, and none or all of the next
         one."""
         self.holds_one_of(what, database, self.journals[answered:answered + 2])
 
-    def failed(self, what, database, told):
+    def failed(self, what: str, database: str, told: tuple[bytes, str, int]) -> None:
         """What a run prints and leaves whose device failed."""
         output, errors, status = told
         lines = output.decode().splitlines()
@@ -62,7 +68,7 @@ class Collecting:
             self.trial.expect(f"{what}: status", status, 3)
         self.holds_one_of(what, database, self.after_failures(what, lines))
 
-    def after_failures(self, what, lines):
+    def after_failures(self, what: str, lines: list[str]) -> list[Journal]:
         """The journals that a run with these answers may leave: all that is acknowledged, and with it perhaps the first
         upload that is answered by a failure of the store."""
         journal = self.journals[0].copy()
@@ -81,7 +87,7 @@ class Collecting:
             and_failed.take(upload)
         return [journal, and_failed]
 
-    def holds_one_of(self, what, database, journals):
+    def holds_one_of(self, what: str, database: str, journals: list[Journal]) -> None:
         """The database holds one of some journals, and the same uploads complete it. If there was none before the run,
         and one may be empty, there may be none yet."""
         trial = self.trial
@@ -97,7 +103,7 @@ class Collecting:
         shutil.rmtree(os.path.dirname(database))
 
 
-def answers(journal, uploads):
+def answers(journal: Journal, uploads: Sequence[bytes]) -> tuple[bytes, str, int]:
     """What a run over a journal prints, which then has what is accepted."""
     lines = [journal.take(upload) for upload in uploads]
     return as_output(lines), "", status_of(lines)

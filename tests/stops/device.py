@@ -1,7 +1,11 @@
 """The program over a device that stops, fails, or notes what is written: a small library that is preloaded counts the
 calls."""
+from __future__ import annotations
+
 import os
 import struct
+from collections.abc import Callable, Iterator, Sequence
+from random import Random
 from typing import NamedTuple
 
 import preload
@@ -18,12 +22,21 @@ class Call(NamedTuple):
     data: bytes
 
 
-def built(folder):
+def built(folder: str) -> str:
     """The library, compiled into a folder."""
     return preload.built(os.path.join(os.path.dirname(os.path.abspath(__file__)), "device.c"), folder)
 
 
-def run(library, mode, first, last, words, stdin=b"", reads=False, only=""):
+def run(
+    library: str,
+    mode: str,
+    first: int,
+    last: int,
+    words: Sequence[str],
+    stdin: bytes = b"",
+    reads: bool = False,
+    only: str = "",
+) -> tuple[tuple[bytes, str, int], list[Call]]:
     """A run in which the calls from one number to another are interfered with, as device.c says of the mode; those on
     one kind of file, if one is given. What it prints, its status, and those calls; all of them, if the mode is to note
     them."""
@@ -32,7 +45,7 @@ def run(library, mode, first, last, words, stdin=b"", reads=False, only=""):
     return tuple(told), list(calls_in(noted, mode == "n"))
 
 
-def calls_in(noted, with_data):
+def calls_in(noted: bytes, with_data: bool) -> Iterator[Call]:
     at = 0
     while at < len(noted):
         operation, kind, place, size = HEAD.unpack_from(noted, at)
@@ -47,18 +60,18 @@ def calls_in(noted, with_data):
 class Disk:
     """What a device has of one file: its bytes as they were last synced, and each change since then."""
 
-    def __init__(self):
+    def __init__(self) -> None:
         self.is_there = False
         self.synced = b""
         self.changes = []
 
-    def hold(self, path):
+    def hold(self, path: str) -> None:
         """Begins with a file as it is."""
         self.is_there = True
         with open(path, "rb") as file:
             self.synced = file.read()
 
-    def take(self, call):
+    def take(self, call: Call) -> None:
         """A call changes the file, or syncs it."""
         if call.operation == b"c":
             self.is_there = True
@@ -67,13 +80,13 @@ class Disk:
         elif call.operation in (b"w", b"t"):
             self.changes.append(call)
 
-    def seen(self):
+    def seen(self) -> bytes:
         data = bytearray(self.synced)
         for call in self.changes:
             change(data, call, range(len(call.data)), bytes)
         return bytes(data)
 
-    def after_loss(self, dice):
+    def after_loss(self, dice: Random) -> bytes:
         """What a loss of power may leave: of each change nothing, all, a beginning, or some of its sectors. What lies
         past the end that was synced and wasn't written is zeros or anything."""
         fill = dice.choice((bytes, dice.randbytes))
@@ -92,7 +105,7 @@ class Disk:
         return bytes(data)
 
 
-def change(data, call, part, fill):
+def change(data: bytearray, call: Call, part: Sequence[int], fill: Callable[[int], bytes]) -> None:
     """Makes a part of a change."""
     if call.operation == b"t":
         del data[call.place:]

@@ -7,8 +7,12 @@ there are none or all of the next one, and the same uploads complete it. A journ
 present version is whole, in the old tables or in the new ones. All this rests on a device that keeps what it said is
 synced, finishes each sector that it begins, and changes none that it wasn't asked to.
 """
+from __future__ import annotations
+
 import os
-from concurrent.futures import ThreadPoolExecutor
+from collections.abc import Iterable, Iterator
+from concurrent.futures import Executor, ThreadPoolExecutor
+from random import Random
 
 import device
 import older
@@ -22,7 +26,9 @@ from trial import Trial
 LOSSES = 6
 
 
-def states(scenario, calls):
+def states(
+    scenario: Collecting | Migrating, calls: Iterable[device.Call]
+) -> Iterator[tuple[dict[bytes, device.Disk], int]]:
     """The disks after none of the calls, after the first, and so on, with the number of lines printed so far."""
     disks = {kind: device.Disk() for kind in (b"d", b"l")}
     if scenario.base:
@@ -38,7 +44,9 @@ def states(scenario, calls):
         yield disks, answered
 
 
-def lost(scenario, dice, calls):
+def lost(
+    scenario: Collecting | Migrating, dice: Random, calls: Iterable[device.Call]
+) -> Iterator[tuple[str, int, list[bool], list[bytes]]]:
     """The files that losses of power leave, each with a name and with the number of lines that were printed."""
     for number, (disks, answered) in enumerate(states(scenario, calls)):
         there = [disks[kind].is_there for kind in (b"d", b"l")]
@@ -47,7 +55,7 @@ def lost(scenario, dice, calls):
             yield f"{scenario.name}, power lost after {number} calls, {time}", answered, there, files
 
 
-def judge(scenario, what, answered, there, files):
+def judge(scenario: Collecting | Migrating, what: str, answered: int, there: list[bool], files: list[bytes]) -> None:
     database = scenario.trial.database()
     for end, is_there, data in zip(("", "-wal"), there, files):
         if is_there:
@@ -56,7 +64,7 @@ def judge(scenario, what, answered, there, files):
     scenario.left(what, database, answered)
 
 
-def sweep(scenario, pool):
+def sweep(scenario: Collecting | Migrating, pool: Executor) -> int:
     told, calls = scenario.run("n", 0, 0)[1:]
     scenario.trial.expect(f"{scenario.name}: undisturbed", told, scenario.usual)
     cases = list(lost(scenario, scenario.trial.dice, calls))
@@ -65,7 +73,7 @@ def sweep(scenario, pool):
     return len(cases)
 
 
-def main():
+def main() -> None:
     with Trial("losses") as trial, ThreadPoolExecutor(os.cpu_count()) as pool:
         trial.library = device.built(trial.base)
         row, rest = samples.stream(samples.E1), samples.stream(samples.E2, samples.E3)
