@@ -4,6 +4,8 @@
 For each number of entries (10,000 and 100,000 unless given): time and memory of each command, and the size of the
 database. Then a stream of 1 GB, uploads that are named at once, machines, and the greatest entry and file.
 """
+from __future__ import annotations
+
 import os
 import resource
 import struct
@@ -17,20 +19,20 @@ DATABASE = os.path.join(OUT, "limits.db")
 RESUME = os.path.join(OUT, "limits.resume")
 
 
-def say(what, run):
+def say(what: str, run: Run) -> None:
     print(f"  {what:38} {run.seconds:8.2f} s {run.peak:7.0f} MiB", flush=True)
 
 
-def source(kind, path):
+def source(kind: str, path: str) -> list[str]:
     return ["--source", SOURCE, "--resume", RESUME, kind, path]
 
 
-def acked(program, kind, path, answers="/dev/null"):
+def acked(program: str, kind: str, path: str, answers: str = "/dev/null") -> Run:
     """A run of `ack`, with these answers on standard input."""
     return Run(["sh", "-c", 'answers=$1; shift; "$@" < "$answers"', "sh", answers, program, "ack", *source(kind, path)])
 
 
-def measure_machine(program, entries):
+def measure_machine(program: str, entries: int) -> None:
     """The commands of a machine, over a stream and a journal file with this number of entries."""
     stream = made(f"{entries}.stream", "make_upload.py", "stream", 1, entries)
     file = made(f"{entries}.journal", "make_file.py", entries)
@@ -42,7 +44,7 @@ def measure_machine(program, entries):
         os.remove(RESUME)
 
 
-def measure_long_stream(program):
+def measure_long_stream(program: str) -> None:
     """A machine's commands over a stream of 1 GB. Nothing is acknowledged of it, and then all but one upload."""
     entries = 1_200_000
     stream = made("long.stream", "make_upload.py", "stream", 1, entries)
@@ -60,7 +62,7 @@ def measure_long_stream(program):
         os.remove(path)
 
 
-def measure_collector(program, entries):
+def measure_collector(program: str, entries: int) -> None:
     """The commands over a database, which gets this number of entries."""
     empty = made("empty.upload", "make_upload.py", "export", 1, 0)
     uploads = [made(f"{first}.upload", "make_upload.py", "export", first, first + 999)
@@ -81,7 +83,7 @@ def measure_collector(program, entries):
     forget(DATABASE)
 
 
-def measure_uploads(program):
+def measure_uploads(program: str) -> None:
     """How much memory an upload takes that is named beside others, and what happens at the limit of open files."""
     empty = made("empty.upload", "make_upload.py", "export", 1, 0)
     one, many = (Run([program, "collect", DATABASE, *[empty] * count]).peak for count in (1, 900))
@@ -99,7 +101,7 @@ def measure_uploads(program):
     forget(DATABASE)
 
 
-def measure_machines(program):
+def measure_machines(program: str) -> None:
     """Uploads of ten entries from 900 machines, beside nine uploads of 1,000 entries from one."""
     with open(made("1-10.upload", "make_upload.py", "export", 1, 10), "rb") as file:
         upload = file.read()
@@ -119,7 +121,7 @@ def measure_machines(program):
     forget(DATABASE)
 
 
-def measure_greatest(program):
+def measure_greatest(program: str) -> None:
     """An entry at its limit, and a journal file of one byte over its limit."""
     path = os.path.join(OUT, "greatest.upload")
     with open(made("1-10.upload", "make_upload.py", "export", 1, 10), "rb") as file:
@@ -140,7 +142,7 @@ def measure_greatest(program):
     os.remove(path)
 
 
-def main():
+def main() -> None:
     program = os.path.abspath(sys.argv[1])
     os.makedirs(OUT, exist_ok=True)
     say_machine(program)

@@ -4,20 +4,23 @@
 An entry has 20 fields, _BOOT_ID aside; six are the same in all entries, or in many, and are stored once. The same
 number gives the same file. `Journal` makes a file of any entries.
 """
+from __future__ import annotations
+
 import struct
 import sys
+from collections.abc import Iterable
 
 HEADER = 208
 SEQNUM_ID = bytes(range(16))
 BOOT_ID = bytes(range(16, 32))
 
 
-def numbers(number):
+def numbers(number: int) -> tuple[int, int, int]:
     """An entry's number, realtime and monotonic."""
     return number, 1_700_000_000_000_000 + number * 1013, number * 211
 
 
-def fields(number):
+def fields(number: int) -> list[str]:
     unit = f"service-{number % 37}.service"
     return [
         "_HOSTNAME=host.example.org",
@@ -48,14 +51,14 @@ class Journal:
     array of entries whenever the present one is full, each twice as long as the one before. Hashes are zero, since no
     reader here looks at them."""
 
-    def __init__(self):
+    def __init__(self) -> None:
         self.parts = []
         self.end = HEADER
         self.stored = {}
         self.arrays = []
         self.count = 0
 
-    def append(self, kind, body):
+    def append(self, kind: int, body: bytes) -> int:
         """Puts an object at the end; `body` is all of it after its header of 16 bytes."""
         offset = self.end
         size = 16 + len(body)
@@ -65,7 +68,7 @@ class Journal:
         self.end = offset + size + -size % 8
         return offset
 
-    def data(self, payload):
+    def data(self, payload: bytes) -> int:
         known = self.stored.get(payload)
         if known is not None:
             return known
@@ -73,12 +76,12 @@ class Journal:
         self.stored[payload] = offset
         return offset
 
-    def array(self, items):
+    def array(self, items: int) -> None:
         """An array is put in place empty, and filled once its entries are known."""
         place = len(self.parts) + 1
         self.arrays.append((place, items, self.append(6, bytes(8 + 8 * items)), []))
 
-    def add(self, number, realtime, monotonic, boot_id, payloads):
+    def add(self, number: int, realtime: int, monotonic: int, boot_id: bytes, payloads: Iterable[bytes]) -> None:
         offsets = [self.data(payload) for payload in payloads]
         body = struct.pack("<QQQ", number, realtime, monotonic) + boot_id + bytes(8)
         entry = self.append(3, body + b"".join(struct.pack("<QQ", offset, 0) for offset in offsets))
@@ -89,7 +92,7 @@ class Journal:
         self.arrays[-1][3].append(entry)
         self.count += 1
 
-    def header(self, seqnum_id):
+    def header(self, seqnum_id: bytes) -> bytes:
         head = bytearray(HEADER)
         head[:8] = b"LPKSHHRH"
         head[16] = 2
@@ -99,7 +102,7 @@ class Journal:
             struct.pack_into("<Q", head, place, number)
         return bytes(head)
 
-    def pieces(self, seqnum_id):
+    def pieces(self, seqnum_id: bytes) -> list[bytes]:
         """The file's bytes, in pieces."""
         for index, (place, _, _, filled) in enumerate(self.arrays):
             following = self.arrays[index + 1][2] if index + 1 < len(self.arrays) else 0
@@ -108,7 +111,7 @@ class Journal:
         return [self.header(seqnum_id)] + self.parts
 
 
-def file_of(entries):
+def file_of(entries: int) -> list[bytes]:
     """The file with this number of entries, in pieces."""
     journal = Journal()
     for number in range(1, entries + 1):
@@ -116,7 +119,7 @@ def file_of(entries):
     return journal.pieces(SEQNUM_ID)
 
 
-def main():
+def main() -> None:
     sys.stdout.buffer.writelines(file_of(int(sys.argv[1])))
 
 

@@ -4,6 +4,8 @@
 It has the entries of make_file.py from number 1 to LAST, and is made by the sqlite3 of Python, in pages of 4,096 bytes
 and closed.
 """
+from __future__ import annotations
+
 import os
 import sqlite3
 import sys
@@ -23,12 +25,12 @@ INSERT INTO journal VALUES (1, 1);
 """
 
 
-def row(number):
+def row(number: int) -> tuple[bytes, int, int, int, bytes]:
     pairs = {tuple(line.split("=", 1)) for line in (f"_BOOT_ID={BOOT_ID.hex()}", *fields(number))}
     return (SEQNUM_ID, *numbers(number), b"".join(field(*pair) for pair in sorted(pairs)))
 
 
-def main():
+def main() -> None:
     with tempfile.TemporaryDirectory() as folder:
         path = os.path.join(folder, "db")
         connection = sqlite3.connect(path)

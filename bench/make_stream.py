@@ -4,6 +4,8 @@
 The entries are like those of a busy machine: 24 fields and five of metadata, most of them short texts, every tenth
 entry with a message of several lines in the binary spelling. The same size gives the same stream.
 """
+from __future__ import annotations
+
 import struct
 import sys
 
@@ -11,7 +13,7 @@ ID = "000102030405060708090a0b0c0d0e0f"
 BOOT = "101112131415161718191a1b1c1d1e1f"
 
 
-def field(name, value):
+def field(name: str, value: str) -> bytes:
     """A field in the spelling that the format asks for."""
     if "\n" in value:
         raw = value.encode()
@@ -19,7 +21,7 @@ def field(name, value):
     return f"{name}={value}\n".encode()
 
 
-def entry(number):
+def entry(number: int) -> bytes:
     unit = f"service-{number % 37}.service"
     message = f"request {number} from 192.0.2.{number % 256} took {number * 7919 % 1000} ms, status 200, "
     message += f"{number * 6007 % 100_000} bytes, /api/v1/machines/{number % 997}/reports/{number % 89}"
@@ -59,7 +61,7 @@ def entry(number):
     return b"".join(field(name, value) for name, value in pairs) + b"\n"
 
 
-def main():
+def main() -> None:
     wanted = int(sys.argv[1])
     written = number = 0
     while written < wanted:

@@ -5,6 +5,8 @@ The entries are those of make_file.py, from number FIRST to number LAST, either 
 journalctl writes, or as the journal file. Both say the same of an entry. `stream FIRST LAST` writes the export stream
 alone.
 """
+from __future__ import annotations
+
 import struct
 import sys
 
@@ -14,11 +16,11 @@ from make_stream import field
 SOURCE = bytes(range(160, 176))
 
 
-def head(kind, start):
+def head(kind: int, start: int) -> bytes:
     return b"JCUPLD01" + bytes([kind]) + bytes(7) + SOURCE + struct.pack("<QQ", start, 0)
 
 
-def text(number):
+def text(number: int) -> bytes:
     seqnum, realtime, monotonic = numbers(number)
     lines = [
         f"__CURSOR=s={SEQNUM_ID.hex()};i={seqnum:x};b={BOOT_ID.hex()};m={monotonic:x};t={realtime:x};x=0",
@@ -32,7 +34,7 @@ def text(number):
     return b"".join(field(*line.split("=", 1)) for line in lines) + b"\n"
 
 
-def main():
+def main() -> None:
     kind, *bounds = sys.argv[1:]
     if kind == "file":
         sys.stdout.buffer.write(head(2, 0))

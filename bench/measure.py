@@ -3,9 +3,12 @@
 A process begins with the memory of the one that starts it, so little is imported here, and measurements are run without
 site packages (python3 -ES).
 """
+from __future__ import annotations
+
 import os
 import sys
 import time
+from collections.abc import Callable, Iterable, Sequence
 
 HERE = os.path.dirname(os.path.abspath(__file__))
 OUT = os.path.join(HERE, "out")
@@ -16,7 +19,9 @@ class Run:
     """What one run took: seconds, those of a processor, those in which the process itself computed, and its memory at
     its peak in MiB."""
 
-    def __init__(self, command, output="/dev/null", errors=None, status=0):
+    def __init__(
+        self, command: Sequence[str], output: str = "/dev/null", errors: str | None = None, status: int = 0
+    ) -> None:
         flags = os.O_WRONLY | os.O_CREAT | os.O_TRUNC
         files = [(os.POSIX_SPAWN_OPEN, number, path, flags, 0o644)
                  for number, path in ((1, output), (2, errors)) if path]
@@ -34,7 +39,7 @@ class Run:
 class Runs:
     """Several runs of one command: the best, and how far the others are from it."""
 
-    def __init__(self, runs):
+    def __init__(self, runs: list[Run]) -> None:
         self.runs = runs
         best = min(runs, key=lambda run: run.seconds)
         self.seconds = best.seconds
@@ -42,12 +47,14 @@ class Runs:
         self.processor = min(run.processor for run in runs)
         self.peak = best.peak
 
-    def spread(self):
+    def spread(self) -> float:
         """How much longer the longest took than the best, in percent."""
         return 100 * (max(run.seconds for run in self.runs) / self.seconds - 1)
 
 
-def interleaved(commands, before=lambda index: None, status=0):
+def interleaved(
+    commands: Sequence[Sequence[str]], before: Callable[[int], object] = lambda index: None, status: int = 0
+) -> list[Runs]:
     """Runs several commands in turn, round after round, so that what slows the machine down slows all of them."""
     rounds = []
     for _ in range(ROUNDS):
@@ -59,16 +66,16 @@ def interleaved(commands, before=lambda index: None, status=0):
     return [Runs(list(runs)) for runs in zip(*rounds)]
 
 
-def best(command, before=lambda index: None, status=0):
+def best(command: Sequence[str], before: Callable[[int], object] = lambda index: None, status: int = 0) -> Runs:
     return interleaved([command], before, status)[0]
 
 
-def makers_changed():
+def makers_changed() -> float:
     """When one of the scripts that make inputs was changed last."""
     return max(os.path.getmtime(os.path.join(HERE, name)) for name in os.listdir(HERE) if name.startswith("make_"))
 
 
-def made(name, script, *arguments):
+def made(name: str, script: str, *arguments: object) -> str:
     """A file that a script writes for some arguments. It is made if it isn't there, or if a script has changed
     since."""
     path = os.path.join(OUT, name)
@@ -78,19 +85,19 @@ def made(name, script, *arguments):
     return path
 
 
-def megabytes(paths):
+def megabytes(paths: Iterable[str]) -> float:
     """The size of files, in MB of 10^6 bytes."""
     return sum(map(os.path.getsize, paths)) / 1e6
 
 
-def forget(database):
+def forget(database: str) -> None:
     """Removes a database and what lies beside it."""
     for name in os.listdir(OUT):
         if name.startswith(os.path.basename(database)):
             os.remove(os.path.join(OUT, name))
 
 
-def output_of(command):
+def output_of(command: Sequence[str]) -> str:
     """The first line that a command prints, or `unknown`."""
     path = os.path.join(OUT, "told")
     try:
@@ -101,13 +108,13 @@ def output_of(command):
         return "unknown"
 
 
-def processor():
+def processor() -> str:
     with open("/proc/cpuinfo", encoding="utf-8") as file:
         names = [line.split(":", 1)[1].strip() for line in file if line.startswith("model name")]
     return f"{len(names)} x {names[0]}" if names else "unknown"
 
 
-def say_machine(program):
+def say_machine(program: str) -> None:
     """Prints what figures depend on."""
     print(f"program: {output_of([program, '--version'])}")
     print(f"processors: {processor()}")

@@ -6,17 +6,20 @@ journal file. Collecting: new databases of 1,000 to 100,000 entries with 20 fiel
 journal files, the same uploads again, and listings of what is stored; each in turn with the C baseline of baseline.c.
 What is in C is left out if it can't be built. `migrate` of databases of schema 1. Each figure is the best of five runs.
 """
+from __future__ import annotations
+
 import os
 import sys
+from collections.abc import Sequence
 
-from measure import HERE, OUT, Run, best, forget, interleaved, made, megabytes, output_of, say_machine
+from measure import HERE, OUT, Run, Runs, best, forget, interleaved, made, megabytes, output_of, say_machine
 
 STOCK = os.path.join(HERE, "..", "tests", "collect", "stock.py")
 ENTRIES = 100_000
 UPLOAD = 1_000
 
 
-def built(name, *libraries):
+def built(name: str, *libraries: str) -> str | None:
     """A program in C, or None if there is no C compiler or a library is missing."""
     path = os.path.join(OUT, name)
     try:
@@ -28,19 +31,19 @@ def built(name, *libraries):
     return path
 
 
-def built_baseline():
+def built_baseline() -> str | None:
     path = built("baseline", "-lsqlite3")
     if path:
         print(f"SQLite of the baseline: {output_of([path, 'version'])}")
     return path
 
 
-def rates(runs, entries, size):
+def rates(runs: Runs, entries: int, size: float) -> str:
     return (f"{runs.seconds:7.3f} s (to +{runs.spread():.0f} %) {runs.processor:7.3f} s of a processor"
             f" {entries / runs.seconds:11,.0f} entries/s {size / runs.seconds:6.0f} MB/s {runs.peak:6.0f} MiB")
 
 
-def ratio(runs, opened=None):
+def ratio(runs: Sequence[Runs], opened: Sequence[Runs] | None = None) -> str:
     """The ratio of the program's time to the baseline's, of the best runs and of each round."""
     aside = [each.seconds for each in opened] if opened else [0, 0]
     ratios = [(ours.seconds - aside[0]) / (theirs.seconds - aside[1])
@@ -49,7 +52,7 @@ def ratio(runs, opened=None):
     return f"ratio {whole:.2f} (in rounds {min(ratios):.2f} to {max(ratios):.2f})"
 
 
-def measure_reading(program):
+def measure_reading(program: str) -> None:
     parser = built("parser")
     for size in (10, 100):
         path = made(f"{size}MB.export", "make_stream.py", size * 10**6)
@@ -69,31 +72,31 @@ def measure_reading(program):
 class Collecting:
     """The program and the baseline, each with databases of its own."""
 
-    def __init__(self, program, baseline):
+    def __init__(self, program: str, baseline: str | None) -> None:
         self.programs = [(name, path) for name, path in (("program", program), ("baseline", baseline)) if path]
         self.empty = made("empty.upload", "make_upload.py", "export", 1, 0)
 
-    def database(self, name, which):
+    def database(self, name: str, which: str) -> str:
         return os.path.join(OUT, f"{which}-{name}.db")
 
-    def databases(self, which):
+    def databases(self, which: str) -> list[str]:
         return [self.database(name, which) for name, _ in self.programs]
 
-    def report(self, what, runs, entries, size):
+    def report(self, what: str, runs: Sequence[Runs], entries: int, size: float) -> None:
         print(what)
         for (name, _), each in zip(self.programs, runs):
             print(f"  {name:8} {rates(each, entries, size)}")
         if len(runs) == 2:
             print(f"  {ratio(runs)}, of processor times {runs[0].processor / runs[1].processor:.2f}", flush=True)
 
-    def collect(self, what, which, uploads, entries, is_new=True):
+    def collect(self, what: str, which: str, uploads: list[str], entries: int, is_new: bool = True) -> None:
         """Uploads into a new database, or once more into the one that has them."""
         databases = self.databases(which)
         commands = [[path, "collect", database, *uploads] for (_, path), database in zip(self.programs, databases)]
         runs = interleaved(commands, lambda index: forget(databases[index]) if is_new else None)
         self.report(what, runs, entries, megabytes(uploads))
 
-    def open(self, which):
+    def open(self, which: str) -> list[Runs]:
         """What opening takes: a run that collects an upload without entries, which opens, adopts and closes the
         database."""
         runs = interleaved([[path, "collect", database, self.empty]
@@ -103,7 +106,7 @@ class Collecting:
                   f"{each.peak:.0f} MiB")
         return runs
 
-    def open_alone(self, which):
+    def open_alone(self, which: str) -> None:
         """What the library's open takes: `check` of a database whose version is another, which looks at nothing
         else."""
         database = self.database("other", which)
@@ -118,7 +121,7 @@ class Collecting:
                   f"{runs.peak:.0f} MiB", flush=True)
         forget(database)
 
-    def listing(self, command, which, opened, size):
+    def listing(self, command: str, which: str, opened: Sequence[Runs], size: float) -> None:
         databases = self.databases(which)
         runs = interleaved([[path, command, database] for (_, path), database in zip(self.programs, databases)])
         self.report(f"{command} of {ENTRIES:,} entries", runs, ENTRIES, size)
@@ -131,7 +134,7 @@ class Collecting:
         print(flush=True)
 
 
-def measure_collecting(program):
+def measure_collecting(program: str) -> None:
     both = Collecting(program, built_baseline())
     uploads = [made(f"{first}.upload", "make_upload.py", "export", first, first + UPLOAD - 1)
                for first in range(1, ENTRIES, UPLOAD)]
@@ -155,7 +158,7 @@ def measure_collecting(program):
             forget(database)
 
 
-def measure_migrating(program):
+def measure_migrating(program: str) -> None:
     database = os.path.join(OUT, "migrated.db")
 
     def renew(_):
@@ -173,7 +176,7 @@ def measure_migrating(program):
     forget(database)
 
 
-def main():
+def main() -> None:
     program = os.path.abspath(sys.argv[1])
     os.makedirs(OUT, exist_ok=True)
     say_machine(program)

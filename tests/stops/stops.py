@@ -6,10 +6,13 @@ first upload that wasn't answered, or was answered by a failure of the store, an
 again complete the journal. A journal that goes over to tables of the present version is whole, in the old tables or in
 the new ones. A resume file is the old or the new one whole.
 """
+from __future__ import annotations
+
 import os
 import shutil
 import signal
-from concurrent.futures import ThreadPoolExecutor
+from collections.abc import Callable
+from concurrent.futures import Executor, ThreadPoolExecutor
 
 import device
 import older
@@ -27,7 +30,7 @@ FILES = {"database": "d", "log": "l"}
 CHUNK = 16
 
 
-def stopped(scenario, mode, number):
+def stopped(scenario: Collecting | Migrating, mode: str, number: int) -> bool:
     """The program ends at a call; answers whether it did."""
     what = f"{scenario.name}, stopped {'before' if mode == 'k' else 'within'} call {number}"
     database, told, calls = scenario.run(mode, number, NEVER)
@@ -40,7 +43,7 @@ def stopped(scenario, mode, number):
     return bool(calls)
 
 
-def failing(scenario, number, last, reads, only=""):
+def failing(scenario: Collecting | Migrating, number: int, last: int, reads: bool, only: str = "") -> bool:
     """A device, or one of the two files alone, fails from one call to another; answers whether it did."""
     also = f"{', reads too' if reads else ''}{only and ', on file ' + only}"
     what = f"{scenario.name}, calls {number} to {last} fail{also}"
@@ -49,7 +52,7 @@ def failing(scenario, number, last, reads, only=""):
     return bool(calls)
 
 
-def upwards(pool, attempt, step=1):
+def upwards(pool: Executor, attempt: Callable[[int], bool], step: int = 1) -> int:
     """Tries one number after another until an attempt finds nothing to do; answers how many did."""
     tried = 0
     while True:
@@ -60,7 +63,7 @@ def upwards(pool, attempt, step=1):
             return tried
 
 
-def sweep(trial, pool, scenario, step=1):
+def sweep(trial: Trial, pool: Executor, scenario: Collecting | Migrating, step: int = 1) -> int:
     told, calls = scenario.run("n", 0, 0)[1:]
     trial.expect(f"{scenario.name}: undisturbed", told, scenario.usual)
     stops = sum(upwards(pool, lambda number: stopped(scenario, mode, number), step) for mode in "kh")
@@ -85,10 +88,10 @@ class Acks:
     ANSWER = f"ack {samples.SOURCE.hex()} 1 1 1 0\n".encode()
     USUAL = (b"resume 2\n", "", 0)
 
-    def __init__(self, trial):
+    def __init__(self, trial: Trial) -> None:
         self.trial = trial
 
-    def once(self, mode, number, last, reads=False):
+    def once(self, mode: str, number: int, last: int, reads: bool = False) -> bool:
         what = f"ack, calls {number} to {last}, mode {mode}"
         trial = self.trial
         source, resume = trial.put([samples.E1 + samples.E2, self.OLD])
@@ -106,7 +109,7 @@ class Acks:
         shutil.rmtree(os.path.dirname(resume))
         return bool(calls)
 
-    def in_order(self):
+    def in_order(self) -> None:
         """The new text is synced before it takes the file's name, and the folder after that."""
         source, resume = self.trial.put([samples.E1 + samples.E2, self.OLD])
         words = [PROGRAM, "ack", *RESUME, resume, "export", source]
@@ -114,7 +117,7 @@ class Acks:
         operations = b"".join(call.operation for call in calls if call.kind == b"o")
         self.trial.expect("ack: calls that change a file", (told, operations), (self.USUAL, b"cwsms"))
 
-    def sweep(self, pool):
+    def sweep(self, pool: Executor) -> int:
         self.in_order()
         counts = [upwards(pool, lambda number: self.once(mode, number, NEVER)) for mode in "kh"]
         for reads in (False, True):
@@ -124,7 +127,7 @@ class Acks:
         return sum(counts)
 
 
-def main():
+def main() -> None:
     with Trial("stops") as trial, ThreadPoolExecutor(os.cpu_count()) as pool:
         trial.library = device.built(trial.base)
         row, rest = samples.stream(samples.E1), samples.stream(samples.E2, samples.E3)
