@@ -16,7 +16,7 @@ build: $(PROGRAM) ## prove and build the program: the first goal, and make witho
 help: ## this listing
 	@awk -F ':[^#]*## ' '/^[a-z-]+:.*## / { printf "make %-12s %s\n", $$1, $$2 }' $(MAKEFILE_LIST)
 
-demo: $(PROGRAM) ## the main job on samples: uploads of two machines are collected, shown and exported
+demo: $(PROGRAM) ## a collector that is killed: the same upload is sent again, and nothing is lost or doubled
 	@bash examples/demo.sh $(PROGRAM)
 
 check: ## prove the crates that changed, and what stands on them; with SINCE=REVISION only what git says has changed
@@ -29,14 +29,15 @@ install: $(PROGRAM) ## journal-collect, its man page, its documents and deploy/,
 	install -d "$(BIN)" "$(MAN)" "$(DOC)"
 	install -m 755 $(PROGRAM) "$(BIN)/journal-collect"
 	install -m 644 docs/journal-collect.1 "$(MAN)/journal-collect.1"
-	install -m 644 docs/GUIDE.md docs/FORMATS.md docs/LIMITS.md "$(DOC)/"
+	install -m 644 docs/GUIDE.md docs/FORMATS.md docs/FORWARDING.md docs/LIMITS.md docs/PERFORMANCE.md "$(DOC)/"
 	@deploy/install.sh "$(DESTDIR)" "$(PREFIX)"
 
 deb: $(PROGRAM) ## a Debian package of all that is installed, in build/
 	@deploy/build-deb.sh build
 
 uninstall: ## what install put there, but for the configuration in /etc/journal-collect
-	rm -f "$(BIN)/journal-collect" "$(MAN)/journal-collect.1" "$(LIB)/sysusers.d/journal-collect.conf"
+	rm -f "$(BIN)/journal-collect" "$(BIN)/journal-collect-search" "$(MAN)/journal-collect.1"
+	rm -f "$(LIB)/sysusers.d/journal-collect.conf"
 	rm -rf "$(DOC)" "$(LIB)/journal-collect"
 	rm -f $(patsubst deploy/%,"$(LIB)/systemd/system/%",$(wildcard deploy/*.service deploy/*.timer))
 

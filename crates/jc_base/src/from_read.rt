@@ -1,6 +1,6 @@
 //! A stream over a reader.
 
-ghost use Rattle.std.specs.Prelude.{◌≡◌, ◌<◌, ◌^◌};
+ghost use Rattle.std.specs.Prelude.{◌≡◌, ◌<◌, ◌-◌, ◌^◌};
 
 use crate::failure::count_failure;
 use crate::{ByteStream, ReadFailed};
@@ -18,6 +18,7 @@ pub struct FromRead<R> {
 impl<R: Read> FromRead<R> {
     pub fn new(reader: R) -> FromRead<R>
         ensures bytes { ⟦<FromRead<R> as ByteStream>⟧.remaining result ≡ R.remaining reader }
+        ensures bound { ⟦<FromRead<R> as ByteStream>⟧.bound result ≡ 2 ^ 64 - 1 }
         ensures failures { ⟦<FromRead<R> as ByteStream>⟧.failures result ≡ 0 }
     {
         FromRead {

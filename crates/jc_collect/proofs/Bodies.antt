@@ -1,5 +1,5 @@
 -- What a keeper took up of a source is a step over a reading of the source's bytes.
-use Rattle.std.proofs.Common.{◌≡◌, ◌<◌, ◌≤◌, ◌+◌, nat_le, true, false, ℕ, List, ◌++◌, length, Option, Some, None, Result, Ok, Err, IsSomeAnd, refl, sym, ap, ◌∙◌, subst, inl, ⊎_elim, arith}
+use Rattle.std.proofs.Common.{◌≡◌, ◌<◌, ◌≤◌, ◌+◌, nat_le, true, false, ℕ, List, [], ◌++◌, length, Option, Some, None, Result, Ok, Err, IsSomeAnd, refl, sym, ap, ◌∙◌, subst, inl, ⊎_elim, arith}
 use Rattle.std.proofs.lemmas.Bool.{cases_lt, lt-leb}
 use Rattle.std.proofs.lemmas.List.{append-nil, length-append}
 use Rattle.std.specs.Io.KnownBytes.{Consumes, IsAtEnd}
@@ -19,7 +19,7 @@ use Rattle.jc_keeper.specs.Absorb.{Absorbs}
 use Rattle.jc_upload.specs.declared.head.Kind.{Kind}
 use Rattle.jc_upload.specs.declared.head.Version.{Version}
 use Rattle.jc_upload.specs.declared.head.Version.TheVariants.{V1, V2}
-use Rattle.jc_upload.specs.Says.{IsInParts, told_as}
+use Rattle.jc_upload.specs.Says.{BodySays, IsInParts, told_as}
 use Rattle.jc_upload.specs.declared.head.Kind.TheVariants.{Export, File}
 use Rattle.jc_collect.specs.Body.{AbsorbsBody, SaysBody}
 
@@ -67,6 +67,23 @@ long_says limits a b r long longer h =
     (λ f. inl (record { fault = f.fault; fails = fault_of_long limits b longer ∙ sym told ∙ f.fails; none = f.none; ending = f.ending }))
     (λ w. absurd (⊎_elim (λ x. some_fault _ (sym x.well ∙ told)) (λ x. some_fault _ (sym x.well ∙ told)) w)) h
 
+pub gathered : (limits : Limits) (version : Version) (all rest bytes : List ℕ) (told : Reading) → all ≡ bytes ++ rest
+    → (length bytes < limits.file + 1 → rest ≡ []) → BodySays limits version File bytes told → BodySays limits version File all told
+gathered limits version all rest bytes told came ended says = record {
+  read = says.read;
+  reads = ⊎_elim short long (cases_lt (length bytes) (limits.file + 1));
+  told = says.told;
+}
+  where
+    short : length bytes < limits.file + 1 → IsFileReading limits all says.read
+    short few =
+        subst (λ (l : List ℕ). IsFileReading limits l says.read) (sym (came ∙ ap (λ l. bytes ++ l) (ended few) ∙ append-nil bytes)) says.reads
+
+    long : limits.file + 1 ≤ length bytes → IsFileReading limits all says.read
+    long many =
+        let whole : length all ≡ length bytes + length rest = ap length came ∙ length-append bytes rest in
+        long_says limits bytes all says.read (omega arith) (omega arith) says.reads
+
 pub whole_step : (limits : Limits) (version : Version) (known rest : Option (List ℕ)) (bytes : List ℕ) (before : Journal) (result : Result Absorbed KeepStop) (after : Journal)
     → Consumes known rest bytes → (length bytes < limits.file + 1 → IsAtEnd rest)
     → AbsorbsBody (SaysBody limits version File (Some bytes)) before result after → AbsorbsBody (SaysBody limits version File known) before result after
@@ -74,16 +91,7 @@ whole_step limits version known rest bytes before (Err stop) after came ended h 
 whole_step limits version None rest bytes before (Ok absorbed) after came ended h = (h.0, tt, h.2)
 whole_step limits version (Some b) None bytes before (Ok absorbed) after came ended h = absurd came
 whole_step limits version (Some b) (Some r) bytes before (Ok absorbed) after came ended h =
-    let says = h.1 in
-    (h.0, record { read = says.read; reads = ⊎_elim (short says.read says.reads) (long says.read says.reads) (cases_lt (length bytes) (limits.file + 1)); told = says.told }, h.2)
-  where
-    short : (x : Reading) → IsFileReading limits bytes x → length bytes < limits.file + 1 → IsFileReading limits b x
-    short x says few = subst (λ (l : List ℕ). IsFileReading limits l x) (sym (came ∙ ap (λ l. bytes ++ l) (ended few) ∙ append-nil bytes)) says
-
-    long : (x : Reading) → IsFileReading limits bytes x → limits.file + 1 ≤ length bytes → IsFileReading limits b x
-    long x says many =
-        let all : length b ≡ length bytes + length r = ap length came ∙ length-append bytes r in
-        long_says limits bytes b x (omega arith) (omega arith) says
+    (h.0, gathered limits version b r bytes h.0 came ended h.1, h.2)
 
 -- ---- what isn't to be whole is told as it is read
 

@@ -13,3 +13,4 @@ pub mod Heads
 pub mod Bodies
 pub mod Answering
 pub mod Chains
+pub mod Inspecting

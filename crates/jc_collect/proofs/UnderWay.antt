@@ -37,6 +37,17 @@ pub record UnderWay {D : Type 0} (Premise : Type 0) (told : D → Option (List �
   pub kept : Premise → (e : LogEntry) → IsStored before.journal e → IsStored now.journal e
   pub ran : Premise → (uploads : List (List ℕ)) → map told first ≡ map (λ u. Some u) uploads → RunsToEnd limits (take done uploads) before now
 
+-- What holds under a premise holds under one from which it follows.
+pub under_way_if : {D : Type 0} (P Q : Type 0) (told : D → Option (List ℕ)) (limits : Limits) (first : List D) (before : Seen)
+    (done : ℕ) (present : List D) (now : Seen) → (Q → P) → UnderWay P told limits first before done present now
+    → UnderWay Q told limits first before done present now
+under_way_if P Q told limits first before done present now weaker way = record {
+  rest = way.rest;
+  stores = way.stores;
+  kept = λ q. way.kept (weaker q);
+  ran = λ q. way.ran (weaker q);
+}
+
 pub lines_more : (answers : List Answer) (answer : Answer) → lines_of_answers (answers ++ answer ∷ []) ≡ lines_of_answers answers ++ answer_text answer
 lines_more answers answer =
     flat_map-append answer_text answers (answer ∷ []) ∙ ap (λ l. lines_of_answers answers ++ l) (append-nil (answer_text answer))

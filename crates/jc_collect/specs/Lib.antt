@@ -8,3 +8,4 @@ pub mod Whole
 pub mod Begun
 pub mod Body
 pub mod Chain
+pub mod Inspected

@@ -1,5 +1,5 @@
 -- What one delivery does to a journal, and what is answered. (own)
-use Rattle.std.specs.Prelude.{ℕ, ◌≡◌, ◌<◌, ◌≤◌, Option, Some, None, MatchBool, List, length}
+use Rattle.std.specs.Prelude.{ℕ, ◌≡◌, ◌<◌, ◌≤◌, Option, Some, None, MatchBool, List, length, ⊤}
 use Rattle.std.specs.Io.KnownBytes.{Consumes}
 use Rattle.jc_base.specs.declared.fault.Code.{Code}
 use Rattle.jc_base.specs.declared.fault.Code.TheVariants.{ReadFailed}
@@ -36,7 +36,7 @@ pub record IsPosition (limits : Limits) (upload : List ℕ) (before : Journal) (
   pub answers : Answers limits upload before answer
   pub leaves : Leaves limits upload before answer after
 
--- The same if the delivery's bytes aren't known: what is acknowledged is some reading, taken up whole.
+-- What is stored afterwards if the delivery's bytes aren't known: what is acknowledged is some reading, taken up whole.
 abbrev pub LeavesUntold : (before : Journal) → Answer → (after : Journal) → Type 0
 LeavesUntold before (Ack source start count new left) after =
     (reading : Reading) × TakesWhole before reading count new left after
@@ -63,6 +63,12 @@ abbrev pub FailsUnread : Answer → Type 0
 FailsUnread (Ack source start count new left) = ⊥
 FailsUnread (No None code place) = code ≡ number_of ReadFailed
 FailsUnread (No (Some of) code place) = ⊥
+
+-- The answer names no source: there was no header, or reading it failed.
+abbrev pub NamesNone : Answer → Type 0
+NamesNone (Ack source start count new left) = ⊥
+NamesNone (No None code place) = ⊤
+NamesNone (No (Some of) code place) = ⊥
 
 -- A stream that tells its bytes has given fewer than this many of them.
 pub record HasGivenFewer (most : ℕ) (before behind : Option (List ℕ)) : Type 0 where

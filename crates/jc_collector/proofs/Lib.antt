@@ -1,3 +1,4 @@
 pub mod Refusals
 pub mod Printing
 pub mod Fronts
+pub mod Inspections

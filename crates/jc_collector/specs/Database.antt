@@ -10,7 +10,7 @@ use Rattle.jc_keeper.specs.Listing.{field_text, show_text}
 use Rattle.jc_command_shared.specs.Ids.{IsIdOf, IsIdText}
 use Rattle.jc_command_shared.specs.Names.{IsFieldName}
 use Rattle.jc_command_shared.specs.declared.failure.Failure.{Failure}
-use Rattle.jc_command_shared.specs.declared.failure.Failure.TheVariants.{Bad, BadDatabaseName, BadFieldName, BadId, CannotOpen, OutOfMemory, ReadFailed, StoreFailed, WriteFailed}
+use Rattle.jc_command_shared.specs.declared.failure.Failure.TheVariants.{Bad, BadDatabaseName, BadExportName, BadFieldName, BadId, CannotOpen, OutOfMemory, ReadFailed, StoreFailed, WriteFailed}
 
 -- A name that SQLite doesn't take for a path.
 abbrev pub IsBadName : List ℕ → Type 0
@@ -48,9 +48,11 @@ DatabaseFailsBy database BadDatabaseName = IsBadName database
 DatabaseFailsBy database WriteFailed = ⊤
 DatabaseFailsBy database failure = WhyNoJournal database failure
 
--- The same of a command that reads uploads too, from files with these paths.
+-- Why a command over a database that reads uploads too, from files with these paths, fails. No contract can name which
+-- file stands under a name, and so whether that of an export is the database's.
 abbrev pub CollectFailsBy : (database : List ℕ) → (uploads : List (List ℕ)) → Failure → Type 0
 CollectFailsBy database uploads (CannotOpen path) = (path.now ≡ database) ⊎ Contains uploads path.now
+CollectFailsBy database uploads BadExportName = ⊤
 CollectFailsBy database uploads ReadFailed = ⊤
 CollectFailsBy database uploads failure = DatabaseFailsBy database failure
 

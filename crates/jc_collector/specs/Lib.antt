@@ -2,3 +2,4 @@ pub mod Stopped
 pub mod Database
 pub mod Listed
 pub mod Checked
+pub mod Inspected

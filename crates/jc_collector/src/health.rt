@@ -85,8 +85,7 @@ fn read_health<'a, R: Databases + Files + AllocGlobal>(
 
 /// How many entries a keeper's journal has.
 pub fn count<'a, S: Alter>(keeper: &mut SqlKeeper<S>) -> Result<Health, Failure<'a>>
-    ensures counted { ⟦<SqlKeeper<S> as Keeper>⟧.sound keeper.old → ⟦<SqlKeeper<S> as Keeper>⟧.made keeper.old
-        → ⟦<SqlKeeper<S> as Keeper>⟧.sound keeper.new
+    ensures counted { ⟦<SqlKeeper<S> as Keeper>⟧.sound keeper.new → ⟦<SqlKeeper<S> as Keeper>⟧.made keeper.old
         → IfOk result (λ health. health ≡ Health.Whole (len (⟦<SqlKeeper<S> as Keeper>⟧.journal keeper.old))) }
     ensures health { IfOk result IsHealth }
     ensures failed { IfErr result IsStoreFailure }

@@ -13,8 +13,8 @@ use crate::database::{
 use crate::health::{Health, count, tell};
 use jc_base::Code;
 use jc_command_shared::{Failure, Status};
+use jc_schema_one::{MigrateStop, SqlKeeper1};
 use jc_schema_two::{SchemaTwo, SqlKeeper};
-use jc_store::{MigrateStop, SqlKeeper1};
 use std::io::Write;
 use std::rt::Files;
 
@@ -58,7 +58,7 @@ fn migrated<'a, R: Databases + Files + AllocGlobal>(
 fn go_over<'a, S: DatabaseStore>(keeper: SqlKeeper1<S>) -> Result<SqlKeeper<S>, Failure<'a>>
     ensures { IfErr result IsStoreFailure }
 {
-    match keeper.migrate::<SchemaTwo>() {
+    match jc_schema_one::migrate::<S, SchemaTwo>(keeper) {
         Ok(keeper) => Ok(keeper),
         Err(MigrateStop { code, keeper }) => {
             let _ = close_connection(keeper.into_connection());

@@ -1,5 +1,5 @@
 -- What `collect` prints, and the status that goes with it. (own)
-use Rattle.std.specs.Prelude.{ℕ, ◌≡◌, Bool, true, false, List, ◌∷◌, ◌++◌, zero, suc, length, map, Option, Some, None, if◌then◌else◌}
+use Rattle.std.specs.Prelude.{ℕ, ◌≡◌, ◌≤◌, Bool, true, false, List, ◌∷◌, ◌++◌, zero, suc, length, map, take, Option, Some, None, if◌then◌else◌}
 use Rattle.std.specs.Io.KnownBytes.{Appends}
 use Rattle.std.specs.List.{All, list_any}
 use Rattle.std.proofs.Props.{props}
@@ -7,7 +7,7 @@ use Rattle.jc_base.specs.declared.limits.Limits.{Limits}
 use Rattle.jc_base.specs.LimitBounds.{AreDefaults}
 use Rattle.jc_collect.specs.Answer.{is_failure, is_failure_code}
 use Rattle.jc_collect.specs.declared.runs.RunEnd.TheVariants.{Done}
-use Rattle.jc_collect.specs.Run.{IsRun, Seen, lines_of_answers}
+use Rattle.jc_collect.specs.Run.{Collected, IsRun, Seen, lines_of_answers}
 use Rattle.jc_upload.specs.Answer.{IsAnswer}
 use Rattle.jc_upload.specs.declared.answer.Answer.{Answer}
 use Rattle.jc_upload.specs.declared.answer.Answer.TheVariants.{Ack, No}
@@ -36,6 +36,15 @@ pub record RunsByDefault (uploads : List (List ℕ)) (before after : Seen) : Typ
   pub limits : Limits
   pub defaults : AreDefaults limits.name limits.value limits.fields limits.entry limits.file
   pub ran : IsRun limits uploads before Done after
+
+-- The first ones of some uploads were collected under the default limits, and the others weren't.
+pub record CollectsFirst (uploads : List (List ℕ)) (before after : Seen) : Type 0 where
+  pub limits : Limits
+  pub defaults : AreDefaults limits.name limits.value limits.fields limits.entry limits.file
+  pub done : ℕ
+  pub within : done ≤ length uploads
+  pub answers : List Answer
+  pub collected : Collected limits (take done uploads) before after answers
 
 -- how many uploads there are: those that are named, or the one on standard input
 abbrev pub number_of_uploads : (named : ℕ) → ℕ

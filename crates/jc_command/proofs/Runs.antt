@@ -20,7 +20,10 @@ use Rattle.jc_command_args.specs.declared.request.Request.TheVariants as request
 use Rattle.jc_collect.specs.Answer.{is_failure}
 use Rattle.jc_command_args.specs.Answer.{IsAskedFor}
 use Rattle.jc_collector_answers.specs.Answered.{is_refusal}
+use Rattle.jc_collect.specs.declared.inspect.Inspected.{Inspected}
+use Rattle.jc_collect.specs.declared.inspect.Inspected.TheVariants as inspected
 use Rattle.jc_collector.specs.Checked.{health_status}
+use Rattle.jc_collector.specs.Inspected.{inspected_status}
 use Rattle.jc_command_shared.specs.Failure.{status_of}
 use Rattle.jc_command.specs.Run.{Ends, FailsBy, Performs, Stops, StopsAsked}
 use Rattle.jc_command_shared.specs.Status.{number_of}
@@ -31,6 +34,10 @@ use Rattle.jc_command_args.specs.Words.{AreAnswered, AskFor}
 not_misused : (ending : Ending) → Misused ≡ verdict_status ending → ⊥
 not_misused (End left) same = cc
 not_misused (Bad fault) same = cc
+
+inspected_not_misused : (inspected : Inspected) → Misused ≡ inspected_status inspected → ⊥
+inspected_not_misused (inspected.Upload source start count left last) same = cc
+inspected_not_misused (inspected.Bad fault) same = cc
 
 health_not_misused : (health : Health) → Misused ≡ health_status health → ⊥
 health_not_misused (health.Whole count) same = cc
@@ -51,9 +58,11 @@ performed words request given output output' errors errors' Failed asks does qui
 performed words (Verify k file) given output output' errors errors' Misused asks does quiet = absurd (not_misused does.ending does.told.judged)
 performed words (Upload source limit whole) given output output' errors errors' Misused asks does quiet = let same : Misused ≡ Success = does.0 in cc
 performed words (Ack source) given output output' errors errors' Misused asks does quiet = let same : Misused ≡ Success = does.0 in cc
-performed words (requests.Collect database uploads) given output output' errors errors' Misused asks does quiet =
+performed words (requests.Inspect file) given output output' errors errors' Misused asks does quiet =
+    absurd (inspected_not_misused does.inspected does.told.judged)
+performed words (requests.Collect database uploads then_export) given output output' errors errors' Misused asks does quiet =
     absurd (judged_not_misused (list_any is_failure does.answers) (list_any is_refusal does.answers) does.is)
-performed words (requests.CollectListed database list) given output output' errors errors' Misused asks does quiet =
+performed words (requests.CollectListed database list then_export) given output output' errors errors' Misused asks does quiet =
     let told = does.told.told in
     absurd (judged_not_misused (list_any is_failure told.answers) (list_any is_refusal told.answers) told.is)
 performed words (requests.Export database) given output output' errors errors' Misused asks does quiet = let same : Misused ≡ Success = does in cc

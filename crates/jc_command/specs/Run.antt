@@ -8,12 +8,13 @@ use Rattle.jc_command_shared.specs.declared.failure.Failure.TheVariants.{CannotO
 use Rattle.jc_command_shared.specs.declared.status.Status.{Status}
 use Rattle.jc_command_shared.specs.declared.status.Status.TheVariants.{Success, Refused, Misused, Failed}
 use Rattle.jc_command_args.specs.declared.request.Request.{Request}
-use Rattle.jc_command_args.specs.declared.request.Request.TheVariants.{Collect, CollectListed, Show, Check, Migrate, Verify, Upload, Ack, ListCodes}
+use Rattle.jc_command_args.specs.declared.request.Request.TheVariants.{Collect, CollectListed, Show, Check, Migrate, Verify, Inspect, Upload, Ack, ListCodes}
 use Rattle.jc_command_args.specs.declared.request.Request.TheVariants as request
 use Rattle.jc_collector_answers.specs.Answered.{TellsAnswers, number_of_uploads}
 use Rattle.jc_collector.specs.Checked.{IsHealth, TellsHealth}
 use Rattle.jc_collector.specs.Database.{CheckFailsBy, CollectFailsBy, DatabaseFailsBy, ShowFailsBy}
 use Rattle.jc_command_shared.specs.Failure.{status_of}
+use Rattle.jc_collector.specs.Inspected.{TellsSomeUpload as TellsSomeInspected}
 use Rattle.jc_collector.specs.Listed.{TellsListed}
 use Rattle.jc_sender.specs.Sent.{TellsSomeUpload}
 use Rattle.jc_sender.specs.Failing.{AckFailsBy, UploadFailsBy}
@@ -22,32 +23,38 @@ use Rattle.jc_sender.specs.Verdict.{TellsSomeReading}
 use Rattle.jc_command_args.specs.Words.{AreWrong, AskFor, AskForHelp}
 
 -- What standard output gains when a request is performed, over what standard input gives, and the status: from `verify` a
--- reading, from `upload` an upload, from `ack` a resume point, from `collect` an answer to each upload, and from `check`
+-- reading, from `inspect` what an upload says, from `upload` an upload, from `ack` a resume point, from `collect` an answer to each upload, and from `check`
 -- and `migrate` what there is of a journal. Nothing is said of listings, nor which answers come: no contract can name what
 -- a database's file holds.
 abbrev pub Performs : Request → (given old new : Option (List ℕ)) → Status → Type 0
 Performs (Verify kind file) given old new status = TellsSomeReading kind status old new
+Performs (Inspect file) given old new status = TellsSomeInspected status old new
 Performs (Upload source limit whole) given old new status = (status ≡ Success) × TellsSomeUpload source limit whole old new
 Performs (Ack source) given old new status = (status ≡ Success) × TellsSomePoint source given old new
-Performs (Collect database uploads) given old new status = TellsAnswers (number_of_uploads (length uploads.items)) status old new
-Performs (CollectListed database list) given old new status = TellsListed list.now given status old new
+Performs (Collect database uploads then_export) given old new status = TellsAnswers (number_of_uploads (length uploads.items)) status old new
+Performs (CollectListed database list then_export) given old new status = TellsListed list.now given status old new
 Performs (request.Export database) given old new status = status ≡ Success
 Performs (Show database field id first last) given old new status = status ≡ Success
 Performs (Check database) given old new status = (health : Health) × IsHealth health × TellsHealth health status old new
 Performs (Migrate database) given old new status = (health : Health) × IsHealth health × TellsHealth health status old new
 Performs ListCodes given old new status = status ≡ Success
 
+-- Why a command that reads one file fails.
+abbrev pub FileFailsBy : (file : List ℕ) → Failure → Type 0
+FileFailsBy file (CannotOpen path) = path.now ≡ file
+FileFailsBy file ReadFailed = ⊤
+FileFailsBy file WriteFailed = ⊤
+FileFailsBy file OutOfMemory = ⊤
+FileFailsBy file _ = ⊥
+
 -- Why a request fails: its own file can't be opened, what it names is refused, or a device or memory fails.
 abbrev pub FailsBy : Request → (given : Option (List ℕ)) → Failure → Type 0
-FailsBy (Verify kind file) given (CannotOpen path) = path.now ≡ file.now
-FailsBy (Verify kind file) given ReadFailed = ⊤
-FailsBy (Verify kind file) given WriteFailed = ⊤
-FailsBy (Verify kind file) given OutOfMemory = ⊤
-FailsBy (Verify kind file) given _ = ⊥
+FailsBy (Verify kind file) given failure = FileFailsBy file.now failure
+FailsBy (Inspect file) given failure = FileFailsBy file.now failure
 FailsBy (Upload source limit whole) given failure = UploadFailsBy source failure
 FailsBy (Ack source) given failure = AckFailsBy source given failure
-FailsBy (Collect database uploads) given failure = CollectFailsBy database.now (map (λ path. path.now) uploads.items) failure
-FailsBy (CollectListed database list) given failure = CollectFailsBy database.now (list.now ∷ []) failure
+FailsBy (Collect database uploads then_export) given failure = CollectFailsBy database.now (map (λ path. path.now) uploads.items) failure
+FailsBy (CollectListed database list then_export) given failure = CollectFailsBy database.now (list.now ∷ []) failure
 FailsBy (request.Export database) given failure = DatabaseFailsBy database.now failure
 FailsBy (Show database field id first last) given failure =
     ShowFailsBy database.now (option_map (λ name. name.now) field) (option_map (λ digits. digits.now) id) failure

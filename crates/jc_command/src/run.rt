@@ -8,7 +8,7 @@ ghost use Rattle.jc_command_shared.specs.Failure.{status_of};
 ghost use Rattle.jc_command.specs.Run.{Ends, FailsBy, Performs, Stops};
 
 use clap::error::ErrorKind;
-use jc_collector::{Databases, check, collect, collect_listed, export, migrate, show};
+use jc_collector::{Databases, check, collect, collect_listed, export, inspect, migrate, show};
 use jc_command_args::{CODES, Request, parse};
 use jc_command_shared::{Failure, Status, printed};
 use jc_sender::{ack, upload, verify};
@@ -77,17 +77,26 @@ fn perform<'a, R: Databases + Files + AllocGlobal, I: Read, O: Write, E: Write>(
 {
     match request {
         Request::Verify { kind, file } => return verify(rt, kind, file, output),
+        Request::Inspect { file } => return inspect(rt, file, output),
         Request::Upload {
             source,
             limit,
             whole,
         } => upload(rt, source, limit, whole, output)?,
         Request::Ack { source } => ack(rt, source, input, output)?,
-        Request::Collect { database, uploads } => {
-            return collect(rt, database, uploads.as_slice(), input, output);
+        Request::Collect {
+            database,
+            uploads,
+            then_export,
+        } => {
+            return collect(rt, database, uploads.as_slice(), then_export, input, output);
         }
-        Request::CollectListed { database, list } => {
-            return collect_listed(rt, database, list, input, output, errors);
+        Request::CollectListed {
+            database,
+            list,
+            then_export,
+        } => {
+            return collect_listed(rt, database, list, then_export, input, output, errors);
         }
         Request::Export { database } => export(rt, database, output)?,
         Request::Show {

@@ -51,9 +51,11 @@ flag_rule name = record (new_rule name) { long = Some name; action = Some SetTru
 abbrev pub database_grammar : Text → App
 database_grammar name = with_rule (new_app name) (place_rule (codes "DB"))
 
--- `collect DB [--files-from FILE] [UPLOAD..]`
+-- `collect DB [--files-from FILE] [--then-export FILE] [UPLOAD..]`
 abbrev pub collect_grammar : App
-collect_grammar = with_rule (with_rule (database_grammar (codes "collect")) uploads_rule) (option_rule (codes "files-from"))
+collect_grammar =
+    with_rule (with_rule (with_rule (database_grammar (codes "collect")) uploads_rule) (option_rule (codes "files-from")))
+    (option_rule (codes "then-export"))
 
 -- `show DB [--id HEX] [--from N] [--to N] [--field NAME]`
 abbrev pub show_grammar : App
@@ -64,6 +66,10 @@ show_grammar =
 -- `verify KIND FILE`
 abbrev pub verify_grammar : ValueParser → App
 verify_grammar kinds = with_rule (with_rule (new_app (codes "verify")) (kind_rule kinds)) (place_rule (codes "FILE"))
+
+-- `inspect FILE`
+abbrev pub inspect_grammar : App
+inspect_grammar = with_rule (new_app (codes "inspect")) (place_rule (codes "FILE"))
 
 -- `--source HEX --resume FILE KIND IN`
 abbrev pub with_source : ValueParser → App → App
@@ -96,8 +102,8 @@ collector_grammar =
 -- ... those over files, and `codes`
 abbrev pub grammar : (verify upload ack : ValueParser) → App
 grammar verify upload ack =
-    with_subcommand (with_subcommand (with_subcommand (with_subcommand collector_grammar (verify_grammar verify).top)
-    (upload_grammar upload).top) (ack_grammar ack).top) (new_app (codes "codes")).top
+    with_subcommand (with_subcommand (with_subcommand (with_subcommand (with_subcommand collector_grammar
+    (verify_grammar verify).top) inspect_grammar.top) (upload_grammar upload).top) (ack_grammar ack).top) (new_app (codes "codes")).top
 
 abbrev pub kind_name : InputKind → Text
 kind_name Export = codes "export"

@@ -8,17 +8,18 @@ use Rattle.clap.specs.declared.error.kind.ErrorKind.TheVariants.{ArgumentConflic
 use Rattle.jc_command_args.specs.Answer.{IsAskedFor}
 use Rattle.jc_command_args.specs.Grammar.{IsGrammar, kind_name}
 use Rattle.jc_command_args.specs.declared.request.Request.{Request}
-use Rattle.jc_command_args.specs.declared.request.Request.TheVariants.{Collect, CollectListed, Export, Show, Check, Migrate, Verify, Upload, Ack, ListCodes}
+use Rattle.jc_command_args.specs.declared.request.Request.TheVariants.{Collect, CollectListed, Export, Show, Check, Migrate, Verify, Inspect, Upload, Ack, ListCodes}
 use Rattle.jc_command_args.specs.declared.request.Source.{Source}
 
 abbrev pub command_name : Request → Text
-command_name (Collect database uploads) = codes "collect"
-command_name (CollectListed database list) = codes "collect"
+command_name (Collect database uploads then_export) = codes "collect"
+command_name (CollectListed database list then_export) = codes "collect"
 command_name (Export database) = codes "export"
 command_name (Show database field id first last) = codes "show"
 command_name (Check database) = codes "check"
 command_name (Migrate database) = codes "migrate"
 command_name (Verify kind file) = codes "verify"
+command_name (Inspect file) = codes "inspect"
 command_name (Upload source limit whole) = codes "upload"
 command_name (Ack source) = codes "ack"
 command_name ListCodes = codes "codes"
@@ -47,11 +48,12 @@ IsNumberOr unless_given (Some text) number =
 -- The values of a command's arguments ask for this. Without `--limit` it is 1,000, and without `--from` and `--to` the range is
 -- that of all numbers. clap's value of `--whole` is `true` where it is given.
 abbrev pub AskBy : List Row → Request → Type 0
-AskBy rows (Collect database uploads) =
+AskBy rows (Collect database uploads then_export) =
     IsGiven rows (codes "DB") database.now × (map (λ upload. upload.now) uploads.items ≡ all_given rows (codes "UPLOAD"))
-    × (first_of (codes "files-from") rows ≡ None)
-AskBy rows (CollectListed database list) =
+    × (first_of (codes "files-from") rows ≡ None) × (option_map (λ path. path.now) then_export ≡ first_of (codes "then-export") rows)
+AskBy rows (CollectListed database list then_export) =
     IsGiven rows (codes "DB") database.now × IsGiven rows (codes "files-from") list.now × (all_given rows (codes "UPLOAD") ≡ [])
+    × (option_map (λ path. path.now) then_export ≡ first_of (codes "then-export") rows)
 AskBy rows (Export database) = IsGiven rows (codes "DB") database.now
 AskBy rows (Show database field id first last) =
     IsGiven rows (codes "DB") database.now × (option_map (λ name. name.now) field ≡ first_of (codes "field") rows)
@@ -60,6 +62,7 @@ AskBy rows (Show database field id first last) =
 AskBy rows (Check database) = IsGiven rows (codes "DB") database.now
 AskBy rows (Migrate database) = IsGiven rows (codes "DB") database.now
 AskBy rows (Verify kind file) = IsGiven rows (codes "KIND") (kind_name kind) × IsGiven rows (codes "FILE") file.now
+AskBy rows (Inspect file) = IsGiven rows (codes "FILE") file.now
 AskBy rows (Upload source limit whole) =
     NameSource rows source × IsNumberOr 1000 (first_of (codes "limit") rows) limit
     × (IsTrue whole ↔ IsGiven rows (codes "whole") (codes "true"))

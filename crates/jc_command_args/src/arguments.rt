@@ -63,6 +63,12 @@ pub(crate) fn list_arg<'a>(alloc: Global) -> Arg<'a>
     option_arg(alloc, "files-from", "FILE", texts::LIST_HELP)
 }
 
+pub(crate) fn then_export_arg<'a>(alloc: Global) -> Arg<'a>
+    ensures { IsRule result (option_rule (codes "then-export")) }
+{
+    option_arg(alloc, "then-export", "FILE", texts::THEN_EXPORT_HELP)
+}
+
 /// A value that has its place, and has to be given.
 pub(crate) fn place_arg<'a>(alloc: Global, name: &'a str, help: &'a str) -> Arg<'a>
     ensures { IsRule result (place_rule name.entry.now) }

@@ -32,6 +32,7 @@ pub(crate) fn requested<'a>(
         "check" => Ok(check_request(given)),
         "migrate" => Ok(migrate_request(given)),
         "verify" => Ok(verify_request(given)),
+        "inspect" => Ok(inspect_request(given)),
         "upload" => Ok(upload_request(given)),
         "ack" => Ok(ack_request(given)),
         "codes" => Ok(Some(Request::ListCodes)),
@@ -50,9 +51,18 @@ fn collect_request<'a>(
         return Ok(None);
     };
     let uploads = texts_given(alloc, given, "UPLOAD")?;
+    let then_export = text_given(given, "then-export");
     match text_given(given, "files-from") {
-        None => Ok(Some(Request::Collect { database, uploads })),
-        Some(list) if uploads.is_empty() => Ok(Some(Request::CollectListed { database, list })),
+        None => Ok(Some(Request::Collect {
+            database,
+            uploads,
+            then_export,
+        })),
+        Some(list) if uploads.is_empty() => Ok(Some(Request::CollectListed {
+            database,
+            list,
+            then_export,
+        })),
         Some(_) => Ok(None),
     }
 }
@@ -104,6 +114,14 @@ fn verify_request<'a>(given: &ArgMatches<'a>) -> Option<Request<'a>>
     let kind = kind_given(given)?;
     let file = text_given(given, "FILE")?;
     Some(Request::Verify { kind, file })
+}
+
+fn inspect_request<'a>(given: &ArgMatches<'a>) -> Option<Request<'a>>
+    ensures { MatchOption result (AsksNone (given_rows given.now) (codes "inspect"))
+        (λ request. (command_name request ≡ codes "inspect") × AskBy (given_rows given.now) request) }
+{
+    let file = text_given(given, "FILE")?;
+    Some(Request::Inspect { file })
 }
 
 fn upload_request<'a>(given: &ArgMatches<'a>) -> Option<Request<'a>>

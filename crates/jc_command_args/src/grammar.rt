@@ -3,10 +3,11 @@
 ghost use Rattle.std.specs.Prelude.{IfOk, codes};
 ghost use Rattle.clap.specs.Words.{app_of, new_app};
 ghost use Rattle.clap.specs.declared.builder.value_parser.ValueParser.{ValueParser};
-ghost use Rattle.jc_command_args.specs.Grammar.{AreKinds, IsGrammar, IsMade, Makes, ack_grammar, collect_grammar, collector_grammar, database_grammar, show_grammar, top_grammar, upload_grammar, verify_grammar};
+ghost use Rattle.jc_command_args.specs.Grammar.{AreKinds, IsGrammar, IsMade, Makes, ack_grammar, collect_grammar, collector_grammar, database_grammar, inspect_grammar, show_grammar, top_grammar, upload_grammar, verify_grammar};
 
 use crate::arguments::{
-    flag_arg, kind_arg, list_arg, number_arg, option_arg, place_arg, uploads_arg, with_source,
+    flag_arg, kind_arg, list_arg, number_arg, option_arg, place_arg, then_export_arg, uploads_arg,
+    with_source,
 };
 use crate::making::Making;
 use crate::texts;
@@ -19,6 +20,7 @@ pub(crate) fn program<'a>(alloc: Global) -> Result<Command<'a>, AllocError>
 {
     collector(alloc)
         .subcommand(verify_command(alloc))
+        .subcommand(inspect_command(alloc))
         .subcommand(upload_command(alloc))
         .subcommand(ack_command(alloc))
         .subcommand(codes_command(alloc))
@@ -57,6 +59,7 @@ pub(crate) fn collect_command<'a>(alloc: Global) -> Making<'a>
     database_command(alloc, "collect", texts::COLLECT, texts::COLLECT_MORE)
         .arg(uploads_arg(alloc))
         .arg(list_arg(alloc))
+        .arg(then_export_arg(alloc))
 }
 
 fn export_command<'a>(alloc: Global) -> Making<'a>
@@ -93,6 +96,16 @@ fn verify_command<'a>(alloc: Global) -> Making<'a>
     new_command(alloc, "verify", texts::VERIFY, texts::VERIFY_MORE)
         .arg(kind_arg(alloc))
         .arg(place_arg(alloc, "FILE", texts::FILE_HELP))
+}
+
+fn inspect_command<'a>(alloc: Global) -> Making<'a>
+    ensures { Makes result inspect_grammar }
+{
+    new_command(alloc, "inspect", texts::INSPECT, texts::INSPECT_MORE).arg(place_arg(
+        alloc,
+        "FILE",
+        texts::UPLOAD_FILE_HELP,
+    ))
 }
 
 fn upload_command<'a>(alloc: Global) -> Making<'a>

@@ -3,15 +3,19 @@
 /// What the command line asks for. Texts are as they were given.
 #[derive(Debug, Drop)]
 pub enum Request<'a> {
-    /// Uploads taken into the journal of a database, in this order; if none is named, the one on standard input.
+    /// Uploads taken into the journal of a database, in this order; if none is named, the one on standard input. Once all
+    /// are answered, the journal goes to a file as an export stream, if one is named.
     Collect {
         database: &'a str,
         uploads: Vec<&'a str>,
+        then_export: Option<&'a str>,
     },
-    /// The same of the uploads that the lines of a file name; `-` is standard input.
+    /// Uploads that the lines of a file name, where `-` is standard input, taken into the journal of a database. Once all
+    /// are answered, the journal goes to a file as an export stream, if one is named.
     CollectListed {
         database: &'a str,
         list: &'a str,
+        then_export: Option<&'a str>,
     },
     /// All entries of the journal of a database, as an export stream.
     Export {
@@ -37,6 +41,10 @@ pub enum Request<'a> {
     /// How the file reads.
     Verify {
         kind: InputKind,
+        file: &'a str,
+    },
+    /// What the file says as an upload.
+    Inspect {
         file: &'a str,
     },
     /// The next upload of a source, of at most this many entries; if it is to be whole, a collector takes all of it or

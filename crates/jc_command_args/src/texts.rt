@@ -47,6 +47,9 @@ pub(crate) const COLLECT_MORE: &str =
 With --files-from, each upload is opened when its turn comes, and answered before the next name is read. One that can't
 be opened is answered `no - - 61 0`, and the next one is taken.
 
+With --then-export, FILE gets what `export` would write then, or stays as it was if that fails. What is answered stays
+stored.
+
 Example: the uploads of two machines, and the answers to send back to them
   journal-collect collect logs.db web.upload mail.upload > answers
 
@@ -108,6 +111,21 @@ pub(crate) const VERIFY_MORE: &str = "Prints one line:
 
 Example: how many entries the stream today.export has
   journal-collect verify export today.export";
+
+pub(crate) const INSPECT: &str =
+    "Reads an upload and prints what it has, or what is wrong with it, and stores nothing";
+
+pub(crate) const INSPECT_MORE: &str = "Prints one line:
+  upload SOURCE START COUNT LEFT ID NUMBER  its header names SOURCE and START; COUNT entries are complete, and the last
+                                            of them has the sequence id ID and the number NUMBER, each `-` if COUNT is 0;
+                                            the last LEFT bytes are an unfinished entry
+  bad CODE PLACE                            what is wrong, and at which byte of its entries; with the codes 1 to 4, at
+                                            which byte of its header, and with 5, how many entries are complete
+`journal-collect help codes` lists the codes. No database is read: `collect` may still refuse the upload for an entry
+that differs from a stored one.
+
+Example: what the upload today.upload has
+  journal-collect inspect today.upload";
 
 pub(crate) const UPLOAD: &str = "Writes the next upload of a machine's journal to standard output";
 
@@ -188,6 +206,9 @@ pub(crate) const UPLOADS_HELP: &str =
 pub(crate) const LIST_HELP: &str =
     "A file that names the uploads in place of UPLOAD, one on each line; `-` is standard input";
 
+pub(crate) const THEN_EXPORT_HELP: &str =
+    "A file that gets all stored entries as an export stream, once the uploads are answered";
+
 pub(crate) const ID_HELP: &str = "Only entries with this sequence id, 32 hexadecimal digits";
 
 pub(crate) const FIRST_HELP: &str = "Only entries with the number N or a greater one";
@@ -199,6 +220,8 @@ pub(crate) const FIELD_HELP: &str = "The field that is printed in place of MESSA
 pub(crate) const KIND_HELP: &str = "What the file holds: an export stream, or a journal file";
 
 pub(crate) const FILE_HELP: &str = "The file to read";
+
+pub(crate) const UPLOAD_FILE_HELP: &str = "The file with the upload";
 
 pub(crate) const SOURCE_HELP: &str =
     "The id of this stream or journal file, 32 hexadecimal digits; each has one id for good";

@@ -29,6 +29,8 @@ pub enum Failure<'a> {
     BadFieldName,
     /// A database's name begins with `:` or with `file:`.
     BadDatabaseName,
+    /// A file that is to get an export would take the place of the database or of its log.
+    BadExportName,
     /// The file with this path can't be opened.
     CannotOpen(&'a str),
     /// A file failed while it was read.
@@ -51,7 +53,8 @@ impl Failure<'_> {
             Failure::Bad(_) | Failure::SourceChanged => Status::Refused,
             Failure::BadResume | Failure::BadAnswer(_) => Status::Refused,
             Failure::BadId | Failure::BadFieldName => Status::Misused,
-            Failure::BadDatabaseName | Failure::WordsAreNoText => Status::Misused,
+            Failure::BadDatabaseName | Failure::BadExportName => Status::Misused,
+            Failure::WordsAreNoText => Status::Misused,
             _ => Status::Failed,
         }
     }
@@ -84,6 +87,7 @@ impl fmt::Display for Failure<'_> {
             Failure::BadId => write!(f, "bad id"),
             Failure::BadFieldName => write!(f, "bad field name"),
             Failure::BadDatabaseName => write!(f, "bad database name"),
+            Failure::BadExportName => write!(f, "bad export name"),
             Failure::CannotOpen(path) => write!(f, "cannot open {path}"),
             Failure::ReadFailed => write!(f, "read failed"),
             Failure::WriteFailed => write!(f, "write failed"),

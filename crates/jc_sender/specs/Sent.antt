@@ -54,7 +54,7 @@ WhyNoUpload kind sender bytes SourceChanged = (kind ≡ Export) × HasChanged se
 WhyNoUpload kind sender bytes OutOfMemory = ⊤
 WhyNoUpload kind sender bytes _ = ⊥
 
--- The same of a source whose bytes aren't known, as far as it can be said without them, or they can't be read.
+-- Why there is no next upload of a source whose bytes aren't known, as far as it can be said without them.
 abbrev pub WhyNoSomeUpload : InputKind → Failure → Type 0
 WhyNoSomeUpload kind SourceChanged = kind ≡ Export
 WhyNoSomeUpload kind failure = WhyNoSomeEntries kind failure

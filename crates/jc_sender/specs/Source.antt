@@ -40,7 +40,7 @@ WhyNoEntries kind bytes (failure.Bad fault) = HasFault kind bytes fault
 WhyNoEntries kind bytes failure.OutOfMemory = ⊤
 WhyNoEntries kind bytes _ = ⊥
 
--- The same of bytes that aren't known: some have the fault, or they can't be read.
+-- Why nothing is read of bytes that aren't known: some have the fault, or they can't be read.
 abbrev pub WhyNoSomeEntries : InputKind → Failure → Type 0
 WhyNoSomeEntries kind (failure.Bad fault) = (bytes : List ℕ) × HasFault kind bytes fault
 WhyNoSomeEntries kind failure.ReadFailed = ⊤

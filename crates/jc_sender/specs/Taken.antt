@@ -33,7 +33,7 @@ WhyNoAnswers text (BadAnswer line) = HasBadLine line text
 WhyNoAnswers text OutOfMemory = ⊤
 WhyNoAnswers text _ = ⊥
 
--- The same of a text that may not come.
+-- Why there are no answers of a text that may not come.
 abbrev pub WhyNoneCame : (given : Option (List ℕ)) → Failure → Type 0
 WhyNoneCame given (BadAnswer line) = IfSome given (HasBadLine line)
 WhyNoneCame given ReadFailed = ⊤

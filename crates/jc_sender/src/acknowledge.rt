@@ -84,7 +84,8 @@ fn point_by<'a, F: Read + Drop>(
     }
 }
 
-/// The same of an export stream that a device gives. Its entries are read to their end, and none of them is kept.
+/// The resume point after answers to uploads of an export stream that a device gives. Its entries are read to their
+/// end, and none of them is kept.
 fn export_point<'a, R: ByteStream + Drop>(
     alloc: Global,
     mut uploader: Uploader,
@@ -112,7 +113,7 @@ fn export_point<'a, R: ByteStream + Drop>(
     }
 }
 
-/// The same of a journal file with these bytes.
+/// The resume point after answers to uploads of a journal file with these bytes.
 fn file_point<'a>(
     alloc: Global,
     mut uploader: Uploader,

@@ -4,10 +4,9 @@ ghost use Rattle.std.specs.Prelude.{◌≡◌, ◌≢◌, ◌⊎◌, IfOk, IfErr
 ghost use Rattle.std.specs.Io.KnownBytes.{Appends};
 ghost use Rattle.jc_upload.specs.Resume.{IsPoint, Point, resume_text};
 
-use jc_command_shared::{Failure, read_front};
+use jc_command_shared::{Failure, create_file, name_beside, printed, put_in_place, read_front};
 use jc_upload::Resume;
 use std::alloc::Global;
-use std::fs::OpenFile;
 use std::io::{Read, Write};
 use std::rt::Files;
 use std::{fs, io};
@@ -52,42 +51,16 @@ pub fn write_resume<'a, R: Files + AllocGlobal>(
 {
     let alloc = rt.alloc();
     let text = resume.text(alloc)?;
-    let beside = format!(in alloc; "{path}.new")?;
-    let Ok(mut file) = fs::create(rt, beside.as_str()) else {
-        return Err(Failure::WriteFailed);
-    };
-    if put_text(&mut file, &text).is_err()
-        || file.sync_all().is_err()
-        || fs::rename(rt, beside.as_str(), path).is_err()
-    {
-        // If it can't be taken away either, the old file is still whole.
-        let _ = fs::remove_file(rt, beside.as_str());
-        return Err(Failure::WriteFailed);
-    }
-    sync_folder(rt, path);
-    Ok(())
+    let beside = name_beside(alloc, path)?;
+    let mut file = create_file(rt, beside.as_str())?;
+    let written = put_text(&mut file, &text);
+    put_in_place(rt, &file, beside.as_str(), path, written)
 }
 
-/// Has the file's new name kept over a loss of power, as far as the system can: a folder may be one that can't be opened or
-/// synced, and the old text is whole too.
-fn sync_folder<R: Files>(rt: &R, path: &str) {
-    if let Ok(folder) = fs::open(rt, folder_of(path)) {
-        let _ = folder.sync_all();
-    }
-}
-
-/// The path of the folder that has the file at `path`.
-fn folder_of(path: &str) -> &str {
-    match path.rsplit_once('/') {
-        Some(("", _)) => "/",
-        Some((folder, _)) => folder,
-        None => ".",
-    }
-}
-
-fn put_text<W: Write>(file: &mut W, text: &[u8]) -> io::Result<()>
-    ensures { OnOk result (Appends (W.contents file.old) (W.contents file.new) text.now) }
+fn put_text<'a, W: Write>(file: &mut W, text: &[u8]) -> Result<(), Failure<'a>>
+    ensures whole { OnOk result (Appends (W.contents file.old) (W.contents file.new) text.now) }
+    ensures failed { IfErr result (λ failure. failure ≡ Failure.WriteFailed) }
 {
-    file.write_all(text)?;
-    file.flush()
+    let written = file.write_all(text);
+    printed(written, file)
 }

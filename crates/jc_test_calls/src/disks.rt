@@ -15,6 +15,10 @@ const NEVER: u64 = u64::MAX;
 /// What new databases draw their random numbers from: each run is like the others.
 const SEED: u64 = 1;
 
+/// So many pages that were read are kept in memory: more than these journals have, and few enough that each request for
+/// memory can be refused in turn.
+const PAGES: usize = 32;
+
 /// A disk in memory that any harm can befall.
 type Harmed = Worn<Fuse<Memory>>;
 
@@ -23,7 +27,7 @@ enum Kind {
     Nothing,
     /// A disk does some calls, and fails each one after.
     Stop,
-    /// The same, and then both disks lose what wasn't synced.
+    /// A disk does some calls, and fails each one after. Then both disks lose what wasn't synced.
     Lose,
     /// A byte of a disk can't be read.
     Rot,
@@ -178,7 +182,9 @@ fn open<D: Disk + Drop>(
     if !files.may_be_used() {
         return Err(files);
     }
-    match Connection::open_files(alloc, files, Options::new(SEED)) {
+    let mut options = Options::new(SEED);
+    options.cache_pages = PAGES;
+    match Connection::open_files(alloc, files, options) {
         Ok(conn) => Ok(conn),
         Err((_, left)) => Err(left.into_files()),
     }

@@ -4,8 +4,9 @@
 use crate::collecting;
 use crate::told::{tell_code, tell_line, tell_text};
 use jc_base::{Limits, VecSink};
+use jc_schema_one::{MigrateStop, SchemaOne};
 use jc_schema_two::SchemaTwo;
-use jc_store::{Listed, MigrateStop, SchemaOne, TableKeeper};
+use jc_store::{Listed, TableKeeper};
 use sqlite::{Alter, Connection};
 use std::alloc::Global;
 use std::io;
@@ -15,7 +16,7 @@ use std::io;
 pub enum Task<'a> {
     /// Uploads are collected by one run, into a journal that is made if there is none.
     Collect(&'a [Vec<u8>]),
-    /// The same, in the tables of schema 1.
+    /// Uploads are collected by one run into a journal in the tables of schema 1.
     CollectOld(&'a [Vec<u8>]),
     /// It goes over from the tables of schema 1.
     Migrate,
@@ -97,7 +98,7 @@ fn migrate<S: Alter + Drop>(
         Ok(keeper) => keeper,
         Err(conn) => return Ok(conn),
     };
-    match keeper.migrate::<SchemaTwo>() {
+    match jc_schema_one::migrate::<S, SchemaTwo>(keeper) {
         Ok(keeper) => {
             tell_line(told, "migrated", &[])?;
             Ok(keeper.into_connection())

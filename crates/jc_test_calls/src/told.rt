@@ -21,7 +21,7 @@ pub fn tell_line(told: &mut Vec<u8>, name: &str, numbers: &[u64]) -> io::Result<
     told.write_all(b"\n")
 }
 
-/// The same without its end.
+/// The name and numbers of such a line, without the newline.
 pub fn tell_words(told: &mut Vec<u8>, name: &str, numbers: &[u64]) -> io::Result<()> {
     told.write_all(name.as_bytes())?;
     for number in numbers {

@@ -12,6 +12,7 @@ mod rows;
 mod said;
 mod same;
 mod scanned;
+mod scanner_calls;
 mod spaces;
 mod streams;
 mod uploads;

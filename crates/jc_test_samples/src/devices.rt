@@ -1,8 +1,8 @@
 //! Devices that take small steps.
 
-ghost use Rattle.std.specs.Prelude.{◌<◌, ◌≡◌};
+ghost use Rattle.std.specs.Prelude.{◌<◌};
 
-use jc_base::{ByteSink, ByteStream, ReadFailed, SliceStream, WriteFailed};
+use jc_base::{ByteSink, ByteStream, ReadFailed, WriteFailed};
 
 /// A stream that gives at most this many bytes of another one at each read.
 #[derive(Drop)]
@@ -45,15 +45,5 @@ impl<W: ByteSink> ByteSink for Slow<W> {
     fn write(&mut self, piece: &[u8]) -> Result<usize, WriteFailed> {
         let end = piece.len().min(1);
         self.inner.write(&piece[..end])
-    }
-}
-
-/// A stream over bytes that gives one at each read.
-pub fn bytewise(bytes: &[u8]) -> Pieces<SliceStream<'_>>
-    ensures { result.most ≡ 1 }
-{
-    Pieces {
-        inner: SliceStream::new(bytes),
-        most: 1,
     }
 }

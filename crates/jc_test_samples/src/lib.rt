@@ -10,7 +10,7 @@ mod script;
 mod upload;
 
 pub use answer::answer_lines;
-pub use devices::{Pieces, Slow, bytewise};
+pub use devices::{Pieces, Slow};
 pub use entry::{
     BINARY_FRONT, BOOT_FIELD, CHANGED_ENTRY, ENTRY, ENTRY_2, ENTRY_3, HI, HO, LAST_ENTRY, METADATA,
     METADATA_2, METADATA_3, METADATA_LINES, SEQNUM_ID, SHOWN, numbered_entry,

@@ -1,5 +1,5 @@
 -- A journal in a database in memory, and uploads in memory, as contracts see them. (own)
-use Rattle.std.specs.Prelude.{ℕ, List, [], Some, map, refl}
+use Rattle.std.specs.Prelude.{ℕ, List, [], Option, map, refl}
 use Rattle.std.specs.Coded.{Coded, code_by, coded×, coded_ℕ}
 use Rattle.std.specs.FinMap as finite
 use Rattle.jc_base.specs.declared.limits.Limits.{Limits}
@@ -22,10 +22,10 @@ in_memory_code =
 abbrev pub no_failures : List (List ℕ) → List ℕ
 no_failures uploads = map (λ _. 0) uploads
 
--- A run over uploads in memory into a journal in memory, which ended so and wrote these lines. What the uploads' devices
--- have left isn't told: that is asked of failed readings alone, and there are none.
-abbrev pub IsRunInMemory : Limits → (uploads : List (List ℕ)) → (before : InMemory) → RunEnd → (lines : List ℕ)
-    → (after : InMemory) → Type 0
-IsRunInMemory limits uploads before end lines after =
-    IsRun limits uploads (seen before.journal before.failures (no_failures uploads) [] (Some []))
-    end (seen after.journal after.failures (no_failures uploads) [] (Some lines))
+-- A run over uploads in memory into a journal in memory, which ended so, and what the sink of its lines had before and
+-- after it. What the uploads' devices have left isn't told: that is asked of failed readings alone, and there are none.
+abbrev pub IsRunInMemory : Limits → (uploads : List (List ℕ)) → (before : InMemory) → (written : Option (List ℕ)) → RunEnd
+    → (after : InMemory) → (written_after : Option (List ℕ)) → Type 0
+IsRunInMemory limits uploads before written end after written_after =
+    IsRun limits uploads (seen before.journal before.failures (no_failures uploads) [] written)
+    end (seen after.journal after.failures (no_failures uploads) [] written_after)

@@ -4,10 +4,11 @@ ghost use Rattle.std.specs.Prelude.{◌≡◌, ◌≢◌, Some, Err, map, IfOk, 
 ghost use Rattle.std.specs.FinMap as finite;
 ghost use Rattle.jc_keeper.specs.declared.keeper.KeepStop.TheVariants.{ReadFailed};
 ghost use Rattle.jc_collect.specs.Delivered.{of_delivery};
+ghost use Rattle.jc_collect.specs.Run.{SinkFailed};
 ghost use Rattle.jc_theorem_database.specs.InMemory.{IsRunInMemory};
 
 use crate::MemoryKeeper;
-use jc_base::{ByteStream, Limits, OutOfMemory, SliceStream, VecSink};
+use jc_base::{ByteSink, ByteStream, Limits, OutOfMemory, SliceStream};
 use jc_collect::{Delivery, RunEnd, run};
 use jc_file::{ByteSpace, SliceSpace};
 use jc_keeper::KeepStop;
@@ -16,51 +17,42 @@ use std::alloc::Global;
 /// The bytes of one upload, and whether they come as a stream or as a space.
 pub type Upload<'a> = Delivery<&'a [u8], &'a [u8]>;
 
-/// The answers to uploads.
-#[derive(Debug, Drop)]
-pub struct Answered {
-    /// How the run ended. It stops only if memory for a line was refused.
-    pub end: RunEnd,
-    /// The lines of the answers.
-    pub lines: Vec<u8>,
-}
-
-/// Collects uploads in order into a journal, which may have entries of earlier runs. If memory for the deliveries is
-/// refused, none was collected.
-pub fn collect(
+/// Collects uploads in order into a journal, which may have entries of earlier runs, and writes the lines of the answers.
+/// If memory for the deliveries is refused, none was collected.
+pub fn collect<W: ByteSink>(
     alloc: Global,
     keeper: &mut MemoryKeeper,
     uploads: &[Upload<'_>],
+    sink: &mut W,
     limits: &Limits,
-) -> Result<Answered, OutOfMemory>
-    ensures run { IfOk result (λ answered.
+) -> Result<RunEnd, OutOfMemory>
+    ensures run { IfOk result (λ end.
         IsRunInMemory limits.now (map (of_delivery (λ b. b.now) (λ b. b.now)) uploads.now)
-        keeper.old answered.end answered.lines.items keeper.new) }
+        keeper.old (W.written sink.old) end keeper.new (W.written sink.new)) }
+    ensures stopped { IfOk result (SinkFailed (W.failures sink.old) (W.failures sink.new)) }
     ensures untouched { OnErr result (keeper.new ≡ keeper.old) }
+    ensures unwritten { OnErr result (W.written sink.new ≡ W.written sink.old) }
 {
     let mut deliveries = deliveries(alloc, uploads)?;
-    let mut sink = VecSink::new(alloc);
-    let end = run(alloc, keeper, &mut deliveries, &mut sink, limits);
-    Ok(Answered {
-        end,
-        lines: sink.into_bytes(),
-    })
+    Ok(run(alloc, keeper, &mut deliveries, sink, limits))
 }
 
-/// Collects uploads in order into the journal of a new database.
-pub fn collect_anew(
+/// Collects uploads in order into the journal of a new database, and writes the lines of the answers.
+pub fn collect_anew<W: ByteSink>(
     alloc: Global,
     uploads: &[Upload<'_>],
+    sink: &mut W,
     limits: &Limits,
-) -> Result<(Answered, MemoryKeeper), KeepStop>
+) -> Result<(RunEnd, MemoryKeeper), KeepStop>
     ensures run { IfOk result (λ done.
         IsRunInMemory limits.now (map (of_delivery (λ b. b.now) (λ b. b.now)) uploads.now)
-        (record { journal = finite.empty; failures = 0 }) done.0.end done.0.lines.items done.1) }
+        (record { journal = finite.empty; failures = 0 }) (W.written sink.old) done.0 done.1 (W.written sink.new)) }
+    ensures stopped { IfOk result (λ done. SinkFailed (W.failures sink.old) (W.failures sink.new) done.0) }
     ensures never_read { result ≢ Err ReadFailed }
 {
     let mut keeper = MemoryKeeper::new(alloc)?;
-    let answered = collect(alloc, &mut keeper, uploads, limits)?;
-    Ok((answered, keeper))
+    let end = collect(alloc, &mut keeper, uploads, sink, limits)?;
+    Ok((end, keeper))
 }
 
 type InMemory<'a> = Delivery<SliceStream<'a>, SliceSpace<'a>>;

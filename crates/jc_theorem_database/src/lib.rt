@@ -5,6 +5,6 @@ mod collecting;
 mod memory_keeper;
 mod worlds;
 
-pub use collecting::{Answered, Upload, collect, collect_anew};
+pub use collecting::{Upload, collect, collect_anew};
 pub use memory_keeper::MemoryKeeper;
 pub use worlds::world_after;

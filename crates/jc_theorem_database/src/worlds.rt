@@ -1,9 +1,9 @@
 //! Machines and a collector over a database in memory.
 
-ghost use Rattle.std.specs.Prelude.{◌≢◌, ◌↔◌, Err, IfOk, IfSome, IsSome};
+ghost use Rattle.std.specs.Prelude.{◌≡◌, ◌≢◌, ◌↔◌, Err, IfOk, IfSome, IsSome};
 ghost use Rattle.jc_keeper.specs.declared.keeper.KeepStop.TheVariants.{ReadFailed};
 ghost use Rattle.jc_world.specs.State.{AreDistinct};
-ghost use Rattle.jc_world.specs.World.{state_of};
+ghost use Rattle.jc_world.specs.World.{limits_of, state_of};
 ghost use Rattle.jc_theorem_database.specs.InWorld.{IsWorldInMemory};
 
 use crate::MemoryKeeper;
@@ -23,6 +23,7 @@ pub fn world_after(
     ensures distinct { IfOk result (λ found. IsSome found ↔ AreDistinct sources.items) }
     ensures world { IfOk result (λ found. IfSome found (λ ran.
         IsWorldInMemory limits sources.items events.now ran.0 (state_of (λ m. m.journal) ran.1))) }
+    ensures limits { IfOk result (λ found. IfSome found (λ ran. limits_of ran.1 ≡ limits)) }
     ensures never_read { result ≢ Err ReadFailed }
 {
     let keeper = MemoryKeeper::new(alloc)?;

@@ -48,7 +48,7 @@ abbrev pub CutsOfExport : (entries : List LogEntry) → (upload : List ℕ) → 
 CutsOfExport entries upload =
     (limits : Limits) (cut : ℕ) (r : Reading) → Says limits (take cut upload) r → ReadsFirst limits entries upload cut r
 
--- The same of one that is to be whole.
+-- So every beginning of an upload of these entries that is to be whole is read, under any limits.
 abbrev pub CutsOfWhole : (entries : List LogEntry) → (upload : List ℕ) → Type 0
 CutsOfWhole entries upload =
     (limits : Limits) (cut : ℕ) (r : Reading) → Says limits (take cut upload) r → ReadsWhole limits entries upload cut r

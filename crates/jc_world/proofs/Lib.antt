@@ -9,3 +9,4 @@ mod Steps
 mod Giving
 mod Running
 mod Storing
+mod Adding

@@ -36,7 +36,7 @@ pub record Makes (s : State) (m limit : ℕ) (t : State) : Type 0 where
   pub head : IsHead (export_head machine.sender)
   pub after : t ≡ with_upload s (next_upload_of machine.sender machine.entries limit)
 
--- The same upload with a header of the second version, which says how many entries it has.
+-- One more upload with a header of the second version, which says how many entries it has.
 pub record Makes2 (s : State) (m limit : ℕ) (whole : Bool) (t : State) : Type 0 where
   pub machine : MachineState
   pub at : slice_get s.machines m ≡ Some machine

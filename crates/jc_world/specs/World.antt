@@ -1,7 +1,8 @@
 -- What contracts see of a world. (own)
-use Rattle.std.specs.Prelude.{map}
+use Rattle.std.specs.Prelude.{List, map}
 use Rattle.jc_base.specs.Journal.{Journal}
 use Rattle.jc_base.specs.declared.limits.Limits.{Limits}
+use Rattle.jc_upload.specs.declared.answer.Answer.{Answer}
 use Rattle.jc_world.specs.State.{State}
 use Rattle.jc_world.specs.declared.world.World.{World}
 
@@ -13,6 +14,9 @@ state_of journal w = record {
   answers = w.answers.items;
   journal = journal w.keeper;
 }
+
+abbrev pub answers_of : {K : Type 0} → World K → List Answer
+answers_of w = w.answers.items
 
 abbrev pub keeper_of : {K : Type 0} → World K → K
 keeper_of w = w.keeper

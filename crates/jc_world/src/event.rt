@@ -10,7 +10,8 @@ pub enum Event {
     Append(usize, Entry),
     /// This machine makes its next upload, an export stream of at most so many entries.
     Make(usize, u64),
-    /// The same with a header of the second version; if it is to be whole, a collector takes all of it or nothing.
+    /// This machine makes its next upload, of at most so many entries, with a header of the second version. If it is
+    /// to be whole, a collector takes all of it or nothing.
     Make2(usize, u64, bool),
     /// This machine makes an upload of a journal file with these bytes, which has to read without a fault as the first
     /// of its entries.

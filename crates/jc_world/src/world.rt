@@ -7,8 +7,8 @@ ghost use Rattle.jc_world.specs.Kept.{IsKept};
 ghost use Rattle.jc_world.specs.Schedule.{Grows, StoresAccepted, TakesEach};
 ghost use Rattle.jc_world.specs.State.{AreDistinct, new_machine, new_state};
 ghost use Rattle.jc_world.specs.Event.{Appends, Delivers, DeliversAlien, Hands, Happens, Makes, Makes2, MakesFile, Restarts, named};
-ghost use Rattle.jc_world.specs.Stepped.{IsAnswered, Steps};
-ghost use Rattle.jc_world.specs.World.{keeper_of, limits_of, state_of};
+ghost use Rattle.jc_world.specs.Stepped.{AddsAnswers, IsAnswered, Steps};
+ghost use Rattle.jc_world.specs.World.{answers_of, keeper_of, limits_of, state_of};
 
 use crate::given::{is_alien, place_of, reads_front};
 use crate::machine::Machine;
@@ -132,20 +132,23 @@ impl<K: Keeper + Drop> World<K> {
 
     /// Takes events in order, those that answer false too. It stops at a refusal alone.
     pub fn run(&mut self, events: &[Event]) -> Progress
-        ensures each { ((k : K) → K.sound k) → K.made (keeper_of self.old)
+        ensures each { K.sound (keeper_of self.new) → K.made (keeper_of self.old)
             → TakesEach (limits_of self.old) (state_of K.journal self.old) (take result.taken events.now)
             (state_of K.journal self.new) }
         ensures within { result.taken ≤ length events.now }
         ensures all { result.refusal ≡ None → result.taken ≡ length events.now }
         ensures refused { IsSome result.refusal → result.taken < length events.now }
-        ensures kept { ((k : K) → K.sound k) → K.made (keeper_of self.old)
+        ensures kept { K.sound (keeper_of self.new) → K.made (keeper_of self.old)
             → IsKept (limits_of self.old) (state_of K.journal self.old)
             → IsKept (limits_of self.old) (state_of K.journal self.new) }
-        ensures grows { ((k : K) → K.sound k) → K.made (keeper_of self.old)
+        ensures grows { K.sound (keeper_of self.new) → K.made (keeper_of self.old)
             → Grows (state_of K.journal self.old) (state_of K.journal self.new) }
-        ensures stored { ((k : K) → K.sound k) → K.made (keeper_of self.old)
+        ensures stored { K.sound (keeper_of self.new) → K.made (keeper_of self.old)
             → StoresAccepted (limits_of self.old) (state_of K.journal self.old) (take result.taken events.now)
             (state_of K.journal self.new) }
+        ensures answers { AddsAnswers (answers_of self.old) (answers_of self.new)
+            (K.failures (keeper_of self.old)) (K.failures (keeper_of self.new)) }
+        ensures before { K.sound (keeper_of self.new) → K.sound (keeper_of self.old) }
         ensures made { K.made (keeper_of self.old) → K.made (keeper_of self.new) }
         ensures limits { limits_of self.new ≡ limits_of self.old }
     {
@@ -155,12 +158,15 @@ impl<K: Keeper + Drop> World<K> {
     }
 
     fn take_each(&mut self, events: &[Event]) -> Progress
-        ensures each { ((k : K) → K.sound k) → K.made (keeper_of self.old)
+        ensures each { K.sound (keeper_of self.new) → K.made (keeper_of self.old)
             → TakesEach (limits_of self.old) (state_of K.journal self.old) (take result.taken events.now)
             (state_of K.journal self.new) }
         ensures within { result.taken ≤ length events.now }
         ensures all { result.refusal ≡ None → result.taken ≡ length events.now }
         ensures refused { IsSome result.refusal → result.taken < length events.now }
+        ensures answers { AddsAnswers (answers_of self.old) (answers_of self.new)
+            (K.failures (keeper_of self.old)) (K.failures (keeper_of self.new)) }
+        ensures before { K.sound (keeper_of self.new) → K.sound (keeper_of self.old) }
         ensures made { K.made (keeper_of self.old) → K.made (keeper_of self.new) }
         ensures limits { limits_of self.new ≡ limits_of self.old }
     {
@@ -182,14 +188,19 @@ impl<K: Keeper + Drop> World<K> {
     /// saved resume point that isn't there, or breaks its condition. If memory for the world's own lists is refused,
     /// nothing changes either; what is refused while the collector takes a delivery is an answer.
     pub fn step(&mut self, event: &Event) -> Result<bool, OutOfMemory>
-        ensures step { ((k : K) → K.sound k) → K.made (keeper_of self.old)
+        ensures step { K.sound (keeper_of self.new) → K.made (keeper_of self.old)
             → Steps (Happens (limits_of self.old) (state_of K.journal self.old) event.now)
             (state_of K.journal self.old) result (state_of K.journal self.new) }
-        ensures kept { ((k : K) → K.sound k) → K.made (keeper_of self.old)
+        ensures kept { K.sound (keeper_of self.new) → K.made (keeper_of self.old)
             → IsKept (limits_of self.old) (state_of K.journal self.old)
             → IsKept (limits_of self.old) (state_of K.journal self.new) }
-        ensures grows { ((k : K) → K.sound k) → K.made (keeper_of self.old)
+        ensures grows { K.sound (keeper_of self.new) → K.made (keeper_of self.old)
             → Grows (state_of K.journal self.old) (state_of K.journal self.new) }
+        ensures answers { AddsAnswers (answers_of self.old) (answers_of self.new)
+            (K.failures (keeper_of self.old)) (K.failures (keeper_of self.new)) }
+        ensures refused { OnErr result (state_of K.journal self.new ≡ state_of K.journal self.old) }
+        ensures refused_keeper { OnErr result (keeper_of self.new ≡ keeper_of self.old) }
+        ensures before { K.sound (keeper_of self.new) → K.sound (keeper_of self.old) }
         ensures made { K.made (keeper_of self.old) → K.made (keeper_of self.new) }
         ensures limits { limits_of self.new ≡ limits_of self.old }
     {
@@ -199,9 +210,14 @@ impl<K: Keeper + Drop> World<K> {
     }
 
     fn take(&mut self, event: &Event) -> Result<bool, OutOfMemory>
-        ensures step { ((k : K) → K.sound k) → K.made (keeper_of self.old)
+        ensures step { K.sound (keeper_of self.new) → K.made (keeper_of self.old)
             → Steps (Happens (limits_of self.old) (state_of K.journal self.old) event.now)
             (state_of K.journal self.old) result (state_of K.journal self.new) }
+        ensures answers { AddsAnswers (answers_of self.old) (answers_of self.new)
+            (K.failures (keeper_of self.old)) (K.failures (keeper_of self.new)) }
+        ensures refused { OnErr result (state_of K.journal self.new ≡ state_of K.journal self.old) }
+        ensures refused_keeper { OnErr result (keeper_of self.new ≡ keeper_of self.old) }
+        ensures before { K.sound (keeper_of self.new) → K.sound (keeper_of self.old) }
         ensures made { K.made (keeper_of self.old) → K.made (keeper_of self.new) }
         ensures limits { limits_of self.new ≡ limits_of self.old }
     {
@@ -220,6 +236,7 @@ impl<K: Keeper + Drop> World<K> {
     fn append(&mut self, machine: usize, entry: &Entry) -> Result<bool, OutOfMemory>
         ensures step { Steps (Appends (state_of K.journal self.old) machine entry.now)
             (state_of K.journal self.old) result (state_of K.journal self.new) }
+        ensures answers { answers_of self.new ≡ answers_of self.old }
         ensures keeper { keeper_of self.new ≡ keeper_of self.old }
         ensures limits { limits_of self.new ≡ limits_of self.old }
     {
@@ -233,6 +250,7 @@ impl<K: Keeper + Drop> World<K> {
     fn make(&mut self, machine: usize, limit: u64) -> Result<bool, OutOfMemory>
         ensures step { Steps (Makes (state_of K.journal self.old) machine limit)
             (state_of K.journal self.old) result (state_of K.journal self.new) }
+        ensures answers { answers_of self.new ≡ answers_of self.old }
         ensures keeper { keeper_of self.new ≡ keeper_of self.old }
         ensures limits { limits_of self.new ≡ limits_of self.old }
     {
@@ -247,6 +265,7 @@ impl<K: Keeper + Drop> World<K> {
     fn make2(&mut self, machine: usize, limit: u64, whole: bool) -> Result<bool, OutOfMemory>
         ensures step { Steps (Makes2 (state_of K.journal self.old) machine limit whole)
             (state_of K.journal self.old) result (state_of K.journal self.new) }
+        ensures answers { answers_of self.new ≡ answers_of self.old }
         ensures keeper { keeper_of self.new ≡ keeper_of self.old }
         ensures limits { limits_of self.new ≡ limits_of self.old }
     {
@@ -261,6 +280,7 @@ impl<K: Keeper + Drop> World<K> {
     fn make_file(&mut self, machine: usize, file: &[u8]) -> Result<bool, OutOfMemory>
         ensures step { Steps (MakesFile (limits_of self.old) (state_of K.journal self.old) machine file.now)
             (state_of K.journal self.old) result (state_of K.journal self.new) }
+        ensures answers { answers_of self.new ≡ answers_of self.old }
         ensures keeper { keeper_of self.new ≡ keeper_of self.old }
         ensures limits { limits_of self.new ≡ limits_of self.old }
     {
@@ -276,9 +296,14 @@ impl<K: Keeper + Drop> World<K> {
     }
 
     fn deliver(&mut self, upload: usize, cut: usize) -> Result<bool, OutOfMemory>
-        ensures step { ((k : K) → K.sound k) → K.made (keeper_of self.old)
+        ensures step { K.sound (keeper_of self.new) → K.made (keeper_of self.old)
             → Steps (Delivers (limits_of self.old) (state_of K.journal self.old) upload cut)
             (state_of K.journal self.old) result (state_of K.journal self.new) }
+        ensures answers { AddsAnswers (answers_of self.old) (answers_of self.new)
+            (K.failures (keeper_of self.old)) (K.failures (keeper_of self.new)) }
+        ensures refused { OnErr result (state_of K.journal self.new ≡ state_of K.journal self.old) }
+        ensures refused_keeper { OnErr result (keeper_of self.new ≡ keeper_of self.old) }
+        ensures before { K.sound (keeper_of self.new) → K.sound (keeper_of self.old) }
         ensures made { K.made (keeper_of self.old) → K.made (keeper_of self.new) }
         ensures limits { limits_of self.new ≡ limits_of self.old }
     {
@@ -299,9 +324,14 @@ impl<K: Keeper + Drop> World<K> {
     }
 
     fn deliver_alien(&mut self, bytes: &[u8]) -> Result<bool, OutOfMemory>
-        ensures step { ((k : K) → K.sound k) → K.made (keeper_of self.old)
+        ensures step { K.sound (keeper_of self.new) → K.made (keeper_of self.old)
             → Steps (DeliversAlien (limits_of self.old) (state_of K.journal self.old) bytes.now)
             (state_of K.journal self.old) result (state_of K.journal self.new) }
+        ensures answers { AddsAnswers (answers_of self.old) (answers_of self.new)
+            (K.failures (keeper_of self.old)) (K.failures (keeper_of self.new)) }
+        ensures refused { OnErr result (state_of K.journal self.new ≡ state_of K.journal self.old) }
+        ensures refused_keeper { OnErr result (keeper_of self.new ≡ keeper_of self.old) }
+        ensures before { K.sound (keeper_of self.new) → K.sound (keeper_of self.old) }
         ensures made { K.made (keeper_of self.old) → K.made (keeper_of self.new) }
         ensures limits { limits_of self.new ≡ limits_of self.old }
     {
@@ -321,6 +351,7 @@ impl<K: Keeper + Drop> World<K> {
     fn hand(&mut self, answer: usize) -> Result<bool, OutOfMemory>
         ensures step { Steps (Hands (state_of K.journal self.old) answer)
             (state_of K.journal self.old) result (state_of K.journal self.new) }
+        ensures answers { answers_of self.new ≡ answers_of self.old }
         ensures keeper { keeper_of self.new ≡ keeper_of self.old }
         ensures limits { limits_of self.new ≡ limits_of self.old }
     {
@@ -340,6 +371,7 @@ impl<K: Keeper + Drop> World<K> {
     fn restart(&mut self, machine: usize, point: usize) -> Result<bool, OutOfMemory>
         ensures step { Steps (Restarts (state_of K.journal self.old) machine point)
             (state_of K.journal self.old) result (state_of K.journal self.new) }
+        ensures answers { answers_of self.new ≡ answers_of self.old }
         ensures keeper { keeper_of self.new ≡ keeper_of self.old }
         ensures limits { limits_of self.new ≡ limits_of self.old }
     {
@@ -358,10 +390,12 @@ fn collect<K: Keeper>(
     limits: &Limits,
     answers: &mut Vec<Answer>,
 ) -> Result<(), OutOfMemory>
-    ensures ok { ((k : K) → K.sound k) → K.made keeper.old
+    ensures ok { K.sound keeper.new → K.made keeper.old
         → OnOk result (IsAnswered limits.now bytes.now (K.journal keeper.old) answers.old.items answers.new.items (K.journal keeper.new)) }
     ensures err { OnErr result (keeper.new ≡ keeper.old) }
     ensures err_answers { OnErr result (answers.new.items ≡ answers.old.items) }
+    ensures told { AddsAnswers answers.old.items answers.new.items (K.failures keeper.old) (K.failures keeper.new) }
+    ensures before { K.sound keeper.new → K.sound keeper.old }
     ensures made { K.made keeper.old → K.made keeper.new }
 {
     answers.reserve(1)?;

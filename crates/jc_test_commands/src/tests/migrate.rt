@@ -22,6 +22,10 @@ run collect @db
 > ack SOURCE 0 2 1 0
 run show @db --from 3
 > 000102030405060708090a0b0c0d0e0f 3 1000000 5 hi
+# the old table has no row left: its key isn't taken
+statement @db INSERT INTO entry VALUES (x'000102030405060708090a0b0c0d0e0f', 1, 1, 1, x'')
+statement @db INSERT INTO entry VALUES (x'000102030405060708090a0b0c0d0e0f', 2, 1, 1, x'')
+statement @db INSERT INTO entry VALUES (x'000102030405060708090a0b0c0d0e0f', 3, 1, 1, x'')
 
 case one without entries does so too
 older @db

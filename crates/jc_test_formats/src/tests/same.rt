@@ -11,7 +11,7 @@ pub(super) fn same_number(rt: &impl Abort, got: u64, wanted: u64) {
     assert_eq!(rt; got, wanted);
 }
 
-/// The same of bytes at a place, or that come after so many calls.
+/// Compares bytes that are at a place, or that come after so many calls.
 pub(super) fn same_bytes_at(rt: &impl Abort, at: u64, got: &[u8], wanted: &[u8]) {
     assert_eq!(rt; got, wanted, "at {at}");
 }

@@ -50,7 +50,7 @@ fn feed<'a>(
 }
 
 /// How many bytes of a piece a scanner takes.
-fn taken(scanner: &mut Scanner, piece: &[u8]) -> Result<Option<usize>, OutOfMemory> {
+pub(super) fn taken(scanner: &mut Scanner, piece: &[u8]) -> Result<Option<usize>, OutOfMemory> {
     if u64::MAX - scanner.position() < piece.len() as u64 {
         return Ok(None);
     }
@@ -62,7 +62,7 @@ fn holds_too_many(scanner: &Scanner, limits: &Limits) -> bool {
 }
 
 /// What the scanner has found. What calls this has nothing of the contract to prove with, so it is proved in less time.
-fn take(scanner: &mut Scanner) -> Result<Option<Step>, OutOfMemory> {
+pub(super) fn take(scanner: &mut Scanner) -> Result<Option<Step>, OutOfMemory> {
     scanner.take()
 }
 

@@ -68,7 +68,7 @@ fn collect_delivery<K: Keeper, R: ByteStream, B: ByteSpace>(
     collect_one(alloc, keeper, delivery, limits)
 }
 
-/// The same of a run.
+/// What a run prints. What calls this has nothing of `run`'s contract to prove with.
 fn collect_deliveries<K: Keeper, R: ByteStream, B: ByteSpace, W: ByteSink>(
     alloc: Global,
     keeper: &mut K,
@@ -88,7 +88,7 @@ pub(super) fn collect_within<K: Keeper>(
     collect_delivery(alloc, keeper, upload, limits)
 }
 
-/// The same under the usual limits.
+/// What an upload is answered with under the usual limits.
 pub(super) fn collect<K: Keeper>(alloc: Global, keeper: &mut K, upload: &mut Upload<'_>) -> Answer {
     collect_within(alloc, keeper, upload, &Limits::default())
 }

@@ -3,7 +3,7 @@
 use jc_base::{Id128, Key};
 use jc_export::canonical;
 use jc_keeper::{Keeper, MapKeeper};
-use jc_store::SqlKeeper1;
+use jc_schema_one::SqlKeeper1;
 use jc_test_samples::SEQNUM_ID;
 use jc_theorem_database::MemoryKeeper;
 use sqlite::{Connection, MemStore};

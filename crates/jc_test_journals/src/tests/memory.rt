@@ -2,41 +2,37 @@
 
 use super::journals::keeps;
 use super::same::{same_bytes, same_end};
-use jc_base::{Limits, OutOfMemory};
+use jc_base::{Limits, VecSink};
 use jc_collect::{Delivery, RunEnd};
 use jc_test_samples::{CHANGED_ENTRY, ENTRY, ENTRY_2, ENTRY_3, EXPORT, answer_lines};
-use jc_theorem_database::{Answered, MemoryKeeper, Upload, collect, collect_anew};
+use jc_theorem_database::{MemoryKeeper, Upload, collect, collect_anew};
 use std::alloc::Global;
 use std::process::Abort;
 use std::test::Fail;
 
-/// Ends the test unless a run has written these lines, with `S` for the source's id.
+/// Ends the test unless a run has come to its end and written these lines, with `S` for the source's id.
 fn check_lines(
     rt: &(impl Abort + AllocGlobal),
-    answered: &Answered,
+    end: RunEnd,
+    sink: &VecSink,
     short: &[&str],
 ) -> Result<(), Fail> {
-    same_end(rt, answered.end, RunEnd::Done);
+    same_end(rt, end, RunEnd::Done);
     let wanted = answer_lines(rt.alloc(), short)?;
-    same_bytes(rt, &answered.lines, wanted.as_bytes());
+    same_bytes(rt, sink.bytes(), wanted.as_bytes());
     Ok(())
 }
 
 /// A whole run into a new journal.
-fn collected_anew(alloc: Global, uploads: &[Upload<'_>]) -> Result<(Answered, MemoryKeeper), Fail> {
-    match collect_anew(alloc, uploads, &Limits::default()) {
+fn collected_anew(
+    alloc: Global,
+    uploads: &[Upload<'_>],
+    sink: &mut VecSink,
+) -> Result<(RunEnd, MemoryKeeper), Fail> {
+    match collect_anew(alloc, uploads, sink, &Limits::default()) {
         Ok(collected) => Ok(collected),
         Err(_) => Err(Fail::new("no journal")),
     }
-}
-
-/// The same into one that is there.
-fn collected(
-    alloc: Global,
-    keeper: &mut MemoryKeeper,
-    uploads: &[Upload<'_>],
-) -> Result<Answered, OutOfMemory> {
-    collect(alloc, keeper, uploads, &Limits::default())
 }
 
 /// A whole run, and the same uploads once more.
@@ -44,16 +40,26 @@ fn collect_twice(
     rt: &(impl Abort + AllocGlobal),
     uploads: &[Upload<'_>],
 ) -> Result<MemoryKeeper, Fail> {
-    let (first, mut keeper) = collected_anew(rt.alloc(), uploads)?;
+    let mut lines = VecSink::new(rt.alloc());
+    let (first, mut keeper) = collected_anew(rt.alloc(), uploads, &mut lines)?;
     check_lines(
         rt,
-        &first,
+        first,
+        &lines,
         &["ack S 0 1 1 0", "no S 0 60 2", "ack S 0 2 2 0"],
     )?;
-    let second = collected(rt.alloc(), &mut keeper, uploads)?;
+    let mut lines = VecSink::new(rt.alloc());
+    let second = collect(
+        rt.alloc(),
+        &mut keeper,
+        uploads,
+        &mut lines,
+        &Limits::default(),
+    )?;
     check_lines(
         rt,
-        &second,
+        second,
+        &lines,
         &["ack S 0 1 0 0", "no S 0 60 2", "ack S 0 2 0 0"],
     )?;
     Ok(keeper)

@@ -5,10 +5,11 @@
 //! | `# TEXT` | a comment |
 //! | `upload PIECES => LINE` | the next upload, and its answer's line with `S` for the source's id |
 //! | `stores PIECES` | a run over the uploads that came since the last one, and the texts of the entries stored then |
+//! | `begins PIECES` | the next run begins with the journal that this upload makes; others begin with an empty one |
 //!
-//! `add_pieces` has the form of `PIECES`. Each run begins with an empty journal.
+//! `add_pieces` has the form of `PIECES`.
 
-use super::answers::{NEVER, Upload, collect_all, space, stream};
+use super::answers::{NEVER, Upload, collect, collect_all, space, stream};
 use super::journals::{Journals, Maps, OldTables, Tables, stored};
 use super::same::same_bytes;
 use jc_collect::RunEnd;
@@ -36,6 +37,8 @@ struct Left {
 #[derive(Drop)]
 struct Rows {
     line: u64,
+    /// The upload that makes the journal with which the next run begins, if it isn't empty.
+    first: Vec<u8>,
     uploads: Vec<Vec<u8>>,
     /// The lines that the uploads have to be answered with.
     lines: String,
@@ -68,14 +71,19 @@ fn written<K: Keeper>(
     }
 }
 
-/// What a run over uploads leaves behind, into an empty journal.
+/// What a run over uploads leaves behind, into the journal that a first one makes; if that has no bytes, into an empty
+/// one.
 fn left_by<J: Journals>(
     alloc: Global,
     journals: &mut J,
+    first: &[u8],
     uploads: &[Vec<u8>],
     way: Way,
 ) -> Result<Left, Fail> {
     let mut keeper = journals.empty()?;
+    if !first.is_empty() {
+        collect(alloc, &mut keeper, &mut space(first, NEVER));
+    }
     let lines = written(alloc, &mut keeper, uploads, way)?;
     let texts = stored(alloc, &mut keeper)?;
     Ok(Left { lines, texts })
@@ -91,10 +99,19 @@ impl Rows {
         let (word, rest) = line.split_once(' ').unwrap_or((line, ""));
         match word {
             "" | "#" => Ok(()),
+            "begins" => self.begin(alloc, rest),
             "upload" => self.add(alloc, rest),
             "stores" => self.judge(alloc, journals, rest),
             _ => self.tell(alloc, b"no such word"),
         }
+    }
+
+    fn begin(&mut self, alloc: Global, pieces: &str) -> Result<(), Fail> {
+        self.first.clear();
+        if add_pieces(alloc, pieces, &mut self.first).is_err() {
+            return self.tell(alloc, b"no pieces");
+        }
+        Ok(())
     }
 
     fn add(&mut self, alloc: Global, rest: &str) -> Result<(), Fail> {
@@ -124,6 +141,7 @@ impl Rows {
         }
         let lines = Vec::from_slice(alloc, self.lines.as_bytes())?;
         self.compare_ways(alloc, journals, &Left { lines, texts })?;
+        self.first.clear();
         self.uploads.clear();
         self.lines.clear();
         self.has_run = true;
@@ -143,7 +161,7 @@ impl Rows {
             Way::Pieces(65_536),
             Way::Spaces,
         ] {
-            let found = left_by(alloc, journals, &self.uploads, way)?;
+            let found = left_by(alloc, journals, &self.first, &self.uploads, way)?;
             self.compare(alloc, &found, wanted)?;
         }
         Ok(())
@@ -178,6 +196,7 @@ pub(super) fn report_of<J: Journals>(
 ) -> Result<Vec<u8>, Fail> {
     let mut rows = Rows {
         line: 0,
+        first: Vec::new(alloc),
         uploads: Vec::new(alloc),
         lines: String::new(alloc),
         has_run: false,
@@ -279,6 +298,29 @@ upload head:1:0 ENTRY => ack S 0 1 1 0
 upload head:1:0 ENTRY_2 "=x" => no S 0 10 121
 stores ENTRY
 
+# a journal that has entries when the run begins
+begins head:1:0 ENTRY ENTRY_2
+stores ENTRY ENTRY_2
+begins head:1:0 ENTRY
+upload head:1:0 ENTRY ENTRY_2 => ack S 0 2 1 0
+upload head:1:3 ENTRY ENTRY_2 => ack S 3 2 0 0
+stores ENTRY ENTRY_2
+begins head:1:0 ENTRY
+upload head:1:0 ENTRY_2 CHANGED_ENTRY ENTRY_3 => no S 0 60 1
+upload head:1:0 ENTRY_3 CHANGED_ENTRY "=x" => no S 0 60 1
+upload head:1:0 ENTRY "=x" => no S 0 10 121
+upload head:1:0 ENTRY "_" => ack S 0 1 0 1
+stores ENTRY
+begins head:1:0 ENTRY ENTRY_2
+upload head:1:0 set:7:50 set:9:1 put:40:3 ENTRY ENTRY_2 ENTRY_3 cut:410 => no S 0 5 2
+upload head:1:0 set:7:50 set:9:1 put:40:3 ENTRY ENTRY_2 ENTRY_3 => ack S 0 3 1 0
+stores ENTRY ENTRY_2 ENTRY_3
+begins head:2:0 JOURNAL_FILE
+upload head:1:0 ENTRY => no S 0 60 0
+upload head:2:0 LONG_HEADER_FILE => ack S 0 1 0 0
+upload head:2:0 JOURNAL_FILE cut:447 => no S 0 38 96
+stores METADATA "MESSAGE=hi\n" BOOT_FIELD "\n"
+
 # a journal file, and the same entry in export streams
 upload head:2:0 JOURNAL_FILE => ack S 0 1 1 0
 upload head:1:0 "__CURSOR=x\n" BOOT_FIELD "__X=1\nMESSAGE=hi\n" METADATA "\n" => ack S 0 1 0 0
@@ -322,6 +364,7 @@ upload head:1:0 ENTRY => ack S 0 1 1 0
 stores ENTRY_2
 upload head:1:0 ENTRY
 uploads ENTRY
+begins "ENTRY
 upload ENTRIES => ack S 0 1 1 0
 stores "ENTRY
 upload head:1:0 ENTRY => ack S 0 1 1 0
@@ -343,7 +386,8 @@ line 5: no answer
 line 6: no such word
 line 7: no pieces
 line 8: no pieces
-line 9: nothing is run
+line 9: no pieces
+line 10: nothing is run
 "#;
 
 #[test]

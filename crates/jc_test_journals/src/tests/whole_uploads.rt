@@ -3,6 +3,7 @@
 use super::journals::{Journals, Maps, Tables};
 use super::rows::report_of;
 use super::same::same_bytes;
+use std::alloc::Global;
 use std::process::Abort;
 use std::test::Fail;
 
@@ -46,18 +47,6 @@ upload head:1:0 set:7:51 ENTRY => no - - 2 0
 stores ""
 upload head:1:0 put:40:7 ENTRY => no - - 4 40
 stores ""
-
-# one that is cut
-upload head:1:0 set:7:50 set:9:1 put:40:2 ENTRY ENTRY_2 cut:48 => no S 0 5 0
-stores ""
-upload head:1:0 set:7:50 set:9:1 put:40:2 ENTRY ENTRY_2 cut:168 => no S 0 5 0
-stores ""
-upload head:1:0 set:7:50 set:9:1 put:40:2 ENTRY ENTRY_2 cut:169 => no S 0 5 1
-stores ""
-upload head:1:0 set:7:50 set:9:1 put:40:2 ENTRY ENTRY_2 cut:289 => no S 0 5 1
-stores ""
-upload head:1:0 set:7:50 set:9:1 put:40:2 ENTRY ENTRY_2 cut:290 => ack S 0 2 2 0
-stores ENTRY ENTRY_2
 "#;
 
 fn whole_uploads<J: Journals>(
@@ -66,6 +55,40 @@ fn whole_uploads<J: Journals>(
 ) -> Result<(), Fail> {
     same_bytes(rt, &report_of(rt.alloc(), journals, ROWS)?, b"");
     Ok(())
+}
+
+/// The row of a whole upload of two entries, with a header of 48 bytes and 290 bytes in all, that is cut to a length, and
+/// what is stored then.
+fn cut_row(alloc: Global, length: u64) -> Result<String, Fail> {
+    let (answer, stored) = match length {
+        290 => ("ack S 0 2 2 0", "ENTRY ENTRY_2"),
+        169..290 => ("no S 0 5 1", "\"\""),
+        _ => ("no S 0 5 0", "\"\""),
+    };
+    let row = format!(in alloc;
+        "upload head:1:0 set:7:50 set:9:1 put:40:2 ENTRY ENTRY_2 cut:{length} => {answer}\nstores {stored}\n"
+    )?;
+    Ok(row)
+}
+
+/// A whole upload that is cut at each place after its header stores nothing; only all of it is stored.
+fn cut_uploads<J: Journals>(rt: &(impl Abort + AllocGlobal), journals: &mut J) -> Result<(), Fail> {
+    let mut rows = String::new(rt.alloc());
+    for length in 48..=290 {
+        rows.push_str(cut_row(rt.alloc(), length)?.as_str())?;
+    }
+    same_bytes(rt, &report_of(rt.alloc(), journals, rows.as_str())?, b"");
+    Ok(())
+}
+
+#[test]
+fn cut_uploads_over_a_map(rt: HostRuntime) -> Result<(), Fail> {
+    cut_uploads(&rt, &mut Maps(rt.alloc()))
+}
+
+#[test]
+fn cut_uploads_over_tables(rt: HostRuntime) -> Result<(), Fail> {
+    cut_uploads(&rt, &mut Tables(rt.alloc()))
 }
 
 #[test]

@@ -1,7 +1,7 @@
 //! Worked steps of two machines and their collector, over each keeper.
 
-use super::journals::{Journals, Maps, Tables};
-use super::readings::entries;
+use super::journals::{Journals, Maps, Tables, keeps};
+use super::readings::{entries, source};
 use super::same::{holds_at, same_answers, same_number};
 use jc_base::{Id128, Limits, OutOfMemory};
 use jc_keeper::Keeper;
@@ -45,10 +45,10 @@ fn worked_answers() -> [Answer; 8] {
     ]
 }
 
-/// Two machines without entries, and an empty journal.
-fn two_machines<J: Journals>(alloc: Global, journals: &mut J) -> Result<World<J::Kept>, Fail> {
+/// Two machines without entries, and a journal.
+fn two_machines<K: Keeper + Drop>(alloc: Global, keeper: K) -> Result<World<K>, Fail> {
     let sources = vec![in alloc; Id128(SOURCE_ID), Id128(OTHER_ID)]?;
-    match World::new(alloc, journals.empty()?, sources, Limits::default())? {
+    match World::new(alloc, keeper, sources, Limits::default())? {
         Some(world) => Ok(world),
         None => Err(Fail::new("equal sources")),
     }
@@ -179,7 +179,7 @@ fn worked_steps<J: Journals>(
     rt: &(impl Abort + AllocGlobal),
     journals: &mut J,
 ) -> Result<(), Fail> {
-    let mut world = two_machines(rt.alloc(), journals)?;
+    let mut world = two_machines(rt.alloc(), journals.empty()?)?;
     first_machine(rt, &mut world)?;
     refused(rt, &mut world)?;
     append(rt, &mut world, 0, &[CHANGED_ENTRY])?;
@@ -200,7 +200,7 @@ fn worked_steps<J: Journals>(
 
 /// An upload that is to be whole, delivered in part and whole, between others that needn't be.
 fn whole_steps<J: Journals>(rt: &(impl Abort + AllocGlobal), journals: &mut J) -> Result<(), Fail> {
-    let mut world = two_machines(rt.alloc(), journals)?;
+    let mut world = two_machines(rt.alloc(), journals.empty()?)?;
     append(rt, &mut world, 0, &[ENTRY, ENTRY_2, ENTRY_3])?;
     check(
         rt,
@@ -228,6 +228,54 @@ fn whole_steps<J: Journals>(rt: &(impl Abort + AllocGlobal), journals: &mut J) -
     ];
     same_answers(rt, world.answers(), &answers);
     Ok(())
+}
+
+/// A keeper of a journal that has two entries.
+fn begun<J: Journals>(alloc: Global, journals: &mut J) -> Result<J::Kept, Fail> {
+    let mut keeper = journals.empty()?;
+    keeper.absorb(&mut source(alloc, &[ENTRY, ENTRY_2])?)?;
+    Ok(keeper)
+}
+
+/// A journal that has entries when the world begins: one that a machine has too isn't new, and one that differs is
+/// refused.
+fn begun_steps<J: Journals>(rt: &(impl Abort + AllocGlobal), journals: &mut J) -> Result<(), Fail> {
+    let alloc = rt.alloc();
+    let mut world = two_machines(alloc, begun(alloc, journals)?)?;
+    append(rt, &mut world, 0, &[ENTRY_2, ENTRY_3])?;
+    append(rt, &mut world, 1, &[CHANGED_ENTRY, ENTRY_3])?;
+    check(
+        rt,
+        &mut world,
+        &[
+            (Event::Make(0, 9), true, 0, 1),
+            (Event::Deliver(0, 290), true, 0, 1),
+            (Event::Hand(0), true, 2, 2),
+            (Event::Make2(1, 9, true), true, 2, 2),
+            (Event::Deliver(1, 290), true, 2, 2),
+            (Event::Hand(1), true, 2, 2),
+        ],
+    )?;
+    let answers = [ack(0, 2, 1, 0), no(Some((Id128(OTHER_ID), 0)), 60, 0)];
+    same_answers(rt, world.answers(), &answers);
+    let texts = [ENTRY, ENTRY_2, ENTRY_3];
+    assert!(rt; keeps(alloc, &mut world.into_keeper(), &texts)?);
+    Ok(())
+}
+
+#[test]
+fn a_world_over_a_map_that_has_entries(rt: HostRuntime) -> Result<(), Fail> {
+    begun_steps(&rt, &mut Maps(rt.alloc()))
+}
+
+#[test]
+fn a_world_over_tables_that_have_entries(rt: HostRuntime) -> Result<(), Fail> {
+    begun_steps(&rt, &mut Tables(rt.alloc()))
+}
+
+#[test]
+fn whole_uploads_to_a_map(rt: HostRuntime) -> Result<(), Fail> {
+    whole_steps(&rt, &mut Maps(rt.alloc()))
 }
 
 #[test]

@@ -16,7 +16,7 @@ returns-then-not-branch-clause-told g c =
 pub returns-in_err-answered-clause-kept : goal.returns-in_err-answered-clause-kept
 returns-in_err-answered-clause-kept g c =
     λ sound made e stored.
-    c.in_err-answered.ensures.kept sound (c.names.invariant.made made) e (c.names.invariant.kept sound made e stored)
+    c.in_err-answered.ensures.kept sound (c.names.invariant.made made) e (c.names.invariant.kept (c.in_err-answered.ensures.before sound) made e stored)
 
 pub names-preserved : goal.names-preserved
 names-preserved g c =
@@ -36,6 +36,7 @@ names-preserved g c =
           let both = success_of status answered (sym c.worse-status.ensures ∙ is) in
           Keeps-trans (g.E.Write.contents c.args.errors.now) (g.E.Write.contents c.names.errors)
           (g.E.Write.contents c.answer_name.new.errors) (c.names.invariant.quiet both.0) (given.quiet both.1);
+      before = λ sound. c.names.invariant.before (given.before sound);
       made = λ made. given.made (c.names.invariant.made made);
-      kept = λ sound made e stored. given.kept sound (c.names.invariant.made made) e (c.names.invariant.kept sound made e stored);
+      kept = λ sound made e stored. given.kept sound (c.names.invariant.made made) e (c.names.invariant.kept (given.before sound) made e stored);
     }

@@ -12,7 +12,8 @@ invariant-names g l = record {
   told : IsUnderWay (g.L.Read.remaining l.fn.names) (g.L.Read.remaining l.names) l.status (g.O.Write.contents l.fn.output)
       (g.O.Write.contents l.output);
   quiet : l.status ≡ Success → Keeps (g.E.Write.contents l.fn.errors) (g.E.Write.contents l.errors);
+  before : g.K.Keeper.sound l.keeper → g.K.Keeper.sound l.fn.keeper;
   made : g.K.Keeper.made l.fn.keeper → g.K.Keeper.made l.keeper;
-  kept : ((k : g.row.K.Denot) → g.K.Keeper.sound k) → g.K.Keeper.made l.fn.keeper
+  kept : g.K.Keeper.sound l.keeper → g.K.Keeper.made l.fn.keeper
       → (e : LogEntry) → IsStored (g.K.Keeper.journal l.fn.keeper) e → IsStored (g.K.Keeper.journal l.keeper) e;
 }

@@ -1,4 +1,4 @@
--- The uploads, then the option.
+-- The uploads, then the options.
 use Rattle.std.proofs.Common.{codes}
 use Rattle.clap.specs.Words.{with_rule}
 use Rattle.jc_command_args.specs.Grammar.{database_grammar, option_rule, uploads_rule}
@@ -7,5 +7,8 @@ use Rattle.jc_command_args.proofs.grammar.collect_command.Goals as goal
 pub returns : goal.returns
 returns c =
     let none = database_grammar (codes "collect") in
-    c.arg-2.ensures (with_rule none uploads_rule) (option_rule (codes "files-from"))
-    (c.arg.ensures none uploads_rule c.database_command.ensures c.uploads_arg.ensures) c.list_arg.ensures
+    let one = with_rule none uploads_rule in
+    c.arg-3.ensures (with_rule one (option_rule (codes "files-from"))) (option_rule (codes "then-export"))
+    (c.arg-2.ensures one (option_rule (codes "files-from"))
+    (c.arg.ensures none uploads_rule c.database_command.ensures c.uploads_arg.ensures) c.list_arg.ensures)
+    c.then_export_arg.ensures

@@ -2,7 +2,7 @@
 use Rattle.std.proofs.Common.{codes}
 use Rattle.std.proofs.lemmas.Result.{IfOk-weaker}
 use Rattle.clap.specs.Words.{new_app, with_subcommand}
-use Rattle.jc_command_args.specs.Grammar.{ack_grammar, collector_grammar, upload_grammar, verify_grammar}
+use Rattle.jc_command_args.specs.Grammar.{ack_grammar, collector_grammar, inspect_grammar, upload_grammar, verify_grammar}
 use Rattle.jc_command_args.proofs.Commands.{made}
 use Rattle.jc_command_args.proofs.grammar.program.Goals as goal
 
@@ -12,9 +12,10 @@ returns c =
     let upload = c.upload_command.ensures in
     let ack = c.ack_command.ensures in
     let one = with_subcommand collector_grammar (verify_grammar verify.0).top in
-    let two = with_subcommand one (upload_grammar upload.0).top in
-    let three = with_subcommand two (ack_grammar ack.0).top in
-    IfOk-weaker c.subcommand-4.result.command _ _ (λ command is. record {
+    let two = with_subcommand one inspect_grammar.top in
+    let three = with_subcommand two (upload_grammar upload.0).top in
+    let four = with_subcommand three (ack_grammar ack.0).top in
+    IfOk-weaker c.subcommand-5.result.command _ _ (λ command is. record {
       verify = verify.0;
       verify_kinds = verify.1;
       upload = upload.0;
@@ -22,8 +23,10 @@ returns c =
       ack = ack.0;
       ack_kinds = ack.1;
       whole = is.shape;
-    }) (c.subcommand-4.ensures three (new_app (codes "codes"))
-    (c.subcommand-3.ensures two (ack_grammar ack.0)
-    (c.subcommand-2.ensures one (upload_grammar upload.0)
-    (c.subcommand.ensures collector_grammar (verify_grammar verify.0) c.collector.ensures verify.2) upload.2) ack.2)
+    }) (c.subcommand-5.ensures four (new_app (codes "codes"))
+    (c.subcommand-4.ensures three (ack_grammar ack.0)
+    (c.subcommand-3.ensures two (upload_grammar upload.0)
+    (c.subcommand-2.ensures one inspect_grammar
+    (c.subcommand.ensures collector_grammar (verify_grammar verify.0) c.collector.ensures verify.2) c.inspect_command.ensures)
+    upload.2) ack.2)
     (made c.codes_command.result (new_app (codes "codes")) c.codes_command.ensures))

@@ -1,0 +1,14 @@
+use Rattle.std.proofs.Common.{◌+◌, ◌≤◌}
+use Rattle.jc_collect.proofs.Inspecting.{GivesOn}
+use Rattle.jc_collect.proofs.inspect.body_of.Given as goal
+
+abbrev pub invariant-entries : goal.invariant-entries
+invariant-entries g l =
+    let source = g.S.EntrySource in
+    record {
+      given : GivesOn (source.remaining l.fn.source) l.count l.last (source.remaining l.source);
+      bound : l.count + source.bound l.source ≤ source.bound l.fn.source;
+    }
+
+abbrev pub decreases-entries : goal.decreases-entries
+decreases-entries g l = g.S.EntrySource.bound l.source

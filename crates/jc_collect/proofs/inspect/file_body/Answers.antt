@@ -1,0 +1,10 @@
+-- What the source gave is what the space has.
+use Rattle.std.proofs.lemmas.Result.{IfOk-weaker}
+use Rattle.jc_collect.proofs.Inspecting.{file_says}
+use Rattle.jc_collect.proofs.inspect.file_body.Goals as goal
+
+pub returns-clause-says : goal.returns-clause-says
+returns-clause-says g c =
+    IfOk-weaker c.told_body.result _ _
+    (λ body has. file_says c.args.limits.now c.args.version (g.B.ByteSpace.bytes c.args.space) _ body c.new.ensures.reading has)
+    c.told_body.ensures.has

@@ -1,0 +1,223 @@
+//! What an upload says, without its being taken up.
+
+ghost use Rattle.std.specs.Prelude.{◌≡◌, ℕ, List, Some, IfOk};
+ghost use Rattle.std.specs.Option.{option_map};
+ghost use Rattle.jc_upload.specs.declared.head.Kind.TheVariants.{Export, File};
+ghost use Rattle.jc_upload.specs.Says.{told_as};
+ghost use Rattle.jc_collect.specs.Delivered.{of_delivery};
+ghost use Rattle.jc_collect.specs.Inspected.{EndsInFormat, HasBody, HasFormatCode, IsInspected, SaysBodyOf, inspected_of, inspected_unread};
+ghost use Rattle.jc_collect.specs.Part.{known_from};
+
+use crate::borrowed_device::BorrowedPart;
+use crate::gather::read_whole;
+use crate::head::{HEAD_LENGTH, Unread, read_head, read_head_at};
+use crate::space_stream::SpaceStream;
+use crate::{Delivery, Whole};
+use jc_base::{ByteStream, Ending, EntrySource, Fault, Id128, Key, Limits, Step, Stop};
+use jc_file::{ByteSpace, FileEntries, SliceSpace};
+use jc_stream::Stream;
+use jc_upload::{Kind, UploadHead, Version};
+use std::alloc::Global;
+
+/// What an upload says.
+#[derive(Clone, Copy, Debug, PartialEq, Eq)]
+pub enum Inspected {
+    /// It can be taken up, by itself.
+    Upload {
+        source: Id128,
+        start: u64,
+        /// How many of its entries are complete.
+        count: u64,
+        /// How many bytes behind them are an unfinished entry.
+        left: u64,
+        /// The key of the last complete entry.
+        last: Option<Key>,
+    },
+    /// What is wrong with its header or its body.
+    Bad(Fault),
+}
+
+/// What the body of an upload says.
+#[derive(Clone, Copy)]
+struct Body {
+    count: u64,
+    last: Option<Key>,
+    ending: Ending,
+}
+
+/// Reads an upload to its end, and keeps no more than one of its entries.
+pub fn inspect_one<R: ByteStream + Drop, B: ByteSpace + Drop>(
+    alloc: Global,
+    delivery: Delivery<R, B>,
+    limits: &Limits,
+) -> Result<Inspected, Stop>
+    ensures says { (upload : List ℕ) → of_delivery R.remaining B.bytes delivery ≡ Some upload
+        → IfOk result (IsInspected limits.now upload) }
+    // If its bytes aren't known, a fault is one that some upload has.
+    ensures format { IfOk result HasFormatCode }
+{
+    match delivery {
+        Delivery::Stream(device) => inspect_stream(alloc, device, limits),
+        Delivery::Space(space) => inspect_space(alloc, space, limits),
+    }
+}
+
+fn inspect_stream<R: ByteStream + Drop>(
+    alloc: Global,
+    mut device: R,
+    limits: &Limits,
+) -> Result<Inspected, Stop>
+    ensures says { (upload : List ℕ) → R.remaining device ≡ Some upload → IfOk result (IsInspected limits.now upload) }
+    ensures format { IfOk result HasFormatCode }
+{
+    let head = match read_head(&mut device) {
+        Ok(head) => head,
+        Err(unread) => return inspect_unread(unread),
+    };
+    match head.kind {
+        Kind::Export => {
+            let body = export_body(alloc, device, limits, head.version)?;
+            Ok(told_of(head, body))
+        }
+        Kind::File => {
+            let body = gathered_body(alloc, device, limits, head.version)?;
+            Ok(told_of(head, body))
+        }
+    }
+}
+
+fn inspect_space<B: ByteSpace + Drop>(
+    alloc: Global,
+    mut space: B,
+    limits: &Limits,
+) -> Result<Inspected, Stop>
+    ensures says { (upload : List ℕ) → B.bytes space ≡ Some upload → IfOk result (IsInspected limits.now upload) }
+    ensures format { IfOk result HasFormatCode }
+{
+    let head = match read_head_at(&mut space) {
+        Ok(head) => head,
+        Err(unread) => return inspect_unread(unread),
+    };
+    let part = BorrowedPart::new(&mut space, HEAD_LENGTH);
+    match head.kind {
+        Kind::Export => {
+            let body = export_body(alloc, SpaceStream::new(part), limits, head.version)?;
+            Ok(told_of(head, body))
+        }
+        Kind::File => {
+            let body = file_body(alloc, part, limits, head.version)?;
+            Ok(told_of(head, body))
+        }
+    }
+}
+
+/// What an upload says whose header can't be read.
+fn inspect_unread(unread: Unread) -> Result<Inspected, Stop>
+    ensures { result ≡ inspected_unread unread }
+{
+    match unread {
+        Unread::Fault(fault) => Ok(Inspected::Bad(fault)),
+        Unread::ReadFailed => Err(Stop::ReadFailed),
+    }
+}
+
+/// What an upload with this header and this body says.
+fn told_of(head: UploadHead, body: Body) -> Inspected
+    ensures { result ≡ inspected_of head body }
+{
+    let UploadHead { source, start, .. } = head;
+    let Body {
+        count,
+        last,
+        ending,
+    } = body;
+    match ending {
+        Ending::End { left } => Inspected::Upload {
+            source,
+            start,
+            count,
+            left,
+            last,
+        },
+        Ending::Bad(fault) => Inspected::Bad(fault),
+    }
+}
+
+/// What a stream gives from here on, as the export stream of an upload of this version.
+fn export_body<R: ByteStream + Drop>(
+    alloc: Global,
+    device: R,
+    limits: &Limits,
+    version: Version,
+) -> Result<Body, Stop>
+    ensures says { IfOk result (SaysBodyOf limits.now version Export (R.remaining device)) }
+    ensures format { IfOk result EndsInFormat }
+{
+    let stream = Stream::new(alloc, device, *limits)?;
+    told_body(stream, version)
+}
+
+/// What a space has, as the journal file of an upload of this version.
+fn file_body<B: ByteSpace + Drop>(
+    alloc: Global,
+    space: B,
+    limits: &Limits,
+    version: Version,
+) -> Result<Body, Stop>
+    ensures says { IfOk result (SaysBodyOf limits.now version File (B.bytes space)) }
+    ensures format { IfOk result EndsInFormat }
+{
+    told_body(FileEntries::new(alloc, space, *limits), version)
+}
+
+/// What a stream gives from here on, as the journal file of an upload of this version. It is read whole first, up to one
+/// byte more than a file may have.
+fn gathered_body<R: ByteStream + Drop>(
+    alloc: Global,
+    mut device: R,
+    limits: &Limits,
+    version: Version,
+) -> Result<Body, Stop>
+    ensures says { IfOk result (SaysBodyOf limits.now version File (R.remaining device)) }
+    ensures format { IfOk result EndsInFormat }
+{
+    let bytes = read_whole(alloc, &mut device, limits.file + 1)?;
+    file_body(alloc, SliceSpace { bytes: &bytes }, limits, version)
+}
+
+/// What a source gives, as the body of an upload of this version.
+fn told_body<S: EntrySource + Drop>(mut source: S, version: Version) -> Result<Body, Stop>
+    ensures has { IfOk result (HasBody (option_map (told_as version) (S.remaining source))) }
+    ensures format { IfOk result EndsInFormat }
+{
+    match version.whole_entries() {
+        Some(entries) => body_of(&mut Whole::new(source, entries)),
+        None => body_of(&mut source),
+    }
+}
+
+/// How many entries a source gives, the last of them, and how they end.
+fn body_of<S: EntrySource>(source: &mut S) -> Result<Body, Stop>
+    ensures has { IfOk result (HasBody (S.remaining source.old)) }
+    ensures format { IfOk result EndsInFormat }
+{
+    let mut count = 0;
+    let mut last = None;
+    'entries: loop {
+        let step = source.next()?;
+        let ending = match step {
+            Step::Entry(entry) => {
+                count += 1;
+                last = Some(entry.key());
+                continue 'entries;
+            }
+            Step::End { left } => Ending::End { left },
+            Step::Bad(fault) => Ending::Bad(fault),
+        };
+        return Ok(Body {
+            count,
+            last,
+            ending,
+        });
+    }
+}

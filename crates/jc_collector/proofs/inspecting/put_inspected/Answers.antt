@@ -1,0 +1,30 @@
+-- The parts of the line, one after the other.
+use Rattle.std.proofs.Common.{◌++◌, codes, rules, subst, sym}
+use Rattle.std.specs.Prelude.{OnOk, decimal}
+use Rattle.std.specs.Io.KnownBytes.{Appends}
+use Rattle.hex.specs.Hex.{encode_lower}
+use Rattle.jc_collect.specs.declared.inspect.Inspected.{Inspected}
+use Rattle.jc_collector.specs.Inspected.{inspected_line, key_end}
+use Rattle.jc_collector.proofs.Inspections.{flat, line_put}
+use Rattle.jc_collector.proofs.inspecting.put_inspected.Goals as goal
+
+pub returns-in_ok-write-in-Upload : goal.returns-in_ok-write-in-Upload
+returns-in_ok-write-in-Upload g c =
+    let contents = g.O.Write.contents in
+    let told = c.in-Upload in
+    let old = contents c.args.output.now in
+    let named = contents c.write_all.new.self in
+    let sourced = contents c.write_all-in-Upload.new.self in
+    let counted = contents c.write.new.self in
+    let new = contents c.put_key.new.output in
+    let word : Appends old named (codes "upload ") = search rules in
+    let hex : Appends named sourced c.to_hex.result = search rules in
+    let space = codes " " in
+    let flat_text = flat space (decimal told.start) space (decimal told.count) space (decimal told.left) space in
+    let nested : Appends sourced counted
+    (space ++ (decimal told.start ++ (space ++ (decimal told.count ++ (space ++ (decimal told.left ++ space)))))) = search rules in
+    let numbers = subst (Appends sourced counted) flat_text nested in
+    subst (λ (i : Inspected). OnOk c.put_key.result (Appends old new (inspected_line i))) (sym told.is)
+    (line_put old named sourced counted new (codes "upload ") c.to_hex.result (encode_lower told.source.0)
+    (codes " " ++ decimal told.start ++ codes " " ++ decimal told.count ++ codes " " ++ decimal told.left ++ codes " ") (key_end told.last)
+    c.put_key.result word hex c.to_hex.ensures.digits numbers c.put_key.ensures)

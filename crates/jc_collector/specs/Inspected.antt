@@ -1,0 +1,49 @@
+-- What `inspect` says of an upload. (own)
+use Rattle.std.specs.Prelude.{◌≡◌, ℕ, List, [], ◌∷◌, ◌++◌, Option, Some, None, codes, decimal}
+use Rattle.std.specs.Io.KnownBytes.{Appends}
+use Rattle.hex.specs.Hex.{encode_lower}
+use Rattle.jc_base.specs.Fault.{number_of}
+use Rattle.jc_base.specs.LimitBounds.{AreDefaults}
+use Rattle.jc_base.specs.declared.id.Key.{Key}
+use Rattle.jc_base.specs.declared.limits.Limits.{Limits}
+use Rattle.jc_collect.specs.Inspected.{HasFormatCode, IsInspected}
+use Rattle.jc_collect.specs.declared.inspect.Inspected.{Inspected}
+use Rattle.jc_collect.specs.declared.inspect.Inspected.TheVariants.{Bad, Upload}
+use Rattle.jc_command_shared.specs.declared.status.Status.{Status}
+use Rattle.jc_command_shared.specs.declared.status.Status.TheVariants.{Success, Refused}
+
+-- `<id> <number>`, or `- -` if there is no key, and the newline
+abbrev pub key_end : Option Key → List ℕ
+key_end None = codes "- -" ++ 10 ∷ []
+key_end (Some key) = encode_lower key.seqnum_id.0 ++ (codes " " ++ decimal key.seqnum ++ 10 ∷ [])
+
+-- `upload <source> <start> <count> <left> <id> <number>`, where the key is that of the last complete entry, or
+-- `bad <code> <place>`, and the newline
+abbrev pub inspected_line : Inspected → List ℕ
+inspected_line (Upload source start count left last) =
+    codes "upload " ++ (encode_lower source.0
+    ++ ((codes " " ++ decimal start ++ codes " " ++ decimal count ++ codes " " ++ decimal left ++ codes " ") ++ key_end last))
+inspected_line (Bad fault) = codes "bad " ++ decimal (number_of fault.code) ++ codes " " ++ decimal fault.place ++ 10 ∷ []
+
+abbrev pub inspected_status : Inspected → Status
+inspected_status (Upload source start count left last) = Success
+inspected_status (Bad fault) = Refused
+
+-- The output gained the line, and the status is its own.
+pub record TellsInspected (inspected : Inspected) (status : Status) (old new : Option (List ℕ)) : Type 0 where
+  pub judged : status ≡ inspected_status inspected
+  pub printed : Appends old new (inspected_line inspected)
+
+-- The output gained a line for some upload, whose fault, if it has one, is one of an upload.
+pub record TellsSomeUpload (status : Status) (old new : Option (List ℕ)) : Type 0 where
+  pub inspected : Inspected
+  pub format : HasFormatCode inspected
+  pub told : TellsInspected inspected status old new
+
+-- The output gained the line of what the upload says under the default limits.
+pub record TellsUpload (upload : List ℕ) (status : Status) (old new : Option (List ℕ)) : Type 0 where
+  pub limits : Limits
+  pub defaults : AreDefaults limits.name limits.value limits.fields limits.entry limits.file
+  pub inspected : Inspected
+  pub says : IsInspected limits upload inspected
+  pub told : TellsInspected inspected status old new

@@ -1,0 +1,98 @@
+//! `--then-export`: a journal goes to a file once the uploads are answered.
+
+ghost use Rattle.std.specs.Prelude.{◌≡◌, ◌⊎◌, Ok, Err, IfOk, IfErr};
+ghost use Rattle.jc_collector.specs.Database.{IsOutFailure};
+
+use crate::listing::export_journal;
+use jc_command_shared::{
+    Failure, Status, UNFINISHED, create_file, folder_and_name, name_beside, put_in_place,
+};
+use jc_schema_two::SqlKeeper;
+use sqlite::Alter;
+use std::fs;
+use std::io::ErrorKind;
+use std::os::unix::fs::MetadataExt;
+use std::rt::Files;
+
+/// What the names of the files end in that a database has beside its own.
+const BESIDE: [&str; 3] = ["-wal", "-shm", "-journal"];
+
+/// Refuses a path for an export whose file would take the place of the database or of a file beside it. A database that
+/// is a link has these beside the file that it leads to.
+pub fn check_export<'a, R: Files + AllocGlobal>(
+    rt: &R,
+    database: &str,
+    path: Option<&str>,
+) -> Result<(), Failure<'a>>
+    ensures { IfErr result (λ failure. (failure ≡ Failure.BadExportName) ⊎ (failure ≡ Failure.OutOfMemory)) }
+{
+    let Some(path) = path else {
+        return Ok(());
+    };
+    let takes_place = match rt.canonicalize(rt.alloc(), database) {
+        Ok(resolved) => takes_place(rt, resolved.into_string().as_str(), path),
+        Err(error) if error.kind() == ErrorKind::OutOfMemory => return Err(Failure::OutOfMemory),
+        // It isn't there yet.
+        Err(_) => takes_place(rt, database, path),
+    };
+    if takes_place {
+        return Err(Failure::BadExportName);
+    }
+    Ok(())
+}
+
+/// Whether a file at `path`, or one that is written beside it first, is the database's own, by whatever names.
+fn takes_place<R: Files>(rt: &R, database: &str, path: &str) -> bool {
+    let (folder, name) = folder_and_name(path);
+    let (home, own) = folder_and_name(database);
+    is_same_file(rt, path, database) || is_of_database(name, own) && is_same_file(rt, folder, home)
+}
+
+/// Whether a file of this name, or that which becomes it, is that of the database with the name `own` in the same folder.
+fn is_of_database(name: &str, own: &str) -> bool {
+    match name.strip_prefix(own) {
+        Some("") => true,
+        Some(ending) => BESIDE.contains(&ending),
+        None => own.strip_prefix(name) == Some(UNFINISHED),
+    }
+}
+
+/// Whether two paths lead to one file, or to one folder, that is there.
+fn is_same_file<R: Files>(rt: &R, first: &str, second: &str) -> bool {
+    match (fs::metadata(rt, first), fs::metadata(rt, second)) {
+        (Ok(first), Ok(second)) => first.dev() == second.dev() && first.ino() == second.ino(),
+        _ => false,
+    }
+}
+
+/// Puts a keeper's journal into the file at a path, if one is given and all uploads were answered. The status stays that of
+/// the answers.
+pub fn export_after<'a, R: Files + AllocGlobal, S: Alter>(
+    rt: &R,
+    keeper: &mut SqlKeeper<S>,
+    answered: Result<Status, Failure<'a>>,
+    path: Option<&'a str>,
+) -> Result<Status, Failure<'a>>
+    ensures answered { IfOk result (λ status. answered.entry ≡ Ok status) }
+    ensures failed { IfErr result (λ failure. (answered.entry ≡ Err failure) ⊎ IsOutFailure failure) }
+{
+    let status = answered?;
+    if let Some(path) = path {
+        export_file(rt, keeper, path)?;
+    }
+    Ok(status)
+}
+
+/// Puts what `export` prints of a keeper's journal into the file at a path, which stays as it was if that fails.
+fn export_file<'a, R: Files + AllocGlobal, S: Alter>(
+    rt: &R,
+    keeper: &mut SqlKeeper<S>,
+    path: &str,
+) -> Result<(), Failure<'a>>
+    ensures { IfErr result IsOutFailure }
+{
+    let beside = name_beside(rt.alloc(), path)?;
+    let mut file = create_file(rt, beside.as_str())?;
+    let listed = export_journal(rt.alloc(), keeper, &mut file);
+    put_in_place(rt, &file, beside.as_str(), path, listed)
+}
