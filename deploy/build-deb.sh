@@ -23,7 +23,7 @@ install -m 644 deploy/debian/copyright "$documents"
 sed "s/@version@/$version/" deploy/debian/changelog | gzip -9n > "$documents/changelog.gz"
 
 install -m 755 deploy/debian/{postinst,prerm,postrm} "$tree/DEBIAN"
-printf '/etc/journal-collect/%s\n' machine.conf collector.conf > "$tree/DEBIAN/conffiles"
+printf '/etc/journal-collect/%s\n' machine.conf collector.conf journal-files.conf > "$tree/DEBIAN/conffiles"
 (cd "$tree" && find usr -type f -exec md5sum {} +) > "$tree/DEBIAN/md5sums"
 size=$(du --summarize --block-size=1K --apparent-size "$tree" | cut -f 1)
 sed "s/@version@/$version/; s/@libc@/${libc#GLIBC_}/; s/@architecture@/$architecture/; s/@size@/$size/" \

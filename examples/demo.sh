@@ -1,5 +1,6 @@
 #!/usr/bin/env bash
-# The main job on the samples: demo.sh PROGRAM. Prints each command as it is run, in a folder that is made for it.
+# The README's quick start on a sample: demo.sh PROGRAM. The collector is killed after it has stored an upload, which is
+# then sent again. Prints each command as it is run, in a folder that is made for it.
 set -euo pipefail
 
 samples=$(cd "$(dirname "$0")" && pwd)
@@ -9,7 +10,7 @@ trap 'rm -rf "$folder"' EXIT
 mkdir "$folder/bin"
 ln -s "$program" "$folder/bin/journal-collect"
 PATH=$folder/bin:$PATH
-cp "$samples/web.export" "$samples/mail.export" "$folder"
+cp "$samples/web.export" "$folder"
 cd "$folder"
 
 run() {
@@ -17,11 +18,10 @@ run() {
     eval "$1"
 }
 
-run 'web=a0a1a2a3a4a5a6a7a8a9aaabacadaeaf mail=b0b1b2b3b4b5b6b7b8b9babbbcbdbebf'
-run 'journal-collect upload --source $web --resume web.resume export web.export > web.upload'
-run 'journal-collect upload --source $mail --resume mail.resume export mail.export > mail.upload'
-run 'journal-collect collect logs.db web.upload mail.upload | tee answers'
-run 'journal-collect ack --source $web --resume web.resume export web.export < answers'
-run 'journal-collect collect logs.db web.upload'
+run 'web=a0a1a2a3a4a5a6a7a8a9aaabacadaeaf'
+run 'journal-collect upload --source $web --resume resume export web.export > upload'
+run '(echo upload; sleep 5) | timeout --foreground -s KILL 3 journal-collect collect --files-from - logs.db || '\
+'echo killed'
+run 'journal-collect collect logs.db upload | tee answers'
+run 'journal-collect ack --source $web --resume resume export web.export < answers'
 run 'journal-collect show logs.db'
-run 'journal-collect export logs.db'

@@ -1,0 +1,1 @@
+"""What the collector's programs share: uploads are taken in, stored, answered, and old databases are deleted."""

@@ -1,0 +1,46 @@
+"""The fields of an upload of a stream."""
+from collections.abc import Iterator
+from typing import BinaryIO
+
+from .program import HEAD
+
+# A longer one is a fault of the stream.
+LONGEST_VALUE = 16777216
+
+
+def read(file: BinaryIO) -> Iterator[tuple[bytes, bytes] | None]:
+    """Each complete field, and None where an entry ends. What is unfinished at the end isn't given."""
+    for line in file:
+        if line == b"\n":
+            yield None
+            continue
+        name, equals, value = line.partition(b"=")
+        if equals:
+            value, end = value[:-1], value[-1:]
+        else:
+            name, length = line[:-1], int.from_bytes(file.read(8), "little")
+            if length > LONGEST_VALUE:
+                return
+            value, end = file.read(length), file.read(1)
+        if end != b"\n":
+            return
+        yield name, value
+
+
+def count(path: str, most: int) -> int:
+    """How many fields an upload's stream has, or some number over `most`. Each has a newline, so most uploads needn't
+    be read field by field."""
+    lines = 0
+    with open(path, "rb") as file:
+        file.seek(HEAD)
+        while piece := file.read(1 << 20):
+            lines += piece.count(b"\n")
+        if lines <= most:
+            return lines
+        file.seek(HEAD)
+        lines = 0
+        for field in read(file):
+            lines += field is not None
+            if lines > most:
+                break
+    return lines

@@ -1,0 +1,78 @@
+"""Takes up the folder of an earlier version: answers/MACHINE/SOURCE.answer, and uploads that have no number."""
+import os
+import re
+from collections.abc import Iterator
+
+from shared import files
+
+from . import answer, source, spool
+from .report import report
+
+OLD_NAME = re.compile(r"([A-Za-z0-9][A-Za-z0-9._-]{0,63})@([0-9a-f]{32})\.upload")
+
+
+def source_of(said: answer.Answer, age: float) -> source.Source:
+    """What an answer says of its source. A machine's uploads begin after what was acknowledged, so all before is."""
+    known = source.Source(said, age)
+    end = said.start + said.count if said.is_ack else said.start
+    if end:
+        known.runs = [source.Run(0, end, None)]
+    return known
+
+
+def is_known(path: str) -> bool:
+    """Whether a source's file can be read."""
+    try:
+        return source.read(path) is not None
+    except source.Damaged:
+        return False
+
+
+def take_answer(old: str, path: str, age: float) -> bool:
+    """Takes up one answer, unless more is known already. Whether its file may go."""
+    try:
+        with open(old, encoding="ascii") as file:
+            line = file.readline().rstrip("\n")
+        if not is_known(path):
+            source.write(path, source_of(answer.read_answer(line), age), is_synced=False)
+        return True
+    except (OSError, ValueError, answer.NoAnswer) as error:
+        report(3, f"{old} can't be taken up: {error}")
+        return False
+
+
+def old_answers() -> Iterator[tuple[str, str]]:
+    """The files of answers, and where what is known of their sources goes."""
+    for machine in files.names("answers"):
+        for name in files.names(os.path.join("answers", machine), ".answer"):
+            yield os.path.join("answers", machine, name), os.path.join("sources", machine, name.removesuffix(".answer"))
+
+
+def take_answers(age: float) -> None:
+    """Takes up all answers. They go once the disk has what took their place."""
+    taken = [old for old, path in old_answers() if take_answer(old, path, age)]
+    if taken:
+        os.sync()
+    for old in taken:
+        os.unlink(old)
+    for folder in [*(os.path.join("answers", machine) for machine in files.names("answers")), "answers"]:
+        for unfinished in files.names(folder, ".new"):
+            files.remove(os.path.join(folder, unfinished))
+        if os.path.isdir(folder) and not os.listdir(folder):
+            os.rmdir(folder)
+
+
+def number_uploads(folder: str) -> None:
+    """Gives uploads that have no number one, in the order of their times."""
+    found = [match for match in map(OLD_NAME.fullmatch, files.names(folder)) if match]
+    found.sort(key=lambda match: os.stat(os.path.join(folder, match[0])).st_mtime)
+    for number, match in enumerate(found):
+        os.rename(os.path.join(folder, match[0]), os.path.join(folder, spool.Waiting(number, *match.groups()).name))
+
+
+def run(age: float) -> None:
+    """Takes up what there is."""
+    take_answers(age)
+    number_uploads("incoming")
+    for name in files.names("batch"):
+        number_uploads(os.path.join("batch", name))

@@ -1,0 +1,26 @@
+"""What is said to people, on standard error."""
+import contextlib
+import os
+import threading
+
+_lock = threading.Lock()
+_status = 0
+
+
+def tell(text: str) -> None:
+    """Says something. That it can't be said changes nothing."""
+    with contextlib.suppress(OSError):
+        os.write(2, (text + "\n").encode(errors="replace"))
+
+
+def report(status: int, text: str) -> None:
+    """Says something of the service; the greatest status of a run is its own."""
+    global _status
+    with _lock:
+        _status = max(_status, status)
+        tell(f"collect-incoming: {text}")
+
+
+def status() -> int:
+    """The greatest status that was reported."""
+    return _status

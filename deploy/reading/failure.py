@@ -1,0 +1,19 @@
+"""How the programs fail, each with the status that it ends with."""
+
+NEEDS_A_LOOK, WRONG_CALL, FAILED, UNDER_WAY = 1, 2, 3, 75
+
+
+class Failure(Exception):
+    """The program ends with this text and status."""
+
+    def __init__(self, text: str, status: int = FAILED) -> None:
+        super().__init__(text)
+        self.status = status
+
+
+class BadDatabase(Exception):
+    """A database that can't be read: its name, and why."""
+
+    def __init__(self, name: str, reason: str, lasting: bool) -> None:
+        super().__init__(f"{name}: {reason}")
+        self.name, self.reason, self.lasting = name, reason, lasting
