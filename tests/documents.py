@@ -2,7 +2,8 @@
 """Compares the documents with each other and with the sources: documents.py PROGRAM [FOLDER]
 
 One version, one toolchain, one table of codes, which the program prints too, a list of crates and of scripts that is
-whole, and a README that stays short. Prints what differs.
+whole, the number of edits, one table of the figures to plan with, the same claims in the README and on the page of
+proofs, links to headings that are there, and a README that stays short. Prints what differs.
 """
 import re
 import subprocess
@@ -10,10 +11,20 @@ import sys
 from collections.abc import Iterator
 from pathlib import Path
 
-ROOT = Path(sys.argv[2]) if len(sys.argv) > 2 else Path(__file__).resolve().parent.parent
+ROOT = Path(sys.argv[2] if len(sys.argv) > 2 else __file__ + "/../..").resolve()
 # The code that the library alone has: in its place the program prints `write failed`.
 UNPRINTED = (66, "WriteFailed")
 README_LINES = 200
+# The one table of figures, and the documents that may have no other ones.
+FIGURES = "docs/PERFORMANCE.md", "Figures to plan with"
+FIGURES_IN = (
+    "README.md", "CONTRIBUTING.md", "docs/GUIDE.md", "docs/LIMITS.md", "docs/DECISIONS.md", "docs/FORWARDING.md",
+    "docs/ARCHITECTURE.md", "docs/GATE.md", "docs/journal-collect.1", "deploy/collector.conf", "deploy/machine.conf",
+    "deploy/journal-files.conf")
+AN_ENTRY = r"(?: of (?:memory|disk|the disk))? (?:an|per|for each(?: [a-z]+)?) entry\b"
+FIGURE = re.compile(
+    rf"(?:\b(\d[\d.,]* (?:ms|µs|us)) and )?\b(\d[\d.,]* (?:ms|µs|us|kB|bytes)){AN_ENTRY}"
+    r"|\b(\d[\d.,]* entries) (?:a|per|in a) second\b|\b(\d[\d.]* million) (?:entries )?(?:a|per) day\b")
 
 
 def text_of(path: str) -> str:
@@ -87,7 +98,62 @@ def lists() -> Iterator[str]:
     tables = ("crate", crates, set(re.findall(r"^\| (jc_\w+) \|", table, re.MULTILINE))), (
         "script", scripts, set(re.findall(r"`(test-[\w-]+\.sh)`", page)))
     for what, there, listed in tables:
-        yield from (f"docs/ARCHITECTURE.md: the {what} {it} isn't both there and listed" for it in sorted(there ^ listed))
+        for it in sorted(there ^ listed):
+            yield f"docs/ARCHITECTURE.md: the {what} {it} isn't both there and listed"
+
+
+def edits() -> Iterator[str]:
+    """A number of edits in docs/GATE.md that isn't theirs."""
+    there, told = len(list(ROOT.glob("crates/*/refused/*.edit"))), found(r"^There are (\d+)\.$", "docs/GATE.md")
+    if told != str(there):
+        yield f"docs/GATE.md tells of {told} edits, and there are {there}"
+
+
+def figures(text: str) -> set[str]:
+    """What a text says of the time, the memory or the room for an entry, and of entries a second or a day."""
+    return {it for match in FIGURE.findall(" ".join(text.split())) for it in match if it}
+
+
+def told_figures() -> Iterator[str]:
+    """Figures that the one table doesn't have."""
+    path, title = FIGURES
+    table = figures(text_of(path).partition(f"\n## {title}\n")[2].partition("\n## ")[0])
+    if not table:
+        yield f"{path} has no figures under '{title}'"
+    for told in FIGURES_IN:
+        for it in sorted(figures(text_of(told)) - table):
+            yield f"{told}: the figure '{it}' isn't in the table of {path}"
+
+
+def claims(path: str) -> list[str]:
+    """The lists of what is proved, what is tested and what isn't promised: their titles and lines."""
+    lists = text_of(path).partition("\n### Proved\n")[2].partition("\n## ")[0]
+    items = re.findall(r"^(?:### .*|- .*(?:\n  .*)*)", lists, re.MULTILINE)
+    return [" ".join(it.split()) for it in items]
+
+
+def told_claims() -> Iterator[str]:
+    """Claims that the README and the page of proofs don't both have."""
+    here, there = claims("README.md"), claims("docs/PROOFS.md")
+    if not here:
+        yield "README.md has no claims"
+    for it in sorted(set(here) ^ set(there)):
+        yield f"a claim isn't both in README.md and in docs/PROOFS.md: {it}"
+
+
+def headings(path: Path) -> set[str]:
+    """The names by which links lead to a document's headings."""
+    titles = re.findall(r"^#+ (.*)$", path.read_text(), re.MULTILINE)
+    return {re.sub(r"[^\w -]", "", title.lower()).replace(" ", "-") for title in titles}
+
+
+def broken_links() -> Iterator[str]:
+    """Links to headings that aren't there."""
+    for path in sorted([*ROOT.glob("*.md"), *ROOT.glob("docs/*.md")]):
+        for file, heading in re.findall(r"\]\(([\w./-]*)#([\w\s-]+)\)", path.read_text()):
+            aim = path.parent / file if file else path
+            if not aim.exists() or "".join(heading.split()) not in headings(aim):
+                yield f"{path.relative_to(ROOT)}: there is no {file}#{heading}"
 
 
 def differences(program: str) -> Iterator[str]:
@@ -100,6 +166,10 @@ def differences(program: str) -> Iterator[str]:
     yield from printed_codes(program)
     yield from toolchains()
     yield from lists()
+    yield from edits()
+    yield from told_figures()
+    yield from told_claims()
+    yield from broken_links()
 
 
 def main() -> int:

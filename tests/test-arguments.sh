@@ -56,6 +56,15 @@ for name in _ _A A__ " " $'\t' "größe" "$(printf 'A%.0s' {1..2000})"; do
     expect 0 "$first -" "" "$PROGRAM" show "$db" --to 1 --field "$name"
 done
 
+# the file of `inspect`, and that of `--then-export`, before the database and after it
+expect 0 "upload $id 0 2 0 000102030405060708090a0b0c0d0e0f 2" "" "$PROGRAM" inspect "$a"
+expect 0 "upload $id 0 1 0 000102030405060708090a0b0c0d0e0f 10" "" env -C "$folder" "$PROGRAM" inspect -- -a
+expect 0 "ack $id 0 1 0 0" "" "$PROGRAM" collect --then-export "$folder/out" "$db" "$b"
+cmp -s "$folder/all" "$folder/out" || differs "--then-export before the database"
+rm "$folder/out"
+expect 0 "ack $id 0 1 0 0" "" "$PROGRAM" collect "$db" "--then-export=$folder/out" < "$b"
+cmp -s "$folder/all" "$folder/out" || differs "--then-export after the database"
+
 # what a file holds; at most 1,000 entries unless a limit is given, and a journal file whole whatever the limit
 machine() { "$PROGRAM" "$1" --source "$id" --resume "$folder/resume" "${@:2}"; }
 counts() { tail -c +49 "$folder/told" > "$folder/body" && "$PROGRAM" verify "$1" "$folder/body"; }
@@ -76,6 +85,12 @@ more="error: unexpected argument 'more' found"
 expect 2 "" "~$missing"$'\n'"  <DB>*" "$PROGRAM" collect
 expect 2 "" "~$missing"$'\n'"  <DB>*" "$PROGRAM" export
 expect 2 "" "~$missing"$'\n'"  <DB>*" "$PROGRAM" show --id 00
+expect 2 "" "~$missing"$'\n'"  <FILE>*" "$PROGRAM" inspect
+expect 2 "" "~$more*" "$PROGRAM" inspect file more
+expect 2 "" "~error: a value is required for '--then-export <FILE>' but none was supplied*" \
+    "$PROGRAM" collect db --then-export
+expect 2 "" "~error: the argument '--then-export <FILE>' cannot be used multiple times*" \
+    "$PROGRAM" collect db --then-export out --then-export out
 expect 2 "" "~$more*" "$PROGRAM" export db more
 expect 2 "" "~$more*" "$PROGRAM" check db more
 expect 2 "" "~$more*" "$PROGRAM" show db more

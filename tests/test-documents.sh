@@ -1,6 +1,7 @@
 #!/usr/bin/env bash
 # The documents agree with each other, with the sources and with the program: one version, one toolchain, one table of
-# codes, all crates and scripts in the lists, and a README that stays short.
+# codes, all crates and scripts in the lists, the number of edits, one table of the figures to plan with, the same
+# claims in the README and on the page of proofs, links to headings that are there, and a README that stays short.
 set -uo pipefail
 . "$(dirname "$0")/expect.sh"
 
@@ -17,8 +18,10 @@ expect 1 "" "~versions: *'--version': '0.0.0'*" python3 -B tests/documents.py "$
 changed() {
     local file=$1 change=$2 said=$3
     rm -rf "$folder/tree"
-    mkdir -p "$folder/tree/crates/jc_base/specs" "$folder/tree/tests" "$folder/tree/tools"
-    cp -r README.md CHANGELOG.md crates.txt docs "$folder/tree/"
+    mkdir -p "$folder/tree/crates/jc_base/specs" "$folder/tree/tests" "$folder/tree/tools" "$folder/tree/deploy"
+    cp -r README.md CHANGELOG.md CONTRIBUTING.md crates.txt docs "$folder/tree/"
+    cp deploy/*.conf "$folder/tree/deploy/"
+    cp --parents crates/*/refused/*.edit "$folder/tree/"
     cp crates/jc_base/specs/Fault.antt "$folder/tree/crates/jc_base/specs/"
     cp tests/test-*.sh "$folder/tree/tests/"
     cp tools/kit.py "$folder/tree/tools/"
@@ -35,5 +38,20 @@ docs/ARCHITECTURE.md: the crate jc_files isn't both there and listed"
 changed docs/ARCHITECTURE.md 's/`test-stops.sh`/`test-stop.sh`/' \
     "docs/ARCHITECTURE.md: the script test-stop.sh isn't both there and listed
 docs/ARCHITECTURE.md: the script test-stops.sh isn't both there and listed"
+changed docs/GUIDE.md '$a An open takes 9.9 ms and 4.4\nkB of memory an entry, at 9,999 entries in a second.' \
+    "docs/GUIDE.md: the figure '9,999 entries' isn't in the table of docs/PERFORMANCE.md
+docs/GUIDE.md: the figure '9.9 ms' isn't in the table of docs/PERFORMANCE.md"
+changed deploy/collector.conf '$a # 1,234 bytes for each entry, and 7.5 million entries a day' \
+    "deploy/collector.conf: the figure '1,234 bytes' isn't in the table of docs/PERFORMANCE.md
+deploy/collector.conf: the figure '7.5 million' isn't in the table of docs/PERFORMANCE.md"
+changed docs/PERFORMANCE.md 's/^## Figures to plan with$/## Others/' \
+    "~docs/PERFORMANCE.md has no figures under 'Figures to plan with'*"
+changed docs/GUIDE.md 's/^## Sizing$/## Size/' "docs/LIMITS.md: there is no GUIDE.md#sizing"
+changed docs/GUIDE.md 's/\]\(#journal-files\)/](#files)/' "docs/GUIDE.md: there is no #files"
+changed docs/GATE.md 's/^There are [0-9]+\.$/There are 7./' "~docs/GATE.md tells of 7 edits, and there are *"
+changed docs/PROOFS.md 's/^- \*\*Out of memory\*\*: .*/- **Out of memory**: never./' \
+    "~a claim isn't both in README.md and in docs/PROOFS.md: - \*\*Out of memory\*\*: an *: never."
+changed README.md '/^- \*\*Secrecy\*\*/d' \
+    "a claim isn't both in README.md and in docs/PROOFS.md: $(grep '^- \*\*Secrecy' README.md)"
 changed docs/FORMATS.md 's/^\| 60 \|/| 59 |/' "~code (59, *code (60, *"
 finish

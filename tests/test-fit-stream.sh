@@ -1,11 +1,12 @@
 #!/usr/bin/env bash
-# examples/fit-stream.py: keys from cursors, messages that look like cursors, entries over a limit, and streams cut off.
+# deploy/machine/fit_stream.py: keys from cursors, messages that look like cursors, entries over a limit, and streams
+# cut off.
 set -uo pipefail
 . "$(dirname "$0")/expect.sh"
 
 folder=$(mktemp -d)
 trap 'rm -rf "$folder"' EXIT
-fit=(python3 examples/fit-stream.py)
+fit=(python3 deploy/machine/fit_stream.py)
 times=$'__REALTIME_TIMESTAMP=1000000\n__MONOTONIC_TIMESTAMP=5\n'
 cursor=__CURSOR=s=000102030405060708090a0b0c0d0e0f
 
@@ -26,15 +27,18 @@ expect 0 "ok 2 0" "" "$PROGRAM" verify export "$folder/new"
     printf '\n\n'
 } > "$folder/large"
 expect 1 "~bad 12 *" "" "$PROGRAM" verify export "$folder/large"
-"${fit[@]}" --leave-out-large < "$folder/large" 2> "$folder/told" | cmp - "$folder/new" || differs "an entry over a limit"
-[[ $(cat "$folder/told") == "left out: __SEQNUM=7 __SEQNUM_ID=000102030405060708090a0b0c0d0e0f" ]] || differs "what is said of it"
+"${fit[@]}" --leave-out-large < "$folder/large" 2> "$folder/told" | cmp - "$folder/new" ||
+    differs "an entry over a limit"
+[[ $(cat "$folder/told") == "left out: __SEQNUM=7 __SEQNUM_ID=000102030405060708090a0b0c0d0e0f" ]] ||
+    differs "what is said of it"
 
 # cut off within a text, within a value and before the empty line; no cursor; an output that takes nothing
 for bytes in 20 170 195; do
     expect 1 "~*" "the stream is cut off within an entry" "${fit[@]}" < <(head -c $bytes "$folder/old")
 done
 expect 1 "~*" "an entry has neither a sequence number nor a cursor that has it" "${fit[@]}" < <(printf '%s\n' "$times")
-expect 1 "" "~write failed: *" bash -c "python3 examples/fit-stream.py < '$folder/old' > /dev/full"
+expect 1 "~*" "~a field has no name: *" "${fit[@]}" < <(printf '%s;i=1\n%s=x\n\n' "$cursor" "$times")
+expect 1 "" "~write failed: *" bash -c "python3 deploy/machine/fit_stream.py < '$folder/old' > /dev/full"
 
 # --split: a stream for each sequence, and a further one when its times go back
 entry() { printf '__REALTIME_TIMESTAMP=%s\n__MONOTONIC_TIMESTAMP=1\n__SEQNUM=%s\n__SEQNUM_ID=%s\nMESSAGE=%s\n\n' "$@"; }
@@ -48,8 +52,23 @@ entry 1 1 $two d | cmp - "$folder/split/$two.export" || differs "the second sequ
 [[ $(ls "$folder/split" | wc -l) -eq 3 ]] || differs "other files"
 expect 1 "" "a sequence id isn't 32 hexadecimal digits" "${fit[@]}" --split "$folder/split" < <(entry 1 1 ../two f)
 
+# a value of 300 MB in memory that has no room for it, in either spelling, left out or not
+of_300_mb() {
+    printf '%s;i=1\n%s' "$cursor" "$times"
+    printf "$1"
+    head -c 300000000 /dev/zero | tr '\0' x
+    printf '\n\n%s;i=2\n%sMESSAGE=hi\n\n' "$cursor" "$times"
+}
+for field in MESSAGE= 'MESSAGE\n\x00\xa3\xe1\x11\0\0\0\0'; do
+    expect 0 1 "left out: __SEQNUM=1 __SEQNUM_ID=000102030405060708090a0b0c0d0e0f" bash -c "(ulimit -v 200000
+        exec python3 deploy/machine/fit_stream.py --leave-out-large) | tail --bytes=400 | grep -a -c '^__SEQNUM='" \
+        < <(of_300_mb "$field")
+    expect 0 2 "" bash -c "(ulimit -v 200000
+        exec python3 deploy/machine/fit_stream.py) | tail --bytes=400 | grep -a -c '^__SEQNUM='" < <(of_300_mb "$field")
+done
+
 # a disk that is full within the last entry, whatever Python is told of its buffers
 entry 1 1 $one "$(printf '%01100d' 0)" > "$folder/long"
 expect 1 "" "~write failed: *" bash -c "trap '' XFSZ; ulimit -f 1
-    PYTHONUNBUFFERED=1 python3 examples/fit-stream.py < '$folder/long' > '$folder/cut'"
+    PYTHONUNBUFFERED=1 python3 deploy/machine/fit_stream.py < '$folder/long' > '$folder/cut'"
 finish

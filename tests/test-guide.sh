@@ -11,7 +11,7 @@ here=$PWD
 root=$folder/root
 library=$root/usr/lib/journal-collect
 deploy/install.sh "$root" /usr || differs "the programs aren't installed"
-mkdir -p "$folder/bin" "$folder/home" "$root/var/lib"
+mkdir -p "$folder/bin" "$folder/home" "$root/var/lib" "$root/etc/systemd/system"
 ln -s "$PROGRAM" "$folder/bin/journal-collect"
 export HOME=$folder/home PATH=$folder/bin:$PATH JOURNAL=$folder/journal SYSTEMD=254 FAULT=none:0:0 CALLS=$folder/calls
 export FORCED_COMMAND="$library/serve web $root/etc/journal-collect/collector.conf"
@@ -28,6 +28,7 @@ stand_in journalctl << END
 #!/bin/sh
 case "\$*" in
     --version) echo "systemd 254" ;;
+    "--since=yesterday --until=today --output=json") printf '{"MESSAGE":"%s"}\\n' one 'two\\nlines' ;;
     --directory=*) exec $real_journalctl --no-pager --quiet --output=cat "\$@" ;;
     *) exec python3 -IS $here/tests/deploy/journalctl.py "\$@" ;;
 esac
@@ -51,19 +52,26 @@ stand_in systemd-id128 <<< $'#!/bin/sh\ntr -d - < /proc/sys/kernel/random/uuid'
 
 # The blocks, each in a file of its own.
 awk -v to="$folder/guide" '/^```sh$/ { n++; on = 1; next } /^```$/ { on = 0 } on { print > (to "-" n) }' docs/GUIDE.md
-awk -v to="$folder/page" '/^\.Bd -literal/ { n++; on = 1; next } /^\.Ed$/ { on = 0 } on { gsub(/\\e/, "\\"); print > (to "-" n) }' \
+awk -v to="$folder/page" \
+    '/^\.Bd -literal/ { n++; on = 1; next } /^\.Ed$/ { on = 0 } on { gsub(/\\e/, "\\"); print > (to "-" n) }' \
     docs/journal-collect.1
-[[ $(find "$folder" -name 'guide-*' | wc -l) -eq 9 ]] || differs "a block of the guide isn't tried"
+[[ $(find "$folder" -name 'guide-*' | wc -l) -eq 13 ]] || differs "a block of the guide isn't tried"
 [[ $(find "$folder" -name 'page-*' | wc -l) -eq 7 ]] || differs "an example of the man page isn't tried"
 blocks() {
-    sed -E "s#(^|[^a-z/])/(etc/journal-collect|usr/lib/journal-collect|var/lib/journal-)#\1$root/\2#g" "$folder/$1" | bash -e
+    local moved='etc/journal-collect|etc/systemd/|usr/lib/journal-collect|var/lib/journal-'
+    sed -E "s#(^|[^a-z/])/($moved)#\1$root/\2#g" "$folder/$1" | bash -e
 }
 # the journal: three sequences at one time
-python3 - > "$JOURNAL" << 'END'
-for number in range(100):
-    for letter in "abc":
+PYTHONPATH=tests/deploy python3 -B - << 'END'
+import os
+from journal import JournalFile
+os.mkdir(os.environ["JOURNAL"])
+for letter in "abc":
+    file = JournalFile(f"{os.environ['JOURNAL']}/{letter}.journal", letter * 32)
+    for number in range(100):
         time = 1_700_000_000_000_000 + (number * 3 + "abc".index(letter)) * 1_000_000
-        print(letter * 32, number + 1, time, number * 3_000_000, "4" * 32, f"{letter}{number}")
+        file.append(number + 1, time, number * 3_000_000, "4" * 32, f"{letter}{number}")
+    file.write()
 END
 
 # the collector, and then a machine that sends all it has
@@ -77,22 +85,47 @@ expect 0 "" "" blocks guide-3
 grep -q '^logs.example.org ' "$root/etc/journal-collect/known_hosts" || differs "the collector's key"
 expect 0 "" "" blocks guide-4
 expect 0 "" "" "$library/collect-incoming" --once "$root/etc/journal-collect/collector.conf"
-expect 0 "~ok 300"$'\n'"aaaaaaaaaaaaaaaaaaaaaaaaaaaaaaaa 1 1700000000000000 0 a0"$'\n'"*" "" blocks guide-5
+expect 0 "~ok 300"$'\n'"aaaaaaaaaaaaaaaaaaaaaaaaaaaaaaaa 1 1700000000000000 0 a0"$'\n'"*" "" blocks guide-9
 expect 0 "ok 300 0" "" journal-collect verify export "$HOME"/*.export
+
+# a fleet's keys, how many entries a machine has, units that tell of failures, and what to watch
+mkdir keys
+echo "ssh-ed25519 AAAA web" > keys/web.pub
+echo "ssh-ed25519 BBBB mail" > keys/mail.pub
+expect 0 "" "" blocks guide-5
+printf 'command="%s/serve %s",restrict ssh-ed25519 %s\n' "$library" mail "BBBB mail" "$library" web "AAAA web" |
+    cmp - "$root/var/lib/journal-collect/.ssh/authorized_keys" || differs "the lines of a fleet's keys"
+expect 0 "2" "" blocks guide-6
+expect 0 "" "" blocks guide-7
+units=$root/etc/systemd/system
+for unit in send journal-files; do
+    grep -qx 'OnFailure=journal-collect-failed@%n.service' "$units/journal-collect-$unit.service.d/failed.conf" ||
+        differs "what journal-collect-$unit calls when it fails"
+done
+if command -v systemd-analyze > "$folder/told"; then
+    expect 0 "" "" env -C "$units" systemd-analyze verify "$units/journal-collect-failed@.service"
+fi
+expect 0 "" "" blocks guide-8
+: > "$root/var/lib/journal-collect/databases/x.db.refused"
+expect 0 "$root/var/lib/journal-collect/databases/x.db.refused" "" blocks guide-8
+rm "$root/var/lib/journal-collect/databases/x.db.refused"
+
 expect 0 "" "" blocks guide-4
 [[ $(find "$root/var/lib" -name '*.upload') == "" ]] || differs "something is sent a second time"
 
 # a database of an earlier program
 gzip -dc "$here/tests/fixtures/tables-1/closed.db.gz" > "$root/var/lib/journal-collect/databases/2026-01-01T00.db"
-expect 0 "ok 6" "" blocks guide-7
-expect 0 "" "" blocks guide-7
+expect 0 "ok 6" "" blocks guide-11
+expect 0 "" "" blocks guide-11
 
 # by hand, and journals for journalctl
-expect 0 "ok 300 0"$'\n'"resume 300" "" blocks guide-8
+expect 0 "ok 300 0"$'\n'"resume 300" "" blocks guide-12
 expect 0 "ok 300" "" journal-collect check logs.db
 if [[ -n $real_journalctl && -x /lib/systemd/systemd-journal-remote ]]; then
-    blocks guide-6 > "$folder/told" 2> "$folder/errors" || differs "the journals for journalctl: $(cat "$folder/errors")"
-    [[ $(sort "$folder/told" | uniq | wc -l) -eq 300 ]] || differs "what --since shows: $(wc -l < "$folder/told") lines"
+    blocks guide-10 > "$folder/told" 2> "$folder/errors" ||
+        differs "the journals for journalctl: $(cat "$folder/errors")"
+    [[ $(sort "$folder/told" | uniq | wc -l) -eq 300 ]] ||
+        differs "what --since shows: $(wc -l < "$folder/told") lines"
 else
     echo "there is no systemd-journal-remote: no journals are made for journalctl"
 fi
@@ -106,7 +139,7 @@ fi
 } > large
 mv large stream
 expect 1 "~bad 12 *" "" journal-collect verify export stream
-expect 0 "" "~left out: *" blocks guide-9
+expect 0 "" "~left out: *" blocks guide-13
 expect 0 "ok 300 0" "" journal-collect verify export stream
 
 # the man page
@@ -121,6 +154,7 @@ expect 0 "" "" blocks page-5
 [[ $(blocks page-6 | wc -l) -eq 300 ]] || differs "a unit isn't shown for each entry: $(blocks page-6 | wc -l) lines"
 if [[ -n $real_journalctl && -x /lib/systemd/systemd-journal-remote ]]; then
     blocks page-7 > "$folder/told" 2> "$folder/errors" || differs "the page's journals: $(cat "$folder/errors")"
-    [[ $(sort "$folder/told" | uniq | wc -l) -eq 300 ]] || differs "what the page's --since shows: $(wc -l < "$folder/told") lines"
+    [[ $(sort "$folder/told" | uniq | wc -l) -eq 300 ]] ||
+        differs "what the page's --since shows: $(wc -l < "$folder/told") lines"
 fi
 finish

@@ -15,14 +15,15 @@ expect 0 "~*" "" env -u MAKEFLAGS -u MAKELEVEL make -o crates/jc_cli/out/jc_cli 
 [[ $(stat -c %a "$page") == 644 ]] || differs "the page's mode"
 cmp "$program" "$PROGRAM" || differs "the program installed"
 cmp "$page" docs/journal-collect.1 || differs "the page installed"
-for name in GUIDE FORMATS LIMITS; do
+for name in GUIDE FORMATS FORWARDING LIMITS PERFORMANCE; do
     cmp "$folder/usr/share/doc/journal-collect/$name.md" "docs/$name.md" || differs "the document installed"
 done
 expect 0 "journal-collect 0.1.0" "" "$program" --version
 
 # the commands after `make install`, with a stand-in for journalctl that prints what the real one wrote
 mkdir "$folder/stand-in"
-printf '#!/bin/sh\n[ "$*" = --output=export ] && cat "%s/tests/fixtures/systemd-254/regular.export"\n' "$PWD" > "$folder/stand-in/journalctl"
+printf '#!/bin/sh\n[ "$*" = --output=export ] && cat "%s/tests/fixtures/systemd-254/regular.export"\n' "$PWD" \
+    > "$folder/stand-in/journalctl"
 chmod 755 "$folder/stand-in/journalctl"
 commands=$(sed -n '/^make install /,/^```$/p' README.md | sed '1d;$d')
 expect 0 "ok 6 0" "" env -C "$folder" PATH="$folder/stand-in:$folder/usr/bin:$PATH" bash -ec "$commands"

@@ -17,7 +17,7 @@ refuses() {
 refuses 's/(`some`, `only`)/(`some`, `alone`)/' "jc_export: one_reading has no clause alone"
 refuses 's/\*\*`split_pair`\*\*/**`cut_pair`**/' \
     $'jc_base: there is no cut_pair\njc_base: split_pair isn\'t on the page'
-refuses 's/\*\*`read_fields`\*\* (unnamed)/**`read_fields`**/' "jc_export: read_fields is there without its clauses"
+refuses 's/\*\*`canonical`\*\* (unnamed)/**`canonical`**/' "jc_export: canonical is there without its clauses"
 refuses 's/`impl ByteSpace for FileSpace`/`impl ByteSpace for NoSpace`/' \
     "jc_file: there is no impl ByteSpace for NoSpace"
 refuses 's/`StreamReading` in/`StreamRiding` in/' "jc_export: there is no StreamRiding in specs/Stream.antt"

@@ -1,7 +1,14 @@
 """Where the programs of machines and of the collector are, how each is called, and what it leaves."""
-import os
+from __future__ import annotations
 
-from disturbed import Run
+import os
+import uuid
+from typing import TYPE_CHECKING
+
+from disturbed import Disturbance, Run
+
+if TYPE_CHECKING:
+    from world import World
 
 MACHINES = ["web", "mail", "db-1", "a.example.org", "x"]
 # The bounds are small, so that streams and databases are changed often.
@@ -14,6 +21,8 @@ UPLOADS=5
 RESEND_MINUTES=0
 FOLDER_BYTES={folder_bytes}
 BACKLOG_BYTES=200000
+STEP_BYTES=3000
+BOOT_ID_FILE={boot}
 """
 COLLECTOR_CONF = """FOLDER={folder}
 DATABASE_NAME=%H-%M-%S
@@ -27,26 +36,40 @@ POLL_SECONDS=0.05
 class Deployment:
     """Folders and configurations for each machine and for the collector."""
 
-    def __init__(self, world, programs):
+    def __init__(self, world: World, programs: str) -> None:
         self.world, self.programs = world, programs
         self.collector = os.path.join(world.folder(), "collector")
         self.collector_conf = self.conf(COLLECTOR_CONF.format(folder=self.collector))
-        dice = world.dice
-        self.folders, self.confs = {}, {}
+        self.folders: dict[str, str] = {}
+        self.confs: dict[str, list[str]] = {}
+        self.boots: dict[str, str] = {}
+        self.names: dict[str, str] = {}
         for name in MACHINES:
-            folder = self.folders[name] = os.path.join(world.folder(), "machine")
-            bounds = {"stream_bytes": dice.choice((2000, 6000)), "entries": dice.choice((10, 40)),
-                      "upload_bytes": dice.choice((3000, 10**6))}
-            self.confs[name] = [self.conf(MACHINE_CONF.format(folder=folder, folder_bytes=size, **bounds))
-                                for size in (10**9, 5000)]
+            self.add_machine(name, name)
 
-    def conf(self, text):
+    def add_machine(self, name: str, known_as: str) -> None:
+        """A machine that the collector knows by the second name: by its own, or it is a clone."""
+        dice = self.world.dice
+        folder = self.folders[name] = os.path.join(self.world.folder(), "machine")
+        self.names[name], self.boots[name] = known_as, os.path.join(self.world.folder(), "boot_id")
+        self.boot(name)
+        bounds = {"stream_bytes": dice.choice((2000, 6000)), "entries": dice.choice((10, 40)),
+                  "upload_bytes": dice.choice((3000, 10**6)), "boot": self.boots[name]}
+        self.confs[name] = [self.conf(MACHINE_CONF.format(folder=folder, folder_bytes=size, **bounds))
+                            for size in (10**9, 5000)]
+
+    def boot(self, name: str) -> None:
+        """The machine is started anew."""
+        with open(self.boots[name], "w", encoding="ascii") as file:
+            file.write(str(uuid.UUID(bytes=self.world.dice.randbytes(16))) + "\n")
+
+    def conf(self, text: str) -> str:
         path = os.path.join(self.world.folder(), "conf")
         with open(path, "w", encoding="utf-8") as file:
             file.write(text)
         return path
 
-    def waiting(self):
+    def waiting(self) -> list[str]:
         """Uploads at the collector, and parts of some that no connection writes to any more."""
         return [name for part in ("incoming", "batch")
                 for _, _, names in os.walk(os.path.join(self.collector, part)) for name in names]
@@ -56,40 +79,44 @@ class Programs(Deployment):
     """The programs of deploy/."""
 
     # How many commands each has, in a common run; and how many undisturbed rounds bring everything home.
-    COUNT = {"send": 160, "receive": 25, "collect-incoming": 120}
+    COUNT = {"send": 70, "receive": 25, "collect-incoming": 120}
     QUIET = 60
 
-    def send(self, name, disturbance):
+    def send(self, name: str, disturbance: Disturbance) -> list[Run]:
         kind, value = disturbance
         conf = self.confs[name][kind == "cap"]
-        forced = f"{self.programs}/serve {name} {self.collector_conf}"
+        forced = f"{self.programs}/serve {self.names[name]} {self.collector_conf}"
         environment = {**self.world.journal_of(name), "FORCED_COMMAND": forced}
         return [Run(self.world, name, [f"{self.programs}/send", conf], environment, disturbance)]
 
-    def collect(self, disturbance):
+    def collect(self, disturbance: Disturbance) -> list[Run]:
         once = [] if disturbance[0] == "term" else ["--once"]
         command = [f"{self.programs}/collect-incoming", *once, self.collector_conf]
         return [Run(self.world, "collector", command, {}, disturbance)]
 
     @staticmethod
-    def gathered(status, errors):
+    def gathered(status: int, errors: str) -> bool:
         """Whether a run of `send` says that all of the journal was gathered."""
-        return status in (0, 1) and "paused" not in errors
+        return status in (0, 1) and "paused" not in errors and "shows no entry" not in errors
 
-    def last_gathered(self, name):
-        """The sequence id and the number of the entry that was gathered last."""
+    def gathered_of(self, name: str, file_id: str) -> int | None:
+        """The number of the entry that was gathered last of this journal file; nothing, if the file was never seen."""
         try:
             with open(os.path.join(self.folders[name], "gathered"), encoding="ascii") as file:
-                parts = dict(part.split("=") for part in file.read().split()[2].split(";"))
-        except (OSError, IndexError):
+                lines = [line.split() for line in file]
+        except OSError:
             return None
-        return parts["s"], int(parts["i"], 16)
+        return next((int(words[4]) for words in lines if words[:2] == ["file", file_id]), None)
 
-    def databases(self):
+    def compares(self) -> bool:
+        """The collector tells the key before the position that it acknowledged."""
+        return os.path.isdir(os.path.join(self.programs, "collector"))
+
+    def databases(self) -> list[str]:
         folder = os.path.join(self.collector, "databases")
         return [os.path.join(folder, name) for name in sorted(os.listdir(folder)) if name.endswith(".db")]
 
-    def streams(self, name):
+    def streams(self, name: str) -> list[str]:
         folder = os.path.join(self.folders[name], "streams")
         return [os.path.join(folder, each) for each in sorted(os.listdir(folder))]
 
@@ -100,7 +127,7 @@ class OldScripts(Deployment):
     COUNT = {"gather": 12, "send": 8, "receive": 1, "collect": 1}
     QUIET = 8
 
-    def __init__(self, world, programs):
+    def __init__(self, world: World, programs: str) -> None:
         super().__init__(world, programs)
         for folder in ("incoming", "batch", "answers"):
             os.makedirs(os.path.join(self.collector, folder))
@@ -109,24 +136,27 @@ class OldScripts(Deployment):
             with open(os.path.join(self.folders[name], "id"), "w", encoding="ascii") as file:
                 file.write(world.dice.randbytes(16).hex() + "\n")
 
-    def send(self, name, disturbance):
+    def send(self, name: str, disturbance: Disturbance) -> list[Run]:
         environment = {**self.world.journal_of(name), "STATE": self.folders[name], "COLLECTOR": self.collector,
                        "FORCED_COMMAND": f"{self.programs}/receive {name}"}
         return [Run(self.world, name, [f"{self.programs}/{program}"], environment, disturbance)
                 for program in ("gather", "send", "renew")]
 
-    def collect(self, disturbance):
+    def collect(self, disturbance: Disturbance) -> list[Run]:
         return [Run(self.world, "collector", [f"{self.programs}/collect"], {"COLLECTOR": self.collector}, disturbance)]
 
     @staticmethod
-    def gathered(status, errors):
+    def gathered(status: int, errors: str) -> bool:
         return status == 0
 
-    def last_gathered(self, name):
+    def gathered_of(self, name: str, file_id: str) -> int | None:
         return None
 
-    def databases(self):
+    def compares(self) -> bool:
+        return False
+
+    def databases(self) -> list[str]:
         return [os.path.join(self.collector, "logs.db")]
 
-    def streams(self, name):
+    def streams(self, name: str) -> list[str]:
         return [self.folders[name]]

@@ -2,24 +2,33 @@
 
 usage: python3 world.py PROGRAMS [--old] [--rounds ROUNDS]
 
-In each round journals grow and lose entries, some machines send and the collector collects, at the same time. Some of
-these runs are stopped by SIGKILL, at a random moment or before one of their commands; find a full disk; lose their
-connection; or are started twice. Afterwards some undisturbed rounds follow. Then each entry that a journal still had
-when a gathering ran to its end is in the databases, once; each machine has its newest stream alone, with nothing to
-send; the collector has nothing that waits; and no file was ever one that others may read.
+In each round journals grow and lose entries, begin new sequences, have their clocks set, and get entries that are too
+large or damaged; some machines send and the collector collects, at the same time. Some of these runs are stopped by
+SIGKILL, at a random moment or before one of their commands; find a full disk; lose their connection; or are started
+twice. If the collector compares keys, machines are also set back to snapshots and cloned. Afterwards some undisturbed
+rounds follow. Then each entry that a journal still had when a gathering ran to its end is in the databases, once unless
+its machine was set back or cloned; what journald removed of a file that was seen before was told as a gap; each machine
+has its newest stream alone, with nothing to send; the collector has nothing that waits; and no file was ever one that
+others may read.
 """
+from __future__ import annotations
+
 import argparse
 import collections
 import os
+import shutil
 import signal
 import subprocess
 import sys
 import time
+from collections.abc import Sequence
 
 HERE = os.path.dirname(os.path.abspath(__file__))
 sys.path.insert(0, os.path.join(HERE, "..", "collect"))
 from deployments import MACHINES, OldScripts, Programs  # noqa: E402
-from journal import Journal  # noqa: E402
+from disturbed import Disturbance, Run  # noqa: E402
+from journal import Journal, Key  # noqa: E402
+from machine import read  # noqa: E402
 from stock import IS_HERE, stock  # noqa: E402
 from trial import PROGRAM, TABLES, Trial  # noqa: E402
 
@@ -31,7 +40,7 @@ exec {python} -IS {here}/journalctl.py "$@"
 
 
 class World(Trial):
-    def __init__(self, old, programs):
+    def __init__(self, old: bool, programs: str) -> None:
         super().__init__("old scripts" if old else "deployment")
         self.bin = self.folder()
         self.install("journalctl", JOURNALCTL.format(python=sys.executable, here=HERE))
@@ -41,36 +50,40 @@ class World(Trial):
         os.symlink(sys.executable, os.path.join(self.bin, "python3"))
         os.environ["PATH"] = f"{self.bin}:{os.environ['PATH']}"
         self.journals = {name: Journal(self.dice, os.path.join(self.folder(), "journal")) for name in MACHINES}
-        # One of the machines has an older systemd, which the old scripts can't take.
-        self.systemd = {**dict.fromkeys(MACHINES, "254"), "mail": "254" if old else "252"}
-        self.expected = set()
-        self.last = {}
-        self.kinds = collections.Counter()
-        self.runs = self.killed = self.gaps = 0
+        # The old scripts can't take an older systemd.
+        self.systemd = {**dict.fromkeys(MACHINES, "254"), **({} if old else {"mail": "252", "db-1": "257"})}
+        self.expected: set[Key] = set()
+        self.last: dict[str, str] = {}
+        self.said: collections.Counter[tuple[str, str]] = collections.Counter()
+        self.gaps: set[str] = set()
+        self.snapshots: dict[str, tuple[str, Journal]] = {}
+        self.doubled: set[Key] = set()
+        self.kinds: collections.Counter[str] = collections.Counter()
+        self.runs = self.killed = self.restored = 0
         self.deployment = (OldScripts if old else Programs)(self, programs)
 
-    def expect(self, what, got, wanted):
+    def expect(self, what: str, got: object, wanted: object) -> bool:
         is_so = super().expect(what, got, wanted)
         if not is_so:
             self.kinds[what.rsplit(": ", 1)[-1]] += 1
         return is_so
 
-    def text_of(self, name):
+    def text_of(self, name: str) -> str:
         with open(os.path.join(HERE, name), encoding="utf-8") as file:
             return file.read()
 
-    def install(self, name, text):
+    def install(self, name: str, text: str) -> None:
         path = os.path.join(self.bin, name)
         with open(path, "w", encoding="utf-8") as file:
             file.write(text)
         os.chmod(path, 0o755)
 
-    def journal_of(self, name):
+    def journal_of(self, name: str) -> dict[str, str]:
         return {"JOURNAL": self.journals[name].path, "SYSTEMD": self.systemd[name]}
 
     # One round
 
-    def disturb(self, programs):
+    def disturb(self, programs: Sequence[str]) -> Disturbance:
         """What happens to a run: mostly something, chosen at random."""
         dice = self.dice
         program = dice.choice(programs)
@@ -83,21 +96,91 @@ class World(Trial):
             ("fault", ":".join((dice.choice(("refused", "cut", "half", "lost")), str(dice.randint(1, 3)),
                                 str(dice.choice((20, dice.randrange(3000)))))))])
 
-    def change_journals(self):
-        for journal in self.journals.values():
-            if self.dice.random() < 0.05:
-                journal.new_sequence()
-            journal.grow(self.dice.choice((0, 1, 3, 12)))
-            if self.dice.random() < 0.1:
-                journal.vacuum(self.dice.randrange(len(journal.entries) + 1))
+    def change_journals(self, under_way: bool = False) -> None:
+        dice = self.dice
+        for name, journal in self.journals.items():
+            if dice.random() < 0.05:
+                dice.choice((journal.new_sequence, journal.reboot))()
+                self.deployment.boot(name)
+            if dice.random() < 0.05:
+                journal.set_clock(dice.choice((-10**6, -10**12, 10**9)))
+            journal.grow(dice.choice((0, 1, 3, 12)))
+            if dice.random() < 0.05:
+                journal.add_wrong(dice.choice(("field", "field", "entry", "entry", "entry", "large")))
+            if dice.random() < 0.1:
+                journal.rotate()
+            if dice.random() < 0.1:
+                self.vacuum(name, journal, under_way)
 
-    def begin_gathering(self, name):
-        """What the journal has when a run begins, and whether the entry that was gathered last is gone and others
-        are there."""
-        journal, last = self.journals[name].keys(), self.deployment.last_gathered(name)
-        return journal, bool(last and journal and last not in {entry[:2] for entry in journal})
+    def vacuum(self, name: str, journal: Journal, under_way: bool) -> None:
+        """A run that is under way may have the file open that is removed, and gather it."""
+        before = [*journal.files]
+        journal.vacuum(self.dice.randrange(4))
+        for file in before:
+            seen = self.deployment.gathered_of(name, file.file_id)
+            last = max((entry[0] for entry in file.entries if entry[4] == "-"), default=0)
+            if file not in journal.files and not under_way and seen is not None and seen < last:
+                self.gaps.add(name)
 
-    def end(self, run, began, alone=True):
+    # What becomes of whole machines
+
+    def change_machines(self) -> None:
+        """A snapshot of a machine is made; one is set back to it; or a clone of it begins to run."""
+        name = self.dice.choice([*self.journals])
+        kind = self.dice.choice(("snapshot", "restore", "restore", "folder", "clone"))
+        if kind == "snapshot" or name not in self.snapshots:
+            self.snapshots[name] = self.copy_of(name)
+        elif kind == "clone" and len(self.journals) < len(MACHINES) + 2:
+            self.clone(name)
+        elif kind != "clone":
+            self.set_back(name, kind == "restore")
+
+    def copy_of(self, name: str) -> tuple[str, Journal]:
+        folder = os.path.join(self.folder(), "machine")
+        if os.path.exists(self.deployment.folders[name]):
+            shutil.copytree(self.deployment.folders[name], folder)
+        return folder, self.journals[name].copy_to(os.path.join(self.folder(), "journal"))
+
+    def set_back(self, name: str, with_journal: bool) -> None:
+        """The machine's folder is the snapshot's again, and perhaps its journal, which begins a new sequence."""
+        folder, journal = self.snapshots[name]
+        own = self.deployment.folders[name]
+        shutil.rmtree(own, ignore_errors=True)
+        if os.path.exists(folder):
+            shutil.copytree(folder, own)
+        made = self.journals[name].made
+        if with_journal:
+            self.journals[name] = journal.copy_to(os.path.join(self.folder(), "journal"))
+            self.journals[name].new_sequence()
+            self.deployment.boot(name)
+        # What only the machine's disk had is lost with it; what isn't gathered yet may be removed before it is.
+        self.expected -= made - self.gathered_before(name)
+        self.gaps.discard(name)
+        self.doubled |= made
+        self.restored += 1
+
+    def gathered_before(self, name: str) -> set[Key]:
+        """The entries of the journal that the machine's folder has a place after."""
+        return {(file.seqnum_id, *entry[:2], entry[5]) for file in self.journals[name].files for entry in file.entries
+                if entry[0] <= (self.deployment.gathered_of(name, file.file_id) or 0)}
+
+    def clone(self, name: str) -> None:
+        folder, journal = self.snapshots[name]
+        twin = f"{name}+{len(self.journals)}"
+        self.deployment.add_machine(twin, self.deployment.names[name])
+        if os.path.exists(folder):
+            shutil.copytree(folder, self.deployment.folders[twin])
+        self.journals[twin] = journal.copy_to(os.path.join(self.folder(), "journal"))
+        self.journals[twin].new_sequence()
+        self.systemd[twin] = self.systemd[name]
+        self.doubled |= self.journals[twin].made
+        self.restored += 1
+
+    def begin_gathering(self, name: str) -> set[Key]:
+        """What the journal has when a run begins."""
+        return self.journals[name].keys()
+
+    def end(self, run: Run, began: set[Key] | None) -> None:
         status, errors = run.wait()
         self.last[run.name] = errors
         self.runs += 1
@@ -106,26 +189,20 @@ class World(Trial):
             what = f"{run.name}: {run.disturbance}: {errors}"
             self.expect(f"{what}: an error of the script", any(word in errors for word in BROKEN), False)
             wanted = (0, 1, 3, 75, -signal.SIGKILL, *[-signal.SIGTERM] * (run.disturbance[0] == "term"))
-            self.expect(f"{what}: status", status in wanted, True)
+            self.expect(f"{what}: {status}: status", status in wanted, True)
+        self.said[run.name, "a gap"] += "a gap" in errors
         if run.name in self.journals and self.deployment.gathered(status, errors):
-            journal, gap = began
             # what was removed while the run went on need not have been gathered
-            kept = journal & self.journals[run.name].keys()
-            self.expected |= kept
-            self.gaps += gap
-            # another run may have reported it, and a journal that became empty shows none
-            if gap and kept and alone and run.disturbance[0] == "none":
-                self.expect(f"{run.name}: a gap is reported", "a gap" in errors, True)
+            self.expected |= began & self.journals[run.name].keys()
 
-    def round(self):
+    def round(self) -> None:
         dice = self.dice
         self.change_journals()
+        if self.deployment.compares() and dice.random() < 0.15:
+            self.change_machines()
         runs = []
-        twice = set()
-        for name in dice.sample(MACHINES, dice.choice((1, 1, 1, 2))):
+        for name in dice.sample([*self.journals], dice.choice((1, 1, 1, 2))):
             for _ in range(dice.choice((1, 1, 1, 1, 2))):
-                if any(run.name == name for run, _ in runs):
-                    twice.add(name)
                 began = self.begin_gathering(name)
                 disturbance = self.disturb([*self.deployment.COUNT][:-1])
                 runs += [(run, began) for run in self.deployment.send(name, disturbance)]
@@ -133,12 +210,12 @@ class World(Trial):
             disturbance = self.disturb([*self.deployment.COUNT][-1:]) if dice.random() < 0.8 else ("term", None)
             runs += [(run, None) for run in self.deployment.collect(disturbance)]
         if dice.random() < 0.3:
-            self.change_journals()
+            self.change_journals(under_way=True)
         for run, _ in sorted(runs, key=lambda run: run[0].end or 0):
             run.kill_in_time()
         for run, began in runs:
             if run.disturbance[0] != "term":
-                self.end(run, began, run.name not in twice)
+                self.end(run, began)
         for run, began in runs:
             if run.disturbance[0] == "term":
                 time.sleep(0.1)
@@ -146,10 +223,10 @@ class World(Trial):
                 self.end(run, began)
         self.look_at_modes()
 
-    def stop_at_each_command(self, name):
-        """Stops the programs of a machine and of the collector before each of their commands, one run after the
-        other. Others have brought an upload before the collector is stopped."""
-        ends = dict.fromkeys(self.deployment.COUNT)
+    def stop_at_each_command(self, name: str) -> dict[str, int | None]:
+        """Stops what a machine runs, and what takes its uploads, before each of their commands, one run after the
+        other. What stores them has trials of its own."""
+        ends = dict.fromkeys([*self.deployment.COUNT][:-1])
         number = 0
         while None in ends.values():
             number += 1
@@ -157,40 +234,36 @@ class World(Trial):
             if number % 8 == 0:
                 self.collect_alone(("none", None))
             for program in [program for program, end in ends.items() if not end]:
-                disturbance = ("stop", (program, number))
-                if program == [*ends][-1]:
-                    self.send_alone(name, ("none", None))
-                    run = self.collect_alone(disturbance)
-                else:
-                    run = self.send_alone(name, disturbance)
-                was_stopped = "Killed" in self.last[run.name] or run.process.returncode == -signal.SIGKILL
-                if not was_stopped:
+                run = self.send_alone(name, ("stop", (program, number)))
+                said = self.last[run.name]
+                was_stopped = any(word in said for word in ("Killed", "didn't go out", "no answers came"))
+                if not was_stopped and run.process.returncode != -signal.SIGKILL:
                     ends[program] = number
         return ends
 
-    def send_alone(self, name, disturbance):
+    def send_alone(self, name: str, disturbance: Disturbance) -> Run:
         """A machine's run while nothing else goes on; the last one that was started."""
         began = self.begin_gathering(name)
         for run in self.deployment.send(name, disturbance):
             self.end(run, began)
         return run
 
-    def collect_alone(self, disturbance):
+    def collect_alone(self, disturbance: Disturbance) -> Run:
         for run in self.deployment.collect(disturbance):
             self.end(run, None)
         return run
 
-    def quiet_round(self):
+    def quiet_round(self) -> bool:
         """An undisturbed round; whether an upload was sent."""
         calls = 0
-        for name in MACHINES:
+        for name in self.journals:
             calls += self.send_alone(name, ("none", None)).calls()
         self.collect_alone(("none", None))
-        return calls > len(MACHINES)
+        return calls > len(self.journals)
 
     # What has to hold
 
-    def look_at_modes(self):
+    def look_at_modes(self) -> None:
         for top in [self.deployment.collector, *self.deployment.folders.values()]:
             for folder, _, names in os.walk(top):
                 for name in names:
@@ -200,7 +273,7 @@ class World(Trial):
                         continue
                     self.expect(f"{name}: readable by others", mode & 0o077, 0)
 
-    def stored(self):
+    def stored(self) -> list[Key]:
         """Each stored entry, as often as it is in a database."""
         entries = []
         for database in self.deployment.databases():
@@ -211,25 +284,29 @@ class World(Trial):
             entries += list(read(told.stdout))
         return entries
 
-    def look(self):
+    def look(self) -> int:
         stored = self.stored()
-        self.expect("entries that are in no database", len(self.expected - set(stored)), 0)
+        lost = self.expected - set(stored)
+        whose = {name: sum(entry in journal.own for entry in lost) for name, journal in self.journals.items()}
+        self.expect(f"{whose}, {sorted(lost)[:2]}: entries that are in no database", len(lost), 0)
         made = set().union(*(journal.made for journal in self.journals.values()))
         self.expect("entries that no machine had", set(stored) - made, set())
-        self.expect("entries that are in two databases", len(stored) - len(set(stored)), 0)
+        once = [entry for entry in stored if entry not in self.doubled]
+        self.expect("entries that are in two databases", len(once) - len(set(once)), 0)
+        self.expect("gaps that weren't told", [name for name in self.gaps if not self.said[name, "a gap"]], [])
         self.expect("uploads that wait", self.deployment.waiting(), [])
-        for name in MACHINES:
+        for name in self.journals:
             streams = self.deployment.streams(name)
             self.expect(f"{name}: streams beside the newest", streams[:-1], [])
             stream = os.path.join(streams[-1], "stream")
-            told = subprocess.run([PROGRAM, "upload", "--source", "0" * 32, "--resume", f"{streams[-1]}/resume", "export",
-                                   stream], capture_output=True, check=False)
+            told = subprocess.run([PROGRAM, "upload", "--source", "0" * 32, "--resume", f"{streams[-1]}/resume",
+                                   "export", stream], capture_output=True, check=False)
             self.expect(f"{name}: {told.stderr}: entries that wait", len(told.stdout), 48)
             size = os.path.getsize(stream) if os.path.exists(stream) else 0
             self.expect(f"{name}: a stream that grows", size > 30000, False)
         return len(set(stored))
 
-    def calm(self):
+    def calm(self) -> None:
         """Undisturbed rounds, until all that can be expected has come. A part of an upload is deleted once it is
         old."""
         rounds = 0
@@ -243,23 +320,7 @@ class World(Trial):
         self.look_at_modes()
 
 
-def read(text):
-    """The key, the time and the message of each entry of an export."""
-    while text:
-        fields = {}
-        while not text.startswith(b"\n"):
-            line, _, text = text.partition(b"\n")
-            name, equals, value = line.partition(b"=")
-            if not equals:
-                length = int.from_bytes(text[:8], "little")
-                value, text = text[8:8 + length], text[9 + length:]
-            fields[name] = value
-        text = text[1:]
-        yield (fields[b"__SEQNUM_ID"].decode(), int(fields[b"__SEQNUM"]), int(fields[b"__REALTIME_TIMESTAMP"]),
-               fields[b"MESSAGE"].decode())
-
-
-def main():
+def main() -> None:
     parser = argparse.ArgumentParser()
     parser.add_argument("programs")
     parser.add_argument("--old", action="store_true")
@@ -274,7 +335,8 @@ def main():
         if world.mistakes:
             print("mistakes:", dict(world.kinds), "what the last runs said:", world.last, file=sys.stderr)
         world.finish(f"{arguments.rounds} rounds of {len(MACHINES)} machines", f"{world.runs} runs",
-                     f"{world.killed} killed", f"before each of their commands {commands}", f"{world.gaps} gaps",
+                     f"{world.killed} killed", f"before each of their commands {commands}",
+                     f"{len(world.gaps)} machines with gaps", f"{world.restored} set back or cloned",
                      f"{entries} entries")
 
 

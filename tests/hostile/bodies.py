@@ -1,13 +1,16 @@
-"""Streams and journal files read, and collected as the bodies of uploads, under limits that the program itself has no words for: by
-crates/jc_test_calls, a program for tests that makes public calls over a journal in memory.
+"""Streams and journal files read, and collected as the bodies of uploads, under limits that the program itself has no
+words for: by crates/jc_test_calls, a program for tests that makes public calls over a journal in memory.
 
-The answers are worked out by the model's own reader. The spaces record what is asked of them: no range ends after the arena, each object
-is asked for once, and of a field no more than the limits let a pair have.
+The answers are worked out by the model's own reader. The spaces record what is asked of them: no range ends after the
+arena, each object is asked for once, and of a field no more than the limits let a pair have.
 """
+from __future__ import annotations
+
 import os
 import shutil
 import struct
 import subprocess
+from collections.abc import Iterator, Sequence
 
 import model
 import samples
@@ -15,7 +18,7 @@ import uploads
 import vectors
 from model import ARRAY, ENTRY, HEADER, Bad, Journal, JournalFile, Limits, reading
 from trial import Trial
-from vectors import M, binary
+from vectors import M, Vector, binary
 
 CALLS = os.path.abspath(os.environ["CALLS"])
 LEAST = Limits(64, 64, 8, 1024, 208)
@@ -30,10 +33,11 @@ RANDOM_FILES = 1000
 
 
 class Asked(JournalFile):
-    """What a reader comes to in a file: how many arrays it counts, and how many bytes it needs. Of an object these are its type and its
-    size, of an ENTRY its numbers and its boot, and of a field as much of its payload as a pair may have."""
+    """What a reader comes to in a file: how many arrays it counts, and how many bytes it needs. Of an object these are
+    its type and its size, of an ENTRY its numbers and its boot, and of a field as much of its payload as a pair may
+    have."""
 
-    def __init__(self, data):
+    def __init__(self, data: bytes) -> None:
         self.steps = self.bytes = 0
         self.is_sound = False
         try:
@@ -45,18 +49,18 @@ class Asked(JournalFile):
             # the offset that ends the chain too early
             self.bytes += 8 * (fault.args[0] == 40)
 
-    def offset_at(self, place):
+    def offset_at(self, place: int) -> int:
         self.bytes += 8
         return super().offset_at(place)
 
-    def size_of(self, offset, kind, least, step):
+    def size_of(self, offset: int, kind: int, least: int, step: int) -> int:
         self.bytes += 16
         size = super().size_of(offset, kind, least, step)
         self.steps += kind == ARRAY
         self.bytes += {ARRAY: 0, ENTRY: 40}.get(kind, min(size - 64, model.LIMITS.name + 1 + model.LIMITS.value))
         return size
 
-    def bounds(self, length):
+    def bounds(self, length: int) -> tuple[int, int]:
         """Where the last range ends at most, and how many bytes all of them have at most."""
         if length < HEADER or length > model.LIMITS.file:
             return 0, 0
@@ -66,33 +70,33 @@ class Asked(JournalFile):
 class Calls:
     """Words for one run of the program, and what each line that it prints has to be."""
 
-    def __init__(self, trial):
+    def __init__(self, trial: Trial) -> None:
         self.trial = trial
         self.folder = trial.folder()
         self.words = [CALLS]
-        self.paths = {}
-        self.judges = []
+        self.paths: dict[bytes, str] = {}
+        self.judges: list[tuple[str, str | tuple[int, int]]] = []
         self.journal = Journal()
 
-    def begin(self, limits):
+    def begin(self, limits: Limits) -> None:
         """The journal is empty again."""
         self.words += ["limits", ",".join(map(str, limits))]
         self.journal = Journal()
         model.LIMITS = limits
 
-    def add(self, what, word, data, *wanted):
+    def add(self, what: str, word: str, data: bytes, *wanted: str | tuple[int, int]) -> None:
         """A word on some bytes. Each line is a text, or a bound of what may be asked."""
         self.words += [word, self.path_of(data)]
         self.judges += [(f"{what}: {word}", line) for line in wanted]
 
-    def path_of(self, data):
+    def path_of(self, data: bytes) -> str:
         if data not in self.paths:
             self.paths[data] = os.path.join(self.folder, str(len(self.paths)))
             with open(self.paths[data], "wb") as file:
                 file.write(data)
         return self.paths[data]
 
-    def read(self, what, kind, body):
+    def read(self, what: str, kind: str, body: bytes) -> None:
         """A body by itself, in several ways."""
         wanted = reading(kind, body)
         if kind == "export":
@@ -103,7 +107,7 @@ class Calls:
             self.add(what, "file", body, wanted, f"steps {asked.steps}", asked.bounds(len(body)))
             self.add(what, "pages", body, wanted)
 
-    def collect(self, what, kind, body, word):
+    def collect(self, what: str, kind: str, body: bytes, word: str) -> str:
         """An upload with this body; answers its line."""
         upload = samples.head(KINDS[kind]) + body
         line = self.journal.take(upload)
@@ -112,7 +116,7 @@ class Calls:
         self.add(what, word, upload, line, *[bound][:LINES[word] - 1])
         return line
 
-    def run(self):
+    def run(self) -> int:
         """Runs all that was added; answers how many lines were looked at."""
         told = subprocess.run(self.words, stdout=subprocess.PIPE, stderr=subprocess.PIPE, check=False, timeout=120)
         shutil.rmtree(self.folder)
@@ -129,13 +133,14 @@ class Calls:
         return len(self.judges)
 
 
-def full_fields(count):
+def full_fields(count: int) -> bytes:
     """Fields whose names and values are the longest ones."""
     return (b"A" * 64 + b"=" + b"x" * 64 + b"\n") * count
 
 
-def least_streams():
-    """Streams at the least limits and one over them; and with two faults at once, of which the one that is seen first is told."""
+def least_streams() -> Iterator[Vector]:
+    """Streams at the least limits and one over them; and with two faults at once, of which the one that is seen first
+    is told."""
     yield M + b"A" * 64, "ok 0 173"
     yield M + b"A" * 65, "bad 11 109"
     yield M + b"A\n" + struct.pack("<Q", 65), "bad 12 109"
@@ -153,14 +158,14 @@ def least_streams():
     yield M + b"__SEQNUM=1\n" + b"A=1\n" * 9 + b"\n", "bad 14 152"
 
 
-def heavy_streams():
+def heavy_streams() -> Iterator[Vector]:
     """Nine fields, with more than an entry may have."""
     yield M + full_fields(8) + b"\n", "ok 1 0"
     yield M + full_fields(8) + b"B=\n", f"bad 15 {109 + 8 * 130}"
     yield M + full_fields(8) + b"B=" + b"x" * 65, f"bad 12 {109 + 8 * 130}"
 
 
-def several(payloads):
+def several(payloads: Sequence[bytes]) -> tuple[bytes, int]:
     """A journal file of one entry with these fields, and the place of the first."""
     size = 64 + 16 * len(payloads)
     objects, items = b"", b""
@@ -172,12 +177,12 @@ def several(payloads):
     return samples.edited(data, {96: 32 + size + len(objects), 248: size}), 240 + size
 
 
-def one_field(payload, verdict):
+def one_field(payload: bytes, verdict: str) -> Vector:
     data, place = several([payload])
     return data, verdict if verdict == "ok 1 0" else f"{verdict} {place}"
 
 
-def least_files():
+def least_files() -> Iterator[Vector]:
     """Journal files at the least limits and one over them; and fields with two faults at once."""
     yield one_field(b"A" * 64 + b"=" + b"x" * 64, "ok 1 0")
     yield one_field(b"A" * 65 + b"=", "bad 11")
@@ -201,11 +206,11 @@ def least_files():
     yield data, f"bad 14 {place + 7 * 200}"
 
 
-def long_payloads(count):
+def long_payloads(count: int) -> list[bytes]:
     return [b"A" * 64 + b"=%064d" % number for number in range(count)]
 
 
-def heavy_files():
+def heavy_files() -> Iterator[Vector]:
     """Nine pairs, with more than an entry may have; _BOOT_ID has 40 bytes."""
     yield several([*long_payloads(7), b"B=" + b"x" * 64])[0], "ok 1 0"
     data, place = several(long_payloads(8))
@@ -214,16 +219,18 @@ def heavy_files():
     yield data, f"bad 12 {place + 7 * 200}"
 
 
-def repeated():
+def repeated() -> Iterator[Vector]:
     """An entry of eight items that all name one field, and the same file with one item less."""
     data, place = vectors.one_field_again(8)
     yield data, f"bad 14 {place}"
     yield samples.edited(data, {248: 176}), "ok 1 0"
 
 
-def chains():
-    """Arrays that follow one another, with two faults at once: what is wrong with an offset, with its order and with its type."""
-    for number, verdict in ((212, "bad 41 224"), (208, "bad 44 224"), (216, "bad 44 224"), (232, "bad 44 224"), (240, "bad 42 240")):
+def chains() -> Iterator[Vector]:
+    """Arrays that follow one another, with two faults at once: what is wrong with an offset, with its order and with
+    its type."""
+    for number, verdict in ((212, "bad 41 224"), (208, "bad 44 224"), (216, "bad 44 224"), (232, "bad 44 224"),
+                            (240, "bad 42 240")):
         yield samples.edited(samples.FILE, {152: 2, 224: number}), verdict
     yield samples.edited(samples.FILE, {152: 2, 208: b"\x05", 216: 23, 224: 212}), "bad 42 208"
 
@@ -232,13 +239,15 @@ STEPS = ((samples.FILE, 1), (samples.edited(samples.FILE, {152: 0}), 0), (sample
          (samples.edited(samples.FILE, {152: 2, 224: 208}), 1), (samples.edited(samples.FILE, {176: 0}), 0),
          (vectors.many_arrays(), 1000), (vectors.one_entry_twice(), 1))
 
-# What a scanner answers to each call of `feed` with what is left of a stream, and what it says then; the last call takes nothing.
+# What a scanner answers to each call of `feed` with what is left of a stream, and what it says then; the last call
+# takes nothing.
 WAITS, ENDED = "feed 121 held 9 field 7 2 waits entry", "feed 0 held 0 left 0 none"
 FED = ((PROGRAM, samples.E1 + samples.E2, (WAITS, WAITS, ENDED)),
        (PROGRAM, b"\n" + samples.E1, (WAITS.replace("121", "122"), ENDED)),
        (PROGRAM, M + b"=x\n\n", ("feed 110 held 1 bad 10 109 fault", "feed 0 held 1 bad 10 109 fault")),
        (LEAST, M + b"A=" + 66 * b"x", ("feed 176 held 67 bad 12 109 fault", "feed 0 held 67 bad 12 109 fault")),
-       (PROGRAM, M + b"MESSAGE=hi\n", ("feed 120 held 9 field 7 2 left 120 none", "feed 0 held 9 field 7 2 left 120 none")),
+       (PROGRAM, M + b"MESSAGE=hi\n",
+        ("feed 120 held 9 field 7 2 left 120 none", "feed 0 held 9 field 7 2 left 120 none")),
        (PROGRAM, samples.E1[:119], ("feed 119 held 10 left 119 none", "feed 0 held 10 left 119 none")))
 
 GROUPS = ((LEAST, "export", least_streams), (ONE_MORE, "export", heavy_streams), (PROGRAM, "export", vectors.streams),
@@ -246,7 +255,7 @@ GROUPS = ((LEAST, "export", least_streams), (ONE_MORE, "export", heavy_streams),
           (PROGRAM, "file", chains), (PROGRAM, "file", vectors.files), (PROGRAM, "file", vectors.crafted))
 
 
-def rows(trial):
+def rows(trial: Trial) -> int:
     """Each row by itself, and as a body: as a space and as a stream, each into an empty journal."""
     lines = 0
     for limits, kind, made in GROUPS:
@@ -257,7 +266,7 @@ def rows(trial):
     return lines
 
 
-def one_row(calls, what, limits, kind, data, verdict):
+def one_row(calls: Calls, what: str, limits: Limits, kind: str, data: bytes, verdict: str) -> None:
     for word in ("space", "stream"):
         calls.begin(limits)
         line = calls.collect(what, kind, data, word)
@@ -268,7 +277,7 @@ def one_row(calls, what, limits, kind, data, verdict):
     calls.read(what, kind, data)
 
 
-def steps(trial):
+def steps(trial: Trial) -> int:
     """How many arrays count."""
     calls = Calls(trial)
     for data, count in STEPS:
@@ -278,7 +287,7 @@ def steps(trial):
     return calls.run()
 
 
-def fed(trial):
+def fed(trial: Trial) -> int:
     """A scanner, call by call."""
     calls = Calls(trial)
     for number, (limits, data, lines) in enumerate(FED):
@@ -287,11 +296,13 @@ def fed(trial):
     return calls.run()
 
 
-def fronts(trial):
-    """Each front of three uploads: the shorter ones store nothing."""
+def fronts(trial: Trial) -> int:
+    """Each front of five uploads, of which two are to be whole: the shorter ones store nothing."""
     nested = vectors.M.replace(b"SEQNUM=1\n", b"SEQNUM=2\n") + binary(b"MESSAGE", samples.E1) + b"\n"
     calls = Calls(trial)
-    for upload in (samples.stream(samples.E1), samples.stream(nested), samples.head(2) + samples.FILE):
+    file = samples.head(2) + samples.FILE
+    whole = vectors.whole(samples.stream(samples.E1, samples.E2), 2), vectors.whole(file, 1)
+    for upload in (samples.stream(samples.E1), samples.stream(nested), file, *whole):
         for word in ("space", "stream"):
             calls.begin(PROGRAM)
             for length in range(len(upload) + 1):
@@ -301,9 +312,10 @@ def fronts(trial):
     return calls.run()
 
 
-def damaged(trial):
+def damaged(trial: Trial) -> int:
     """A file with each of its bytes set to five values, and files with random edits."""
-    made = [samples.edited(samples.FILE, {place: bytes([value])}) for place in range(400) for value in (0, 1, 127, 128, 255)]
+    made = [samples.edited(samples.FILE, {place: bytes([value])})
+            for place in range(400) for value in (0, 1, 127, 128, 255)]
     made += [uploads.harmed_file(trial.dice) for _ in range(RANDOM_FILES)]
     calls = Calls(trial)
     calls.begin(PROGRAM)
@@ -313,9 +325,10 @@ def damaged(trial):
     return calls.run()
 
 
-def main():
+def main() -> None:
     with Trial("bodies") as trial:
-        trial.finish(f"{rows(trial) + steps(trial) + fed(trial)} lines of rows", f"{fronts(trial)} of fronts", f"{damaged(trial)} of damaged files")
+        trial.finish(f"{rows(trial) + steps(trial) + fed(trial)} lines of rows", f"{fronts(trial)} of fronts",
+                     f"{damaged(trial)} of damaged files")
 
 
 if __name__ == "__main__":

@@ -1,20 +1,25 @@
-"""Databases that were damaged: a byte is changed at one place after another of a database and of a write-ahead log that a kill left, and
-pages are emptied, exchanged and cut off.
+"""Databases that were damaged: a byte is changed at one place after another of a database and of a write-ahead log that
+a kill left, and pages are emptied, exchanged and cut off.
 
-Every command then refuses the database with one line, or works on entries that the file has. In a database a value's bytes have no
-checksum, so a change within one shows as another value; no entry is lost, and none under a key that wasn't stored comes up. A log has
-checksums: it is taken to end before what is damaged, so the journal is one that stood after some of the uploads.
+Every command then refuses the database with one line, or works on entries that the file has. In a database a value's
+bytes have no checksum, so a change within one shows as another value; no entry is lost, and none under a key that
+wasn't stored comes up. A log has checksums: it is taken to end before what is damaged, so the journal is one that stood
+after some of the uploads.
 """
+from __future__ import annotations
+
 import collections
 import os
+import random
 import shutil
 import subprocess
+from collections.abc import Iterator
 from concurrent.futures import ThreadPoolExecutor
 from typing import NamedTuple
 
 import samples
 from make import Machine
-from model import Bad, Journal, read_stream
+from model import Bad, Entry, Journal, read_stream
 from stock import IS_HERE, stock
 from trial import ROWS, Trial, as_output, run, start, status_of
 
@@ -24,17 +29,18 @@ STRIDE = 37
 LARGE_STRIDE = 1511
 LOG_STRIDE = 1531
 REFUSALS = ("bad 64 0\n", "bad 65 ", "store failed\n")
+Told = tuple[bytes, str, int]
 
 
 class Stored(NamedTuple):
     """A database as its files' bytes, the journals that it may hold, and uploads that are collected into it again."""
     file: bytes
     log: bytes
-    journals: list
-    uploads: list
-    names: list
+    journals: list[Journal]
+    uploads: list[bytes]
+    names: list[str]
 
-    def put(self, trial):
+    def put(self, trial: Trial) -> str:
         database = trial.database()
         for end, data in (("", self.file), ("-wal", self.log)):
             with open(database + end, "wb") as file:
@@ -42,19 +48,23 @@ class Stored(NamedTuple):
         return database
 
 
-def content(path):
+# What it is called, the database, the part and the place in it, and the bytes there; without any it is cut off there.
+Damage = tuple[str, Stored, str, int, bytes | None]
+
+
+def content(path: str) -> bytes:
     with open(path, "rb") as file:
         return file.read()
 
 
-def entries_in(text):
+def entries_in(text: bytes) -> list[Entry] | None:
     try:
         return list(read_stream(text))
     except Bad:
         return None
 
 
-def may_be_read(trial, what, stored, database, text):
+def may_be_read(trial: Trial, what: str, stored: Stored, database: str, text: bytes) -> tuple[Journal, str]:
     """The journal that an export of a damaged database shows, if it is one that may be shown."""
     entries = entries_in(text)
     journal = Journal(entries or [])
@@ -69,8 +79,9 @@ def may_be_read(trial, what, stored, database, text):
     return journal, "another value"
 
 
-def judge(trial, what, stored, part, place, new):
-    """Every command over a database with other bytes at a place, or without any from there on; answers what became of it."""
+def judge(trial: Trial, what: str, stored: Stored, part: str, place: int, new: bytes | None) -> str:
+    """Every command over a database with other bytes at a place, or without any from there on; answers what became of
+    it."""
     data = getattr(stored, part)
     stored = stored._replace(**{part: data[:place] + (new + data[place + len(new):] if new else b"")})
     database = stored.put(trial)
@@ -88,14 +99,14 @@ def judge(trial, what, stored, part, place, new):
     return outcome
 
 
-def goes_on(trial, what, stored, database, journal):
+def goes_on(trial: Trial, what: str, stored: Stored, database: str, journal: Journal) -> None:
     """Uploads are collected as over a sound database with this journal."""
     lines = [journal.take(upload) for upload in stored.uploads]
     trial.expect(f"{what}: collect", run("collect", database, *stored.names), (as_output(lines), "", status_of(lines)))
     trial.expect(f"{what}: export then", run("export", database), (journal.text(), "", 0))
 
 
-def refused(trial, what, stored, database, exported):
+def refused(trial: Trial, what: str, stored: Stored, database: str, exported: Told) -> str:
     """Each command refuses the database as the export does, and nothing is written; answers how."""
     output, errors, status = exported
     is_bad = errors.startswith("bad")
@@ -107,7 +118,7 @@ def refused(trial, what, stored, database, exported):
     return " ".join(errors.split()[:2])
 
 
-def flips(what, stored, part, stride):
+def flips(what: str, stored: Stored, part: str, stride: int) -> Iterator[Damage]:
     """A byte changed at one place after another. What is made of a place is made when it is tried."""
     data = getattr(stored, part)
     for place in range(0, len(data), stride):
@@ -115,7 +126,7 @@ def flips(what, stored, part, stride):
         yield f"{what} {place}", stored, part, place, byte
 
 
-def small(trial):
+def small(trial: Trial) -> Stored:
     """A closed database of three entries."""
     upload = samples.stream(samples.E1, samples.E2, samples.E3)
     journal = Journal()
@@ -127,8 +138,9 @@ def small(trial):
     return Stored(content(database), content(database + "-wal"), [journal], again, names)
 
 
-def large(trial):
-    """A database with tables of several pages and a value over several, closed; and one that a kill left, all of it in its log."""
+def large(trial: Trial) -> tuple[Stored, Stored]:
+    """A database with tables of several pages and a value over several, closed; and one that a kill left, all of it in
+    its log."""
     machine = Machine(trial.dice, 40)
     machine.entries.append(machine.entry(41)._replace(pairs=frozenset({(b"LONG", b"x" * 20_000)})))
     uploads = [machine.stream(0, 10), machine.stream(10, 30), machine.stream(30, 41)]
@@ -150,7 +162,7 @@ def large(trial):
     return Stored(content(database), content(database + "-wal"), journals[-1:], uploads, names), killed
 
 
-def page_damage(dice, stored):
+def page_damage(dice: random.Random, stored: Stored) -> Iterator[Damage]:
     """A page emptied, filled, put in the place of another, and the file cut off within it."""
     data = stored.file
     for first in range(0, len(data), PAGE):
@@ -162,13 +174,14 @@ def page_damage(dice, stored):
             yield f"cut to {first + more}", stored, "file", first + more, None
 
 
-def main():
+def main() -> None:
     with Trial("damaged databases") as trial, ThreadPoolExecutor(os.cpu_count()) as pool:
         few, (many, killed) = small(trial), large(trial)
         cases = [*flips("byte", few, "file", STRIDE), *flips("byte of many", many, "file", LARGE_STRIDE),
                  *flips("byte of the log", killed, "log", LOG_STRIDE), *page_damage(trial.dice, many)]
         outcomes = collections.Counter(pool.map(lambda case: judge(trial, *case), cases))
-        print("damaged databases:", ", ".join(f"{count} times '{outcome}'" for outcome, count in outcomes.most_common()))
+        told = ", ".join(f"{count} times '{outcome}'" for outcome, count in outcomes.most_common())
+        print("damaged databases:", told)
         trial.finish(f"{len(cases)} kinds of damage")
 
 

@@ -1,5 +1,8 @@
 """Streams and journal files, each with what it reads as: `ok <entries> <bytes left>` or `bad <code> <place>`."""
+from __future__ import annotations
+
 import struct
+from collections.abc import Iterator
 
 from samples import E1, E2, FILE, edited
 
@@ -8,17 +11,25 @@ META = [b"__REALTIME_TIMESTAMP=1000000\n", b"__MONOTONIC_TIMESTAMP=5\n", b"__SEQ
 M = b"".join(META)
 FIELDS, NAME, VALUE, ENTRY, SPACE = 4096, 1024, 2**24, 2**25, 2**30
 
+# A stream or a file, and its verdict.
+Vector = tuple[bytes, str]
 
-def meta(place, line):
+
+def meta(place: int, line: bytes) -> bytes:
     """The four lines with another one at a place."""
     return b"".join(META[:place]) + line + b"".join(META[place + 1:])
 
 
-def binary(name, value, length=None):
+def binary(name: bytes, value: bytes, length: int | None = None) -> bytes:
     return name + b"\n" + struct.pack("<Q", len(value) if length is None else length) + value + b"\n"
 
 
-def streams():
+def whole(upload: bytes, count: int) -> bytes:
+    """An upload as one that is to be whole, with this many entries."""
+    return edited(upload, {7: b"2", 9: b"\x01", 40: count})
+
+
+def streams() -> Iterator[Vector]:
     realtime = b"__REALTIME_TIMESTAMP="
     seqnum_id = b"__SEQNUM_ID="
     yield b"", "ok 0 0"
@@ -64,19 +75,20 @@ def streams():
     yield meta(0, realtime + b"x\n").replace(b"SEQNUM=1", b"SEQNUM=0") + b"\n", "bad 25 0"
 
 
-def numbers(code, place, field, *values):
+def numbers(code: int, place: int, field: int, *values: int) -> Iterator[Vector]:
     for value in values:
         yield edited(FILE, {field: value}), f"bad {code} {place}"
 
 
-def flags(code, place, field, *values):
+def flags(code: int, place: int, field: int, *values: int) -> Iterator[Vector]:
     for value in values:
         yield edited(FILE, {field: bytes([value])}), f"bad {code} {place}"
 
 
-def sound():
+def sound() -> Iterator[Vector]:
     """Edits that leave the file one with one entry."""
-    for edits in ({12: b"\x04"}, {8: b"\x02"}, {8: b"\x80"}, {16: b"\x01"}, {16: b"\x02"}, {248: 64}, {256: 2**63 - 1}, {328: 80}):
+    for edits in ({12: b"\x04"}, {8: b"\x02"}, {8: b"\x80"}, {16: b"\x01"}, {16: b"\x02"}, {248: 64}, {256: 2**63 - 1},
+                  {328: 80}):
         yield edited(FILE, edits), "ok 1 0"
     yield FILE + b"\x00", "ok 1 0"
     yield edited(FILE, {152: 0}), "ok 0 0"
@@ -88,7 +100,7 @@ LATER = edited(FILE[:208] + bytes(64) + FILE[208:], {
     8: b"\x02", 12: b"\x04", 88: 272, 136: 384, 176: 272, 296: 304, 368: 384, 424: 304})
 
 
-def files():
+def files() -> Iterator[Vector]:
     yield FILE, "ok 1 0"
     yield from sound()
     yield FILE[:207], "bad 30 207"
@@ -133,7 +145,7 @@ def files():
     yield edited(FILE, {321: b"\x01", 328: 64}), "bad 45 320"
 
 
-def many_arrays():
+def many_arrays() -> bytes:
     """A thousand arrays without items, each naming the next one; the last names none."""
     data = edited(FILE[:208] + bytes(24000), {96: 24000, 136: 0, 176: 208})
     for number in range(1000):
@@ -143,7 +155,7 @@ def many_arrays():
     return data
 
 
-def one_field_again(items, payload=b"MESSAGE=hi"):
+def one_field_again(items: int, payload: bytes = b"MESSAGE=hi") -> tuple[bytes, int]:
     """An entry whose items all name one field."""
     size = 64 + 16 * items
     field = 240 + size
@@ -154,14 +166,14 @@ def one_field_again(items, payload=b"MESSAGE=hi"):
     return edited(data, {304: b"".join(struct.pack("<QQ", field, 0) for _ in range(items))}), field
 
 
-def one_entry_twice():
+def one_entry_twice() -> bytes:
     """An array whose two items name one entry."""
     array = struct.pack("<QQQQQ", 6, 40, 0, 248, 248)
     data = FILE[:208] + array + FILE[240:]
     return edited(data, {96: 200, 136: 328, 152: 2, 312: 328})
 
 
-def crafted():
+def crafted() -> Iterator[Vector]:
     """Files whose parts name one another in unusual ways."""
     yield many_arrays(), "bad 40 24200"
     yield one_field_again(7)[0], "ok 1 0"
@@ -169,7 +181,8 @@ def crafted():
     data, field = one_field_again(FIELDS)
     yield data, f"bad 14 {field}"
     yield one_entry_twice(), "ok 2 0"
-    # names and values at the limits and one byte past them, and two pairs that are all that an entry may have but 40 bytes
+    # names and values at the limits and one byte past them, and two pairs that are all that an entry may have but 40
+    # bytes
     for name in (NAME, NAME + 1):
         data, field = one_field_again(1, b"A" * name + b"=")
         yield data, "ok 1 0" if name == NAME else f"bad 11 {field}"

@@ -6,11 +6,14 @@ refused; the journal has what was acknowledged and nothing else then, and the sa
 refusal hits the program itself, while it reads its files or gathers what it prints, it says so and ends, and such a run
 shows nothing.
 """
+from __future__ import annotations
+
 import os
 import re
 import sys
-from concurrent.futures import ThreadPoolExecutor
-from typing import NamedTuple
+from collections.abc import Iterable, Iterator, Sequence
+from concurrent.futures import Executor, ThreadPoolExecutor
+from typing import Any, NamedTuple
 
 import refusal
 import samples
@@ -22,6 +25,8 @@ CALLS = os.path.abspath(os.environ["CALLS"])
 # How the program ends if it is refused memory itself.
 ITSELF = ("Error: Kind(OutOfMemory)\n", 1)
 ASKED = rb"asked \d+ \d+\n"
+# Words whose operand is no file.
+NAMED = ("get", "stored", "export")
 
 
 class Told(NamedTuple):
@@ -31,15 +36,15 @@ class Told(NamedTuple):
     is_refusal: bool
 
 
-def text(name, data):
+def text(name: bytes, data: bytes) -> bytes:
     return re.escape(b"%s %d\n%s\n" % (name, len(data), data))
 
 
-def refused(name):
+def refused(name: bytes) -> bytes:
     return re.escape(name) + b" refused\n"
 
 
-def collected(word, upload, journal):
+def collected(word: str, upload: bytes, journal: Journal) -> Iterator[Told]:
     """An upload, as a space, as a stream or in a run. A run that can't write its line has collected the upload all the
     same."""
     after = journal.copy()
@@ -48,11 +53,20 @@ def collected(word, upload, journal):
     asked = ASKED if word == "space" else b""
     yield Told(re.escape(line) + asked, after, False)
     yield Told(re.escape(b"no %s 63 0\n" % whose) + asked, journal, True)
-    if word == "run":
+    if word in ("run", "collect"):
         yield Told(b"stopped 0 0\n", after, True)
 
 
-def stored(word, key, journal):
+def collected_in_tables(upload: bytes, journal: Journal) -> Iterator[Told]:
+    """An upload in a run over a database, which may not be opened, or not be taken up. If it isn't closed, what was
+    written stays in its log."""
+    usual, *others = collected("collect", upload, journal)
+    yield Told(usual.pattern + b"not closed\n", usual.journal, True)
+    yield from (usual, *others)
+    yield Told(b"not opened\n|bad 63 0\n", journal, True)
+
+
+def stored(word: str, key: str, journal: Journal) -> Iterator[Told]:
     """The entry under a key. Of a journal in tables, the database may not be opened, or not be taken up."""
     number, digits = key.split(":")[::-1]
     entry = journal.entries.get((bytes.fromhex(digits), int(number)))
@@ -62,19 +76,19 @@ def stored(word, key, journal):
         yield Told(b"not opened\n|bad 63 0\n", journal, True)
 
 
-def read(word, data, journal):
+def read(word: str, data: bytes, journal: Journal) -> Iterator[Told]:
     verdict = reading("file" if word in ("file", "pages") else "export", data).encode() + b"\n"
     more = rb"steps \d+\n" + ASKED if word == "file" else b""
     yield Told(re.escape(verdict) + more, journal, False)
     yield Told(b"refused\n" + more, journal, True)
 
 
-def made(name, data, journal):
+def made(name: bytes, data: bytes, journal: Journal) -> Iterator[Told]:
     yield Told(text(name, data), journal, False)
     yield Told(refused(name), journal, True)
 
 
-def copied(data, journal):
+def copied(data: bytes, journal: Journal) -> Iterator[Iterator[Told]]:
     """The calls on each entry of a stream, one after the other."""
     for entry in read_stream(data):
         whole = entry.text()
@@ -87,10 +101,14 @@ def copied(data, journal):
                         Told(refused(b"field"), journal, True)])
 
 
-def told_by(word, operand, journal):
+def told_by(word: str, operand: Any, journal: Journal) -> Iterable[Iterator[Told]]:
     """What each call of a word may print."""
-    if word in ("space", "stream", "run", "collect"):
+    if word in ("space", "stream", "run"):
         return [collected(word, operand, journal)]
+    if word == "collect":
+        return [collected_in_tables(operand, journal)]
+    if word == "export":
+        return [made(b"entries", journal.text(), journal)]
     if word in ("get", "stored"):
         return [stored(word, operand, journal)]
     if word in ("read", "entries", "scan", "scan-7", "file", "pages"):
@@ -102,25 +120,25 @@ def told_by(word, operand, journal):
 
 
 class Case:
-    """Calls of one run: pairs of a word and of the bytes that it is about, or of a key. The first ones are refused
-    nothing."""
+    """Calls of one run: pairs of a word and of the bytes that it is about, or of a key or the like. The first ones are
+    refused nothing."""
 
-    def __init__(self, trial, name, calls, spared=0):
+    def __init__(self, trial: Trial, name: str, calls: Sequence[tuple[str, Any]], spared: int = 0) -> None:
         self.trial = trial
         self.name = name
         self.calls = calls
         self.words = [CALLS]
         for word, operand in calls:
-            self.words += [word, operand if word in ("get", "stored") else trial.put([operand])[0]]
+            self.words += [word, operand if word in NAMED else trial.put([operand])[0]]
         self.spared = spared
 
-    def requests_of(self, count):
+    def requests_of(self, count: int) -> int:
         """How many requests the first calls make."""
         # as many words, the last of which do nothing
         words = self.words[:1 + 2 * count] + ["rot", "log:0"] * (len(self.calls) - count)
         return len(refusal.run(self.trial.library, 0, 0, words)[1])
 
-    def places(self, sizes):
+    def places(self, sizes: list[int]) -> list[int]:
         """The numbers of the requests to refuse: each one, but for long rows of like ones as a database is opened, and
         for those of calls that open it anew as the first one does."""
         spared = self.requests_of(self.spared)
@@ -132,7 +150,7 @@ class Case:
         earlier = {refusal.around(sizes, number) for number in first}
         return first + refusal.unlike(sizes, [number for number in numbers if number > opened], earlier)
 
-    def refusals_in(self, what, output):
+    def refusals_in(self, what: str, output: bytes) -> int:
         """How many refusals the output tells. All of it has to be what the calls may print."""
         at, count, journal = 0, 0, Journal()
         for word, operand in self.calls:
@@ -147,7 +165,7 @@ class Case:
         self.trial.expect(f"{what}: more", output[at:], b"")
         return count
 
-    def one(self, number):
+    def one(self, number: int) -> bool | None:
         """Whether the refusal of a request was told by a call; None if the program itself was hit."""
         (output, errors, status), sizes = refusal.run(self.trial.library, number, number, self.words)
         what = f"{self.name}, request {number}"
@@ -159,7 +177,7 @@ class Case:
         self.trial.expect(f"{what}: refusals", count in (0, 1), True)
         return count == 1
 
-    def sweep(self, pool):
+    def sweep(self, pool: Executor) -> list[bool | None]:
         told, sizes = refusal.run(self.trial.library, 0, 0, self.words)
         self.trial.expect(f"{self.name}, undisturbed", told[1:], ("", 0))
         self.trial.expect(f"{self.name}, undisturbed: refusals", self.refusals_in(self.name, told[0]), 0)
@@ -170,11 +188,18 @@ class Case:
         return ends
 
 
+class OneCall(Case):
+    """Calls of which only the first one after those that are refused nothing is refused memory, at each request."""
+
+    def places(self, sizes: list[int]) -> list[int]:
+        return list(range(self.requests_of(self.spared) + 1, self.requests_of(self.spared + 1) + 1))
+
+
 KEYS = [("get", f"{samples.SEQNUM_ID.hex()}:{number}") for number in (1, 2, 3)]
 STORED = [("stored", key) for _, key in KEYS[:2]]
 
 
-def cases(trial):
+def cases(trial: Trial) -> Iterator[Case]:
     row, rest = samples.stream(samples.E1), samples.stream(samples.E2, samples.E3)
     conflict, file = samples.stream(samples.E2, samples.E3, samples.H1), samples.head(2) + samples.FILE
     cut = samples.stream(samples.E2, b"=x")
@@ -190,9 +215,12 @@ def cases(trial):
                        ("resume", f"resume 2 {samples.SEQNUM_ID.hex()} 2\n".encode())):
         yield Case(trial, word, [(word, data), (word, data)])
     yield Case(trial, "entries in tables", [("collect", row), *STORED, *STORED], spared=1)
+    listed = ("export", "all")
+    yield OneCall(trial, "a conflict in tables",
+                  [("collect", row), ("collect", conflict), listed, ("collect", rest), listed], spared=1)
 
 
-def main():
+def main() -> None:
     with Trial("memory of calls") as trial, ThreadPoolExecutor(os.cpu_count()) as pool:
         trial.library = refusal.built(trial.base)
         wanted = sys.argv[1:]

@@ -1,13 +1,16 @@
-"""Memory is refused at one place after another of every command, until a run asks for no more: once there alone, and
-once there and at all later ones.
+"""Memory is refused at one place at a time of every command, until a run asks for no more, and at some places together
+with all later ones. In a long row of like requests, and of those that are like an earlier command's, some are refused.
 
 A command then answers as ever, or that memory was refused. The journal holds what is acknowledged and nothing else, the
 resume file is the old or the new one whole, and the same command run anew succeeds.
 """
+from __future__ import annotations
+
 import os
 import shutil
 import sys
-from concurrent.futures import ThreadPoolExecutor
+from collections.abc import Iterator, Sequence
+from concurrent.futures import Executor, ThreadPoolExecutor
 
 import older
 import refusal
@@ -24,7 +27,7 @@ EMPTY_LOG = 41
 SOURCE_WORDS = ["--source", samples.SOURCE.hex(), "--resume"]
 
 
-def content(path):
+def content(path: str) -> bytes | None:
     """A file's bytes; None if it isn't there."""
     if not os.path.exists(path):
         return None
@@ -32,7 +35,7 @@ def content(path):
         return file.read()
 
 
-def put(path, data):
+def put(path: str, data: bytes) -> str:
     with open(path, "wb") as file:
         file.write(data)
     return path
@@ -44,18 +47,20 @@ class Sweep:
     # what was around the places of earlier sweeps
     earlier = set()
 
-    def __init__(self, trial, name, words, usual=None, stdin=b""):
+    def __init__(
+        self, trial: Trial, name: str, words: list[str], usual: tuple[bytes, str, int] | None = None, stdin: bytes = b""
+    ) -> None:
         self.trial = trial
         self.name = name
         self.words = words
         self.usual = usual
         self.stdin = stdin
 
-    def prepare(self, folder):
+    def prepare(self, folder: str) -> list[str]:
         """Puts the files that the command works on into a folder, and answers the command's arguments."""
         return self.words
 
-    def judge(self, what, folder, told):
+    def judge(self, what: str, folder: str, told: tuple[bytes, str, int]) -> bool:
         """Holds what a run printed and left against what it may; answers whether the refusal was seen."""
         if self.is_usual(told):
             return False
@@ -64,10 +69,10 @@ class Sweep:
         self.trial.expect(f"{what}: output", self.usual[0].startswith(told[0]), True)
         return True
 
-    def is_usual(self, told):
+    def is_usual(self, told: tuple[bytes, str, int]) -> bool:
         return told == self.usual
 
-    def one(self, first, last):
+    def one(self, first: int, last: int) -> tuple[int, bool]:
         """One run: how many requests were refused, and whether that was seen."""
         folder = self.trial.folder()
         words = [PROGRAM, *self.prepare(folder)]
@@ -77,20 +82,20 @@ class Sweep:
         shutil.rmtree(folder)
         return len(sizes), seen
 
-    def all_sizes(self):
+    def all_sizes(self) -> tuple[int, ...]:
         """The sizes of all requests of an undisturbed run, which has to print what is usual."""
         told, sizes = refusal.run(self.trial.library, 0, 0, [PROGRAM, *self.prepare(self.trial.folder())], self.stdin)
         self.trial.expect(f"{self.name}, undisturbed", told, self.usual)
         return sizes
 
-    def places(self, sizes):
+    def places(self, sizes: Sequence[int]) -> list[int]:
         """The numbers of the requests to refuse. All commands read arguments alike, and open a database alike."""
         numbers = list(refusal.places(sizes))
         chosen = refusal.unlike(sizes, numbers, self.earlier)
         self.earlier.update(refusal.around(sizes, number) for number in numbers)
         return chosen
 
-    def sweep(self, pool):
+    def sweep(self, pool: Executor) -> int:
         sizes = self.all_sizes()
         numbers = self.places(sizes)
         alone = list(pool.map(lambda number: self.one(number, number), numbers))
@@ -109,15 +114,15 @@ class Sweep:
 class Listing(Sweep):
     """A command that reads a database, and writes nothing into it."""
 
-    def __init__(self, trial, name, words, base, output):
+    def __init__(self, trial: Trial, name: str, words: list[str], base: str, output: bytes) -> None:
         super().__init__(trial, name, words, (output, "", 0))
         self.base = base
 
-    def prepare(self, folder):
+    def prepare(self, folder: str) -> list[str]:
         database = copied(self.base, folder)
         return [self.words[0], database, *self.words[1:]]
 
-    def judge(self, what, folder, told):
+    def judge(self, what: str, folder: str, told: tuple[bytes, str, int]) -> bool:
         self.trial.expect(f"{what}: the database", content(os.path.join(folder, "db")), content(self.base))
         self.trial.expect(f"{what}: its log", len(content(os.path.join(folder, "db-wal")) or b"") <= EMPTY_LOG, True)
         return super().judge(what, folder, told)
@@ -126,23 +131,31 @@ class Listing(Sweep):
 class Collect(Sweep):
     """Uploads that are collected into a database, which has some entries already or isn't there."""
 
-    def __init__(self, trial, name, uploads, base=None, before=(), by_input=False):
+    def __init__(
+        self,
+        trial: Trial,
+        name: str,
+        uploads: list[bytes],
+        base: str | None = None,
+        before: Sequence[bytes] = (),
+        by_input: bool = False,
+    ) -> None:
         super().__init__(trial, name, [] if by_input else trial.put(uploads), stdin=uploads[0] if by_input else b"")
         self.uploads = uploads
         self.base = base
         self.before = before
         self.usual = self.answers(self.start())
 
-    def prepare(self, folder):
+    def prepare(self, folder: str) -> list[str]:
         return ["collect", copied(self.base, folder) if self.base else os.path.join(folder, "db"), *self.words]
 
-    def start(self):
+    def start(self) -> Journal:
         journal = Journal()
         for upload in self.before:
             journal.take(upload)
         return journal
 
-    def judge(self, what, folder, told):
+    def judge(self, what: str, folder: str, told: tuple[bytes, str, int]) -> bool:
         output, errors, status = told
         journal = self.start()
         lines = output.decode().splitlines()
@@ -155,12 +168,12 @@ class Collect(Sweep):
         self.left(what, os.path.join(folder, "db"), journal, bool(lines))
         return not self.is_usual(told)
 
-    def answers(self, journal):
+    def answers(self, journal: Journal) -> tuple[bytes, str, int]:
         """What a run over a journal prints, which then has what is accepted."""
         lines = [journal.take(upload) for upload in self.uploads]
         return as_output(lines), "", status_of(lines)
 
-    def left(self, what, database, journal, has_tables):
+    def left(self, what: str, database: str, journal: Journal, has_tables: bool) -> None:
         """The database holds this journal, and the same uploads complete it."""
         if content(database) == (content(self.base) if self.base else None):
             # nothing was written into it: what is in it was looked at before the sweep
@@ -180,15 +193,42 @@ class Collect(Sweep):
         shutil.rmtree(os.path.dirname(copy))
 
 
+class ThenExport(Collect):
+    """Uploads that are collected, and a file that gets the journal then: it is the old or the new one whole."""
+
+    OLD = b"what was there before"
+
+    def prepare(self, folder: str) -> list[str]:
+        command, *others = super().prepare(folder)
+        return [command, "--then-export", put(os.path.join(folder, "out"), self.OLD), *others]
+
+    def judge(self, what: str, folder: str, told: tuple[bytes, str, int]) -> bool:
+        output, errors, _ = told
+        journal = self.start()
+        lines = output.decode().splitlines()
+        usual = [answer_or_refusal(journal, line, upload) for line, upload in zip(lines, self.uploads)]
+        out = content(os.path.join(folder, "out"))
+        self.trial.expect(f"{what}: what lies beside it", os.path.exists(os.path.join(folder, "out.new")), False)
+        if errors:
+            self.trial.expect(what, told, (as_output(usual), *REFUSED[1:]))
+            self.trial.expect(f"{what}: the file", out, self.OLD)
+        else:
+            self.trial.expect(what, told, (as_output(usual), "", status_of(usual)))
+            self.trial.expect(f"{what}: the file", out, journal.text())
+        return not self.is_usual(told)
+
+
 class CollectListed(Collect):
     """Uploads that a list on standard input names. A refusal between two ends the run; answers that are out stay."""
 
-    def __init__(self, trial, name, uploads, base=None, before=()):
+    def __init__(
+        self, trial: Trial, name: str, uploads: list[bytes], base: str | None = None, before: Sequence[bytes] = ()
+    ) -> None:
         super().__init__(trial, name, uploads, base, before)
         self.stdin = "".join(f"{upload}\n" for upload in self.words).encode()
         self.words = ["--files-from", "-"]
 
-    def judge(self, what, folder, told):
+    def judge(self, what: str, folder: str, told: tuple[bytes, str, int]) -> bool:
         output, errors, _ = told
         journal = self.start()
         lines = output.decode().splitlines()
@@ -202,7 +242,7 @@ class CollectListed(Collect):
         return not self.is_usual(told)
 
 
-def answer_or_refusal(journal, line, upload):
+def answer_or_refusal(journal: Journal, line: str, upload: bytes) -> str:
     """The line that an upload has to get: its answer, or, if the line says so, that memory was refused."""
     after = journal.copy()
     answer = after.take(upload)
@@ -212,7 +252,7 @@ def answer_or_refusal(journal, line, upload):
     return answer
 
 
-def copied(base, folder):
+def copied(base: str, folder: str) -> str:
     database = os.path.join(folder, "db")
     for end in ("", "-wal"):
         shutil.copyfile(base + end, database + end)
@@ -223,15 +263,15 @@ class Migrate(Sweep):
     """A journal that goes over to the tables of the present version: it is whole, in the old tables or in the new
     ones."""
 
-    def __init__(self, trial, name):
+    def __init__(self, trial: Trial, name: str) -> None:
         self.journal = older.earlier_journal()
         self.base = older.earlier(trial, "closed")
         super().__init__(trial, name, [], older.usual(self.journal))
 
-    def prepare(self, folder):
+    def prepare(self, folder: str) -> list[str]:
         return ["migrate", shutil.copyfile(self.base, os.path.join(folder, "db"))]
 
-    def judge(self, what, folder, told):
+    def judge(self, what: str, folder: str, told: tuple[bytes, str, int]) -> bool:
         database = os.path.join(folder, "db")
         if not self.is_usual(told) and run("check", database) == older.REFUSED:
             self.trial.expect(f"{what}: again", run("migrate", database), self.usual)
@@ -245,12 +285,12 @@ class Ack(Sweep):
     OLD = f"resume 1 {samples.SEQNUM_ID.hex()} 1\n".encode()
     NEW = f"resume 2 {samples.SEQNUM_ID.hex()} 2\n".encode()
 
-    def prepare(self, folder):
+    def prepare(self, folder: str) -> list[str]:
         resume = put(os.path.join(folder, "resume"), self.OLD)
         source = put(os.path.join(folder, "source"), samples.E1 + samples.E2)
         return ["ack", *SOURCE_WORDS, resume, "export", source]
 
-    def judge(self, what, folder, told):
+    def judge(self, what: str, folder: str, told: tuple[bytes, str, int]) -> bool:
         resume = os.path.join(folder, "resume")
         left = content(resume)
         may_be = [self.NEW] if self.is_usual(told) else [self.OLD, self.NEW]
@@ -264,18 +304,18 @@ class Ack(Sweep):
 class Upload(Sweep):
     """An upload that is made of a source; nothing is written but to standard output."""
 
-    def __init__(self, trial, kind, source, resume, output):
+    def __init__(self, trial: Trial, kind: str, source: bytes, resume: bytes, output: bytes) -> None:
         self.resume = put(os.path.join(trial.folder(), "resume"), resume)
         self.old = resume
         words = ["upload", *SOURCE_WORDS, self.resume, kind, put(os.path.join(trial.folder(), "source"), source)]
         super().__init__(trial, f"upload {kind}", words, (output, "", 0))
 
-    def judge(self, what, folder, told):
+    def judge(self, what: str, folder: str, told: tuple[bytes, str, int]) -> bool:
         self.trial.expect(f"{what}: resume file", content(self.resume), self.old)
         return super().judge(what, folder, told)
 
 
-def collecting(trial, base):
+def collecting(trial: Trial, base: str) -> Iterator[Sweep]:
     one, two, three = samples.E1, samples.E2, samples.E3
     row, file = samples.stream(one), samples.head(2) + samples.FILE
     conflict = samples.stream(two, three, samples.H1)
@@ -288,10 +328,11 @@ def collecting(trial, base):
     yield Collect(trial, "collect of a journal file on standard input", [file], by_input=True)
     yield Collect(trial, "collect of several uploads", several)
     yield CollectListed(trial, "collect of uploads that a list names", several)
+    yield ThenExport(trial, "collect --then-export", [samples.stream(two, three)], base, [row])
     yield CollectListed(trial, "collect of a list into a journal", [samples.stream(two, three)], base, [row])
 
 
-def reading(trial, base):
+def reading(trial: Trial, base: str) -> Iterator[Sweep]:
     row = samples.stream(samples.E1)
     journal = Journal()
     journal.take(row)
@@ -303,6 +344,9 @@ def reading(trial, base):
     texts = put(os.path.join(trial.folder(), "texts"), samples.E1 + samples.E2)
     yield Sweep(trial, "verify export", ["verify", "export", texts], (b"ok 2 0\n", "", 0))
     yield Sweep(trial, "verify file", ["verify", "file", file], (b"ok 1 0\n", "", 0))
+    upload, = trial.put([samples.stream(samples.E1, samples.E2)])
+    line = f"upload {samples.SOURCE.hex()} 0 2 0 {samples.SEQNUM_ID.hex()} 2\n"
+    yield Sweep(trial, "inspect", ["inspect", upload], (line.encode(), "", 0))
     yield Upload(trial, "export", samples.E1 + samples.E2, Ack.OLD, samples.stream(samples.E2, start=1))
     yield Upload(trial, "file", samples.FILE, b"resume 0 - -\n", samples.head(2) + samples.FILE)
     yield Ack(trial, "ack", [], (b"resume 2\n", "", 0), f"ack {samples.SOURCE.hex()} 1 1 1 0\n".encode())
@@ -310,7 +354,7 @@ def reading(trial, base):
         yield Sweep(trial, " ".join(words), words, run(*words))
 
 
-def main():
+def main() -> None:
     with Trial("memory") as trial, ThreadPoolExecutor(os.cpu_count()) as pool:
         trial.library = refusal.built(trial.base)
         base = trial.database()

@@ -6,13 +6,17 @@ A call that is refused is made once more, and then all has to be as if nothing h
 delivery with 63, and all goes on from there. If the refusal hits the program itself, while it reads or prints, it says
 so and ends.
 """
+from __future__ import annotations
+
 import os
 import random
-from concurrent.futures import ThreadPoolExecutor
+from collections.abc import Sequence
+from concurrent.futures import Executor, ThreadPoolExecutor
 
 import refusal
 import schedules
 from machines import World
+from model import Entry
 from trial import Trial
 
 # So many schedules are tried, of those that the seed draws the first ones with so many events.
@@ -26,11 +30,11 @@ ITSELF = ("Error: Kind(OutOfMemory)\n", "Error: Kind(InvalidInput)\n")
 class Refused(World):
     """A world whose collector is refused memory in the delivery with this number."""
 
-    def __init__(self, pool, given, number):
+    def __init__(self, pool: Sequence[Entry], given: Sequence[bytes], number: int) -> None:
         super().__init__(pool, given)
         self.number = number
 
-    def collect(self, delivery):
+    def collect(self, delivery: bytes) -> None:
         if len(self.answers) != self.number:
             super().collect(delivery)
             return
@@ -41,7 +45,7 @@ class Refused(World):
 class Case:
     """A schedule, and what may be printed of it."""
 
-    def __init__(self, trial, name, schedule, given):
+    def __init__(self, trial: Trial, name: str, schedule: str, given: Sequence[bytes]) -> None:
         self.trial = trial
         self.name = name
         self.events = [(word, int(first), int(second)) for word, first, second in map(str.split, schedule.split(";"))]
@@ -56,10 +60,10 @@ class Case:
                 other_marks, other = self.told(Refused(schedules.POOL, given, number))
                 self.with_63 |= {other_marks + other + b"runs differ\n" + text, marks + text + b"runs differ\n" + other}
 
-    def told(self, world):
+    def told(self, world: World) -> tuple[bytes, bytes]:
         return "".join("01"[world.take(*event)] for event in self.events).encode() + b"\n", world.text()
 
-    def one(self, number):
+    def one(self, number: int) -> str | None:
         """What the refusal of a request came to: `again`, `63`, or None if the program itself was hit, or it did no
         harm."""
         (output, errors, status), sizes = refusal.run(self.trial.library, number, number, self.words)
@@ -77,7 +81,7 @@ class Case:
         self.trial.expect(f"{what}: refusals", refusals in (0, 1), True)
         return "again" if refusals else None
 
-    def sweep(self, pool):
+    def sweep(self, pool: Executor) -> list[str | None]:
         told, sizes = refusal.run(self.trial.library, 0, 0, self.words)
         self.trial.expect(f"{self.name}, undisturbed", told, (self.usual, "", 0))
         ends = list(pool.map(self.one, refusal.places(sizes)))
@@ -87,7 +91,7 @@ class Case:
         return ends
 
 
-def cases(trial):
+def cases(trial: Trial) -> list[Case]:
     dice, given = random.Random(SEED), schedules.pieces()
     drawn = (schedules.schedule(dice, given)[0] for _ in iter(int, 1))
     chosen = []
@@ -100,7 +104,7 @@ def cases(trial):
     return [Case(trial, f"schedule {number}", schedule, given) for number, schedule in enumerate(chosen)]
 
 
-def main():
+def main() -> None:
     with Trial("memory of worlds") as trial, ThreadPoolExecutor(os.cpu_count()) as pool:
         trial.library = refusal.built(trial.base)
         ends = [end for case in cases(trial) for end in case.sweep(pool)]

@@ -71,11 +71,11 @@ def _judge(crate: Any, ci: Ci, turns: Turns) -> list[Outcome]:
     say = partial(print, flush=True)
     turn = partial(turns.turn, crate.count(rb"\n"))
     ci.wait_for({it.name for it in [*crate.below(), crate]})
-    if (lacking := libraries_stand(crate)) is not None:
+    if (lacking := libraries_stand(crate, ci.standing)) is not None:
         outcomes = [Outcome("", False, f"its library {lacking} is NOT BUILT")]
     else:
         with tempfile.TemporaryDirectory(prefix="refused-") as kept:
-            outcomes = judge(crate, kept, turn, say)
+            outcomes = judge(crate, kept, turn, say, ci.standing)
     for it in outcomes:
         say(f"refused {crate.name}{'/' * bool(it.name)}{it.name}: {it.text}")
     return outcomes

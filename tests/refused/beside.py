@@ -42,6 +42,12 @@ class Ci:
                 self._stand.add(name)
             self._changed.notify_all()
 
+    @property
+    def standing(self) -> frozenset[str]:
+        """The crates whose libraries stand, as it said so far."""
+        with self._changed:
+            return frozenset(self._stand)
+
     def wait_for(self, names: set[str]) -> None:
         """Returns when the libraries of these names stand, or when `rt ci` has ended."""
         with self._changed:

@@ -2,7 +2,7 @@
 
 from __future__ import annotations
 
-from collections.abc import Callable
+from collections.abc import Callable, Container
 from contextlib import AbstractContextManager, nullcontext
 from dataclasses import dataclass, field, replace
 from typing import Any
@@ -57,8 +57,12 @@ class Judge:
     """Judges a crate's edits over its libraries as they are built, each check in a turn of its own, and keeps its
     checks' work in the folder `kept`."""
 
-    def __init__(self, crate: Any, kept: str, turn: Turn, say: Callable[[str], None]) -> None:
+    def __init__(
+        self, crate: Any, kept: str, turn: Turn, say: Callable[[str], None], standing: Container[str]
+    ) -> None:
         self.crate = crate
+        # the crates whose libraries are known to be built from the sources as they are
+        self.standing = standing
         self.kept = kept
         self.turn = turn
         self.say = say
@@ -96,7 +100,7 @@ class Judge:
         of it is proved, or else by a check."""
         if self.refused:
             return Outcome("", False, f"beside its edits it is NOT PROVED: {', '.join(sorted(self.refused))}")
-        if not is_current(self.crate) and not (report := self._check([])).is_proved():
+        if not is_current(self.crate, self.standing) and not (report := self._check([])).is_proved():
             return Outcome("", False, f"without its edits it is NOT PROVED: {report.lines[-1]}")
         return Outcome("", True, "without its edits it is proved")
 
@@ -121,9 +125,15 @@ def _outcome(edit: Edit, ruling: Ruling) -> Outcome:
     return Outcome(edit.name, False, f"NOT REFUSED: {ruling.kind.value}" + (f": {goals}" if goals else ""))
 
 
-def judge(crate: Any, kept: str, turn: Turn = nullcontext, say: Callable[[str], None] = print) -> list[Outcome]:
+def judge(
+    crate: Any,
+    kept: str,
+    turn: Turn = nullcontext,
+    say: Callable[[str], None] = print,
+    standing: Container[str] = (),
+) -> list[Outcome]:
     """The outcomes of a crate's folder refused/: one for each file in it, and one for the crate without them."""
-    it = Judge(crate, kept, turn, say)
+    it = Judge(crate, kept, turn, say, standing)
     edits, bad = read_edits(it.sources)
     return [_bad(edit) for edit in bad] + it.outcomes(edits)
 

@@ -5,10 +5,14 @@ read; one disk or the other, at one place after another.
 What is asked of the journal afterwards is what stops.py asks. A journal that goes over to other tables has its entries
 in one of both.
 """
+from __future__ import annotations
+
 import os
 import re
 import subprocess
-from concurrent.futures import ThreadPoolExecutor
+from collections.abc import Callable, Sequence
+from concurrent.futures import Executor, ThreadPoolExecutor
+from typing import Any
 
 import samples
 from model import Journal
@@ -37,21 +41,21 @@ CHUNK = 16
 class Told:
     """What the words printed, one after the other."""
 
-    def __init__(self, output):
+    def __init__(self, output: bytes) -> None:
         self.rest = output
 
-    def line(self):
+    def line(self) -> str:
         line, _, self.rest = self.rest.partition(b"\n")
         return line.decode()
 
-    def answers(self, count):
+    def answers(self, count: int) -> list[str]:
         """The answers to so many uploads, or the line that says why there is no journal."""
         lines = [self.line()]
         while len(lines) < count and re.match("ack |no ", lines[0]):
             lines.append(self.line())
         return lines
 
-    def is_harmed(self):
+    def is_harmed(self) -> bool:
         """Whether a disk met its harm. That alone may keep the database from being closed, which is said first."""
         line = self.line()
         if line != "not closed":
@@ -60,7 +64,7 @@ class Told:
             raise ValueError("a database on sound disks isn't closed")
         return True
 
-    def entries(self):
+    def entries(self) -> bytes | str:
         """The journal's text, or the line that says why there is none."""
         found = re.match(rb"entries (\d+)\n", self.rest)
         if not found:
@@ -73,7 +77,7 @@ class Told:
 class Case:
     """Uploads that are collected in one run."""
 
-    def __init__(self, trial, name, uploads):
+    def __init__(self, trial: Trial, name: str, uploads: Sequence[bytes]) -> None:
         self.trial = trial
         self.name = name
         self.uploads = uploads
@@ -81,16 +85,16 @@ class Case:
         self.complete = Journal()
         self.usual = self.answers(self.complete)
 
-    def answers(self, journal):
+    def answers(self, journal: Journal) -> list[str]:
         """What the uploads are answered with; the journal has them then."""
         return [journal.take(upload) for upload in self.uploads]
 
-    def run(self, what, *words):
+    def run(self, what: str, *words: str) -> Told:
         told = subprocess.run([CALLS, *words], stdout=subprocess.PIPE, stderr=subprocess.PIPE, check=False, timeout=60)
         self.trial.expect(f"{what}: its end", (told.returncode, told.stderr), (0, b""))
         return Told(told.stdout)
 
-    def stopped(self, kind, disk, number):
+    def stopped(self, kind: str, disk: str, number: int) -> bool:
         """A disk stops; answers whether it did."""
         what = f"{self.name}, {kind} {disk} {number}"
         told = self.run(what, kind, f"{disk}:{number}", *self.collect, "export", "all", *self.collect, "export", "all")
@@ -100,7 +104,7 @@ class Case:
         self.left(what, told, self.journals_after(what, lines))
         return is_met
 
-    def journals_after(self, what, lines):
+    def journals_after(self, what: str, lines: list[str]) -> list[Journal]:
         """What a run with these answers may leave: all that is acknowledged, and with it perhaps the first upload whose
         answer is a failure of the store."""
         journal, failed = Journal(), []
@@ -117,7 +121,7 @@ class Case:
             and_failed.take(upload)
         return [journal, and_failed]
 
-    def left(self, what, told, journals):
+    def left(self, what: str, told: Told, journals: list[Journal]) -> None:
         """The entries, the answers to the same uploads sent again, and the entries then."""
         entries, again, complete = told.entries(), told.answers(len(self.uploads)), told.entries()
         found = [journal for journal in journals if entries == journal.text()]
@@ -127,7 +131,7 @@ class Case:
             self.trial.expect(f"{what}: again", again, self.answers(found[0].copy()))
             self.trial.expect(f"{what}: complete", (complete, told.rest), (self.complete.text(), b""))
 
-    def closing(self):
+    def closing(self) -> int:
         """The number of calls of the database after which it is complete but for what is in the log."""
         for number in range(1000):
             what = f"{self.name}, stopped as it is closed, {number}"
@@ -137,7 +141,7 @@ class Case:
                 return number
         raise ValueError("no upload is ever answered")
 
-    def rotten(self, disk, place, closing):
+    def rotten(self, disk: str, place: int, closing: int | None) -> tuple[bool, bool]:
         """A byte of a whole journal can't be read while the uploads are sent again and the entries are listed; answers
         whether there is such a byte, and whether it was noticed. What is stored is in the log if the database had
         stopped as it was closed."""
@@ -163,7 +167,7 @@ class Case:
 class Migration(Case):
     """A journal of some uploads that goes over from the tables of schema 1."""
 
-    def stopped(self, kind, disk, number):
+    def stopped(self, kind: str, disk: str, number: int) -> bool:
         what = f"{self.name}, {kind} {disk} {number}"
         told = self.run(what, "collect-old", self.collect[1], kind, f"{disk}:{number}", "migrate", "all",
                         "migrate", "all", *self.collect, "export", "all")
@@ -178,7 +182,7 @@ class Migration(Case):
         return is_met
 
 
-def upwards(pool, attempt, step=1):
+def upwards(pool: Executor, attempt: Callable[[int], Sequence[Any]], step: int = 1) -> list[Any]:
     """Tries one number after another until an attempt finds nothing to do at it; answers what was found at those
     before."""
     found = []
@@ -190,7 +194,7 @@ def upwards(pool, attempt, step=1):
             return found
 
 
-def stops(trial, pool):
+def stops(trial: Trial, pool: Executor) -> int:
     row, rest = samples.stream(samples.E1), samples.stream(samples.E2, samples.E3)
     tried = 0
     cases = (Case(trial, "two uploads", [row, rest]), Case(trial, "an upload without entries", [samples.head(1)]),
@@ -205,7 +209,7 @@ def stops(trial, pool):
     return tried
 
 
-def rot(trial, pool):
+def rot(trial: Trial, pool: Executor) -> int:
     case = Case(trial, "two uploads", [samples.stream(samples.E1), samples.stream(samples.E2, samples.E3)])
     tried = 0
     for closing, left in ((None, "closed"), (case.closing(), "not closed")):
@@ -218,7 +222,7 @@ def rot(trial, pool):
     return tried
 
 
-def main():
+def main() -> None:
     with Trial("disks") as trial, ThreadPoolExecutor(os.cpu_count()) as pool:
         tried = stops(trial, pool) + rot(trial, pool)
         trial.finish(f"{tried} runs")

@@ -4,7 +4,8 @@ calls, alone and with all later ones.
 Every upload that was acknowledged has its entries in the journal afterwards. Beside these there are all or none of the
 first upload that wasn't answered, or was answered by a failure of the store, and nothing else. The same uploads sent
 again complete the journal. A journal that goes over to tables of the present version is whole, in the old tables or in
-the new ones. A resume file is the old or the new one whole.
+the new ones. A resume file is the old or the new one whole, and so is the file of
+`collect --then-export`.
 """
 from __future__ import annotations
 
@@ -18,6 +19,7 @@ import device
 import older
 import samples
 from collecting import NEVER, Collecting
+from exporting import Exporting
 from make import Machine
 from migrating import Migrating
 from trial import PROGRAM, Trial, run
@@ -139,7 +141,8 @@ def main() -> None:
             (Collecting(trial, "many entries", [machine.stream(0, 40), machine.file(50), machine.stream(30, 60)]), 3),
             *((Migrating(trial, f"migrate, {name}", name), 1) for name in older.EARLIER),
         ]
-        tried = sum(sweep(trial, pool, *scenario) for scenario in scenarios) + Acks(trial).sweep(pool)
+        tried = sum(sweep(trial, pool, *scenario) for scenario in scenarios)
+        tried += Acks(trial).sweep(pool) + Exporting(trial).sweep(pool, upwards)
         trial.finish(f"{tried} runs")
 
 

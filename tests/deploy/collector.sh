@@ -1,0 +1,119 @@
+# shellcheck shell=bash disable=SC2154 # whoever sources this assigns what is named here
+# What the rows of the collector's side use: collectors of their own, uploads, the service, and a clock that is wrong.
+# Whoever sources this has `library` with the programs, `folder` for what is made, `journal-collect` on the PATH, and
+# `clock`, the library that clock.c makes.
+id=a0a1a2a3a4a5a6a7a8a9aaabacadaeaf
+sequence=202122232425262728292a2b2c2d2e2f
+
+# begin SETTING..: a collector of its own.
+begin() {
+    number=$((${number-0} + 1))
+    collector=$folder/collector-$number conf=$folder/collector-$number.conf
+    printf '%s\n' "FOLDER=$collector" FREE_BYTES=0 POLL_SECONDS=0.1 "$@" > "$conf"
+}
+
+receive() { "$library/receive" "$1" "$conf" < "$2"; }
+collect() { "$library/collect-incoming" --once "$conf"; }
+answers() { SSH_ORIGINAL_COMMAND=answers "$library/serve" "$1" "$conf"; }
+answered() { [[ $(answers "$1") == *"$2"* ]]; }
+
+# next_hour: what is stored from now on is in another database, also if the programs turn by the hour.
+next_hour() {
+    local database
+    for database in "$collector"/databases/*.db; do
+        [[ $database == */old-* ]] || mv "$database" "$collector/databases/old-$RANDOM$RANDOM.db"
+    done
+    rm -f "$collector"/databases/*.db-wal "$collector"/databases/*.sha256
+}
+
+# Entries ------------------------------------------------------------------------------------------------------------
+
+# entry NUMBER MESSAGE: an entry of the sequence.
+entry() {
+    printf '%s\n' "__REALTIME_TIMESTAMP=$((1700000000000000 + $1))" "__MONOTONIC_TIMESTAMP=$1" "__SEQNUM=$1" \
+        "__SEQNUM_ID=$sequence" "MESSAGE=$2" ""
+}
+
+# upload FROM COUNT ENTRIES: an upload of the entries FROM to FROM + COUNT - 1 (from 0) of a stream of so many, to
+# standard output. TEXT is in their messages, SOURCE is their source.
+upload() {
+    local each
+    for ((each = 1; each <= $3; each++)); do entry "$each" "${TEXT-text} $each"; done > "$folder/stream"
+    if (($1 > 0)); then echo "resume $1 $sequence $1"; else echo "resume 0 - -"; fi > "$folder/resume"
+    journal-collect upload --whole --source "${SOURCE-$id}" --resume "$folder/resume" --limit "$2" export \
+        "$folder/stream"
+}
+
+# stored: how many entries all databases have together, and how many of them differ in their keys.
+stored() {
+    local database
+    for database in "$collector"/databases/*.db; do
+        # a copy, for one that has a second name isn't opened
+        [[ ! -s $database ]] || { cp "$database" "$folder/copy.db" && journal-collect show "$folder/copy.db"; }
+        rm -f "$folder"/copy.db*
+    done | awk '{ keys[$2]; n++ } END { print n + 0, length(keys) }'
+}
+
+# The service --------------------------------------------------------------------------------------------------------
+
+# wait_for COMMAND..: until it succeeds, for 20 seconds.
+wait_for() {
+    local tries
+    for ((tries = 0; tries < 200; tries++)); do
+        if "$@" > "$folder/told" 2>&1; then return 0; fi
+        sleep 0.1
+    done
+    differs "waited in vain: $*"
+}
+
+# serve_in_background: the collector as its unit runs it; `service` is its process.
+serve_in_background() {
+    "$library/collect-incoming" "$conf" 2> "$folder/service" &
+    service=$!
+}
+
+# stop: SIGTERM, and what it ends with.
+stop() {
+    kill -TERM "$service"
+    wait "$service"
+    local got=$?
+    [[ $got -eq 0 ]] || differs "SIGTERM: status $got: $(cat "$folder/service")"
+}
+
+# make_slow_program: in slow-program is one that takes half a second to end once its database is closed, and tells that
+# by a file `closing`.
+make_slow_program() {
+    mkdir "$folder/slow-program"
+    cat > "$folder/slow-program/journal-collect" << END
+#!/bin/bash
+"$folder/bin/journal-collect" "\$@" || exit
+if [[ \$1 == collect ]]; then touch "$folder/closing" && sleep 0.5; fi
+END
+    chmod +x "$folder/slow-program/journal-collect"
+}
+
+# finished COUNT: so many databases are, or more.
+finished() { [[ $(find "$collector/databases" -name '*.db.sha256' | wc -l) -ge $1 ]]; }
+
+# parts_there COUNT: so many connections send.
+parts_there() { [[ $(find "$collector/incoming" -name '*.part' 2> "$folder/told" | wc -l) -eq $1 ]]; }
+
+# catches: the service has begun, and has said what SIGTERM does.
+catches() {
+    [[ $(< "/proc/$service/comm") == collect-incomin ]] &&
+        (($(awk '/^SigCgt/ { print "0x" $2 }' "/proc/$service/status") & 1 << 14))
+}
+
+# digests: what has changed since it was finished, by sha256sum.
+digests() { (cd "$collector/databases" && sha256sum --check --quiet ./*.sha256); }
+
+# The clock ----------------------------------------------------------------------------------------------------------
+
+# at CLOCK COMMAND..: as clock.c has it: how wrong the time is, how much longer the machine runs, how often it was
+# started since, and how many bytes are free.
+at() {
+    echo "$1" > "$folder/clock"
+    CLOCK_FILE=$folder/clock LD_PRELOAD=$clock "${@:2}"
+}
+
+collect_at() { at "$1" "$library/collect-incoming" --once "$conf"; }

@@ -1,0 +1,107 @@
+"""Stand-ins for machines: each has sources, makes uploads of them by `journal-collect upload`, and takes answers. It
+also does what machines must not: it sends old uploads again, or late, and is set back to an earlier day."""
+import os
+import subprocess
+import sys
+from collections.abc import Iterator
+
+sys.path.insert(0, os.path.join(os.path.dirname(os.path.abspath(__file__)), "..", "collect"))
+from trial import Trial  # noqa: E402
+
+PROGRAM = os.environ["PROGRAM"]
+MESSAGES = (b"ready", "größer".encode(), b"a\n\nb", b"x" * 300, b"=", b"tab\there")
+BASE = 1_700_000_000_000_000
+
+
+def entry_text(sequence: str, number: int, message: bytes) -> bytes:
+    """An entry as an export stream has it."""
+    field = b"MESSAGE\n%s%s\n" % (len(message).to_bytes(8, "little"), message)
+    if b"\n" not in message:
+        field = b"MESSAGE=%s\n" % message
+    return (b"__REALTIME_TIMESTAMP=%d\n__MONOTONIC_TIMESTAMP=%d\n__SEQNUM=%d\n__SEQNUM_ID=%s\n%sPRIORITY=6\n\n"
+            % (BASE + number, number, number, sequence.encode(), field))
+
+
+def entries_of(text: bytes) -> Iterator[tuple[str, int, bytes]]:
+    """The key and the message of each entry of an export."""
+    while text:
+        fields = {}
+        while not text.startswith(b"\n"):
+            line, _, text = text.partition(b"\n")
+            name, equals, value = line.partition(b"=")
+            if not equals:
+                length = int.from_bytes(text[:8], "little")
+                value, text = text[8:8 + length], text[9 + length:]
+            fields[name] = value
+        text = text[1:]
+        yield fields[b"__SEQNUM_ID"].decode(), int(fields[b"__SEQNUM"]), fields[b"MESSAGE"]
+
+
+class Source:
+    """A stream of a machine, which only grows; the entries are keys with messages."""
+
+    def __init__(self, world: Trial, machine: str, sequence: str, number: int) -> None:
+        self.world, self.machine = world, machine
+        self.id = world.dice.randbytes(16).hex()
+        self.folder = world.folder()
+        self.sequence, self.number = sequence, number
+        self.entries = []
+        self.acked = 0
+        self.is_closed = False
+        # uploads that were made: where each begins, how many entries it has, and its file
+        self.made = []
+
+    def path(self, name: str) -> str:
+        return os.path.join(self.folder, name)
+
+    def grow(self, count: int) -> None:
+        with open(self.path("stream"), "ab") as file:
+            for _ in range(count):
+                self.number += 1
+                message = b"%d %s" % (self.number, self.world.dice.choice(MESSAGES))
+                file.write(entry_text(self.sequence, self.number, message))
+                self.entries.append((self.sequence, self.number, message))
+
+    def make(self, start: int, limit: int) -> tuple[int, int, str] | None:
+        """An upload that begins at an entry, or None if there is none."""
+        if start >= len(self.entries):
+            return None
+        resume, path = self.path("from"), self.path(f"upload-{len(self.made)}")
+        with open(resume, "w", encoding="ascii") as file:
+            sequence, number, _ = self.entries[start - 1]
+            file.write(f"resume {start} {sequence} {number}\n" if start else "resume 0 - -\n")
+        with open(path, "wb") as file:
+            subprocess.run([PROGRAM, "upload", "--whole", "--source", self.id, "--resume", resume, "--limit",
+                            str(limit), "export", self.path("stream")], stdout=file, check=True)
+        self.made.append((start, min(limit, len(self.entries) - start), path))
+        return self.made[-1]
+
+    def other(self, start: int, count: int) -> str:
+        """An upload of a machine that was set back: the same numbers from an entry on, with other messages."""
+        resume, stream, path = self.path("none"), self.path("other"), self.path(f"other-{start}-{count}")
+        with open(stream, "wb") as file:
+            for place, (sequence, number, message) in enumerate(self.entries[:start + count]):
+                file.write(entry_text(sequence, number, message + b" again" * (place >= start)))
+        with open(resume, "w", encoding="ascii") as file:
+            sequence, number, _ = self.entries[start - 1]
+            file.write(f"resume {start} {sequence} {number}\n" if start else "resume 0 - -\n")
+        with open(path, "wb") as file:
+            subprocess.run([PROGRAM, "upload", "--whole", "--source", self.id, "--resume", resume, "--limit", "1000",
+                            "export", stream], stdout=file, check=True)
+        return path
+
+    def take(self, lines: list[str]) -> list[list[str]]:
+        """Takes the answers of the collector. Fails if they don't hold together."""
+        own = [line.split(" ") for line in lines if line.split(" ")[1] == self.id]
+        acks = [words for words in own if words[0] == "ack"]
+        lasts = [words for words in own if words[0] == "last"]
+        for words in acks:
+            start, count = int(words[2]), int(words[3])
+            if start <= self.acked < start + count:
+                self.acked = start + count
+            if count:
+                self.world.expect(f"{self.machine}: last of an ack", [int(last[2]) for last in lasts], [start + count])
+        for words in lasts:
+            entry = self.entries[int(words[2]) - 1]
+            self.world.expect(f"{self.machine}: the key of last", (words[3], int(words[4])), entry[:2])
+        return [words for words in own if words[0] == "no"]

@@ -1,0 +1,271 @@
+"""Rows of what a machine sends: usage: python3 send_rows.py LIBRARY [ROW..]
+
+journalctl is as in systemd 252: what is sent doesn't depend on it. The collector says what the row has it say.
+"""
+import os
+import subprocess
+import sys
+import time
+
+from journal import Journal
+from machine import Machine, body, read
+from trial_rows import Row, Rows
+
+ROWS: Rows[Machine] = Rows()
+
+
+@ROWS.row
+def set_back(row: Row, machine: Machine) -> None:
+    """A machine that is set back to a snapshot: an answer moves no stream that hasn't these entries."""
+    machine.journal.grow(4)
+    machine.send()
+    machine.answers(machine.collect())
+    machine.send()
+    snapshot(machine, "s", machine.journal)
+    journal = machine.journal.copy_to(f"{machine.base}/journal-s")
+    machine.journal.grow(3)
+    machine.send()
+    lost = machine.collect(machine.files()[-1]) + machine.last()
+    # the machine goes on from the snapshot with another history, in which the numbers begin anew
+    restore(machine, "s")
+    machine.journal = journal
+    journal.new_sequence()
+    journal.grow(5)
+    machine.answers(lost)
+    status, said = machine.send()
+    row.expect("status", (status, "set back or copied" in said), (1, True))
+    machine.send()
+    row.all_stored(machine)
+
+
+@ROWS.row
+def set_back_within_a_boot(row: Row, machine: Machine) -> None:
+    """The same numbers for other entries: what the collector has of the id didn't go out from here."""
+    machine.journal.grow(4)
+    machine.send()
+    machine.answers(machine.collect())
+    machine.send()
+    snapshot(machine, "s", machine.journal)
+    journal = machine.journal.copy_to(f"{machine.base}/journal-s")
+    machine.journal.grow(3)
+    machine.send()
+    lost = machine.collect(machine.files()[-1]) + machine.last()
+    restore(machine, "s")
+    machine.journal = journal
+    journal.grow(9)
+    machine.answers(lost)
+    before = len(machine.files())
+    status, said = machine.send()
+    row.expect("status", (status, "set back or copied" in said), (1, True))
+    machine.send()
+    sent = {entry[1] for name in machine.files()[before:] for entry in read(body(name))}
+    row.expect("what is sent again", sent, set(range(5, 14)))
+
+
+@ROWS.row
+def another_key(row: Row, machine: Machine) -> None:
+    """The collector has another entry at this position: neither the resume point moves, nor does an upload count."""
+    machine.journal.grow(1100)
+    machine.send()
+    source, _, count = machine.upload()
+    other = "f" * 32
+    machine.answers(f"ack {source} 0 {count} {count} 0\nlast {source} {count} {other} 17\n")
+    status, said = machine.send()
+    row.expect("status", (status, f"{other} 17" in said), (1, True))
+    machine.send()
+    again = machine.upload()
+    row.expect("what goes out", (again[0] != source, *again[1:]), (True, 0, 1100))
+
+
+@ROWS.row
+def acknowledged_key(row: Row, machine: Machine) -> None:
+    """The collector has another entry at a position that was acknowledged."""
+    machine.journal.grow(4)
+    machine.send()
+    source, _, count = machine.upload()
+    answer = machine.collect() + machine.last()
+    machine.answers(answer)
+    row.expect("status", machine.send(), (0, ""))
+    machine.answers(f"{answer.splitlines()[0]}\nlast {source} {count} {'f' * 32} 17\n")
+    status, said = machine.send()
+    row.expect("status", (status, "set back or copied" in said), (1, True))
+
+
+@ROWS.row
+def cloned(row: Row, machine: Machine) -> None:
+    """Two machines go on from one disk: each sends all of its own entries, whatever the other's answers are."""
+    machine.journal.grow(4)
+    machine.send()
+    machine.answers(machine.collect() + machine.last())
+    machine.send()
+    snapshot(machine, "s", machine.journal)
+    journal = machine.journal.copy_to(f"{machine.base}/journal-s")
+    machine.journal.new_sequence()
+    machine.boot("22222222-2222-2222-2222-222222222222")
+    machine.journal.grow(3)
+    machine.send()
+    first, keys = machine.folder, machine.journal.keys()
+    answer = machine.collect(machine.files()[-1]) + machine.last()
+    os.rename(first, f"{machine.base}/one")
+    restore(machine, "s")
+    machine.journal = journal
+    journal.new_sequence()
+    machine.boot("33333333-3333-3333-3333-333333333333")
+    journal.grow(3)
+    machine.answers(answer)
+    machine.send()
+    machine.answers(answer)
+    machine.send()
+    stored = set(machine.stored())
+    row.expect("what isn't stored", (keys | journal.keys()) - stored, set())
+
+
+@ROWS.row
+def answers_by_position(row: Row, machine: Machine) -> None:
+    """A refusal that came after an ack leaves the position, which is acknowledged."""
+    machine.journal.grow(4)
+    machine.send()
+    source = machine.upload()[0]
+    machine.answers(f"no {source} 4 61 0\n{machine.last()}")
+    status, said = machine.send()
+    row.expect("status", (status, "was refused" in said), (1, True))
+    with open(f"{machine.folder}/streams/00000001/resume", encoding="ascii") as file:
+        row.expect("the position", file.read().split()[1], "4")
+
+
+@ROWS.once
+def link(row: Row, machine: Machine) -> None:
+    """An upload that doesn't get through is made smaller, until it does; and larger again."""
+    for _ in range(40):
+        machine.journal.add("10000*x")
+    machine.journal.write()
+    for _ in range(3):
+        machine.send(CARRIES="40000")
+    row.expect("an upload is through", len(machine.files()) > 0, True)
+    for _ in range(9):
+        machine.answers(machine.collect())
+        machine.send()
+    row.all_stored(machine)
+    with open(f"{machine.folder}/link", encoding="ascii") as file:
+        row.expect("it grows", int(file.read()) > 100_000, True)
+
+
+@ROWS.once
+def link_that_stands(row: Row, machine: Machine) -> None:
+    """An upload that isn't through in its time is given up, and the next one is smaller."""
+    for _ in range(40):
+        machine.journal.add("10000*x")
+    machine.journal.write()
+    machine.settings.update(UPLOAD_SECONDS=2)
+    status, said = machine.send(CARRIES="40000", STANDS="yes")
+    row.expect("status", (status, "the upload didn't go out" in said or "no answers came" in said), (3, True))
+    machine.settings.update(UPLOAD_SECONDS=600)
+    machine.send(CARRIES="40000")
+    row.expect("an upload is through", len(machine.files()), 1)
+
+
+@ROWS.once
+def large_entry_on_a_slow_link(row: Row, machine: Machine) -> None:
+    """An entry that the link never carries keeps nothing else waiting, whoever logged it; and it goes out once the link
+    carries it."""
+    machine.settings.update(RESEND_MINUTES=1)
+    machine.journal.grow(3)
+    large = machine.journal.add("300000*x")
+    machine.journal.grow(5)
+    with_link(machine, 30_000)
+    said = ""
+    for _ in range(4):
+        said += machine.send(CARRIES="40000")[1]
+        machine.answers(machine.collect() if machine.files() else "")
+    machine.journal.grow(2)
+    machine.send(CARRIES="40000")
+    row.expect("it is told", "didn't get through" in said, True)
+    row.expect("what waits", {entry[1] for entry in machine.journal.keys() - set(machine.stored())}, {large[1]})
+    for name in os.listdir(f"{machine.folder}/streams"):
+        make_older(machine, 61, name)
+    machine.answers(machine.collect())
+    machine.send()
+    row.all_stored(machine)
+    row.expect("what came", sum(1 for _ in machine.entries_sent()), 11)
+
+
+def with_link(machine: Machine, size: int) -> None:
+    """The link has shown that an upload may have so many bytes."""
+    os.makedirs(machine.folder, exist_ok=True)
+    with open(f"{machine.folder}/link", "w", encoding="ascii") as file:
+        file.write(f"{size}\n")
+
+
+@ROWS.row
+def not_taken(row: Row, machine: Machine) -> None:
+    """The collector doesn't take an upload, perhaps since it is too large for it. Smaller ones are tried."""
+    for _ in range(40):
+        machine.journal.add("1000*x")
+    machine.journal.write()
+    with_link(machine, 60_000)
+    for _ in range(2):
+        status, said = machine.send(UPLOAD_STATUS="1")
+        row.expect("status", (status, "didn't take the upload" in said), (1, True))
+    for name in machine.files():
+        os.remove(name)
+    row.expect("status", machine.send()[0], 0)
+    row.expect("how large", os.path.getsize(machine.files()[0]) < 16_000, True)
+    for _ in range(4):
+        machine.answers(machine.collect())
+        machine.send()
+    row.all_stored(machine)
+
+
+@ROWS.row
+def resends(row: Row, machine: Machine) -> None:
+    """An upload without an answer goes out again after ten minutes, then twice as long, and not while it waits."""
+    machine.settings["RESEND_MINUTES"] = 10
+    machine.journal.grow(4)
+    machine.send()
+    sent = []
+    for minutes in (0, 11, 11, 11, 25, 45, 61, 61):
+        make_older(machine, minutes)
+        before = len(machine.files())
+        machine.send()
+        sent.append(len(machine.files()) - before)
+    row.expect("when it goes out", sent, [0, 1, 0, 1, 0, 1, 1, 1])
+    machine.answers(f"waits {machine.upload()[0]}\n")
+    make_older(machine, 61)
+    before = len(machine.files())
+    row.expect("status", machine.send()[0], 0)
+    row.expect("while it waits", len(machine.files()) - before, 0)
+
+
+def make_older(machine: Machine, minutes: int, stream: str = "00000001") -> None:
+    """The last upload went out so many minutes earlier."""
+    path = f"{machine.folder}/streams/{stream}/sent"
+    before = time.time() - os.path.getmtime(path)
+    with open(path, encoding="ascii") as file:
+        lines = file.read().splitlines()
+    for index, line in enumerate(lines):
+        if line.startswith("last "):
+            words = line.split()
+            lines[index] = f"last {words[1]} {int(words[2]) - minutes * 60} {words[3]}"
+    with open(path, "w", encoding="ascii") as file:
+        file.writelines(line + "\n" for line in lines)
+    os.utime(path, (time.time() - before - minutes * 60,) * 2)
+
+
+def snapshot(machine: Machine, name: str, journal: Journal) -> None:
+    assert journal is machine.journal
+    subprocess.run(["cp", "-a", machine.folder, f"{machine.base}/{name}"], check=True)
+
+
+def restore(machine: Machine, name: str) -> None:
+    if os.path.exists(machine.folder):
+        os.rename(machine.folder, f"{machine.base}/lost-{name}")
+    subprocess.run(["cp", "-a", f"{machine.base}/{name}", machine.folder], check=True)
+
+
+def main() -> None:
+    library, wanted = os.path.abspath(sys.argv[1]), sys.argv[2:]
+    sys.exit(ROWS.run(wanted, [252], lambda systemd: Machine(library, systemd)))
+
+
+if __name__ == "__main__":
+    main()

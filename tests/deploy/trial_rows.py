@@ -1,0 +1,71 @@
+"""Rows of a test: functions that are given a fresh machine, and say what differs."""
+import os
+import shutil
+import sys
+from collections.abc import Callable, Iterator, Sequence
+from typing import Generic, TypeVar
+
+from machine import Machine
+
+Kind = TypeVar("Kind", bound=Machine)
+Variant = TypeVar("Variant")
+
+
+class Row:
+    def __init__(self, name: str) -> None:
+        self.name, self.mistakes = name, 0
+
+    def expect(self, what: str, got: object, wanted: object) -> None:
+        if got != wanted:
+            self.mistakes += 1
+            print(f"{self.name}: {what}: {str(got)[:600]}, not {str(wanted)[:300]}", file=sys.stderr)
+
+    def all_stored(self, machine: Machine) -> None:
+        """Each entry of the journal came in an upload, and nothing else did."""
+        stored = set(machine.stored())
+        self.expect("entries that didn't come", machine.journal.keys() - stored, set())
+
+
+class Rows(Generic[Kind]):
+    def __init__(self) -> None:
+        self.rows: list[tuple[Callable[[Row, Kind], None], str]] = []
+
+    def row(self, function: Callable[[Row, Kind], None]) -> Callable[[Row, Kind], None]:
+        """A row of one variant, which are taken by turns; with ALL in the environment of all variants."""
+        self.rows.append((function, "by turns"))
+        return function
+
+    def each(self, function: Callable[[Row, Kind], None]) -> Callable[[Row, Kind], None]:
+        """A row of all variants."""
+        self.rows.append((function, "each"))
+        return function
+
+    def once(self, function: Callable[[Row, Kind], None]) -> Callable[[Row, Kind], None]:
+        """A row of the first variant alone."""
+        self.rows.append((function, "once"))
+        return function
+
+    def tried(self, wanted: Sequence[str], variants: Sequence[Variant]) -> Iterator[tuple[Callable, Variant]]:
+        """All rows, or those that are wanted, each with its variants."""
+        for index, (function, kind) in enumerate(self.rows):
+            if wanted and function.__name__ not in wanted:
+                continue
+            chosen = variants[:1] if kind == "once" else variants
+            if kind == "by turns" and "ALL" not in os.environ:
+                chosen = [variants[index % len(variants)]]
+            for variant in chosen:
+                yield function, variant
+
+    def run(self, wanted: Sequence[str], variants: Sequence[Variant], make: Callable[[Variant], Kind]) -> int:
+        """Tries the rows; 1 if one differs."""
+        mistakes = 0
+        for function, variant in self.tried(wanted, variants):
+            row, machine = Row(f"{function.__name__} ({variant})"), make(variant)
+            try:
+                function(row, machine)
+            except Exception as error:  # pylint: disable=broad-except
+                row.expect("an exception", f"{type(error).__name__}: {error}", None)
+            shutil.rmtree(machine.base, ignore_errors=True)
+            mistakes += row.mistakes
+        print(f"{len(self.rows)} rows, {mistakes} mistakes")
+        return int(mistakes > 0)
