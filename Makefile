@@ -1,4 +1,4 @@
-# Everything is proved, built, run and measured from here. The toolchain (rt on the PATH) is all that is needed.
+# Everything is proved, built, run and measured from here. It takes the toolchain (rt on the PATH), bash, Python.
 
 PROGRAM := crates/jc_cli/out/jc_cli
 SOURCES := $(shell find crates/*/src crates/*/specs crates/*/proofs -type f) crates.txt

@@ -36,7 +36,7 @@ done
 if command -v lintian > "$folder/told"; then
     expect 0 "~*" "~*" lintian --fail-on error "$package"
 else
-    echo "there is no lintian: the package isn't judged"
+    echo "skipped: lintian isn't installed, so the package isn't judged"
 fi
 
 # installed, purged and installed again by dpkg, in a root of its own; what was collected stays

@@ -44,7 +44,7 @@ if command -v systemd-analyze > "$folder/told"; then
     done
     expect 0 "" "" systemd-analyze --man=no verify "$folder"/units/*
 else
-    echo "there is no systemd-analyze: the units aren't verified"
+    echo "skipped: systemd-analyze isn't installed, so the units aren't verified"
 fi
 if command -v shellcheck > "$folder/told"; then
     # shellcheck disable=SC2046

@@ -29,6 +29,7 @@ stand_in journalctl << END
 case "\$*" in
     --version) echo "systemd 254" ;;
     "--since=yesterday --until=today --output=json") printf '{"MESSAGE":"%s"}\\n' one 'two\\nlines' ;;
+    --unit=*) echo "what the unit said" ;;
     --directory=*) exec $real_journalctl --no-pager --quiet --output=cat "\$@" ;;
     *) exec python3 -IS $here/tests/deploy/journalctl.py "\$@" ;;
 esac
@@ -48,6 +49,7 @@ stand_in hostname <<< $'#!/bin/sh\necho web'
 stand_in ssh-keyscan <<< $'#!/bin/sh\necho "$1 ssh-ed25519 AAAA"'
 stand_in ssh-keygen <<< $'#!/bin/sh\nfor file; do :; done\n: > "$file"\n: > "$file.pub"'
 stand_in runuser <<< $'#!/bin/sh\nshift 3\nexec "$@"'
+stand_in mail <<< $'#!/bin/sh\necho "$2 $3" >> '"$folder/mails"$'\ncat >> '"$folder/mails"
 stand_in systemd-id128 <<< $'#!/bin/sh\ntr -d - < /proc/sys/kernel/random/uuid'
 
 # The blocks, each in a file of its own.
@@ -55,10 +57,10 @@ awk -v to="$folder/guide" '/^```sh$/ { n++; on = 1; next } /^```$/ { on = 0 } on
 awk -v to="$folder/page" \
     '/^\.Bd -literal/ { n++; on = 1; next } /^\.Ed$/ { on = 0 } on { gsub(/\\e/, "\\"); print > (to "-" n) }' \
     docs/journal-collect.1
-[[ $(find "$folder" -name 'guide-*' | wc -l) -eq 13 ]] || differs "a block of the guide isn't tried"
+[[ $(find "$folder" -name 'guide-*' | wc -l) -eq 14 ]] || differs "a block of the guide isn't tried"
 [[ $(find "$folder" -name 'page-*' | wc -l) -eq 7 ]] || differs "an example of the man page isn't tried"
 blocks() {
-    local moved='etc/journal-collect|etc/systemd/|usr/lib/journal-collect|var/lib/journal-'
+    local moved='etc/journal-collect|etc/systemd/|usr/lib/journal-collect|var/lib/journal-|backup'
     sed -E "s#(^|[^a-z/])/($moved)#\1$root/\2#g" "$folder/$1" | bash -e
 }
 # the journal: three sequences at one time
@@ -88,13 +90,24 @@ expect 0 "" "" "$library/collect-incoming" --once "$root/etc/journal-collect/col
 expect 0 "~ok 300"$'\n'"aaaaaaaaaaaaaaaaaaaaaaaaaaaaaaaa 1 1700000000000000 0 a0"$'\n'"*" "" blocks guide-9
 expect 0 "ok 300 0" "" journal-collect verify export "$HOME"/*.export
 
-# a fleet's keys, how many entries a machine has, units that tell of failures, and what to watch
+# a fleet's keys: none, one with a wrong name and one that is cut off leave the file as it was
+keys=$root/var/lib/journal-collect/.ssh/authorized_keys
+cp "$keys" "$folder/keys"
+expect 1 "" "there is no key in $PWD/keys; nothing was changed" blocks guide-5
 mkdir keys
+echo "ssh-ed25519 AAAA web" > "keys/a machine.pub"
+expect 1 "" "keys/a machine.pub: no machine's name, or no public key; nothing was changed" blocks guide-5
+rm "keys/a machine.pub"
+echo "ssh-ed25519" > keys/web.pub
+expect 1 "" "keys/web.pub: no machine's name, or no public key; nothing was changed" blocks guide-5
+cmp "$folder/keys" "$keys" || differs "the keys after a wrong one"
+
+# a fleet's keys, how many entries a machine has, units that tell of failures, and what to watch
 echo "ssh-ed25519 AAAA web" > keys/web.pub
 echo "ssh-ed25519 BBBB mail" > keys/mail.pub
 expect 0 "" "" blocks guide-5
 printf 'command="%s/serve %s",restrict ssh-ed25519 %s\n' "$library" mail "BBBB mail" "$library" web "AAAA web" |
-    cmp - "$root/var/lib/journal-collect/.ssh/authorized_keys" || differs "the lines of a fleet's keys"
+    cmp - "$keys" || differs "the lines of a fleet's keys"
 expect 0 "2" "" blocks guide-6
 expect 0 "" "" blocks guide-7
 units=$root/etc/systemd/system
@@ -104,10 +117,26 @@ for unit in send journal-files; do
 done
 if command -v systemd-analyze > "$folder/told"; then
     expect 0 "" "" env -C "$units" systemd-analyze verify "$units/journal-collect-failed@.service"
+else
+    echo "skipped: systemd-analyze isn't installed, so the unit of the guide isn't verified"
 fi
-expect 0 "" "" blocks guide-8
+
+# a unit that goes on failing is told once an hour
+mkdir "$root/var/lib/journal-collect-failed"
+sed -n "s/^ExecStart=.bin.sh -c '//; /^cd /,/'\$/ { s/'\$//; s/\\\\\$//; p }" \
+    "$units/journal-collect-failed@.service" | tr '\n' ' ' > "$folder/tells"
+sed -i 's/%i/x.service/g; s/%H/web/g' "$folder/tells"
+expect 0 "" "" sh "$folder/tells"
+expect 0 "" "" sh "$folder/tells"
+expect 0 "x.service failed on web root"$'\n'"what the unit said" "" cat "$folder/mails"
+touch -d '61 minutes ago' "$root/var/lib/journal-collect-failed/x.service"
+expect 0 "" "" sh "$folder/tells"
+[[ $(grep -c '^x.service failed' "$folder/mails") -eq 2 ]] || differs "a unit that failed an hour later isn't told"
+
+expect 0 "mail: nothing of it was ever stored" "" blocks guide-8
 : > "$root/var/lib/journal-collect/databases/x.db.refused"
-expect 0 "$root/var/lib/journal-collect/databases/x.db.refused" "" blocks guide-8
+expect 0 "$root/var/lib/journal-collect/databases/x.db.refused"$'\n'"mail: nothing of it was ever stored" "" \
+    blocks guide-8
 rm "$root/var/lib/journal-collect/databases/x.db.refused"
 
 expect 0 "" "" blocks guide-4
@@ -118,8 +147,29 @@ gzip -dc "$here/tests/fixtures/tables-1/closed.db.gz" > "$root/var/lib/journal-c
 expect 0 "ok 6" "" blocks guide-11
 expect 0 "" "" blocks guide-11
 
+# a backup takes the place of a damaged database; a damaged backup doesn't
+databases=$root/var/lib/journal-collect/databases damaged=$root/var/lib/journal-collect/damaged
+mkdir "$root/backup"
+cp "$databases/2026-01-01T00.db" "$root/backup/2026-12-01T09-10.db"
+(cd "$root/backup" && sha256sum 2026-12-01T09-10.db > 2026-12-01T09-10.db.sha256)
+for name in .db .db-wal .db.refused -2.db; do
+    echo damaged > "$databases/2026-12-01T09-10$name"
+done
+cp -r "$root/backup" "$folder/whole"
+echo more >> "$root/backup/2026-12-01T09-10.db"
+expect 1 "~*FAILED" "~*" blocks guide-12
+[[ ! -e $damaged && -e $databases/2026-12-01T09-10.db.refused ]] || differs "a damaged backup was taken"
+cp "$folder/whole/2026-12-01T09-10.db" "$root/backup/"
+expect 0 "ok 6" "" blocks guide-12
+cmp "$root/backup/2026-12-01T09-10.db" "$databases/2026-12-01T09-10.db" || differs "the backup isn't in its place"
+(cd "$databases" && sha256sum --check --quiet 2026-12-01T09-10.db.sha256) || differs "the backup's digest"
+[[ ! -e $databases/2026-12-01T09-10.db.refused && -e $databases/2026-12-01T09-10-2.db ]] ||
+    differs "the mark, or a database of a longer name"
+[[ $(cat "$damaged"/*) == damaged$'\n'damaged$'\n'damaged ]] || differs "what was damaged isn't kept"
+rm "$databases/2026-12-01T09-10"*
+
 # by hand, and journals for journalctl
-expect 0 "ok 300 0"$'\n'"resume 300" "" blocks guide-12
+expect 0 "ok 300 0"$'\n'"resume 300" "" blocks guide-13
 expect 0 "ok 300" "" journal-collect check logs.db
 if [[ -n $real_journalctl && -x /lib/systemd/systemd-journal-remote ]]; then
     blocks guide-10 > "$folder/told" 2> "$folder/errors" ||
@@ -139,7 +189,7 @@ fi
 } > large
 mv large stream
 expect 1 "~bad 12 *" "" journal-collect verify export stream
-expect 0 "" "~left out: *" blocks guide-13
+expect 0 "" "~left out: *" blocks guide-14
 expect 0 "ok 300 0" "" journal-collect verify export stream
 
 # the man page
