@@ -3,7 +3,7 @@
 
 The entries are those of make_file.py, from number FIRST to number LAST, either as an export stream with the lines that
 journalctl writes, or as the journal file. Both say the same of an entry. `stream FIRST LAST` writes the export stream
-alone.
+alone. `busy FIRST LAST` and `busy-stream FIRST LAST` do the same with the entries of make_stream.py, of 24 fields.
 """
 from __future__ import annotations
 
@@ -11,7 +11,7 @@ import struct
 import sys
 
 from make_file import BOOT_ID, SEQNUM_ID, fields, file_of, numbers
-from make_stream import field
+from make_stream import entry as busy, field
 
 SOURCE = bytes(range(160, 176))
 
@@ -41,9 +41,9 @@ def main() -> None:
         sys.stdout.buffer.writelines(file_of(int(bounds[0])))
     else:
         first, last = map(int, bounds)
-        if kind == "export":
+        if not kind.endswith("stream"):
             sys.stdout.buffer.write(head(1, first - 1))
-        sys.stdout.buffer.writelines(map(text, range(first, last + 1)))
+        sys.stdout.buffer.writelines(map(busy if kind.startswith("busy") else text, range(first, last + 1)))
 
 
 if __name__ == "__main__":

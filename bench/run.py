@@ -4,7 +4,9 @@
 Reading: `verify export` of streams of 10 MB and of 100 MB in turn with the C parser of parser.c, `verify file` of a
 journal file. Collecting: new databases of 1,000 to 100,000 entries with 20 fields each, from export uploads and from
 journal files, the same uploads again, and listings of what is stored; each in turn with the C baseline of baseline.c.
-What is in C is left out if it can't be built. `migrate` of databases of schema 1. Each figure is the best of five runs.
+What is in C is left out if it can't be built. An upload of 10,000 entries with 24 fields, in turn with the baseline and
+with systemd-journal-remote, if it is installed. `migrate` of databases of schema 1. Each figure is the best of five
+runs.
 """
 from __future__ import annotations
 
@@ -17,6 +19,7 @@ from measure import HERE, OUT, Run, Runs, best, forget, interleaved, made, megab
 STOCK = os.path.join(HERE, "..", "tests", "collect", "stock.py")
 ENTRIES = 100_000
 UPLOAD = 1_000
+REMOTE = "/lib/systemd/systemd-journal-remote"
 
 
 def built(name: str, *libraries: str) -> str | None:
@@ -158,6 +161,32 @@ def measure_collecting(program: str) -> None:
             forget(database)
 
 
+def measure_beside_remote(program: str) -> None:
+    """The program, the baseline and systemd-journal-remote take in the same entries of a busy machine."""
+    entries = ENTRIES // 10
+    upload = made(f"{entries}.busy", "make_upload.py", "busy", 1, entries)
+    stream = made(f"{entries}.busy-stream", "make_upload.py", "busy-stream", 1, entries)
+    programs = Collecting(program, built_baseline()).programs
+    targets = {name: os.path.join(OUT, f"busy-{name}.db") for name, _ in programs}
+    commands = [[path, "collect", targets[name], upload] for name, path in programs]
+    if os.access(REMOTE, os.X_OK):
+        targets["remote"] = os.path.join(OUT, "busy.journal")
+        # It tells of the lines of metadata that it leaves out, entry by entry.
+        quiet = ["sh", "-c", 'exec "$@" 2>/dev/null', "sh"]
+        commands.append([*quiet, REMOTE, f"--output={targets['remote']}", stream])
+    else:
+        print(f"no {REMOTE} is here, so there is no figure for it")
+    outputs = list(targets.values())
+    runs = interleaved(commands, lambda index: forget(outputs[index]))
+    print(f"{entries:,} entries of 24 fields are taken in")
+    for name, each in zip(targets, runs):
+        print(f"  {name:8} {rates(each, entries, megabytes([stream]))}")
+    for name, each in list(zip(targets, runs))[1:]:
+        print(f"  to {name}: {ratio([runs[0], each])}, of processor times {runs[0].processor / each.processor:.2f}")
+    for output in outputs:
+        forget(output)
+
+
 def measure_migrating(program: str) -> None:
     database = os.path.join(OUT, "migrated.db")
 
@@ -182,6 +211,7 @@ def main() -> None:
     say_machine(program)
     measure_reading(program)
     measure_collecting(program)
+    measure_beside_remote(program)
     measure_migrating(program)
     print(f"load after: {' '.join(f'{load:.1f}' for load in os.getloadavg())}")
 

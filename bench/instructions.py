@@ -1,0 +1,57 @@
+#!/usr/bin/env python3
+"""Counts the instructions of programs: instructions.py ENTRIES PROGRAM..
+
+Each program collects one upload of entries with 24 fields into a new database, opens the database, collects the same
+upload again, and shows the first hundredth of the entries. Valgrind counts the instructions, which are the same in each
+run, whatever else the machine does. The program `baseline` in bench/out, which `make bench` builds, may be one of them:
+it has no option for a part of the entries, so it shows all.
+"""
+from __future__ import annotations
+
+import os
+import re
+import sys
+
+from measure import OUT, Run, forget, made
+
+COUNTING = ["valgrind", "--tool=cachegrind", "--cache-sim=no", "--cachegrind-out-file=/dev/null"]
+
+
+def instructions(command: list[str]) -> int:
+    """How many instructions a command takes."""
+    said = os.path.join(OUT, "counted")
+    Run([*COUNTING, *command], errors=said)
+    with open(said, encoding="utf-8", errors="replace") as file:
+        counted = re.search(r"I +refs: +([\d,]+)", file.read())
+    if counted is None:
+        raise OSError("valgrind has counted nothing")
+    return int(counted[1].replace(",", ""))
+
+
+def count(program: str, entries: int) -> None:
+    """Prints what a program takes, for its steps in turn."""
+    upload = made(f"{entries}.busy", "make_upload.py", "busy", 1, entries)
+    empty = made("empty.upload", "make_upload.py", "export", 1, 0)
+    database = os.path.join(OUT, "counted.db")
+    first = [] if os.path.basename(program) == "baseline" else ["--to", str(entries // 100)]
+    forget(database)
+    collected = instructions([program, "collect", database, upload])
+    opened = instructions([program, "collect", database, empty])
+    again = instructions([program, "collect", database, upload])
+    shown = instructions([program, "show", database, *first])
+    forget(database)
+    print(f"{program}, {entries:,} entries of 24 fields, in instructions")
+    print(f"  collect into a new database    {collected:18,}")
+    print(f"  opened, adopted and closed     {opened:18,}")
+    print(f"  again, without the opening     {again - opened:18,}")
+    print(f"  show, without the opening      {shown - opened:18,}", flush=True)
+
+
+def main() -> None:
+    os.makedirs(OUT, exist_ok=True)
+    for program in sys.argv[2:]:
+        count(os.path.abspath(program), int(sys.argv[1]))
+
+
+if __name__ == "__main__":
+    main()
