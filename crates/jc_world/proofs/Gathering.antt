@@ -56,9 +56,9 @@ differ before now next entries rest others first e h g is apart reads =
 pub differs : (before now next : Option Reading) (entries rest others : List LogEntry) (first e : LogEntry) → FollowsOn before entries now rest
     → Gives now next (Ok (Entry e)) → rest ≡ first ∷ others → ¬ (first ≡ e)
     → (reading : Reading) → before ≡ Some reading → ¬ ReadsFront entries reading
-differs None now next entries rest others first e h g is apart reading told = absurd (none-some reading told)
-differs (Some before) None next entries rest others first e h g is apart reading told = absurd h
-differs (Some before) (Some now) None entries rest others first e h g is apart reading told = absurd g
-differs (Some before) (Some now) (Some next) entries rest others first e h g is apart reading told =
+differs None now next entries rest others first e h g is apart reading known = absurd (none-some reading known)
+differs (Some before) None next entries rest others first e h g is apart reading known = absurd h
+differs (Some before) (Some now) None entries rest others first e h g is apart reading known = absurd g
+differs (Some before) (Some now) (Some next) entries rest others first e h g is apart reading known =
     let all : ¬ ReadsFront entries before = differ before now next entries rest others first e h g is apart in
-    subst (λ (r : Reading). ¬ ReadsFront entries r) (same_Some before reading told) all
+    subst (λ (r : Reading). ¬ ReadsFront entries r) (same_Some before reading known) all

@@ -101,8 +101,8 @@ alien_found once machines bytes head begins (Some place) false at is =
 -- ---- a file
 
 pub file_front : ((limits : Limits) (b : List ℕ) (r s : Reading) → IsFileReading limits b r → IsFileReading limits b s → r ≡ s)
-    → (limits : Limits) (file : List ℕ) (entries : List LogEntry) (told : Option Reading) (front : Bool)
-    → IsSomeAnd told (IsFileReading limits file) → ((r : Reading) → told ≡ Some r → IsTrue front ↔ ReadsFront entries r)
+    → (limits : Limits) (file : List ℕ) (entries : List LogEntry) (known : Option Reading) (front : Bool)
+    → IsSomeAnd known (IsFileReading limits file) → ((r : Reading) → known ≡ Some r → IsTrue front ↔ ReadsFront entries r)
     → IsTrue front ↔ FileReadsFront limits file entries
 file_front one limits file entries None front is h = absurd is
 file_front one limits file entries (Some r) front is h =

@@ -28,7 +28,7 @@ use Rattle.jc_upload.specs.declared.head.Version.TheVariants.{V1, V2}
 use Rattle.jc_upload.specs.Head.{IsHead, fault_at, head_text}
 use Rattle.jc_collect.specs.Answer.{IsTaken}
 use Rattle.jc_collect.specs.Position.{Joins}
-use Rattle.jc_upload.specs.Says.{HasHead, IsBodyReading, Says, ending_of_whole, told_as}
+use Rattle.jc_upload.specs.Says.{HasHead, IsBodyReading, Says, ending_of_whole, reading_under}
 use Rattle.jc_file.specs.Cut.{IsCutShort}
 use Rattle.jc_world.specs.Kept.{AreStored, IsExportOf, IsFileOf}
 use Rattle.jc_world.specs.State.{AreDistinct, MachineState, source_of}
@@ -50,13 +50,13 @@ same_machine machines a b distinct in_a in_b same =
 
 -- ---- an ack
 
--- What a reading is told as has its entries.
-told_entries : (version : Version) (r : Reading) → (told_as version r).entries ≡ r.entries
-told_entries V1 r = refl
-told_entries (V2 false entries) r = refl
-told_entries (V2 true entries) r = refl
+-- A reading has the same entries under each version.
+same_entries : (version : Version) (r : Reading) → (reading_under version r).entries ≡ r.entries
+same_entries V1 r = refl
+same_entries (V2 false entries) r = refl
+same_entries (V2 true entries) r = refl
 
--- It is told to end without a fault only if it does.
+-- Under a version it ends without a fault only if it does.
 whole_ended : (number count : ℕ) (ending : Ending) (left : ℕ) → ending_of_whole number count ending ≡ End left → ending ≡ End left
 whole_ended number count (Bad fault) left h = h
 whole_ended number count (End end) left h = either (nat_eq end 0 && nat_eq count number) h
@@ -65,10 +65,10 @@ whole_ended number count (End end) left h = either (nat_eq end 0 && nat_eq count
     either true e = e
     either false e = cc
 
-told_ended : (version : Version) (r : Reading) (left : ℕ) → (told_as version r).ending ≡ End left → r.ending ≡ End left
-told_ended V1 r left h = h
-told_ended (V2 false entries) r left h = h
-told_ended (V2 true entries) r left h = whole_ended entries (length r.entries) r.ending left h
+same_end : (version : Version) (r : Reading) (left : ℕ) → (reading_under version r).ending ≡ End left → r.ending ≡ End left
+same_end V1 r left h = h
+same_end (V2 false entries) r left h = h
+same_end (V2 true entries) r left h = whole_ended entries (length r.entries) r.ending left h
 
 -- An ack to a delivery is of this reading of its body, whose entries are stored.
 pub record IsAckOf (limits : Limits) (delivery : List ℕ) (source : Id128) (start count : ℕ) (after : Journal) : Type 0 where
@@ -116,8 +116,8 @@ ack_of once limits delivery source start count new left before after taken joins
   of_source = ap (λ (p : Id128 × ℕ). p.0) taken.named;
   of_start = ap (λ (p : Id128 × ℕ). p.1) taken.named;
   left = left;
-  ended = told_ended taken.head.version taken.says.reads.read left
-      (ap (λ (r : Reading). r.ending) (sym taken.says.reads.told) ∙ taken.ended);
+  ended = same_end taken.head.version taken.says.reads.read left
+      (ap (λ (r : Reading). r.ending) (sym taken.says.reads.under) ∙ taken.ended);
   counted = taken.counted ∙ ap (λ (es : List LogEntry). length es) same;
   stored = subst (All (IsStored after)) same
       (subst (λ (r : Reading). All (IsStored after) r.entries)
@@ -126,7 +126,7 @@ ack_of once limits delivery source start count new left before after taken joins
 }
   where
     same : taken.reading.entries ≡ taken.says.reads.read.entries
-    same = ap (λ (r : Reading). r.entries) taken.says.reads.told ∙ told_entries taken.head.version taken.says.reads.read
+    same = ap (λ (r : Reading). r.entries) taken.says.reads.under ∙ same_entries taken.head.version taken.says.reads.read
 
 -- ---- a beginning of an upload
 
@@ -141,7 +141,7 @@ head_cut once upload cut h k whole body has begins =
 
 -- entries that are a beginning of what the machine has from a place on
 backed_by : (after : Journal) (entries read more : List LogEntry) (start count : ℕ) → drop start entries ≡ read ++ more
-    → count ≡ length read → start + count ≤ length entries → All (IsStored after) read → AreStored after entries start count
+    → count ≡ length read → start + count ≤ length entries → All (IsStored after) read → AreStored (IsStored after) entries start count
 backed_by after entries read more start count is size within stored = record {
   within = within;
   stored = subst (All (IsStored after)) (sym (take_rest_front entries read more start count is size)) stored;
@@ -159,7 +159,7 @@ ending_once a b left fault e f = cc
 module _ (one_head : HeadOnce) (texts : TextsCut) (files : FilesCut) where
   export_backed : (limits : Limits) (machine : MachineState) (upload : List ℕ) (cut : ℕ) (source : Id128) (start count : ℕ) (after : Journal)
       → All IsEntry machine.entries → IsExportOf machine upload → IsAckOf limits (take cut upload) source start count after
-      → (source ≡ source_of machine) × AreStored after machine.entries start count
+      → (source ≡ source_of machine) × AreStored (IsStored after) machine.entries start count
   export_backed limits machine upload cut source start count after lawful made ack =
       let same = head_cut one_head upload cut made.head ack.head (flat_map canon made.sent) ack.body made.has ack.has in
       let kind : ack.head.kind ≡ Export = ap (λ (h : UploadHead). h.kind) same.0 ∙ made.kind in
@@ -181,7 +181,7 @@ module _ (one_head : HeadOnce) (texts : TextsCut) (files : FilesCut) where
 
   file_backed : (limits : Limits) (machine : MachineState) (upload : List ℕ) (cut : ℕ) (source : Id128) (start count : ℕ) (after : Journal)
       → IsFileOf limits machine upload → IsAckOf limits (take cut upload) source start count after
-      → (source ≡ source_of machine) × AreStored after machine.entries start count
+      → (source ≡ source_of machine) × AreStored (IsStored after) machine.entries start count
   file_backed limits machine upload cut source start count after made ack =
       let same = head_cut one_head upload cut made.head ack.head made.file ack.body made.has ack.has in
       let kind : ack.head.kind ≡ File = ap (λ (h : UploadHead). h.kind) same.0 ∙ made.kind in
@@ -218,7 +218,7 @@ module _ (one_head : HeadOnce) (texts : TextsCut) (files : FilesCut) where
   pub made_backed : (limits : Limits) (machine : MachineState) (upload : List ℕ) (cut : ℕ) (source : Id128) (start count : ℕ) (after : Journal)
       → All IsEntry machine.entries → IsExportOf machine upload ⊎ IsFileOf limits machine upload
       → IsAckOf limits (take cut upload) source start count after
-      → (source ≡ source_of machine) × AreStored after machine.entries start count
+      → (source ≡ source_of machine) × AreStored (IsStored after) machine.entries start count
   made_backed limits machine upload cut source start count after lawful from ack = ⊎_elim
       (λ (made : IsExportOf machine upload). export_backed limits machine upload cut source start count after lawful made ack)
       (λ (made : IsFileOf limits machine upload). file_backed limits machine upload cut source start count after made ack)

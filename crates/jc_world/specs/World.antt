@@ -6,12 +6,13 @@ use Rattle.jc_upload.specs.declared.answer.Answer.{Answer}
 use Rattle.jc_world.specs.State.{State}
 use Rattle.jc_world.specs.declared.world.World.{World}
 
--- its state, by the journal of its keeper
+-- its state, by the journals of its keepers
 abbrev pub state_of : {K : Type 0} → (K → Journal) → World K → State
 state_of journal w = record {
   machines = w.machines.items;
   uploads = map (λ u. u.items) w.uploads.items;
   answers = w.answers.items;
+  past = map journal w.past.items;
   journal = journal w.keeper;
 }
 
@@ -20,6 +21,10 @@ answers_of w = w.answers.items
 
 abbrev pub keeper_of : {K : Type 0} → World K → K
 keeper_of w = w.keeper
+
+-- the keepers that it had before, in order
+abbrev pub past_of : {K : Type 0} → World K → List K
+past_of w = w.past.items
 
 abbrev pub limits_of : {K : Type 0} → World K → Limits
 limits_of w = w.limits

@@ -8,5 +8,5 @@ mod machine;
 mod world;
 
 pub use event::Event;
-pub use law::{events_keep, schedules_keep};
+pub use law::{acks_join, events_keep, schedules_keep, turns_keep};
 pub use world::{Progress, World};

@@ -11,13 +11,13 @@ not_both : (b : Bool) → b ≡ false → ¬ (IsTrue b)
 not_both b e t = cc
 
 pub returns-then-not-same-clause-front : goal.returns-then-not-same-clause-front
-returns-then-not-same-clause-front g c = λ reading told.
+returns-then-not-same-clause-front g c = λ reading known.
     let source = g.S.EntrySource in
     let gives = subst (λ (step : Step). Gives (source.remaining c.entries.source) (source.remaining c.next.new.self) (Ok step)) c.in-Entry.is c.in_ok-step.ensures.gives in (
       λ f. absurd (no_truth f),
       λ reads. absurd (differs (source.remaining c.args.source.now) (source.remaining c.entries.source) (source.remaining c.next.new.self)
           c.args.entries.now c.entries.rest.now c.in-Some.others.now c.in-Some.first.now c.in-Entry.entry c.entries.invariant.follows gives
-          c.in-Some.ensures.cases.0 (λ e. not_both c.same.result c.if-not-same.true (c.same.ensures.1 e)) reading told reads),
+          c.in-Some.ensures.cases.0 (λ e. not_both c.same.result c.if-not-same.true (c.same.ensures.1 e)) reading known reads),
     )
 
 pub entries-preserved : goal.entries-preserved
