@@ -3,14 +3,23 @@
 
 pub use jc_command::command;
 use jc_command_shared::Failure;
+use sqlite::Unknown;
 use std::process::ExitCode;
 use std::{env, io};
 
 fn main(rt: HostRuntime) -> ExitCode {
     let mut errors = rt.stderr();
     let number = match given_words(&rt) {
-        Ok(words) => command(&rt, words, &mut rt.reader(), &mut rt.stdout(), &mut errors),
-        Err(failure) => failure.tell(&mut errors).number(),
+        // A commit syncs once, as under SQLite's `synchronous=FULL`.
+        Ok(words) => command(
+            &rt,
+            Unknown,
+            words,
+            &mut rt.reader(),
+            &mut rt.stdout(),
+            &mut errors,
+        ),
+        Err(failure) => failure.report(&mut errors).number(),
     };
     ExitCode::from(number)
 }

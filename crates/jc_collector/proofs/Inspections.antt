@@ -9,26 +9,26 @@ use Rattle.jc_base.specs.LimitBounds.{AreDefaults}
 use Rattle.jc_base.specs.declared.limits.Limits.{Limits}
 use Rattle.jc_collect.specs.Inspected.{HasFormatCode, IsInspected}
 use Rattle.jc_collect.specs.declared.inspect.Inspected.{Inspected}
-use Rattle.jc_collector.specs.Inspected.{TellsInspected, TellsSomeUpload, TellsUpload}
+use Rattle.jc_collector.specs.Inspected.{PrintsInspected, PrintsSomeInspected, PrintsInspectedOf}
 use Rattle.jc_command_shared.specs.declared.failure.Failure.{Failure}
 use Rattle.jc_command_shared.specs.declared.status.Status.{Status}
 
-pub some_told : (inspected : Inspected) (r : Result Status Failure) (old new : Option (List ℕ)) → HasFormatCode inspected
-    → IfOk r (λ status. TellsInspected inspected status old new) → IfOk r (λ status. TellsSomeUpload status old new)
-some_told inspected r old new format told =
-    IfOk-weaker r _ _ (λ status tells. record { inspected = inspected; format = format; told = tells }) told
+pub some_printed : (inspected : Inspected) (r : Result Status Failure) (old new : Option (List ℕ)) → HasFormatCode inspected
+    → IfOk r (λ status. PrintsInspected inspected status old new) → IfOk r (λ status. PrintsSomeInspected status old new)
+some_printed inspected r old new format printed =
+    IfOk-weaker r _ _ (λ status prints. record { inspected = inspected; format = format; printed = prints }) printed
 
-pub upload_told : (upload : List ℕ) (limits : Limits) (inspected : Inspected) (r : Result Status Failure) (old new : Option (List ℕ))
+pub upload_printed : (upload : List ℕ) (limits : Limits) (inspected : Inspected) (r : Result Status Failure) (old new : Option (List ℕ))
     → AreDefaults limits.name limits.value limits.fields limits.entry limits.file → IsInspected limits upload inspected
-    → IfOk r (λ status. TellsInspected inspected status old new) → IfOk r (λ status. TellsUpload upload status old new)
-upload_told upload limits inspected r old new defaults says told =
-    IfOk-weaker r _ _ (λ status tells. record {
+    → IfOk r (λ status. PrintsInspected inspected status old new) → IfOk r (λ status. PrintsInspectedOf upload status old new)
+upload_printed upload limits inspected r old new defaults says printed =
+    IfOk-weaker r _ _ (λ status prints. record {
       limits = limits;
       defaults = defaults;
       inspected = inspected;
       says = says;
-      told = tells;
-    }) told
+      printed = prints;
+    }) printed
 
 -- ---- lines that are written in parts
 

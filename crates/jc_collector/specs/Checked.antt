@@ -23,6 +23,6 @@ health_status (Whole _) = Success
 health_status (Bad _) = Refused
 
 -- The output gained the line, and the status is its own.
-pub record TellsHealth (health : Health) (status : Status) (old new : Option (List ℕ)) : Type 0 where
+pub record PrintsHealth (health : Health) (status : Status) (old new : Option (List ℕ)) : Type 0 where
   pub judged : status ≡ health_status health
   pub printed : Appends old new (health_text health ++ 10 ∷ [])

@@ -30,20 +30,20 @@ inspected_status (Upload source start count left last) = Success
 inspected_status (Bad fault) = Refused
 
 -- The output gained the line, and the status is its own.
-pub record TellsInspected (inspected : Inspected) (status : Status) (old new : Option (List ℕ)) : Type 0 where
+pub record PrintsInspected (inspected : Inspected) (status : Status) (old new : Option (List ℕ)) : Type 0 where
   pub judged : status ≡ inspected_status inspected
   pub printed : Appends old new (inspected_line inspected)
 
 -- The output gained a line for some upload, whose fault, if it has one, is one of an upload.
-pub record TellsSomeUpload (status : Status) (old new : Option (List ℕ)) : Type 0 where
+pub record PrintsSomeInspected (status : Status) (old new : Option (List ℕ)) : Type 0 where
   pub inspected : Inspected
   pub format : HasFormatCode inspected
-  pub told : TellsInspected inspected status old new
+  pub printed : PrintsInspected inspected status old new
 
 -- The output gained the line of what the upload says under the default limits.
-pub record TellsUpload (upload : List ℕ) (status : Status) (old new : Option (List ℕ)) : Type 0 where
+pub record PrintsInspectedOf (upload : List ℕ) (status : Status) (old new : Option (List ℕ)) : Type 0 where
   pub limits : Limits
   pub defaults : AreDefaults limits.name limits.value limits.fields limits.entry limits.file
   pub inspected : Inspected
   pub says : IsInspected limits upload inspected
-  pub told : TellsInspected inspected status old new
+  pub printed : PrintsInspected inspected status old new

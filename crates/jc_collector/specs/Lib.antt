@@ -3,3 +3,4 @@ pub mod Database
 pub mod Listed
 pub mod Checked
 pub mod Inspected
+pub mod OverFiles

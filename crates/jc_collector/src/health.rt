@@ -3,20 +3,19 @@
 ghost use Rattle.std.specs.Prelude.{◌≡◌, ◌≢◌, Some, IfOk, IfErr};
 ghost use Rattle.std.specs.FinMap.{len};
 ghost use Rattle.std.specs.Io.KnownBytes.{Keeps};
-ghost use Rattle.jc_collector.specs.Checked.{IsHealth, TellsHealth, health_text, health_status};
+ghost use Rattle.jc_collector.specs.Checked.{IsHealth, PrintsHealth, health_text, health_status};
 ghost use Rattle.jc_collector.specs.Database.{CheckFailsBy, IsStoreFailure, WhyNoHealth};
 ghost use Rattle.jc_command_shared.specs.Failure.{status_of};
 
-use crate::database::{Databases, check_name, close_after, open_there};
+use crate::database::{check_name, close_after, open_there};
 use crate::failures::why_unanswered;
 use jc_base::Fault;
 use jc_command_shared::{Failure, Status, printed};
 use jc_keeper::Keeper;
 use jc_schema_two::SqlKeeper;
-use sqlite::Alter;
+use sqlite::{Alter, Start};
 use std::fmt;
 use std::io::Write;
-use std::rt::Files;
 
 /// What `check` and `migrate` print of a database.
 #[derive(Clone, Copy)]
@@ -50,33 +49,35 @@ impl fmt::Display for Health {
 }
 
 /// Prints what is in a database.
-pub fn check<'a, R: Databases + Files + AllocGlobal, O: Write>(
-    rt: &R,
+pub fn check<'a, S: Start, O: Write>(
+    rt: &HostRuntime,
+    start: S,
     database: &'a str,
     output: &mut O,
 ) -> Result<Status, Failure<'a>>
-    ensures told { IfOk result (λ status. (health : Health) × IsHealth health × TellsHealth health status (O.contents output.old)
+    ensures printed { IfOk result (λ status. (health : Health) × IsHealth health × PrintsHealth health status (O.contents output.old)
         (O.contents output.new)) }
     ensures failed { IfErr result (CheckFailsBy database.now) }
     ensures untouched { IfErr result (λ failure. status_of failure ≢ Status.Failed
         → Keeps (O.contents output.old) (O.contents output.new)) }
 {
     check_name(database)?;
-    let health = read_health(rt, database)?;
-    tell(health, output)
+    let health = read_health(rt, start, database)?;
+    print_health(health, output)
 }
 
-fn read_health<'a, R: Databases + Files + AllocGlobal>(
-    rt: &R,
+fn read_health<'a, S: Start>(
+    rt: &HostRuntime,
+    start: S,
     database: &'a str,
 ) -> Result<Health, Failure<'a>>
     ensures health { IfOk result IsHealth }
     ensures failed { IfErr result (WhyNoHealth database.now) }
 {
-    match open_there(rt, database) {
+    match open_there(rt, database, start) {
         Ok(mut keeper) => {
             let counted = count(&mut keeper);
-            close_after(keeper, counted)
+            Ok(close_after(keeper, counted)?.value)
         }
         Err(Failure::Bad(fault)) => Ok(Health::Bad(fault)),
         Err(failure) => Err(failure),
@@ -97,8 +98,8 @@ pub fn count<'a, S: Alter>(keeper: &mut SqlKeeper<S>) -> Result<Health, Failure<
 }
 
 /// Prints what was found, and answers its status.
-pub fn tell<'a, O: Write>(health: Health, output: &mut O) -> Result<Status, Failure<'a>>
-    ensures told { IfOk result (λ status. TellsHealth health status (O.contents output.old) (O.contents output.new)) }
+pub fn print_health<'a, O: Write>(health: Health, output: &mut O) -> Result<Status, Failure<'a>>
+    ensures printed { IfOk result (λ status. PrintsHealth health status (O.contents output.old) (O.contents output.new)) }
     ensures failed { IfErr result (λ failure. failure ≡ Failure.WriteFailed) }
 {
     let written = writeln!(output, "{health}");

@@ -3,7 +3,7 @@
 ghost use Rattle.std.specs.Prelude.{◌≡◌, ◌≢◌, ◌⊎◌, ℕ, List, Some, IfOk, IfErr, OnOk};
 ghost use Rattle.std.specs.Io.KnownBytes.{Appends, Keeps};
 ghost use Rattle.jc_collect.specs.Delivered.{of_delivery};
-ghost use Rattle.jc_collector.specs.Inspected.{TellsInspected, TellsSomeUpload, TellsUpload, inspected_line, inspected_status, key_end};
+ghost use Rattle.jc_collector.specs.Inspected.{PrintsInspected, PrintsSomeInspected, PrintsInspectedOf, inspected_line, inspected_status, key_end};
 
 use jc_base::{ByteStream, Key, Limits};
 use jc_collect::{Delivery, Inspected, inspect_one};
@@ -21,7 +21,7 @@ pub fn inspect<'a, R: Files + AllocGlobal, O: Write>(
     file: &'a str,
     output: &mut O,
 ) -> Result<Status, Failure<'a>>
-    ensures told { IfOk result (λ status. TellsSomeUpload status (O.contents output.old) (O.contents output.new)) }
+    ensures printed { IfOk result (λ status. PrintsSomeInspected status (O.contents output.old) (O.contents output.new)) }
     ensures failed { IfErr result (λ failure. (failure ≡ Failure.CannotOpen file.entry) ⊎ (failure ≡ Failure.ReadFailed)
         ⊎ (failure ≡ Failure.WriteFailed) ⊎ (failure ≡ Failure.OutOfMemory)) }
     ensures untouched { IfErr result (λ failure. failure ≢ Failure.WriteFailed
@@ -37,25 +37,25 @@ fn inspect_delivery<'a, S: ByteStream + Drop, B: ByteSpace + Drop, O: Write>(
     delivery: Delivery<S, B>,
     output: &mut O,
 ) -> Result<Status, Failure<'a>>
-    ensures told { IfOk result (λ status. TellsSomeUpload status (O.contents output.old) (O.contents output.new)) }
+    ensures printed { IfOk result (λ status. PrintsSomeInspected status (O.contents output.old) (O.contents output.new)) }
     // If its bytes are known, the line is what they say.
     ensures says { (upload : List ℕ) → of_delivery S.remaining B.bytes delivery ≡ Some upload
-        → IfOk result (λ status. TellsUpload upload status (O.contents output.old) (O.contents output.new)) }
+        → IfOk result (λ status. PrintsInspectedOf upload status (O.contents output.old) (O.contents output.new)) }
     ensures failed { IfErr result (λ failure. (failure ≡ Failure.ReadFailed) ⊎ (failure ≡ Failure.WriteFailed)
         ⊎ (failure ≡ Failure.OutOfMemory)) }
     ensures untouched { IfErr result (λ failure. failure ≢ Failure.WriteFailed
         → Keeps (O.contents output.old) (O.contents output.new)) }
 {
     let inspected = inspect_one(alloc, delivery, &Limits::default())?;
-    tell_inspected(&inspected, output)
+    print_inspected(&inspected, output)
 }
 
 /// Prints what an upload says, and answers its status.
-fn tell_inspected<'a, O: Write>(
+fn print_inspected<'a, O: Write>(
     inspected: &Inspected,
     output: &mut O,
 ) -> Result<Status, Failure<'a>>
-    ensures told { IfOk result (λ status. TellsInspected inspected.now status (O.contents output.old) (O.contents output.new)) }
+    ensures printed { IfOk result (λ status. PrintsInspected inspected.now status (O.contents output.old) (O.contents output.new)) }
     ensures failed { IfErr result (λ failure. failure ≡ Failure.WriteFailed) }
 {
     let written = put_inspected(inspected, output);

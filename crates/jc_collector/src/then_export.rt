@@ -1,6 +1,8 @@
 //! `--then-export`: a journal goes to a file once the uploads are answered.
 
 ghost use Rattle.std.specs.Prelude.{◌≡◌, ◌⊎◌, Ok, Err, IfOk, IfErr};
+ghost use Rattle.jc_store.specs.Meaning.{IsSound, KeepsJournal};
+ghost use Rattle.jc_schema_two.specs.Tables.{two};
 ghost use Rattle.jc_collector.specs.Database.{IsOutFailure};
 
 use crate::listing::export_journal;
@@ -14,7 +16,7 @@ use std::io::ErrorKind;
 use std::os::unix::fs::MetadataExt;
 use std::rt::Files;
 
-/// What the names of the files end in that a database has beside its own.
+/// The endings of the names of files that a database has beside its own.
 const BESIDE: [&str; 3] = ["-wal", "-shm", "-journal"];
 
 /// Refuses a path for an export whose file would take the place of the database or of a file beside it. A database that
@@ -74,6 +76,8 @@ pub fn export_after<'a, R: Files + AllocGlobal, S: Alter>(
     path: Option<&'a str>,
 ) -> Result<Status, Failure<'a>>
     ensures answered { IfOk result (λ status. answered.entry ≡ Ok status) }
+    ensures before { IsSound S.Store keeper.new.conn → IsSound S.Store keeper.old.conn }
+    ensures keeps { KeepsJournal two S.Store keeper.old.conn keeper.new.conn }
     ensures failed { IfErr result (λ failure. (answered.entry ≡ Err failure) ⊎ IsOutFailure failure) }
 {
     let status = answered?;
@@ -89,7 +93,9 @@ fn export_file<'a, R: Files + AllocGlobal, S: Alter>(
     keeper: &mut SqlKeeper<S>,
     path: &str,
 ) -> Result<(), Failure<'a>>
-    ensures { IfErr result IsOutFailure }
+    ensures before { IsSound S.Store keeper.new.conn → IsSound S.Store keeper.old.conn }
+    ensures keeps { KeepsJournal two S.Store keeper.old.conn keeper.new.conn }
+    ensures failed { IfErr result IsOutFailure }
 {
     let beside = name_beside(rt.alloc(), path)?;
     let mut file = create_file(rt, beside.as_str())?;

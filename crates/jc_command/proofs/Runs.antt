@@ -55,21 +55,21 @@ pub performed : (words : List Text) (request : Request) (given output output' er
 performed words request given output output' errors errors' Success asks does quiet = (quiet refl, inr (request, asks, does))
 performed words request given output output' errors errors' Refused asks does quiet = inl (request, asks, does)
 performed words request given output output' errors errors' Failed asks does quiet = (request, asks, does)
-performed words (Verify k file) given output output' errors errors' Misused asks does quiet = absurd (not_misused does.ending does.told.judged)
+performed words (Verify k file) given output output' errors errors' Misused asks does quiet = absurd (not_misused does.ending does.printed.judged)
 performed words (Upload source limit whole) given output output' errors errors' Misused asks does quiet = let same : Misused ≡ Success = does.0 in cc
 performed words (Ack source) given output output' errors errors' Misused asks does quiet = let same : Misused ≡ Success = does.0 in cc
 performed words (requests.Inspect file) given output output' errors errors' Misused asks does quiet =
-    absurd (inspected_not_misused does.inspected does.told.judged)
+    absurd (inspected_not_misused does.inspected does.printed.judged)
 performed words (requests.Collect database uploads then_export) given output output' errors errors' Misused asks does quiet =
     absurd (judged_not_misused (list_any is_failure does.answers) (list_any is_refusal does.answers) does.is)
 performed words (requests.CollectListed database list then_export) given output output' errors errors' Misused asks does quiet =
-    let told = does.told.told in
-    absurd (judged_not_misused (list_any is_failure told.answers) (list_any is_refusal told.answers) told.is)
+    let printed = does.printed.printed in
+    absurd (judged_not_misused (list_any is_failure printed.answers) (list_any is_refusal printed.answers) printed.is)
 performed words (requests.Export database) given output output' errors errors' Misused asks does quiet = let same : Misused ≡ Success = does in cc
 performed words (requests.Show database field id first last) given output output' errors errors' Misused asks does quiet = let same : Misused ≡ Success = does in cc
 performed words requests.ListCodes given output output' errors errors' Misused asks does quiet = let same : Misused ≡ Success = does in cc
-performed words (requests.Check database) given output output' errors errors' Misused asks (health, is, told) quiet = absurd (health_not_misused health told.judged)
-performed words (requests.Migrate database) given output output' errors errors' Misused asks (health, is, told) quiet = absurd (health_not_misused health told.judged)
+performed words (requests.Check database) given output output' errors errors' Misused asks (health, is, printed) quiet = absurd (health_not_misused health printed.judged)
+performed words (requests.Migrate database) given output output' errors errors' Misused asks (health, is, printed) quiet = absurd (health_not_misused health printed.judged)
 
 -- a failure's status is that of a device or memory, or another one
 device_or_not : (status : Status) → (status ≡ Failed) ⊎ (status ≢ Failed)
@@ -119,13 +119,13 @@ sorted kind.OutOfMemory = inr (inl refl)
 sorted _ = inr (inr (λ asked. elim asked [ inl e ↦ cc | inr e ↦ cc ], λ e. cc))
 
 -- the words are answered in place of a request
-pub told : (words : List Text) (k : ErrorKind) (r : Result Status Failure)
+pub ends_answered : (words : List Text) (k : ErrorKind) (r : Result Status Failure)
     (given output output' errors errors' : Option (List ℕ)) → AreAnswered words k
     → (IsAskedFor k → IfOk r (λ status. status ≡ Success) × IfErr r (λ why. why ≡ failures.WriteFailed) × Keeps errors errors')
     → (¬ IsAskedFor k → k ≢ kind.OutOfMemory → (r ≡ Ok Misused) × Keeps output output')
     → (k ≡ kind.OutOfMemory → r ≡ Err failures.OutOfMemory)
     → IfOk r (Ends words given output output' errors errors')
-told words k r given output output' errors errors' answered asked mistaken memory =
+ends_answered words k r given output output' errors errors' answered asked mistaken memory =
     let Goal : Result Status Failure → Type 0 = λ r. IfOk r (Ends words given output output' errors errors') in
     elim (sorted k) [
       | inl h ↦ shown r (asked h) h
@@ -193,12 +193,12 @@ stops_by_number words texts given output output' errors errors' n failure wanted
     (subst (λ (t : List Text). Stops t given output output' failure) same stopped)
 
 -- ... and an answer in place of a request fails only where a device or memory does
-pub told_stops : (words : List Text) (k : ErrorKind) (r : Result Status Failure) (given output output' errors errors' : Option (List ℕ))
+pub stops_answered : (words : List Text) (k : ErrorKind) (r : Result Status Failure) (given output output' errors errors' : Option (List ℕ))
     → (IsAskedFor k → IfOk r (λ status. status ≡ Success) × IfErr r (λ why. why ≡ failures.WriteFailed) × Keeps errors errors')
     → (¬ IsAskedFor k → k ≢ kind.OutOfMemory → (r ≡ Ok Misused) × Keeps output output')
     → (k ≡ kind.OutOfMemory → r ≡ Err failures.OutOfMemory)
     → IfErr r (Stops words given output output')
-told_stops words k r given output output' errors errors' asked mistaken memory =
+stops_answered words k r given output output' errors errors' asked mistaken memory =
     let Goal : Result Status Failure → Type 0 = λ r. IfErr r (Stops words given output output') in
     elim (sorted k) [
       | inl h ↦ by_write r (asked h).1

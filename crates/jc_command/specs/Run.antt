@@ -10,33 +10,33 @@ use Rattle.jc_command_shared.specs.declared.status.Status.TheVariants.{Success, 
 use Rattle.jc_command_args.specs.declared.request.Request.{Request}
 use Rattle.jc_command_args.specs.declared.request.Request.TheVariants.{Collect, CollectListed, Show, Check, Migrate, Verify, Inspect, Upload, Ack, ListCodes}
 use Rattle.jc_command_args.specs.declared.request.Request.TheVariants as request
-use Rattle.jc_collector_answers.specs.Answered.{TellsAnswers, number_of_uploads}
-use Rattle.jc_collector.specs.Checked.{IsHealth, TellsHealth}
+use Rattle.jc_collector_answers.specs.Answered.{PrintsAnswers, number_of_uploads}
+use Rattle.jc_collector.specs.Checked.{IsHealth, PrintsHealth}
 use Rattle.jc_collector.specs.Database.{CheckFailsBy, CollectFailsBy, DatabaseFailsBy, ShowFailsBy}
 use Rattle.jc_command_shared.specs.Failure.{status_of}
-use Rattle.jc_collector.specs.Inspected.{TellsSomeUpload as TellsSomeInspected}
-use Rattle.jc_collector.specs.Listed.{TellsListed}
-use Rattle.jc_sender.specs.Sent.{TellsSomeUpload}
+use Rattle.jc_collector.specs.Inspected.{PrintsSomeInspected}
+use Rattle.jc_collector.specs.Listed.{PrintsListed}
+use Rattle.jc_sender.specs.Sent.{PrintsSomeUpload}
 use Rattle.jc_sender.specs.Failing.{AckFailsBy, UploadFailsBy}
-use Rattle.jc_sender.specs.Taken.{TellsSomePoint}
-use Rattle.jc_sender.specs.Verdict.{TellsSomeReading}
+use Rattle.jc_sender.specs.Taken.{PrintsSomePoint}
+use Rattle.jc_sender.specs.Verdict.{PrintsSomeReading}
 use Rattle.jc_command_args.specs.Words.{AreWrong, AskFor, AskForHelp}
 
 -- What standard output gains when a request is performed, over what standard input gives, and the status: from `verify` a
 -- reading, from `inspect` what an upload says, from `upload` an upload, from `ack` a resume point, from `collect` an answer to each upload, and from `check`
--- and `migrate` what there is of a journal. Nothing is said of listings, nor which answers come: no contract can name what
--- a database's file holds.
+-- and `migrate` what there is of a journal. Nothing is said of listings, nor which answers come: the functions of
+-- `collect`, `export` and `show` say that, by what a database's files hold.
 abbrev pub Performs : Request → (given old new : Option (List ℕ)) → Status → Type 0
-Performs (Verify kind file) given old new status = TellsSomeReading kind status old new
-Performs (Inspect file) given old new status = TellsSomeInspected status old new
-Performs (Upload source limit whole) given old new status = (status ≡ Success) × TellsSomeUpload source limit whole old new
-Performs (Ack source) given old new status = (status ≡ Success) × TellsSomePoint source given old new
-Performs (Collect database uploads then_export) given old new status = TellsAnswers (number_of_uploads (length uploads.items)) status old new
-Performs (CollectListed database list then_export) given old new status = TellsListed list.now given status old new
+Performs (Verify kind file) given old new status = PrintsSomeReading kind status old new
+Performs (Inspect file) given old new status = PrintsSomeInspected status old new
+Performs (Upload source limit whole) given old new status = (status ≡ Success) × PrintsSomeUpload source limit whole old new
+Performs (Ack source) given old new status = (status ≡ Success) × PrintsSomePoint source given old new
+Performs (Collect database uploads then_export) given old new status = PrintsAnswers (number_of_uploads (length uploads.items)) status old new
+Performs (CollectListed database list then_export) given old new status = PrintsListed list.now given status old new
 Performs (request.Export database) given old new status = status ≡ Success
 Performs (Show database field id first last) given old new status = status ≡ Success
-Performs (Check database) given old new status = (health : Health) × IsHealth health × TellsHealth health status old new
-Performs (Migrate database) given old new status = (health : Health) × IsHealth health × TellsHealth health status old new
+Performs (Check database) given old new status = (health : Health) × IsHealth health × PrintsHealth health status old new
+Performs (Migrate database) given old new status = (health : Health) × IsHealth health × PrintsHealth health status old new
 Performs ListCodes given old new status = status ≡ Success
 
 -- Why a command that reads one file fails.

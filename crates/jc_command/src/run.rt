@@ -8,20 +8,21 @@ ghost use Rattle.jc_command_shared.specs.Failure.{status_of};
 ghost use Rattle.jc_command.specs.Run.{Ends, FailsBy, Performs, Stops};
 
 use clap::error::ErrorKind;
-use jc_collector::{Databases, check, collect, collect_listed, export, inspect, migrate, show};
+use jc_collector::{check, collect, collect_listed, export, inspect, migrate, show};
 use jc_command_args::{CODES, Request, parse};
 use jc_command_shared::{Failure, Status, printed};
 use jc_sender::{ack, upload, verify};
+use sqlite::Start;
 use std::io::{Read, Write};
-use std::rt::Files;
 
 /// Does what the arguments ask for and answers the status to end with. The first argument is the program's name.
 ///
 /// What is asked for goes to `output`. A failure, or what is wrong with the arguments, goes to `errors`. With status 3
 /// something failed, and no clause says what went to either. `input` has the answers for `ack`, and for `collect` the
-/// upload if none is named, or their names if the list is `-`.
-pub fn command<R: Databases + Files + AllocGlobal, I: Read, O: Write, E: Write>(
-    rt: &R,
+/// upload if none is named, or their names if the list is `-`. `start` stands for what a database's files hold.
+pub fn command<S: Start, I: Read, O: Write, E: Write>(
+    rt: &HostRuntime,
+    start: S,
     words: Vec<String>,
     input: &mut I,
     output: &mut O,
@@ -35,15 +36,16 @@ pub fn command<R: Databases + Files + AllocGlobal, I: Read, O: Write, E: Write>(
     ensures misused { result ≡ 2 → Ends (map string_bytes words.items) (I.remaining input.old)
         (O.contents output.old) (O.contents output.new) (E.contents errors.old) (E.contents errors.new) Status.Misused }
 {
-    match answered(rt, words.as_slice(), input, output, errors) {
+    match answered(rt, start, words.as_slice(), input, output, errors) {
         Ok(status) => status.number(),
-        Err(failure) => failure.tell(errors).number(),
+        Err(failure) => failure.report(errors).number(),
     }
 }
 
 /// Does what the arguments ask for, up to a failure.
-fn answered<'a, R: Databases + Files + AllocGlobal, I: Read, O: Write, E: Write>(
-    rt: &R,
+fn answered<'a, S: Start, I: Read, O: Write, E: Write>(
+    rt: &HostRuntime,
+    start: S,
     words: &'a [String],
     input: &mut I,
     output: &mut O,
@@ -55,14 +57,15 @@ fn answered<'a, R: Databases + Files + AllocGlobal, I: Read, O: Write, E: Write>
         (O.contents output.new)) }
 {
     match parse(rt.alloc(), words) {
-        Ok(request) => perform(rt, request, input, output, errors),
+        Ok(request) => perform(rt, start, request, input, output, errors),
         Err(answer) => answer_words(&answer, output, errors),
     }
 }
 
 #[tactic(auto, using(crate::proofs::Runs::unless_failed))]
-fn perform<'a, R: Databases + Files + AllocGlobal, I: Read, O: Write, E: Write>(
-    rt: &R,
+fn perform<'a, S: Start, I: Read, O: Write, E: Write>(
+    rt: &HostRuntime,
+    start: S,
     request: Request<'a>,
     input: &mut I,
     output: &mut O,
@@ -89,25 +92,38 @@ fn perform<'a, R: Databases + Files + AllocGlobal, I: Read, O: Write, E: Write>(
             uploads,
             then_export,
         } => {
-            return collect(rt, database, uploads.as_slice(), then_export, input, output);
+            let uploads = uploads.as_slice();
+            return Ok(collect(rt, start, database, uploads, then_export, input, output)?.value);
         }
         Request::CollectListed {
             database,
             list,
             then_export,
         } => {
-            return collect_listed(rt, database, list, then_export, input, output, errors);
+            return Ok(
+                collect_listed(
+                    rt,
+                    start,
+                    database,
+                    list,
+                    then_export,
+                    input,
+                    output,
+                    errors,
+                )?
+                .value,
+            );
         }
-        Request::Export { database } => export(rt, database, output)?,
+        Request::Export { database } => export(rt, start, database, output)?.value,
         Request::Show {
             database,
             field,
             id,
             first,
             last,
-        } => show(rt, database, field, id, first, last, output)?,
-        Request::Check { database } => return check(rt, database, output),
-        Request::Migrate { database } => return migrate(rt, database, output),
+        } => show(rt, start, database, field, id, first, last, output)?.value,
+        Request::Check { database } => return check(rt, start, database, output),
+        Request::Migrate { database } => return migrate(rt, start, database, output),
         Request::ListCodes => list_codes(output)?,
     }
     Ok(Status::Success)

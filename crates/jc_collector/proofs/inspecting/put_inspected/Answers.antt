@@ -11,7 +11,7 @@ use Rattle.jc_collector.proofs.inspecting.put_inspected.Goals as goal
 pub returns-in_ok-write-in-Upload : goal.returns-in_ok-write-in-Upload
 returns-in_ok-write-in-Upload g c =
     let contents = g.O.Write.contents in
-    let told = c.in-Upload in
+    let upload = c.in-Upload in
     let old = contents c.args.output.now in
     let named = contents c.write_all.new.self in
     let sourced = contents c.write_all-in-Upload.new.self in
@@ -20,11 +20,11 @@ returns-in_ok-write-in-Upload g c =
     let word : Appends old named (codes "upload ") = search rules in
     let hex : Appends named sourced c.to_hex.result = search rules in
     let space = codes " " in
-    let flat_text = flat space (decimal told.start) space (decimal told.count) space (decimal told.left) space in
+    let flat_text = flat space (decimal upload.start) space (decimal upload.count) space (decimal upload.left) space in
     let nested : Appends sourced counted
-    (space ++ (decimal told.start ++ (space ++ (decimal told.count ++ (space ++ (decimal told.left ++ space)))))) = search rules in
+    (space ++ (decimal upload.start ++ (space ++ (decimal upload.count ++ (space ++ (decimal upload.left ++ space)))))) = search rules in
     let numbers = subst (Appends sourced counted) flat_text nested in
-    subst (λ (i : Inspected). OnOk c.put_key.result (Appends old new (inspected_line i))) (sym told.is)
-    (line_put old named sourced counted new (codes "upload ") c.to_hex.result (encode_lower told.source.0)
-    (codes " " ++ decimal told.start ++ codes " " ++ decimal told.count ++ codes " " ++ decimal told.left ++ codes " ") (key_end told.last)
+    subst (λ (i : Inspected). OnOk c.put_key.result (Appends old new (inspected_line i))) (sym upload.is)
+    (line_put old named sourced counted new (codes "upload ") c.to_hex.result (encode_lower upload.source.0)
+    (codes " " ++ decimal upload.start ++ codes " " ++ decimal upload.count ++ codes " " ++ decimal upload.left ++ codes " ") (key_end upload.last)
     c.put_key.result word hex c.to_hex.ensures.digits numbers c.put_key.ensures)

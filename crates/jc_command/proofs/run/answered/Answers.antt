@@ -5,7 +5,7 @@ use Rattle.clap.specs.Words.{kind_of}
 use Rattle.jc_command_shared.specs.declared.failure.Failure.{Failure}
 use Rattle.jc_command_shared.specs.declared.status.Status.{Status}
 use Rattle.jc_command.specs.Run.{Ends}
-use Rattle.jc_command.proofs.Runs.{failed, performed, told, told_stops, IfErr-both, IfOk-both}
+use Rattle.jc_command.proofs.Runs.{failed, performed, ends_answered, stops_answered, IfErr-both, IfOk-both}
 use Rattle.jc_command.proofs.run.answered.Goals as goal
 
 pub returns-in-Ok-clause-ended : goal.returns-in-Ok-clause-ended
@@ -35,13 +35,13 @@ returns-in-Err-clause-ended g c =
     let prints = c.answer_words.ensures in
     elim c.in-Err.ensures.answer [
       | inl memory ↦ subst Goal (sym (prints.memory memory)) tt
-      | inr answered ↦ told words (kind_of c.in-Err.answer) c.answer_words.result given output output' errors errors' answered
+      | inr answered ↦ ends_answered words (kind_of c.in-Err.answer) c.answer_words.result given output output' errors errors' answered
           prints.asked prints.mistaken prints.memory
     ]
 
 pub returns-in-Err-clause-stopped : goal.returns-in-Err-clause-stopped
 returns-in-Err-clause-stopped g c =
-    told_stops (map string_bytes c.args.words.now) (kind_of c.in-Err.answer) c.answer_words.result
+    stops_answered (map string_bytes c.args.words.now) (kind_of c.in-Err.answer) c.answer_words.result
     (g.I.Read.remaining c.args.input.now) (g.O.Write.contents c.args.output.now) (g.O.Write.contents c.answer_words.new.output)
     (g.E.Write.contents c.args.errors.now) (g.E.Write.contents c.answer_words.new.errors)
     c.answer_words.ensures.asked c.answer_words.ensures.mistaken c.answer_words.ensures.memory

@@ -31,7 +31,7 @@ returns-clause-refused g c = λ number.
     stops_by_number (map string_bytes c.args.words.items) (map string_bytes c.as_slice.result.now)
     (g.I.Read.remaining c.args.input.now) (g.O.Write.contents c.args.output.now) (g.O.Write.contents c.answered.new.output)
     (g.E.Write.contents c.args.errors.now) (g.E.Write.contents c.answered.new.errors) c.number-in-Err.result c.in-Err.failure Refused
-    (ap (map string_bytes) c.as_slice.ensures.value) (c.number-in-Err.ensures ∙ ap number_of c.tell.ensures) number (inl refl)
+    (ap (map string_bytes) c.as_slice.ensures.value) (c.number-in-Err.ensures ∙ ap number_of c.report.ensures) number (inl refl)
     c.in-Err.ensures.stopped
 
 pub returns-clause-misused : goal.returns-clause-misused
@@ -39,5 +39,5 @@ returns-clause-misused g c = λ number.
     stops_by_number (map string_bytes c.args.words.items) (map string_bytes c.as_slice.result.now)
     (g.I.Read.remaining c.args.input.now) (g.O.Write.contents c.args.output.now) (g.O.Write.contents c.answered.new.output)
     (g.E.Write.contents c.args.errors.now) (g.E.Write.contents c.answered.new.errors) c.number-in-Err.result c.in-Err.failure Misused
-    (ap (map string_bytes) c.as_slice.ensures.value) (c.number-in-Err.ensures ∙ ap number_of c.tell.ensures) number (inr refl)
+    (ap (map string_bytes) c.as_slice.ensures.value) (c.number-in-Err.ensures ∙ ap number_of c.report.ensures) number (inr refl)
     c.in-Err.ensures.stopped

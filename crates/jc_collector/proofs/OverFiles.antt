@@ -1,0 +1,81 @@
+-- From the files that a run begins with to those that it ends with.
+use Rattle.std.proofs.Common.{◌≡◌, ℕ, List, Option, inl, inr, length, sym, ap, subst, subst₂, ◌∙◌, arith}
+use Rattle.std.proofs.Math.Logic.{∥∥₁_map}
+use Rattle.std.specs.FinMap.{empty}
+use Rattle.sqlite_disk.specs.declared.Disk as disk
+use Rattle.sqlite.specs.declared.Files.{Files}
+use Rattle.sqlite.specs.declared.FileStore.{FileStore}
+use Rattle.sqlite.specs.Recovery.{Image}
+use Rattle.sqlite.specs.Schema.{Schema}
+use Rattle.sqlite.specs.State.{HasCleanDisk}
+use Rattle.sqlite.specs.WalReads.{AreClean}
+use Rattle.sqlite.specs.Held.{Held}
+use Rattle.sqlite.specs.Files.{file_state, over_files}
+use Rattle.jc_base.specs.Journal.{Journal}
+use Rattle.jc_store.specs.Meaning.{AreMade, IsSound, KeepsJournal, journal_of}
+use Rattle.jc_store.specs.Schema.{no_schema}
+use Rattle.jc_store.specs.Statements.{IsBlank}
+use Rattle.jc_schema_two.specs.Schema.{Shape, fresh, migrated, schema_two}
+use Rattle.jc_schema_two.specs.Tables.{two}
+use Rattle.jc_database.specs.Files.{BeginsWith, IsFound, Keeps, KeepsAlways, LeadsTo}
+use Rattle.jc_collector_answers.specs.Answered.{KeepsPrinted}
+use Rattle.jc_collector.specs.OverFiles.{LeavesPrinted}
+use Rattle.jc_database.specs.FilesLaws.{database_found, keeps_found}
+
+-- ---- how a run begins
+
+some_tables : (shape : Shape) → schema_two shape ≡ no_schema → ⊥
+some_tables fresh none = let few = ap (λ (s : Schema). length s.tables) none in omega (arith, few)
+some_tables migrated none = let few = ap (λ (s : Schema). length s.tables) none in omega (arith, few)
+
+module _ {D : Type 0} {g : disk.Ghosts D} (image : Image) (opened kept : Held (FileStore D g))
+    (found : HasCleanDisk (file_state opened) → IsFound image opened) (back : IsSound over_files kept → IsSound over_files opened)
+  where
+    -- tables that were made anew
+    pub made_anew : IsBlank (file_state opened).now → AreMade two over_files kept → (IsSound over_files kept → journal_of two over_files kept ≡ empty)
+        → IsSound over_files kept → (before : Journal) → BeginsWith two image before → Keeps two kept before
+    made_anew blank made none sound before (inl holds) =
+        let is = database_found two image opened (found (back sound).clean) before holds in
+        let spells = holds.is_journal.spells in
+        absurd (some_tables spells.shape (sym spells.schema ∙ (ap (λ db. db.schema) (sym is) ∙ blank)))
+    made_anew blank made none sound before (inr nothing) = record { made = made; is = none sound ∙ sym nothing.1 }
+
+    -- tables that were there
+    pub adopted : (¬ IsBlank (file_state opened).now) → KeepsJournal two over_files opened kept
+        → IsSound over_files kept → (before : Journal) → BeginsWith two image before → Keeps two kept before
+    adopted tables keeps sound before (inl holds) =
+        let was = back sound in
+        let it = keeps_found two image opened (found was.clean) before holds in
+        record { made = keeps.made it.made; is = keeps.same was it.made sound ∙ it.is }
+    adopted tables keeps sound before (inr nothing) = absurd (tables ((found (back sound).clean).none nothing.0))
+
+-- ---- how it goes on
+
+module _ {D : Type 0} {g : disk.Ghosts D} (image : Image) (first then last : Held (FileStore D g))
+    (begins : IsSound over_files first → (before : Journal) → BeginsWith two image before → Keeps two first before)
+    (back : IsSound over_files then → IsSound over_files first) (made : AreMade two over_files first → AreMade two over_files then)
+    (Step : Journal → Journal → Type 0)
+    (step : IsSound over_files then → AreMade two over_files first → Step (journal_of two over_files first) (journal_of two over_files then))
+    (back' : IsSound over_files last → IsSound over_files then) (keeps : KeepsJournal two over_files then last)
+  where
+    pub leads_to : (files : Files D) → (AreClean g files.log files.db → IsSound over_files last)
+        → (AreClean g files.log files.db → AreMade two over_files last → KeepsAlways two g files (journal_of two over_files last))
+        → LeadsTo two image g files Step
+    leads_to files sound always clean before begin =
+        let sound_last = sound clean in
+        let sound_then = back' sound_last in
+        let it = begins (back sound_then) before begin in
+        let made_then = made it.made in
+        record {
+          found = journal_of two over_files last;
+          is = subst₂ Step it.is (sym (keeps.same sound_then made_then sound_last)) (step sound_then it.made);
+          keeps = always clean (keeps.made made_then);
+        }
+
+-- ---- the next run
+
+pub found_again : {D : Type 0} {g : disk.Ghosts D} (uploads : List (List ℕ)) (before : Journal) (old new : Option (List ℕ)) (image : Image) (opened : Held (FileStore D g))
+    → ((found : Journal) → BeginsWith two image found → Keeps two opened found) → ∥ LeavesPrinted uploads before old new image ∥₁
+    → ∥ KeepsPrinted uploads before old new (journal_of two over_files opened) ∥₁
+found_again uploads before old new image opened begins left = ∥∥₁_map left
+    (λ (it : LeavesPrinted uploads before old new image). subst (λ found. KeepsPrinted uploads before old new found) (sym (begins it.found (inl it.holds)).is) it.keeps)

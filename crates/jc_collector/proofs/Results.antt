@@ -1,0 +1,44 @@
+-- What is said of a result by what is said of another one.
+use Rattle.std.proofs.Common.{◌≡◌, ◌⊎◌, inl, inr, None, Ok, Err, Option, Result, Some, refl, sym, subst}
+use Rattle.std.specs.Prelude.{IfOk, IfErr, IfSome, OnOk}
+
+pub IfOk-each : {T E : Type 0} (r : Result T E) (P Q : T → Type 0) → ((x : T) → P x → Q x) → IfOk r P → IfOk r Q
+IfOk-each (Ok x) P Q each p = each x p
+IfOk-each (Err e) P Q each p = tt
+
+pub IfOk-both : {T E : Type 0} (r : Result T E) (P Q R : T → Type 0) → ((x : T) → P x → Q x → R x) → IfOk r P → IfOk r Q → IfOk r R
+IfOk-both (Ok x) P Q R both p q = both x p q
+IfOk-both (Err e) P Q R both p q = tt
+
+pub IfOk-three : {T E : Type 0} (r : Result T E) (P Q R Z : T → Type 0) → ((x : T) → P x → Q x → R x → Z x) → IfOk r P → IfOk r Q → IfOk r R → IfOk r Z
+IfOk-three (Ok x) P Q R Z all p q s = all x p q s
+IfOk-three (Err e) P Q R Z all p q s = tt
+
+pub IfErr-each : {T E : Type 0} (r : Result T E) (P Q : E → Type 0) → ((e : E) → P e → Q e) → IfErr r P → IfErr r Q
+IfErr-each (Ok x) P Q each p = tt
+IfErr-each (Err e) P Q each p = each e p
+
+-- a value that is another result's
+pub value_of_other : {C T E : Type 0} (r : Result C E) (done : Result T E) (value : C → T) (P : T → Type 0)
+    → IfOk r (λ c. done ≡ Ok (value c)) → IfOk done P → IfOk r (λ c. P (value c))
+value_of_other (Ok c) done value P is p = subst (λ d. IfOk d P) is p
+value_of_other (Err e) done value P is p = tt
+
+-- a failure that is another result's, or one of these
+pub failure_of_other : {C T E : Type 0} (r : Result C E) (done : Result T E) (More P : E → Type 0)
+    → IfErr r (λ e. (done ≡ Err e) ⊎ More e) → IfErr done P → ((e : E) → More e → P e) → IfErr r P
+failure_of_other (Ok c) done More P why p more = tt
+failure_of_other (Err e) done More P (inl is) p more = subst (λ d. IfErr d P) is p
+failure_of_other (Err e) done More P (inr its) p more = more e its
+
+pub on_ok : {T E : Type 0} (r : Result T E) (x : T) (P : Type 0) → r ≡ Ok x → OnOk r P → P
+on_ok r x P is p = subst (λ d. OnOk d P) is p
+
+pub if_some : {X : Type 0} (o : Option X) (P : X → Type 0) → ((x : X) → o ≡ Some x → P x) → IfSome o P
+if_some None P each = tt
+if_some (Some x) P each = each x refl
+
+-- what holds if a value is given, by what follows from that
+pub on_ok_if : {T E : Type 0} (r : Result T E) (Z : Type 0) → ((x : T) → ((P : Type 0) → OnOk r P → P) → Z) → OnOk r Z
+on_ok_if (Ok x) Z each = each x (λ P p. p)
+on_ok_if (Err e) Z each = tt

@@ -1,0 +1,3 @@
+pub mod Blank
+pub mod Found
+pub mod Left
