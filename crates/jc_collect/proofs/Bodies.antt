@@ -9,7 +9,7 @@ use Rattle.jc_base.specs.declared.fault.Fault.{Fault}
 use Rattle.jc_base.specs.declared.limits.Limits.{Limits}
 use Rattle.jc_base.specs.Reading.{Reading}
 use Rattle.jc_base.specs.Journal.{Journal}
-use Rattle.jc_stream.specs.Streaming.{TellsReading}
+use Rattle.jc_stream.specs.Streaming.{ReadsKnown}
 use Rattle.jc_file.specs.Check.{first_failing}
 use Rattle.jc_file.specs.Header.{header_checks}
 use Rattle.jc_file.specs.FileReading.{IsFileReading}
@@ -19,34 +19,34 @@ use Rattle.jc_keeper.specs.Absorb.{Absorbs}
 use Rattle.jc_upload.specs.declared.head.Kind.{Kind}
 use Rattle.jc_upload.specs.declared.head.Version.{Version}
 use Rattle.jc_upload.specs.declared.head.Version.TheVariants.{V1, V2}
-use Rattle.jc_upload.specs.Says.{BodySays, IsInParts, told_as}
+use Rattle.jc_upload.specs.Says.{BodySays, IsInParts, reading_under}
 use Rattle.jc_upload.specs.declared.head.Kind.TheVariants.{Export, File}
 use Rattle.jc_collect.specs.Body.{AbsorbsBody, SaysBody}
 
-pub export_step : (limits : Limits) (version : Version) (known : Option (List ℕ)) (told : Option Reading) (before : Journal) (result : Result Absorbed KeepStop) (after : Journal)
-    → TellsReading limits known told → Absorbs before (option_map (told_as version) told) result after
+pub export_step : (limits : Limits) (version : Version) (known : Option (List ℕ)) (answered : Option Reading) (before : Journal) (result : Result Absorbed KeepStop) (after : Journal)
+    → ReadsKnown limits known answered → Absorbs before (option_map (reading_under version) answered) result after
     → AbsorbsBody (SaysBody limits version Export known) before result after
-export_step limits version known told before (Err stop) after tells h = h
-export_step limits version None None before (Ok absorbed) after tells h = (h.0, tt, h.1)
-export_step limits version None (Some r) before (Ok absorbed) after tells h = (told_as version r, tt, h)
-export_step limits version (Some b) None before (Ok absorbed) after tells h = absurd tells
-export_step limits version (Some b) (Some r) before (Ok absorbed) after tells h = (told_as version r, record { read = r; reads = tells; told = refl }, h)
+export_step limits version known answered before (Err stop) after reads h = h
+export_step limits version None None before (Ok absorbed) after reads h = (h.0, tt, h.1)
+export_step limits version None (Some r) before (Ok absorbed) after reads h = (reading_under version r, tt, h)
+export_step limits version (Some b) None before (Ok absorbed) after reads h = absurd reads
+export_step limits version (Some b) (Some r) before (Ok absorbed) after reads h = (reading_under version r, record { read = r; reads = reads; under = refl }, h)
 
-pub told_file : (limits : Limits) (version : Version) (known : Option (List ℕ)) (told : Option Reading) (before : Journal) (result : Result Absorbed KeepStop) (after : Journal)
-    → ((b : List ℕ) → known ≡ Some b → IsSomeAnd told (IsFileReading limits b)) → Absorbs before (option_map (told_as version) told) result after
+pub file_absorbed : (limits : Limits) (version : Version) (known : Option (List ℕ)) (answered : Option Reading) (before : Journal) (result : Result Absorbed KeepStop) (after : Journal)
+    → ((b : List ℕ) → known ≡ Some b → IsSomeAnd answered (IsFileReading limits b)) → Absorbs before (option_map (reading_under version) answered) result after
     → AbsorbsBody (SaysBody limits version File known) before result after
-told_file limits version known told before (Err stop) after tells h = h
-told_file limits version None None before (Ok absorbed) after tells h = (h.0, tt, h.1)
-told_file limits version None (Some r) before (Ok absorbed) after tells h = (told_as version r, tt, h)
-told_file limits version (Some b) None before (Ok absorbed) after tells h = absurd (tells b refl)
-told_file limits version (Some b) (Some r) before (Ok absorbed) after tells h = (told_as version r, record { read = r; reads = tells b refl; told = refl }, h)
+file_absorbed limits version known answered before (Err stop) after reads h = h
+file_absorbed limits version None None before (Ok absorbed) after reads h = (h.0, tt, h.1)
+file_absorbed limits version None (Some r) before (Ok absorbed) after reads h = (reading_under version r, tt, h)
+file_absorbed limits version (Some b) None before (Ok absorbed) after reads h = absurd (reads b refl)
+file_absorbed limits version (Some b) (Some r) before (Ok absorbed) after reads h = (reading_under version r, record { read = r; reads = reads b refl; under = refl }, h)
 
 -- the source stands over a space whose bytes are those known
-pub file_step : (limits : Limits) (version : Version) (known bytes : Option (List ℕ)) (told : Option Reading) (before : Journal) (result : Result Absorbed KeepStop) (after : Journal)
-    → bytes ≡ known → ((b : List ℕ) → bytes ≡ Some b → IsSomeAnd told (IsFileReading limits b)) → Absorbs before (option_map (told_as version) told) result after
+pub file_step : (limits : Limits) (version : Version) (known bytes : Option (List ℕ)) (answered : Option Reading) (before : Journal) (result : Result Absorbed KeepStop) (after : Journal)
+    → bytes ≡ known → ((b : List ℕ) → bytes ≡ Some b → IsSomeAnd answered (IsFileReading limits b)) → Absorbs before (option_map (reading_under version) answered) result after
     → AbsorbsBody (SaysBody limits version File known) before result after
-file_step limits version known bytes told before result after same tells h =
-    told_file limits version known told before result after (λ b is. tells b (same ∙ is)) h
+file_step limits version known bytes answered before result after same reads h =
+    file_absorbed limits version known answered before result after (λ b is. reads b (same ∙ is)) h
 
 pub body_step : (limits : Limits) (version : Version) (kind : Kind) (bytes known : Option (List ℕ)) (before : Journal) (result : Result Absorbed KeepStop) (after : Journal)
     → bytes ≡ known → AbsorbsBody (SaysBody limits version kind bytes) before result after → AbsorbsBody (SaysBody limits version kind known) before result after
@@ -62,17 +62,17 @@ some_fault fault h = cc
 
 long_says : (limits : Limits) (a b : List ℕ) (r : Reading) → limits.file < length a → limits.file < length b → IsFileReading limits a r → IsFileReading limits b r
 long_says limits a b r long longer h =
-    let told = fault_of_long limits a long in
+    let fails_so = fault_of_long limits a long in
     ⊎_elim
-    (λ f. inl (record { fault = f.fault; fails = fault_of_long limits b longer ∙ sym told ∙ f.fails; none = f.none; ending = f.ending }))
-    (λ w. absurd (⊎_elim (λ x. some_fault _ (sym x.well ∙ told)) (λ x. some_fault _ (sym x.well ∙ told)) w)) h
+    (λ f. inl (record { fault = f.fault; fails = fault_of_long limits b longer ∙ sym fails_so ∙ f.fails; none = f.none; ending = f.ending }))
+    (λ w. absurd (⊎_elim (λ x. some_fault _ (sym x.well ∙ fails_so)) (λ x. some_fault _ (sym x.well ∙ fails_so)) w)) h
 
-pub gathered : (limits : Limits) (version : Version) (all rest bytes : List ℕ) (told : Reading) → all ≡ bytes ++ rest
-    → (length bytes < limits.file + 1 → rest ≡ []) → BodySays limits version File bytes told → BodySays limits version File all told
-gathered limits version all rest bytes told came ended says = record {
+pub gathered : (limits : Limits) (version : Version) (all rest bytes : List ℕ) (found : Reading) → all ≡ bytes ++ rest
+    → (length bytes < limits.file + 1 → rest ≡ []) → BodySays limits version File bytes found → BodySays limits version File all found
+gathered limits version all rest bytes found came ended says = record {
   read = says.read;
   reads = ⊎_elim short long (cases_lt (length bytes) (limits.file + 1));
-  told = says.told;
+  under = says.under;
 }
   where
     short : length bytes < limits.file + 1 → IsFileReading limits all says.read
@@ -93,11 +93,11 @@ whole_step limits version (Some b) None bytes before (Ok absorbed) after came en
 whole_step limits version (Some b) (Some r) bytes before (Ok absorbed) after came ended h =
     (h.0, gathered limits version b r bytes h.0 came ended h.1, h.2)
 
--- ---- what isn't to be whole is told as it is read
+-- ---- what isn't to be whole counts as it is read
 
-pub told_parts : (version : Version) (known : Option Reading) → IsInParts version → option_map (told_as version) known ≡ known
-told_parts V1 None parts = refl
-told_parts V1 (Some r) parts = refl
-told_parts (V2 false entries) None parts = refl
-told_parts (V2 false entries) (Some r) parts = refl
-told_parts (V2 true entries) known parts = absurd parts
+pub under_parts : (version : Version) (known : Option Reading) → IsInParts version → option_map (reading_under version) known ≡ known
+under_parts V1 None parts = refl
+under_parts V1 (Some r) parts = refl
+under_parts (V2 false entries) None parts = refl
+under_parts (V2 false entries) (Some r) parts = refl
+under_parts (V2 true entries) known parts = absurd parts

@@ -14,16 +14,16 @@ use Rattle.jc_collect.specs.declared.head.Unread.TheVariants.{Fault as Faulty}
 
 -- ---- the faults of a header
 
-told_small : (fault told : Fault) → number_of told.code < 60 → fault ≡ told → IsFormatCode fault.code
-told_small fault told small same = subst (λ (f : Fault). number_of f.code < 60) (sym same) small
+code_small : (fault found : Fault) → number_of found.code < 60 → fault ≡ found → IsFormatCode fault.code
+code_small fault found small same = subst (λ (f : Fault). number_of f.code < 60) (sym same) small
 
 pub of_format : (bytes : List ℕ) (fault : Fault) → IsHeadFault bytes fault → IsFormatCode fault.code
 of_format bytes fault h =
-    ⊎_elim (λ a. told_small fault _ (lit< tt) a.1)
-    (λ b. ⊎_elim (λ a. told_small fault _ (lit< tt) a.1)
-    (λ c. ⊎_elim (λ a. told_small fault _ (lit< tt) a.1)
-    (λ d. ⊎_elim (λ a. told_small fault _ (lit< tt) a.1)
-    (λ e. ⊎_elim (λ a. told_small fault _ (lit< tt) a.1) (λ f. absurd f.1) e.1) d.1) c.1) b.1) h
+    ⊎_elim (λ a. code_small fault _ (lit< tt) a.1)
+    (λ b. ⊎_elim (λ a. code_small fault _ (lit< tt) a.1)
+    (λ c. ⊎_elim (λ a. code_small fault _ (lit< tt) a.1)
+    (λ d. ⊎_elim (λ a. code_small fault _ (lit< tt) a.1)
+    (λ e. ⊎_elim (λ a. code_small fault _ (lit< tt) a.1) (λ f. absurd f.1) e.1) d.1) c.1) b.1) h
 
 -- the header's own bytes decide
 abbrev pub HeadDecides : Type 0

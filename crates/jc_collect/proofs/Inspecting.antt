@@ -1,5 +1,5 @@
--- What is told of an upload is what it says.
-use Rattle.std.proofs.Common.{◌≡◌, ◌∙◌, ◌+◌, ◌<◌, ◌++◌, ℕ, List, [], ◌∷◌, Option, Some, None, IsSomeAnd, length, refl, sym, ap, subst, inl, inr, arith}
+-- What is answered of an upload is what it says.
+use Rattle.std.proofs.Common.{◌≡◌, ◌∙◌, ◌+◌, ◌<◌, ◌++◌, ℕ, List, [], ◌∷◌, Option, Some, None, IsSomeAnd, length, refl, sym, ap, subst, inl, inr}
 use Rattle.std.specs.Prelude.{⊤, IfOk, IfSome, Result, Ok, Err}
 use Rattle.std.specs.Option.{option_map}
 use Rattle.std.specs.Io.KnownBytes.{Consumes, IsAtEnd}
@@ -15,14 +15,14 @@ use Rattle.jc_base.specs.Source.{Gives}
 use Rattle.jc_base.specs.declared.source.Stop.{Stop}
 use Rattle.jc_base.specs.declared.source.Step.{Step}
 use Rattle.jc_base.specs.declared.source.Step.TheVariants.{Entry, End as Ended, Bad as Faulty}
-use Rattle.jc_stream.specs.Streaming.{TellsReading}
+use Rattle.jc_stream.specs.Streaming.{ReadsKnown}
 use Rattle.jc_file.specs.FileReading.{IsFileReading}
 use Rattle.jc_upload.specs.declared.head.Kind.{Kind}
 use Rattle.jc_upload.specs.declared.head.Kind.TheVariants.{Export, File}
 use Rattle.jc_upload.specs.declared.head.UploadHead.{UploadHead}
 use Rattle.jc_upload.specs.declared.head.Version.{Version}
 use Rattle.jc_upload.specs.Head.{IsHeadFault, head_text}
-use Rattle.jc_upload.specs.Says.{BodySays, HasHead, told_as}
+use Rattle.jc_upload.specs.Says.{BodySays, HasHead, reading_under}
 use Rattle.jc_upload.proofs.Excerpts.{key_last}
 use Rattle.jc_collect.specs.Inspected.{FormatEnding, HasBody, HasFormatCode, IsBody, IsInspected, SaysBodyOf, inspected_by, inspected_of, inspected_unread, last_key}
 use Rattle.jc_collect.specs.Begun.{BeginsUpload}
@@ -35,27 +35,27 @@ use Rattle.jc_collect.proofs.Bodies.{gathered}
 -- ---- the entries of a source
 
 -- So many entries of a reading were given, the last of them with this key, and this reading is still to come.
-pub record HasGiven (told : Reading) (count : ℕ) (last : Option Key) (now : Reading) : Type 0 where
+pub record HasGiven (whole : Reading) (count : ℕ) (last : Option Key) (now : Reading) : Type 0 where
   pub given : List LogEntry
-  pub follows : told.entries ≡ given ++ now.entries
+  pub follows : whole.entries ≡ given ++ now.entries
   pub counted : count ≡ length given
   pub key : last ≡ last_key given
-  pub ended : now.ending ≡ told.ending
+  pub ended : now.ending ≡ whole.ending
 
 -- ... of a reading that may not be known
 abbrev pub GivesOn : Option Reading → ℕ → Option Key → Option Reading → Type 0
 GivesOn None count last now = ⊤
-GivesOn (Some told) count last None = ⊥
-GivesOn (Some told) count last (Some now) = HasGiven told count last now
+GivesOn (Some whole) count last None = ⊥
+GivesOn (Some whole) count last (Some now) = HasGiven whole count last now
 
-pub none_given : (told : Option Reading) → GivesOn told 0 None told
+pub none_given : (whole : Option Reading) → GivesOn whole 0 None whole
 none_given None = tt
-none_given (Some told) = record { given = []; follows = refl; counted = refl; key = refl; ended = refl }
+none_given (Some whole) = record { given = []; follows = refl; counted = refl; key = refl; ended = refl }
 
 -- one more entry
-next_given : (told was now : Reading) (count : ℕ) (last : Option Key) (e : LogEntry) → HasGiven told count last was
-    → was.entries ≡ e ∷ now.entries → now.ending ≡ was.ending → HasGiven told (count + 1) (Some e.key) now
-next_given told was now count last e has first ended =
+next_given : (whole was now : Reading) (count : ℕ) (last : Option Key) (e : LogEntry) → HasGiven whole count last was
+    → was.entries ≡ e ∷ now.entries → now.ending ≡ was.ending → HasGiven whole (count + 1) (Some e.key) now
+next_given whole was now count last e has first ended =
     let counted : length (has.given ++ e ∷ []) ≡ length has.given + 1 = length-append has.given (e ∷ []) in
     record {
       given = has.given ++ e ∷ [];
@@ -65,60 +65,60 @@ next_given told was now count last e has first ended =
       ended = ended ∙ has.ended;
     }
 
-pub entry_given : (told was now : Option Reading) (count : ℕ) (last : Option Key) (e : LogEntry) (step : Step) → GivesOn told count last was
-    → step ≡ Entry e → Gives was now (Ok step) → GivesOn told (count + 1) (Some e.key) now
-entry_given told was now count last e step has is gives =
-    go told was now has (subst (λ (s : Step). Gives was now (Ok s)) is gives)
+pub entry_given : (whole was now : Option Reading) (count : ℕ) (last : Option Key) (e : LogEntry) (step : Step) → GivesOn whole count last was
+    → step ≡ Entry e → Gives was now (Ok step) → GivesOn whole (count + 1) (Some e.key) now
+entry_given whole was now count last e step has is gives =
+    go whole was now has (subst (λ (s : Step). Gives was now (Ok s)) is gives)
   where
-    go : (told was now : Option Reading) → GivesOn told count last was → Gives was now (Ok (Entry e)) → GivesOn told (count + 1) (Some e.key) now
+    go : (whole was now : Option Reading) → GivesOn whole count last was → Gives was now (Ok (Entry e)) → GivesOn whole (count + 1) (Some e.key) now
     go None was now has gives = tt
-    go (Some told) None now has gives = absurd has
-    go (Some told) (Some was) None has gives = absurd gives
-    go (Some told) (Some was) (Some now) has gives = next_given told was now count last e has gives.0 gives.1
+    go (Some whole) None now has gives = absurd has
+    go (Some whole) (Some was) None has gives = absurd gives
+    go (Some whole) (Some was) (Some now) has gives = next_given whole was now count last e has gives.0 gives.1
 
 -- no more entry
-all_given : (told was : Reading) (count : ℕ) (last : Option Key) (ending : Ending) → HasGiven told count last was
-    → was.entries ≡ [] → was.ending ≡ ending → IsBody told (record { count = count; last = last; ending = ending })
-all_given told was count last ending has none ended =
-    let all : told.entries ≡ has.given = has.follows ∙ ap (λ rest. has.given ++ rest) none ∙ append-nil has.given in
+all_given : (whole was : Reading) (count : ℕ) (last : Option Key) (ending : Ending) → HasGiven whole count last was
+    → was.entries ≡ [] → was.ending ≡ ending → IsBody whole (record { count = count; last = last; ending = ending })
+all_given whole was count last ending has none ended =
+    let all : whole.entries ≡ has.given = has.follows ∙ ap (λ rest. has.given ++ rest) none ∙ append-nil has.given in
     record {
       counted = has.counted ∙ ap length (sym all);
       key = has.key ∙ ap last_key (sym all);
       ended = sym ended ∙ has.ended;
     }
 
-pub end_given : (told was now : Option Reading) (count : ℕ) (last : Option Key) (left : ℕ) → GivesOn told count last was
-    → Gives was now (Ok (Ended left)) → HasBody told (record { count = count; last = last; ending = End left })
+pub end_given : (whole was now : Option Reading) (count : ℕ) (last : Option Key) (left : ℕ) → GivesOn whole count last was
+    → Gives was now (Ok (Ended left)) → HasBody whole (record { count = count; last = last; ending = End left })
 end_given None was now count last left has gives = tt
-end_given (Some told) None now count last left has gives = absurd has
-end_given (Some told) (Some was) None count last left has gives = absurd gives
-end_given (Some told) (Some was) (Some now) count last left has gives = all_given told was count last (End left) has gives.0 gives.1
+end_given (Some whole) None now count last left has gives = absurd has
+end_given (Some whole) (Some was) None count last left has gives = absurd gives
+end_given (Some whole) (Some was) (Some now) count last left has gives = all_given whole was count last (End left) has gives.0 gives.1
 
-pub fault_given : (told was now : Option Reading) (count : ℕ) (last : Option Key) (fault : Fault) → GivesOn told count last was
-    → Gives was now (Ok (Faulty fault)) → HasBody told (record { count = count; last = last; ending = Bad fault })
+pub fault_given : (whole was now : Option Reading) (count : ℕ) (last : Option Key) (fault : Fault) → GivesOn whole count last was
+    → Gives was now (Ok (Faulty fault)) → HasBody whole (record { count = count; last = last; ending = Bad fault })
 fault_given None was now count last fault has gives = tt
-fault_given (Some told) None now count last fault has gives = absurd has
-fault_given (Some told) (Some was) None count last fault has gives = absurd gives
-fault_given (Some told) (Some was) (Some now) count last fault has gives = all_given told was count last (Bad fault) has gives.0 gives.1
+fault_given (Some whole) None now count last fault has gives = absurd has
+fault_given (Some whole) (Some was) None count last fault has gives = absurd gives
+fault_given (Some whole) (Some was) (Some now) count last fault has gives = all_given whole was count last (Bad fault) has gives.0 gives.1
 
 -- ---- bodies
 
 -- what a source over a stream gave is what the stream's bytes say
-pub stream_says : (limits : Limits) (version : Version) (known : Option (List ℕ)) (told : Option Reading) (body : Body)
-    → TellsReading limits known told → HasBody (option_map (told_as version) told) body → SaysBodyOf limits version Export known body
-stream_says limits version None told body tells has = tt
-stream_says limits version (Some bytes) None body tells has = absurd tells
-stream_says limits version (Some bytes) (Some read) body tells has =
-    (told_as version read, record { read = read; reads = tells; told = refl }, has)
+pub stream_says : (limits : Limits) (version : Version) (known : Option (List ℕ)) (answered : Option Reading) (body : Body)
+    → ReadsKnown limits known answered → HasBody (option_map (reading_under version) answered) body → SaysBodyOf limits version Export known body
+stream_says limits version None answered body reads has = tt
+stream_says limits version (Some bytes) None body reads has = absurd reads
+stream_says limits version (Some bytes) (Some read) body reads has =
+    (reading_under version read, record { read = read; reads = reads; under = refl }, has)
 
 -- ... and over a file, the file's
-pub file_says : (limits : Limits) (version : Version) (known : Option (List ℕ)) (told : Option Reading) (body : Body)
-    → ((b : List ℕ) → known ≡ Some b → IsSomeAnd told (IsFileReading limits b)) → HasBody (option_map (told_as version) told) body
+pub file_says : (limits : Limits) (version : Version) (known : Option (List ℕ)) (answered : Option Reading) (body : Body)
+    → ((b : List ℕ) → known ≡ Some b → IsSomeAnd answered (IsFileReading limits b)) → HasBody (option_map (reading_under version) answered) body
     → SaysBodyOf limits version File known body
-file_says limits version None told body tells has = tt
-file_says limits version (Some bytes) None body tells has = absurd (tells bytes refl)
-file_says limits version (Some bytes) (Some read) body tells has =
-    (told_as version read, record { read = read; reads = tells bytes refl; told = refl }, has)
+file_says limits version None answered body reads has = tt
+file_says limits version (Some bytes) None body reads has = absurd (reads bytes refl)
+file_says limits version (Some bytes) (Some read) body reads has =
+    (reading_under version read, record { read = read; reads = reads bytes refl; under = refl }, has)
 
 -- a file that is read whole first
 pub gathered_says : (limits : Limits) (version : Version) (known rest : Option (List ℕ)) (bytes : List ℕ) (body : Body)
@@ -149,13 +149,13 @@ module _ (limits : Limits) (upload body : List ℕ) (head : UploadHead) (has : H
     ended = sym ended;
   }
 
--- what an upload with this header says, by what is told of its body
+-- what an upload with this header says, by what is answered of its body
 pub upload_says : (limits : Limits) (upload : List ℕ) (before behind bytes : Option (List ℕ)) (head : UploadHead) (kind : Kind)
-    (body : Body) (told : Inspected) → before ≡ Some upload → BeginsUpload before behind (Ok head) → head.kind ≡ kind
-    → bytes ≡ behind → SaysBodyOf limits head.version kind bytes body → told ≡ inspected_of head body
-    → IsInspected limits upload told
-upload_says limits upload before behind bytes head kind body told known begins is same says tells =
-    subst (IsInspected limits upload) (sym tells)
+    (body : Body) (inspected : Inspected) → before ≡ Some upload → BeginsUpload before behind (Ok head) → head.kind ≡ kind
+    → bytes ≡ behind → SaysBodyOf limits head.version kind bytes body → inspected ≡ inspected_of head body
+    → IsInspected limits upload inspected
+upload_says limits upload before behind bytes head kind body inspected known begins is same says is_inspected =
+    subst (IsInspected limits upload) (sym is_inspected)
     (go behind (subst (λ (b : Option (List ℕ)). Consumes b behind (head_text head)) known begins.1)
     (subst (λ (b : Option (List ℕ)). SaysBodyOf limits head.version head.kind b body) same
     (subst (λ (k : Kind). SaysBodyOf limits head.version k bytes body) (sym is) says)))
@@ -181,14 +181,14 @@ unreadable limits upload before behind (Unreadable fault) known begins = record 
   ended = refl;
 }
 
-pub unread_says : (limits : Limits) (upload : List ℕ) (before behind : Option (List ℕ)) (unread : Unread) (told : Result Inspected Stop)
-    → before ≡ Some upload → BeginsUpload before behind (Err unread) → told ≡ inspected_unread unread
-    → IfOk told (IsInspected limits upload)
-unread_says limits upload before behind unread told known begins tells =
-    subst (λ (r : Result Inspected Stop). IfOk r (IsInspected limits upload)) (sym tells)
+pub unread_says : (limits : Limits) (upload : List ℕ) (before behind : Option (List ℕ)) (unread : Unread) (result : Result Inspected Stop)
+    → before ≡ Some upload → BeginsUpload before behind (Err unread) → result ≡ inspected_unread unread
+    → IfOk result (IsInspected limits upload)
+unread_says limits upload before behind unread result known begins is_unread =
+    subst (λ (r : Result Inspected Stop). IfOk r (IsInspected limits upload)) (sym is_unread)
     (unreadable limits upload before behind unread known begins)
 
--- a fault that is told is one of an upload
+-- a fault that is answered is one of an upload
 pub body_format : (head : UploadHead) (count : ℕ) (last : Option Key) (ending : Ending) → FormatEnding ending
     → HasFormatCode (inspected_by head count last ending)
 body_format head count last (End left) format = tt

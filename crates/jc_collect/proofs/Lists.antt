@@ -75,17 +75,17 @@ index_map f d [] i x h = absurd (none_not_some x h)
 index_map f d (y ∷ ys) zero x h = ap f (some_same y x h)
 index_map f d (y ∷ ys) (suc i) x h = index_map f d ys i x h
 
--- what a list tells in order is told by each of its elements
-pub told_at : {X Y : Type 0} (told : X → Option Y) (xs : List X) (ys : List Y) (i : ℕ) (x : X) → map told xs ≡ map (λ y. Some y) ys → slice_get xs i ≡ Some x
-    → (y : Y) × (slice_get ys i ≡ Some y) × (told x ≡ Some y)
-told_at told [] ys i x same h = absurd (none_not_some x h)
-told_at told (z ∷ zs) [] i x same h = absurd (cons_not_nil same)
+-- what is known of a list in order is known of each of its elements
+pub known_at : {X Y : Type 0} (known_of : X → Option Y) (xs : List X) (ys : List Y) (i : ℕ) (x : X) → map known_of xs ≡ map (λ y. Some y) ys → slice_get xs i ≡ Some x
+    → (y : Y) × (slice_get ys i ≡ Some y) × (known_of x ≡ Some y)
+known_at known_of [] ys i x same h = absurd (none_not_some x h)
+known_at known_of (z ∷ zs) [] i x same h = absurd (cons_not_nil same)
   where
     cons_not_nil : {X : Type 0} {x : X} {xs : List X} → ¬ (x ∷ xs ≡ [])
     cons_not_nil e = absurd (none_not_some _ (sym (ap (λ l. slice_get l 0) e)))
-told_at told (z ∷ zs) (y ∷ ys) zero x same h =
-    (y, refl, ap told (sym (some_same z x h)) ∙ some_same (told z) (Some y) (ap (λ l. slice_get l 0) same))
-told_at told (z ∷ zs) (y ∷ ys) (suc i) x same h = told_at told zs ys i x (ap (λ l. drop 1 l) same) h
+known_at known_of (z ∷ zs) (y ∷ ys) zero x same h =
+    (y, refl, ap known_of (sym (some_same z x h)) ∙ some_same (known_of z) (Some y) (ap (λ l. slice_get l 0) same))
+known_at known_of (z ∷ zs) (y ∷ ys) (suc i) x same h = known_at known_of zs ys i x (ap (λ l. drop 1 l) same) h
 
-pub same_length : {X Y : Type 0} (told : X → Option Y) (xs : List X) (ys : List Y) → map told xs ≡ map (λ y. Some y) ys → length xs ≡ length ys
-same_length told xs ys same = sym (length-map xs told) ∙ ap (λ l. length l) same ∙ length-map ys (λ y. Some y)
+pub same_length : {X Y : Type 0} (known_of : X → Option Y) (xs : List X) (ys : List Y) → map known_of xs ≡ map (λ y. Some y) ys → length xs ≡ length ys
+same_length known_of xs ys same = sym (length-map xs known_of) ∙ ap (λ l. length l) same ∙ length-map ys (λ y. Some y)

@@ -25,7 +25,7 @@ use Rattle.jc_upload.specs.declared.answer.Answer.TheVariants.{Ack, No}
 use Rattle.jc_upload.specs.declared.head.UploadHead.{UploadHead}
 use Rattle.jc_upload.specs.Head.{IsHead, IsHeadFault, head_text}
 use Rattle.jc_collect.specs.Accepted.{IsStoredBefore}
-use Rattle.jc_collect.specs.Answer.{IsAnswerTo, IsTaken, IsRefused, IsUnread, AreNew, TellsConflict, TellsFault, named_by}
+use Rattle.jc_collect.specs.Answer.{IsAnswerTo, IsTaken, IsRefused, IsUnread, AreNew, ReportsConflict, ReportsFault, named_by}
 use Rattle.jc_upload.specs.Says.{SaysBehind}
 use Rattle.jc_collect.proofs.Lists.{length_more}
 use Rattle.jc_collect.proofs.OneMore.{SaysOnce, end_not_bad}
@@ -147,43 +147,43 @@ module _
   unread_once a b c d x y =
       let same = one_fault upload x.fault y.fault x.shown y.shown in
       same_no None None a b c d refl
-      (x.told.number ∙ ap (λ (f : Fault). number_of f.code) same ∙ sym y.told.number)
-      (x.told.at ∙ ap (λ (f : Fault). f.place) same ∙ sym y.told.at)
+      (x.reported.number ∙ ap (λ (f : Fault). number_of f.code) same ∙ sym y.reported.number)
+      (x.reported.at ∙ ap (λ (f : Fault). f.place) same ∙ sym y.reported.at)
 
-  faults_once : (r : Reading) (a b c d : ℕ) → TellsFault m r a c → TellsFault m r b d → (a ≡ b) × (c ≡ d)
+  faults_once : (r : Reading) (a b c d : ℕ) → ReportsFault m r a c → ReportsFault m r b d → (a ≡ b) × (c ≡ d)
   faults_once r a b c d x y =
       let same : x.fault ≡ y.fault = ap (λ (e : Ending). fault_of e x.fault) (sym x.ended ∙ y.ended) in (
-        x.told.number ∙ ap (λ (f : Fault). number_of f.code) same ∙ sym y.told.number,
-        x.told.at ∙ ap (λ (f : Fault). f.place) same ∙ sym y.told.at,
+        x.reported.number ∙ ap (λ (f : Fault). number_of f.code) same ∙ sym y.reported.number,
+        x.reported.at ∙ ap (λ (f : Fault). f.place) same ∙ sym y.reported.at,
       )
 
-  why_once : (r : Reading) (a b c d : ℕ) → TellsConflict m r a c ⊎ TellsFault m r a c → TellsConflict m r b d ⊎ TellsFault m r b d → (a ≡ b) × (c ≡ d)
+  why_once : (r : Reading) (a b c d : ℕ) → ReportsConflict m r a c ⊎ ReportsFault m r a c → ReportsConflict m r b d ⊎ ReportsFault m r b d → (a ≡ b) × (c ≡ d)
   why_once r a b c d x y =
       ⊎_elim
-      (λ (w : TellsConflict m r a c). ⊎_elim
-      (λ (v : TellsConflict m r b d). (w.number ∙ sym v.number, conflict_once m r.entries c d w.first v.first))
-      (λ (v : TellsFault m r b d). absurd (none_within m r.entries c v.agrees w.first)) y)
-      (λ (w : TellsFault m r a c). ⊎_elim
-      (λ (v : TellsConflict m r b d). absurd (none_within m r.entries d w.agrees v.first))
-      (λ (v : TellsFault m r b d). faults_once r a b c d w v) y)
+      (λ (w : ReportsConflict m r a c). ⊎_elim
+      (λ (v : ReportsConflict m r b d). (w.number ∙ sym v.number, conflict_once m r.entries c d w.first v.first))
+      (λ (v : ReportsFault m r b d). absurd (none_within m r.entries c v.agrees w.first)) y)
+      (λ (w : ReportsFault m r a c). ⊎_elim
+      (λ (v : ReportsConflict m r b d). absurd (none_within m r.entries d w.agrees v.first))
+      (λ (v : ReportsFault m r b d). faults_once r a b c d w v) y)
       x
 
   refused_once : (o p : Id128 × ℕ) (a b c d : ℕ) → IsRefused limits upload m o a c → IsRefused limits upload m p b d → No (Some o) a c ≡ No (Some p) b d
   refused_once o p a b c d x y =
       let head = same_head x.head y.head x.reading y.reading x.says y.says in
       let same = same_reading x.head y.head x.reading y.reading x.says y.says in
-      let told = why_once y.reading a b c d
-      (subst (λ (r : Reading). TellsConflict m r a c ⊎ TellsFault m r a c) same x.why) y.why in
+      let same_why = why_once y.reading a b c d
+      (subst (λ (r : Reading). ReportsConflict m r a c ⊎ ReportsFault m r a c) same x.why) y.why in
       same_no (Some o) (Some p) a b c d
-      (ap (λ (z : Id128 × ℕ). Some z) (x.named ∙ ap (λ (h : UploadHead). named_by h) head ∙ sym y.named)) told.0 told.1
+      (ap (λ (z : Id128 × ℕ). Some z) (x.named ∙ ap (λ (h : UploadHead). named_by h) head ∙ sym y.named)) same_why.0 same_why.1
 
   not_refused : (o p : Id128 × ℕ) (count new left code place : ℕ) → IsTaken limits upload m o count new left → ¬ IsRefused limits upload m p code place
   not_refused o p count new left code place t x =
       let same = same_reading t.head x.head t.reading x.reading t.says x.says in
       ⊎_elim
-      (λ (w : TellsConflict m x.reading code place).
+      (λ (w : ReportsConflict m x.reading code place).
       none_within m x.reading.entries place (subst (λ (r : Reading). Agree m r.entries) same t.agrees) w.first)
-      (λ (w : TellsFault m x.reading code place).
+      (λ (w : ReportsFault m x.reading code place).
       end_not_bad left w.fault (sym t.ended ∙ ap (λ (r : Reading). r.ending) same ∙ w.ended))
       x.why
 

@@ -12,7 +12,7 @@ use Rattle.jc_keeper.specs.Agree.{Agree, IsStored, StandsIn}
 use Rattle.jc_upload.specs.declared.answer.Answer.{Answer}
 use Rattle.jc_upload.specs.declared.answer.Answer.TheVariants.{Ack, No}
 use Rattle.jc_collect.specs.Accepted.{SaysEntry, WasAccepted, StoredBefore, IsAcceptedAt, IsStoredBefore}
-use Rattle.jc_collect.specs.Answer.{IsAnswerTo, IsFailure, IsTaken, TellsConflict, TellsFault, is_failure, is_failure_code}
+use Rattle.jc_collect.specs.Answer.{IsAnswerTo, IsFailure, IsTaken, ReportsConflict, ReportsFault, is_failure, is_failure_code}
 use Rattle.jc_collect.specs.Position.{Answers, Joins, Leaves}
 use Rattle.jc_upload.specs.Says.{Says}
 use Rattle.jc_collect.proofs.Lists.{get_last, get_cases, length_more}
@@ -67,8 +67,8 @@ module _ (once : SaysOnce) (limits : Limits) (uploads : List (List ℕ)) (upload
       not_refused (Some of) code place a =
           let says : Says limits upload a.reading = inr (a.head, a.says) in
           ⊎_elim
-          (λ (w : TellsConflict mid a.reading code place). none_within mid a.reading.entries place (agree a.reading says) w.first)
-          (λ (w : TellsFault mid a.reading code place). not_faulty a.reading w.fault says w.ended)
+          (λ (w : ReportsConflict mid a.reading code place). none_within mid a.reading.entries place (agree a.reading says) w.first)
+          (λ (w : ReportsFault mid a.reading code place). not_faulty a.reading w.fault says w.ended)
           a.why
 
     no_accepted : (of : Option (Id128 × ℕ)) (code place : ℕ) (fails mark : Bool)

@@ -18,11 +18,11 @@ use Rattle.jc_upload.specs.declared.answer.Answer.TheVariants.{Ack, No}
 use Rattle.jc_collect.specs.Position.{Collects, FailsUnread, HasCode, HasCause, HasGivenFewer}
 use Rattle.jc_collect.specs.Run.{Seen, seen, left_at, Collected, RunsToEnd, StopsAt, lines_of_answers}
 use Rattle.jc_collect.proofs.CollectedMore.{collected_none, collected_more}
-use Rattle.jc_collect.proofs.Lists.{get_set_other, index_set_other, index_set, index_map, take_more, told_at, same_length}
+use Rattle.jc_collect.proofs.Lists.{get_set_other, index_set_other, index_set, index_map, take_more, known_at, same_length}
 use Rattle.jc_collect.proofs.OneMore.{SaysOnce}
 
 -- A delivery loses nothing that is stored.
-pub kept_by : (limits : Limits) (told : Option (List ℕ)) (before after : Journal) (answer : Answer) → Collects limits told before answer after
+pub kept_by : (limits : Limits) (known : Option (List ℕ)) (before after : Journal) (answer : Answer) → Collects limits known before answer after
     → (e : LogEntry) → IsStored before e → IsStored after e
 kept_by limits None before after (Ack source start count new left) h e s = (h.1.has e).1 (inl s)
 kept_by limits None before after (No of code place) h e s = subst (λ (m : Journal). IsStored m e) (sym h) s
@@ -30,18 +30,18 @@ kept_by limits (Some upload) before after (Ack source start count new left) h e 
 kept_by limits (Some upload) before after (No of code place) h e s = subst (λ (m : Journal). IsStored m e) (sym h.leaves) s
 
 -- So many deliveries were collected, and the others are as they were.
-pub record UnderWay {D : Type 0} (Premise : Type 0) (told : D → Option (List ℕ)) (limits : Limits) (first : List D) (before : Seen)
+pub record UnderWay {D : Type 0} (Premise : Type 0) (known_of : D → Option (List ℕ)) (limits : Limits) (first : List D) (before : Seen)
     (done : ℕ) (present : List D) (now : Seen) : Type 0 where
   pub rest : (i : ℕ) → done ≤ i → slice_get present i ≡ slice_get first i
   pub stores : before.store_failures ≤ now.store_failures
   pub kept : Premise → (e : LogEntry) → IsStored before.journal e → IsStored now.journal e
-  pub ran : Premise → (uploads : List (List ℕ)) → map told first ≡ map (λ u. Some u) uploads → RunsToEnd limits (take done uploads) before now
+  pub ran : Premise → (uploads : List (List ℕ)) → map known_of first ≡ map (λ u. Some u) uploads → RunsToEnd limits (take done uploads) before now
 
 -- What holds under a premise holds under one from which it follows.
-pub under_way_if : {D : Type 0} (P Q : Type 0) (told : D → Option (List ℕ)) (limits : Limits) (first : List D) (before : Seen)
-    (done : ℕ) (present : List D) (now : Seen) → (Q → P) → UnderWay P told limits first before done present now
-    → UnderWay Q told limits first before done present now
-under_way_if P Q told limits first before done present now weaker way = record {
+pub under_way_if : {D : Type 0} (P Q : Type 0) (known_of : D → Option (List ℕ)) (limits : Limits) (first : List D) (before : Seen)
+    (done : ℕ) (present : List D) (now : Seen) → (Q → P) → UnderWay P known_of limits first before done present now
+    → UnderWay Q known_of limits first before done present now
+under_way_if P Q known_of limits first before done present now weaker way = record {
   rest = way.rest;
   stores = way.stores;
   kept = λ q. way.kept (weaker q);
@@ -52,9 +52,9 @@ pub lines_more : (answers : List Answer) (answer : Answer) → lines_of_answers 
 lines_more answers answer =
     flat_map-append answer_text answers (answer ∷ []) ∙ ap (λ l. lines_of_answers answers ++ l) (append-nil (answer_text answer))
 
-module _ {D : Type 0} (Premise : Type 0) (told : D → Option (List ℕ)) (fails : D → ℕ) (leaves : D → Option (List ℕ)) (limits : Limits)
+module _ {D : Type 0} (Premise : Type 0) (known_of : D → Option (List ℕ)) (fails : D → ℕ) (leaves : D → Option (List ℕ)) (limits : Limits)
     (first : List D) where
-  pub under_way_none : (before : Seen) → UnderWay Premise told limits first before 0 first before
+  pub under_way_none : (before : Seen) → UnderWay Premise known_of limits first before 0 first before
   under_way_none before = record {
     rest = λ i h. refl;
     stores = omega arith;
@@ -64,16 +64,16 @@ module _ {D : Type 0} (Premise : Type 0) (told : D → Option (List ℕ)) (fails
 
   -- all were collected
   pub under_way_all : (before now : Seen) (done : ℕ) (present : List D) → length first ≤ done
-      → UnderWay Premise told limits first before done present now
-      → Premise → (uploads : List (List ℕ)) → map told first ≡ map (λ u. Some u) uploads → RunsToEnd limits uploads before now
+      → UnderWay Premise known_of limits first before done present now
+      → Premise → (uploads : List (List ℕ)) → map known_of first ≡ map (λ u. Some u) uploads → RunsToEnd limits uploads before now
   under_way_all before now done present all way p uploads same =
       subst (λ (us : List (List ℕ)). RunsToEnd limits us before now)
-      (take_all done uploads (omega (arith, all, same_length told first uploads same)))
+      (take_all done uploads (omega (arith, all, same_length known_of first uploads same)))
       (way.ran p uploads same)
 
   module _ (before : Seen) (present : List D) (done : ℕ) (was now : D) (journal left : Journal) (stores stores_now : ℕ)
       (written written_now : Option (List ℕ)) (answer : Answer)
-      (way : UnderWay Premise told limits first before done present (seen journal stores (map fails present) (map leaves present) written))
+      (way : UnderWay Premise known_of limits first before done present (seen journal stores (map fails present) (map leaves present) written))
       (at : slice_get present done ≡ Some was)
       (firsts : before.read_failures ≡ map fails first)
       (firsts_left : before.left ≡ map leaves first)
@@ -87,13 +87,13 @@ module _ {D : Type 0} (Premise : Type 0) (told : D → Option (List ℕ)) (fails
     at_first = sym (way.rest done (omega arith)) ∙ at
 
     module _ (once : SaysOnce) (p : Premise)
-        (position : Collects limits (told was) journal answer left)
-        (uploads : List (List ℕ)) (same : map told first ≡ map (λ u. Some u) uploads) where
+        (position : Collects limits (known_of was) journal answer left)
+        (uploads : List (List ℕ)) (same : map known_of first ≡ map (λ u. Some u) uploads) where
       ran : RunsToEnd limits (take done uploads) before (seen journal stores (map fails present) (map leaves present) written)
       ran = way.ran p uploads same
 
       inside : done < length uploads
-      inside = let said = told_at told first uploads done was same at_first in slice_get_within uploads done said.0 said.1
+      inside = let said = known_at known_of first uploads done was same at_first in slice_get_within uploads done said.0 said.1
 
       number : length ran.answers ≡ done
       number = ran.collected.each ∙ length-take-le done uploads (omega (arith, inside))
@@ -116,7 +116,7 @@ module _ {D : Type 0} (Premise : Type 0) (told : D → Option (List ℕ)) (fails
 
       one_more : Collected limits (take (done + 1) uploads) before after (ran.answers ++ answer ∷ [])
       one_more =
-          let said = told_at told first uploads done was same at_first in
+          let said = known_at known_of first uploads done was same at_first in
           subst (λ (us : List (List ℕ)). Collected limits us before after (ran.answers ++ answer ∷ []))
           (sym (take_more uploads done said.0 said.1))
           (collected_more once limits (take done uploads) said.0 before (seen journal stores (map fails present) (map leaves present) written) after
@@ -149,11 +149,11 @@ module _ {D : Type 0} (Premise : Type 0) (told : D → Option (List ℕ)) (fails
             (Appends-trans before.written written written_now (lines_of_answers ran.answers) (answer_text answer) ran.lines out);
       }
 
-    pub under_way_more : SaysOnce → (Premise → Collects limits (told was) journal answer left) → Appends written written_now (answer_text answer)
-        → UnderWay Premise told limits first before (done + 1) (set present done now) after
+    pub under_way_more : SaysOnce → (Premise → Collects limits (known_of was) journal answer left) → Appends written written_now (answer_text answer)
+        → UnderWay Premise known_of limits first before (done + 1) (set present done now) after
     under_way_more once position out = record {
       rest = λ i h. get_set_other present done i now (omega (arith, h)) ∙ way.rest i (omega (arith, h));
       stores = omega (arith, way.stores, store.never_falls);
-      kept = λ p e h. kept_by limits (told was) journal left answer (position p) e (way.kept p e h);
+      kept = λ p e h. kept_by limits (known_of was) journal left answer (position p) e (way.kept p e h);
       ran = λ p uploads same. goes_on once p (position p) uploads same out;
     }

@@ -37,21 +37,21 @@ pub record IsTaken (limits : Limits) (upload : List ℕ) (journal : Journal) (of
   pub grown : AreNew journal reading.entries new
 
 -- A number and a place report a fault.
-pub record Tells (fault : Fault) (code place : ℕ) : Type 0 where
+pub record Reports (fault : Fault) (code place : ℕ) : Type 0 where
   pub number : code ≡ number_of fault.code
   pub at : place ≡ fault.place
 
 -- An entry differs from another one under its key: the number of the first such entry is reported.
-pub record TellsConflict (journal : Journal) (reading : Reading) (code place : ℕ) : Type 0 where
+pub record ReportsConflict (journal : Journal) (reading : Reading) (code place : ℕ) : Type 0 where
   pub number : code ≡ number_of Conflict
   pub first : IsFirstConflict journal reading.entries place
 
 -- No entry does, and the reading ends in a fault.
-pub record TellsFault (journal : Journal) (reading : Reading) (code place : ℕ) : Type 0 where
+pub record ReportsFault (journal : Journal) (reading : Reading) (code place : ℕ) : Type 0 where
   pub agrees : Agree journal reading.entries
   pub fault : Fault
   pub ended : reading.ending ≡ Bad fault
-  pub told : Tells fault code place
+  pub reported : Reports fault code place
 
 -- The upload is refused for what its body says. A conflict is reported rather than a fault after it.
 pub record IsRefused (limits : Limits) (upload : List ℕ) (journal : Journal) (of : Id128 × ℕ) (code place : ℕ) : Type 0 where
@@ -59,13 +59,13 @@ pub record IsRefused (limits : Limits) (upload : List ℕ) (journal : Journal) (
   pub reading : Reading
   pub says : SaysBehind limits upload head reading
   pub named : of ≡ named_by head
-  pub why : TellsConflict journal reading code place ⊎ TellsFault journal reading code place
+  pub why : ReportsConflict journal reading code place ⊎ ReportsFault journal reading code place
 
 -- The upload is refused for its header.
 pub record IsUnread (upload : List ℕ) (code place : ℕ) : Type 0 where
   pub fault : Fault
   pub shown : IsHeadFault upload fault
-  pub told : Tells fault code place
+  pub reported : Reports fault code place
 
 -- The answer to an upload over what is stored.
 abbrev pub IsAnswerTo : Limits → (upload : List ℕ) → Journal → Answer → Type 0

@@ -1,4 +1,4 @@
--- What an upload says, as it is told without a journal. (own)
+-- What an upload says, as it is answered without a journal. (own)
 use Rattle.std.specs.Prelude.{ℕ, ◌≡◌, List, length, Option, Some, None, Result, Ok, Err, ⊤}
 use Rattle.jc_base.specs.declared.fault.Ending.{Ending}
 use Rattle.jc_base.specs.declared.fault.Ending.TheVariants as ending
@@ -42,24 +42,24 @@ pub record IsFaulty (limits : Limits) (upload : List ℕ) (ending : Ending) : Ty
   pub says : Says limits upload reading
   pub ended : reading.ending ≡ ending
 
--- What is told of an upload is what it says.
+-- What is answered of an upload is what it says.
 abbrev pub IsInspected : Limits → (upload : List ℕ) → Inspected → Type 0
 IsInspected limits upload (Upload source start count left last) = IsWell limits upload (source, start) count left last
 IsInspected limits upload (Bad fault) = IsFaulty limits upload (ending.Bad fault)
 
--- A fault that is told is one of an upload.
+-- A fault that is answered is one of an upload.
 abbrev pub HasFormatCode : Inspected → Type 0
 HasFormatCode (Upload source start count left last) = ⊤
 HasFormatCode (Bad fault) = IsFormatCode fault.code
 
 -- ---- by header and body
 
--- what is told of an upload whose header can't be read
+-- what is answered of an upload whose header can't be read
 abbrev pub inspected_unread : Unread → Result Inspected Stop
 inspected_unread (unread.Fault fault) = Ok (Bad fault)
 inspected_unread unread.ReadFailed = Err stop.ReadFailed
 
--- what is told of one with this header and this body
+-- what is answered of one with this header and this body
 abbrev pub inspected_by : UploadHead → (count : ℕ) → Option Key → Ending → Inspected
 inspected_by head count last (ending.End left) = Upload head.source head.start count left last
 inspected_by head count last (ending.Bad fault) = Bad fault

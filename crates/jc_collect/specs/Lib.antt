@@ -3,6 +3,7 @@ pub mod Accepted
 pub mod Position
 pub mod Delivered
 pub mod Run
+pub mod Crash
 pub mod Part
 pub mod Whole
 pub mod Begun

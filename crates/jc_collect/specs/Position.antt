@@ -37,14 +37,14 @@ pub record IsPosition (limits : Limits) (upload : List ℕ) (before : Journal) (
   pub leaves : Leaves limits upload before answer after
 
 -- What is stored afterwards if the delivery's bytes aren't known: what is acknowledged is some reading, taken up whole.
-abbrev pub LeavesUntold : (before : Journal) → Answer → (after : Journal) → Type 0
-LeavesUntold before (Ack source start count new left) after =
+abbrev pub LeavesUnknown : (before : Journal) → Answer → (after : Journal) → Type 0
+LeavesUnknown before (Ack source start count new left) after =
     (reading : Reading) × TakesWhole before reading count new left after
-LeavesUntold before (No of code place) after = after ≡ before
+LeavesUnknown before (No of code place) after = after ≡ before
 
 -- What a delivery does, by whether its bytes are known.
-abbrev pub Collects : Limits → (told : Option (List ℕ)) → (before : Journal) → Answer → (after : Journal) → Type 0
-Collects limits None before answer after = LeavesUntold before answer after
+abbrev pub Collects : Limits → (known : Option (List ℕ)) → (before : Journal) → Answer → (after : Journal) → Type 0
+Collects limits None before answer after = LeavesUnknown before answer after
 Collects limits (Some upload) before answer after = IsPosition limits upload before answer after
 
 -- ---- causes of failures
@@ -70,7 +70,7 @@ NamesNone (Ack source start count new left) = ⊥
 NamesNone (No None code place) = ⊤
 NamesNone (No (Some of) code place) = ⊥
 
--- A stream that tells its bytes has given fewer than this many of them.
+-- A stream whose bytes are known has given fewer than this many of them.
 pub record HasGivenFewer (most : ℕ) (before behind : Option (List ℕ)) : Type 0 where
   pub came : List ℕ
   pub front : Consumes before behind came

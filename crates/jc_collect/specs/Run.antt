@@ -25,7 +25,7 @@ pub record Seen : Type 0 where
   pub journal : Journal
   pub store_failures : ℕ
   pub read_failures : List ℕ
-  -- the bytes that each stream has left, if it tells them; of a space nothing is told
+  -- the bytes that each stream has left, if they are known; of a space nothing is known
   pub left : List (Option (List ℕ))
   pub written : Option (List ℕ)
 
@@ -106,14 +106,14 @@ IsRun limits uploads before (Stopped done written) after = StopsAt limits upload
 -- ---- what is written, whether the deliveries' bytes are known or not
 
 -- The lines of this many answers were written, in order.
-pub record AreTold (count : ℕ) (before now : Option (List ℕ)) : Type 0 where
+pub record AreWritten (count : ℕ) (before now : Option (List ℕ)) : Type 0 where
   pub answers : List Answer
   pub number : length answers ≡ count
   pub lawful : All IsAnswer answers
   pub lines : Appends before now (lines_of_answers answers)
 
 -- ... and after them this many bytes of the line of one more.
-pub record AreToldUpTo (count written : ℕ) (before now : Option (List ℕ)) : Type 0 where
+pub record AreWrittenUpTo (count written : ℕ) (before now : Option (List ℕ)) : Type 0 where
   pub answers : List Answer
   pub last : Answer
   pub number : length answers ≡ count
@@ -122,9 +122,9 @@ pub record AreToldUpTo (count written : ℕ) (before now : Option (List ℕ)) : 
   pub lines : Appends before now (lines_of_answers answers ++ take written (answer_text last))
 
 -- A run over this many deliveries writes a line for each of them, or up to the place at which it stopped.
-abbrev pub TellsEach : (deliveries : ℕ) → (before now : Option (List ℕ)) → RunEnd → Type 0
-TellsEach deliveries before now Done = AreTold deliveries before now
-TellsEach deliveries before now (Stopped done written) = (done < deliveries) × AreToldUpTo done written before now
+abbrev pub WritesEach : (deliveries : ℕ) → (before now : Option (List ℕ)) → RunEnd → Type 0
+WritesEach deliveries before now Done = AreWritten deliveries before now
+WritesEach deliveries before now (Stopped done written) = (done < deliveries) × AreWrittenUpTo done written before now
 
 -- A run stops only if the sink's count of failures has risen.
 pub record SinkFailed (before now : ℕ) (end : RunEnd) : Type 0 where

@@ -70,7 +70,7 @@ impl<B: ByteSpace> ByteSpace for BorrowedPart<'_, B> {
     }
 }
 
-/// Takes back what was borrowed, as it was left. A proof knows what became of it by its being used once more.
+/// Takes back what was borrowed, as it was left. It is used once more so that a proof knows what became of it.
 pub(crate) fn take_back<D>(device: &mut D)
     ensures { device.new ≡ device.old }
 {}

@@ -3,7 +3,7 @@
 ghost use Rattle.std.specs.Prelude.{◌≡◌, ℕ, List, Some, IfOk};
 ghost use Rattle.std.specs.Option.{option_map};
 ghost use Rattle.jc_upload.specs.declared.head.Kind.TheVariants.{Export, File};
-ghost use Rattle.jc_upload.specs.Says.{told_as};
+ghost use Rattle.jc_upload.specs.Says.{reading_under};
 ghost use Rattle.jc_collect.specs.Delivered.{of_delivery};
 ghost use Rattle.jc_collect.specs.Inspected.{EndsInFormat, HasBody, HasFormatCode, IsInspected, SaysBodyOf, inspected_of, inspected_unread};
 ghost use Rattle.jc_collect.specs.Part.{known_from};
@@ -28,7 +28,7 @@ pub enum Inspected {
         start: u64,
         /// How many of its entries are complete.
         count: u64,
-        /// How many bytes behind them are an unfinished entry.
+        /// How many bytes after them are an unfinished entry.
         left: u64,
         /// The key of the last complete entry.
         last: Option<Key>,
@@ -77,11 +77,11 @@ fn inspect_stream<R: ByteStream + Drop>(
     match head.kind {
         Kind::Export => {
             let body = export_body(alloc, device, limits, head.version)?;
-            Ok(told_of(head, body))
+            Ok(as_inspected(head, body))
         }
         Kind::File => {
             let body = gathered_body(alloc, device, limits, head.version)?;
-            Ok(told_of(head, body))
+            Ok(as_inspected(head, body))
         }
     }
 }
@@ -102,11 +102,11 @@ fn inspect_space<B: ByteSpace + Drop>(
     match head.kind {
         Kind::Export => {
             let body = export_body(alloc, SpaceStream::new(part), limits, head.version)?;
-            Ok(told_of(head, body))
+            Ok(as_inspected(head, body))
         }
         Kind::File => {
             let body = file_body(alloc, part, limits, head.version)?;
-            Ok(told_of(head, body))
+            Ok(as_inspected(head, body))
         }
     }
 }
@@ -122,7 +122,7 @@ fn inspect_unread(unread: Unread) -> Result<Inspected, Stop>
 }
 
 /// What an upload with this header and this body says.
-fn told_of(head: UploadHead, body: Body) -> Inspected
+fn as_inspected(head: UploadHead, body: Body) -> Inspected
     ensures { result ≡ inspected_of head body }
 {
     let UploadHead { source, start, .. } = head;
@@ -154,7 +154,7 @@ fn export_body<R: ByteStream + Drop>(
     ensures format { IfOk result EndsInFormat }
 {
     let stream = Stream::new(alloc, device, *limits)?;
-    told_body(stream, version)
+    read_body(stream, version)
 }
 
 /// What a space has, as the journal file of an upload of this version.
@@ -167,7 +167,7 @@ fn file_body<B: ByteSpace + Drop>(
     ensures says { IfOk result (SaysBodyOf limits.now version File (B.bytes space)) }
     ensures format { IfOk result EndsInFormat }
 {
-    told_body(FileEntries::new(alloc, space, *limits), version)
+    read_body(FileEntries::new(alloc, space, *limits), version)
 }
 
 /// What a stream gives from here on, as the journal file of an upload of this version. It is read whole first, up to one
@@ -186,8 +186,8 @@ fn gathered_body<R: ByteStream + Drop>(
 }
 
 /// What a source gives, as the body of an upload of this version.
-fn told_body<S: EntrySource + Drop>(mut source: S, version: Version) -> Result<Body, Stop>
-    ensures has { IfOk result (HasBody (option_map (told_as version) (S.remaining source))) }
+fn read_body<S: EntrySource + Drop>(mut source: S, version: Version) -> Result<Body, Stop>
+    ensures has { IfOk result (HasBody (option_map (reading_under version) (S.remaining source))) }
     ensures format { IfOk result EndsInFormat }
 {
     match version.whole_entries() {

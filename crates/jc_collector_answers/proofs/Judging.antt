@@ -55,17 +55,17 @@ left_first text answers are = (answers, are, judged_all answers)
 pub left_more : (rest line behind : List ℕ) (status next : Status) (answers : List Answer) → lines_of rest ≡ line ∷ lines_of behind
     → ((answer : Answer) → IsAnswer answer → line ≡ answer_text answer → next ≡ status_with status answer)
     → IsLeft answers status rest → IsLeft answers next behind
-left_more rest line behind status next answers first told ([], are, same) = absurd (no_line (sym first ∙ are.lines))
+left_more rest line behind status next answers first judges ([], are, same) = absurd (no_line (sym first ∙ are.lines))
   where
     no_line : line ∷ lines_of behind ≡ [] → ⊥
     no_line e = cc
-left_more rest line behind status next answers first told (answer ∷ left, are, same) =
+left_more rest line behind status next answers first judges (answer ∷ left, are, same) =
     let split : line ∷ lines_of behind ≡ answer_text answer ∷ map answer_text left = sym first ∙ are.lines in
     let is : line ≡ answer_text answer = cc split in
     let others : lines_of behind ≡ map answer_text left = cc split in (
       left,
       record { lines = others; each = λ k d below. are.each (suc k) d (omega (arith, below)) },
-      ap (λ (s : Status). with_all s left) (told answer (are.each 0 answer (omega arith)) is) ∙ same,
+      ap (λ (s : Status). with_all s left) (judges answer (are.each 0 answer (omega arith)) is) ∙ same,
     )
 
 pub left_none : (rest : List ℕ) (status : Status) (answers : List Answer) → length rest ≡ 0 → IsLeft answers status rest → status ≡ judged answers

@@ -2,3 +2,5 @@ pub mod AnswerLines
 pub mod Successive
 pub mod Judging
 pub mod Printing
+pub mod LeftPrinted
+pub mod Losing

@@ -17,8 +17,8 @@ use Rattle.jc_command_shared.specs.Lines.{lines_of, with_byte}
 use Rattle.jc_command_shared.specs.OutputLaws.{Appends-kept}
 use Rattle.jc_command_shared.specs.declared.status.Status.{Status}
 use Rattle.jc_command_shared.specs.declared.status.Status.TheVariants.{Success, Refused, Misused, Failed}
-use Rattle.jc_collector_answers.specs.Answered.{TellsAnswers, is_refusal, judged, worse}
-use Rattle.jc_collector_answers.specs.Named.{LosesLine, TellsNamed}
+use Rattle.jc_collector_answers.specs.Answered.{PrintsAnswers, is_refusal, judged, worse}
+use Rattle.jc_collector_answers.specs.Named.{LosesLine, PrintsNamed}
 use Rattle.jc_upload.specs.Answer.{IsAnswer, answer_text}
 use Rattle.jc_upload.specs.declared.answer.Answer.{Answer}
 use Rattle.jc_upload.specs.declared.answer.Answer.TheVariants.{No}
@@ -42,9 +42,9 @@ judged_both xs ys =
     (by_either (list_any is_failure xs) (list_any is_failure ys) (list_any is_refusal xs) (list_any is_refusal ys))
 
 -- the lines of some answers, and then those of others
-pub tells_both : (count count' : ℕ) (status status' : Status) (old mid new : Option (List ℕ)) → TellsAnswers count status old mid
-    → TellsAnswers count' status' mid new → TellsAnswers (count + count') (worse status status') old new
-tells_both count count' status status' old mid new one other = record {
+pub prints_both : (count count' : ℕ) (status status' : Status) (old mid new : Option (List ℕ)) → PrintsAnswers count status old mid
+    → PrintsAnswers count' status' mid new → PrintsAnswers (count + count') (worse status status') old new
+prints_both count count' status status' old mid new one other = record {
   answers = one.answers ++ other.answers;
   each = length-append one.answers other.answers ∙ ap₂ (λ (m n : ℕ). m + n) one.each other.each;
   lawful = All-append IsAnswer one.answers other.answers one.lawful other.lawful;
@@ -58,10 +58,10 @@ one_lawful answer is zero d below = is
 one_lawful answer is (suc k) d below = absurd (omega (arith, below))
 
 -- the line of an upload of which nothing could be read
-pub unread_told : (code : ℕ) (bytes line : List ℕ) (old mid new : Option (List ℕ)) → Appends old mid bytes → Keeps mid new
+pub unread_printed : (code : ℕ) (bytes line : List ℕ) (old mid new : Option (List ℕ)) → Appends old mid bytes → Keeps mid new
     → bytes ≡ line → line ≡ answer_text (No None code 0) → IsAnswer (No None code 0) → code ≡ number_of ReadFailed
-    → TellsAnswers 1 Failed old new
-unread_told code bytes line old mid new out keeps same is lawful failed = record {
+    → PrintsAnswers 1 Failed old new
+unread_printed code bytes line old mid new out keeps same is lawful failed = record {
   answers = No None code 0 ∷ [];
   each = refl;
   lawful = one_lawful (No None code 0) lawful;
@@ -120,7 +120,7 @@ HasCome count (Some text) (Some rest) = length (lines_of text) ≡ count + lengt
 
 -- ... and each of them was answered.
 abbrev pub IsUnderWay : (text rest : Option (List ℕ)) → Status → (old now : Option (List ℕ)) → Type 0
-IsUnderWay text rest status old now = (count : ℕ) × TellsAnswers count status old now × HasCome count text rest
+IsUnderWay text rest status old now = (count : ℕ) × PrintsAnswers count status old now × HasCome count text rest
 
 nothing_more : (known : Option (List ℕ)) → Appends known known []
 nothing_more None = tt
@@ -134,10 +134,10 @@ begins text old = (0, record { answers = []; each = refl; lawful = λ k d below.
     all (Some bytes) = sym (zero-add (length (lines_of bytes)))
 
 pub goes_on_to : (text rest next : Option (List ℕ)) (status more : Status) (old mid now : Option (List ℕ))
-    → IsUnderWay text rest status old mid → LosesLine rest next → TellsAnswers 1 more mid now
+    → IsUnderWay text rest status old mid → LosesLine rest next → PrintsAnswers 1 more mid now
     → IsUnderWay text next (worse status more) old now
-goes_on_to text rest next status more old mid now (count, told, came) loses answered =
-    (count + 1, tells_both count 1 status more old mid now told answered, further text rest next came loses)
+goes_on_to text rest next status more old mid now (count, printed, came) loses answered =
+    (count + 1, prints_both count 1 status more old mid now printed answered, further text rest next came loses)
   where
     further : (text rest next : Option (List ℕ)) → HasCome count text rest → LosesLine rest next → HasCome (count + 1) text next
     further None rest next came loses = tt
@@ -146,9 +146,9 @@ goes_on_to text rest next status more old mid now (count, told, came) loses answ
     further (Some bytes) (Some left) (Some less) came loses = omega (arith, came, loses)
 
 pub ends_named : (text rest : Option (List ℕ)) (status : Status) (old now : Option (List ℕ)) → IsUnderWay text rest status old now
-    → IfSome rest (λ left. left ≡ []) → TellsNamed text status old now
+    → IfSome rest (λ left. left ≡ []) → PrintsNamed text status old now
 unfolding lines_of
-ends_named text rest status old now (count, told, came) none = record { count = count; each = whole text rest came none; told = told }
+ends_named text rest status old now (count, printed, came) none = record { count = count; each = whole text rest came none; printed = printed }
   where
     whole : (text rest : Option (List ℕ)) → HasCome count text rest → IfSome rest (λ left. left ≡ [])
         → IfSome text (λ known. count ≡ length (lines_of known))

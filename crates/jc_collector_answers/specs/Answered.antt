@@ -6,7 +6,9 @@ use Rattle.std.proofs.Props.{props}
 use Rattle.jc_base.specs.declared.limits.Limits.{Limits}
 use Rattle.jc_base.specs.LimitBounds.{AreDefaults}
 use Rattle.jc_collect.specs.Answer.{is_failure, is_failure_code}
+use Rattle.jc_base.specs.Journal.{Journal}
 use Rattle.jc_collect.specs.declared.runs.RunEnd.TheVariants.{Done}
+use Rattle.jc_collect.specs.Crash.{KeepsAcknowledged}
 use Rattle.jc_collect.specs.Run.{Collected, IsRun, Seen, lines_of_answers}
 use Rattle.jc_upload.specs.Answer.{IsAnswer}
 use Rattle.jc_upload.specs.declared.answer.Answer.{Answer}
@@ -24,7 +26,7 @@ judged answers =
     if list_any is_failure answers then Failed else (if list_any is_refusal answers then Refused else Success)
 
 -- The output gained the lines of this many answers, and the status is theirs.
-pub record TellsAnswers (count : ℕ) (status : Status) (old new : Option (List ℕ)) : Type 0 where
+pub record PrintsAnswers (count : ℕ) (status : Status) (old new : Option (List ℕ)) : Type 0 where
   pub answers : List Answer
   pub each : length answers ≡ count
   pub lawful : All IsAnswer answers
@@ -37,7 +39,8 @@ pub record RunsByDefault (uploads : List (List ℕ)) (before after : Seen) : Typ
   pub defaults : AreDefaults limits.name limits.value limits.fields limits.entry limits.file
   pub ran : IsRun limits uploads before Done after
 
--- The first ones of some uploads were collected under the default limits, and the others weren't.
+-- The first ones of some uploads were collected under the default limits, and the others weren't. What was printed is a front
+-- of the lines of their answers.
 pub record CollectsFirst (uploads : List (List ℕ)) (before after : Seen) : Type 0 where
   pub limits : Limits
   pub defaults : AreDefaults limits.name limits.value limits.fields limits.entry limits.file
@@ -45,6 +48,29 @@ pub record CollectsFirst (uploads : List (List ℕ)) (before after : Seen) : Typ
   pub within : done ≤ length uploads
   pub answers : List Answer
   pub collected : Collected limits (take done uploads) before after answers
+  pub shown : ℕ
+  pub printed : Appends before.written after.written (take shown (lines_of_answers answers))
+
+-- Uploads were collected in one run under the default limits, and the line of each answer was printed. What is found after
+-- a crash has what was stored before, each upload that was acknowledged, and all of one more at most.
+pub record KeepsPrinted (uploads : List (List ℕ)) (start : Journal) (old new : Option (List ℕ)) (found : Journal) : Type 0 where
+  pub limits : Limits
+  pub defaults : AreDefaults limits.name limits.value limits.fields limits.entry limits.file
+  pub answers : List Answer
+  pub keeps : KeepsAcknowledged limits start uploads answers found
+  pub printed : Appends old new (lines_of_answers answers)
+
+-- The first ones of some uploads were collected so, and the others weren't. What was printed is a front of the lines of their
+-- answers: so all that it acknowledges is found.
+pub record KeepsFirst (uploads : List (List ℕ)) (start : Journal) (old new : Option (List ℕ)) (found : Journal) : Type 0 where
+  pub limits : Limits
+  pub defaults : AreDefaults limits.name limits.value limits.fields limits.entry limits.file
+  pub done : ℕ
+  pub within : done ≤ length uploads
+  pub answers : List Answer
+  pub keeps : KeepsAcknowledged limits start (take done uploads) answers found
+  pub shown : ℕ
+  pub printed : Appends old new (take shown (lines_of_answers answers))
 
 -- how many uploads there are: those that are named, or the one on standard input
 abbrev pub number_of_uploads : (named : ℕ) → ℕ

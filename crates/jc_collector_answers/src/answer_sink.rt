@@ -1,7 +1,7 @@
 //! The sink that answers are printed through.
 
 ghost use Rattle.std.specs.Prelude.{◌≡◌, [], ◌∷◌, List, ℕ, Option, Some, IfSome, false};
-ghost use Rattle.std.specs.Io.KnownBytes.{Appends};
+ghost use Rattle.std.specs.Io.KnownBytes.{Appends, Keeps};
 ghost use Rattle.std.specs.List.{All};
 ghost use Rattle.jc_collector_answers.specs.Answered.{Appends-prop, begun, judged};
 ghost use Rattle.jc_collect.specs.Run.{lines_of_answers};
@@ -15,7 +15,7 @@ use std::io::Write;
 use std::snapshot::Snapshot;
 
 /// Passes answer lines on to a writer, each of them as one piece, flushes it after each, and keeps what was printed.
-/// Once it has failed it takes no more.
+/// Once it has failed it takes no more. What went out of a line before that is kept, too.
 #[derive(Drop)]
 pub struct AnswerSink<'a, O: Write> {
     output: &'a mut O,
@@ -25,7 +25,7 @@ pub struct AnswerSink<'a, O: Write> {
     lines: &'a mut Vec<u8>,
     failed: bool,
     failures: u64,
-    ghost printed: { failed ≡ false → Appends (O.contents before.value) (O.contents output.now) lines.now.items } by { Prim.hlevel (Appends-prop) },
+    ghost printed: { Appends (O.contents before.value) (O.contents output.now) lines.now.items } by { Prim.hlevel (Appends-prop) },
 }
 
 impl<'a, O: Write> AnswerSink<'a, O> {
@@ -45,11 +45,16 @@ impl<'a, O: Write> AnswerSink<'a, O> {
     }
 
     /// The writer, and the status by the answers that were printed; `None` if the sink has failed.
+    #[tactic(auto, using(crate::proofs::Printing::went_out))]
     pub fn end(self) -> (&'a mut O, Option<Status>)
         ensures borrowed_device { result.0.ghost_name ∷ [] ≡ ⟦<AnswerSink<'a, O> as ByteSink>⟧.borrowed_device self.entry }
-        ensures told { IfSome result.1 (λ status. (before : Option (List ℕ)) (answers : List Answer) → All IsAnswer answers
+        ensures printed { IfSome result.1 (λ status. (before : Option (List ℕ)) (answers : List Answer) → All IsAnswer answers
             → ⟦<AnswerSink<'a, O> as ByteSink>⟧.written self.entry ≡ Some (begun before (lines_of_answers answers))
             → (status ≡ judged answers) × Appends before (O.contents result.0.now) (lines_of_answers answers)) }
+        // Whether it has failed or not, what it has written went out, and nothing else.
+        ensures front { (before : Option (List ℕ)) (text : List ℕ)
+            → ⟦<AnswerSink<'a, O> as ByteSink>⟧.written self.entry ≡ Some (begun before text)
+            → Appends before (O.contents result.0.now) text }
     {
         let AnswerSink {
             output,
@@ -76,19 +81,29 @@ impl<O: Write> ByteSink for AnswerSink<'_, O> {
 
     #[tactic(auto, using(crate::proofs::Printing::goes_on))]
     fn write(&mut self, line: &[u8]) -> Result<usize, WriteFailed> {
-        let failed = self.failed;
-        // Until the line is printed whole, the sink counts as failed.
-        self.failed = true;
-        if failed || self.lines.reserve(line.len()).is_err() {
+        if self.failed || self.lines.reserve(line.len()).is_err() {
+            self.failed = true;
             self.failures = one_more(self.failures);
             return Err(WriteFailed);
         }
-        if write_front(self.output, line) < line.len() || self.output.flush().is_err() {
+        if line.is_empty() {
+            return Ok(0);
+        }
+        let count = write_front(self.output, line);
+        self.lines.extend_from_slice(&line[..count]).unwrap();
+        // If the line isn't printed whole, the next call fails. This one answers what went out of it.
+        self.failed = !flushed(self.output, count == line.len());
+        if count == 0 {
             self.failures = one_more(self.failures);
             return Err(WriteFailed);
         }
-        self.lines.extend_from_slice(line).unwrap();
-        self.failed = false;
-        Ok(line.len())
+        Ok(count)
     }
+}
+
+/// Flushes what went out, if that was all. False if it wasn't, or if flushing failed.
+fn flushed<O: Write>(output: &mut O, all: bool) -> bool
+    ensures { Keeps (O.contents output.old) (O.contents output.new) }
+{
+    all && output.flush().is_ok()
 }

@@ -2,6 +2,7 @@ pub mod Status
 pub mod Failure
 pub mod Ids
 pub mod Names
+pub mod Folder
 pub mod Lines
 pub mod LineLaws
 pub mod Output

@@ -67,7 +67,7 @@ impl Failure<'_> {
     }
 
     /// Prints the line. If that fails too there is nowhere left to say it, and the status stays.
-    pub fn tell<E: Write>(&self, errors: &mut E) -> Status
+    pub fn report<E: Write>(&self, errors: &mut E) -> Status
         ensures { result ≡ status_of self.now }
     {
         let _ = self.print(errors);

@@ -1,6 +1,7 @@
 //! Files that are replaced whole.
 
 ghost use Rattle.std.specs.Prelude.{◌≡◌, ◌⊎◌, Err, IfErr, IsOk, OnOk};
+ghost use Rattle.jc_command_shared.specs.Folder.{IsIn};
 
 use crate::Failure;
 use std::alloc::Global;
@@ -61,10 +62,14 @@ fn sync_folder<R: Files>(rt: &R, path: &str) {
 }
 
 /// The path of the folder that has the file at `path`, and the file's name in it.
-pub fn folder_and_name(path: &str) -> (&str, &str) {
-    match path.rsplit_once('/') {
-        Some(("", name)) => ("/", name),
-        Some((folder, name)) => (folder, name),
-        None => (".", path),
+pub fn folder_and_name(path: &str) -> (&str, &str)
+    ensures { IsIn path.now result.0.now result.1.now }
+{
+    let Some((folder, name)) = path.rsplit_once('/') else {
+        return (".", path);
+    };
+    if folder.is_empty() {
+        return ("/", name);
     }
+    (folder, name)
 }

@@ -15,35 +15,35 @@ use Rattle.jc_sender.specs.Source.{HasEntriesOf, HasFault, ReadsWell}
 use Rattle.jc_command_args.specs.declared.request.InputKind.TheVariants.{File}
 
 module _
-    (bytes : List ℕ) (limits : Limits) (told : Option Reading)
+    (bytes : List ℕ) (limits : Limits) (known : Option Reading)
     (defaults : AreDefaults limits.name limits.value limits.fields limits.entry limits.file)
-    (reads : IsSomeAnd told (IsFileReading limits bytes))
-    (only : (r : Reading) → IsFileReading limits bytes r → told ≡ Some r)
+    (reads : IsSomeAnd known (IsFileReading limits bytes))
+    (only : (r : Reading) → IsFileReading limits bytes r → known ≡ Some r)
   where
-    pub entries_well : (entries : List LogEntry) (ending : Ending) (left : ℕ) → HasEntries told entries ending
+    pub entries_well : (entries : List LogEntry) (ending : Ending) (left : ℕ) → HasEntries known entries ending
         → ending ≡ End left → HasEntriesOf File bytes entries
     entries_well entries ending left has ends =
-        let found = file_reading bytes limits told reads only in
+        let found = file_reading bytes limits known reads only in
         let are : HasEntries (Some found.0) entries ending = subst (λ t. HasEntries t entries ending) found.1 has in
         (found.0, record { limits = limits; defaults = defaults; reads = found.2; ends = (left, sym are.1 ∙ ends) }, are.0)
 
-    pub entries_faulty : (entries : List LogEntry) (ending : Ending) (fault : Fault) → HasEntries told entries ending
+    pub entries_faulty : (entries : List LogEntry) (ending : Ending) (fault : Fault) → HasEntries known entries ending
         → ending ≡ Bad fault → HasFault File bytes fault
     entries_faulty entries ending fault has ends =
-        let found = file_reading bytes limits told reads only in
+        let found = file_reading bytes limits known reads only in
         let are : HasEntries (Some found.0) entries ending = subst (λ t. HasEntries t entries ending) found.1 has in
         record { limits = limits; defaults = defaults; reading = found.0; reads = found.2; ends = sym are.1 ∙ ends }
 
-    pub counted_well : (count : ℕ) (ending : Ending) (left : ℕ) → HasCount told count ending
+    pub counted_well : (count : ℕ) (ending : Ending) (left : ℕ) → HasCount known count ending
         → ending ≡ End left → (reading : Reading) × ReadsWell File bytes reading
     counted_well count ending left has ends =
-        let found = file_reading bytes limits told reads only in
+        let found = file_reading bytes limits known reads only in
         let are : HasCount (Some found.0) count ending = subst (λ t. HasCount t count ending) found.1 has in
         (found.0, record { limits = limits; defaults = defaults; reads = found.2; ends = (left, sym are.1 ∙ ends) })
 
-    pub counted_faulty : (count : ℕ) (ending : Ending) (fault : Fault) → HasCount told count ending
+    pub counted_faulty : (count : ℕ) (ending : Ending) (fault : Fault) → HasCount known count ending
         → ending ≡ Bad fault → HasFault File bytes fault
     counted_faulty count ending fault has ends =
-        let found = file_reading bytes limits told reads only in
+        let found = file_reading bytes limits known reads only in
         let are : HasCount (Some found.0) count ending = subst (λ t. HasCount t count ending) found.1 has in
         record { limits = limits; defaults = defaults; reading = found.0; reads = found.2; ends = sym are.1 ∙ ends }

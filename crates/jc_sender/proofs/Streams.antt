@@ -1,4 +1,4 @@
--- What a source over an export stream gave is what some bytes say, or those that its device told.
+-- What a source over an export stream gave is what some bytes say, or what the known ones of its device say.
 use Rattle.std.proofs.Common.{◌≡◌, ◌∙◌, ◌++◌, ℕ, List, [], Option, Some, append-nil, inl, inr, refl, subst, sym}
 use Rattle.std.specs.List.{All}
 use Rattle.jc_base.specs.LimitBounds.{AreDefaults}
@@ -12,7 +12,7 @@ use Rattle.jc_export.specs.Computed.Lines.{reading_of}
 use Rattle.jc_export.specs.Cut.{AllFit, ReadsBack, joined}
 use Rattle.jc_export.specs.Stream.{IsOnlyReading, StreamReading}
 use Rattle.jc_stream.specs.StreamFault.{IsStreamFault}
-use Rattle.jc_stream.specs.Streaming.{TellsReading}
+use Rattle.jc_stream.specs.Streaming.{ReadsKnown}
 use Rattle.jc_upload.specs.Excerpt.{AreOfStream, Gave, IsStreamEnding}
 use Rattle.jc_sender.proofs.Verdicts.{stream_reading}
 use Rattle.jc_sender.specs.Reads.{ReadsAs}
@@ -61,9 +61,9 @@ pub some_fault : (only : (limits : Limits) (at : ℕ) (bytes : List ℕ) → IsO
     → (limits found : Limits) (ending : Ending) (fault : Fault)
     → AreDefaults limits.name limits.value limits.fields limits.entry limits.file → found ≡ limits → ending ≡ Bad fault
     → IsStreamEnding found ending → (bytes : List ℕ) × HasFault Export bytes fault
-some_fault only limits found ending fault defaults same is told =
+some_fault only limits found ending fault defaults same is ends =
     let here : IsStreamFault limits fault =
-    subst (λ (e : Ending). IsStreamEnding limits e) is (subst (λ (l : Limits). IsStreamEnding l ending) same told) in
+    subst (λ (e : Ending). IsStreamEnding limits e) is (subst (λ (l : Limits). IsStreamEnding l ending) same ends) in
     let one = only limits 0 here.bytes in (
       here.bytes,
       record {
@@ -76,14 +76,14 @@ some_fault only limits found ending fault defaults same is told =
     )
 
 module _
-    (bytes : List ℕ) (limits : Limits) (known : Option (List ℕ)) (told : Option Reading) (entries : List LogEntry) (ending : Ending)
+    (bytes : List ℕ) (limits : Limits) (known : Option (List ℕ)) (answered : Option Reading) (entries : List LogEntry) (ending : Ending)
     (defaults : AreDefaults limits.name limits.value limits.fields limits.entry limits.file)
-    (has : known ≡ Some bytes) (reads : TellsReading limits known told)
-    (only : IsOnlyReading limits 0 bytes (reading_of limits 0 bytes)) (gave : Gave told entries ending)
+    (has : known ≡ Some bytes) (reads : ReadsKnown limits known answered)
+    (only : IsOnlyReading limits 0 bytes (reading_of limits 0 bytes)) (gave : Gave answered entries ending)
   where
     found : (reading : Reading) × ReadsAs Export limits bytes reading × (entries ≡ reading.entries) × (ending ≡ reading.ending)
     found =
-        let it = stream_reading bytes limits known told has reads only in
+        let it = stream_reading bytes limits known answered has reads only in
         let are : Gave (Some it.0) entries ending = subst (λ t. Gave t entries ending) it.1 gave in
         (it.0, it.2, are.0, are.1)
 

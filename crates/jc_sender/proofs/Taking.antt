@@ -32,7 +32,7 @@ all_keep_source entries [] before after takes = ap (λ (s : Sender). s.source) t
 all_keep_source entries (answer ∷ answers) before after (middle, takes, rest) =
     all_keep_source entries answers middle after rest ∙ keeps_source entries answer before middle takes
 
--- so what the answers did is told by the resume point
+-- so what the answers did is said by the resume point
 pub sender_moved : (kind : InputKind) (bytes : List ℕ) (entries : List LogEntry) (answers : List Answer) (before after : Sender) (moved : Point)
     → HasEntriesOf kind bytes entries → TakesAnswers entries answers before after → moved ≡ after.point
     → MovesSender kind before bytes answers moved

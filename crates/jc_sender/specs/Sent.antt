@@ -35,7 +35,7 @@ pub record MakesUpload (kind : InputKind) (sender : Sender) (limit : ℕ) (whole
   pub made : upload ≡ upload_of kind sender limit whole reading.entries bytes
 
 -- The output gained that upload.
-pub record TellsUpload (kind : InputKind) (sender : Sender) (limit : ℕ) (whole : Bool) (bytes : List ℕ) (old new : Option (List ℕ)) : Type 0 where
+pub record PrintsUpload (kind : InputKind) (sender : Sender) (limit : ℕ) (whole : Bool) (bytes : List ℕ) (old new : Option (List ℕ)) : Type 0 where
   pub upload : List ℕ
   pub makes : MakesUpload kind sender limit whole bytes upload
   pub printed : Appends old new upload
@@ -61,10 +61,10 @@ WhyNoSomeUpload kind failure = WhyNoSomeEntries kind failure
 
 -- The output gained the upload of the source that the command line names, for some bytes of its files, which no
 -- contract can name.
-pub record TellsSomeUpload (source : Source) (limit : ℕ) (whole : Bool) (old new : Option (List ℕ)) : Type 0 where
+pub record PrintsSomeUpload (source : Source) (limit : ℕ) (whole : Bool) (old new : Option (List ℕ)) : Type 0 where
   pub id : Id128
   pub named : IsIdOf source.id.now id
   pub point : Point
   pub lawful : IsPoint point
   pub bytes : List ℕ
-  pub told : TellsUpload source.kind (sender_of id point) limit whole bytes old new
+  pub printed : PrintsUpload source.kind (sender_of id point) limit whole bytes old new

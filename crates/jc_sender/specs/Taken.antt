@@ -65,7 +65,7 @@ point_line point = codes "resume " ++ decimal point.position
 
 -- The output gained the point that the answers on standard input move the source on to, for some bytes of its files,
 -- which no contract can name.
-pub record TellsSomePoint (source : Source) (given : Option (List ℕ)) (old new : Option (List ℕ)) : Type 0 where
+pub record PrintsSomePoint (source : Source) (given : Option (List ℕ)) (old new : Option (List ℕ)) : Type 0 where
   pub id : Id128
   pub named : IsIdOf source.id.now id
   pub point : Point

@@ -23,24 +23,24 @@ verdict_status (End _) = Success
 verdict_status (Bad _) = Refused
 
 -- The output gained the line of a reading, and the status is that reading's.
-pub record TellsReading (count : ℕ) (ending : Ending) (status : Status) (old new : Option (List ℕ)) : Type 0 where
+pub record PrintsReading (count : ℕ) (ending : Ending) (status : Status) (old new : Option (List ℕ)) : Type 0 where
   pub judged : status ≡ verdict_status ending
   pub printed : Appends old new (verdict_text count ending ++ 10 ∷ [])
 
 -- The output gained the line of some reading, which ends as one of that kind under the default limits, and the status is
 -- that reading's.
-pub record TellsSomeReading (kind : InputKind) (status : Status) (old new : Option (List ℕ)) : Type 0 where
+pub record PrintsSomeReading (kind : InputKind) (status : Status) (old new : Option (List ℕ)) : Type 0 where
   pub limits : Limits
   pub defaults : AreDefaults limits.name limits.value limits.fields limits.entry limits.file
   pub count : ℕ
   pub ending : Ending
   pub ends : EndsAs kind limits ending
-  pub told : TellsReading count ending status old new
+  pub printed : PrintsReading count ending status old new
 
 -- The output gained the line of what the bytes say under the default limits, and the status is that of this line.
-pub record TellsBytes (kind : InputKind) (bytes : List ℕ) (status : Status) (old new : Option (List ℕ)) : Type 0 where
+pub record PrintsReadingOf (kind : InputKind) (bytes : List ℕ) (status : Status) (old new : Option (List ℕ)) : Type 0 where
   pub limits : Limits
   pub defaults : AreDefaults limits.name limits.value limits.fields limits.entry limits.file
   pub reading : Reading
   pub reads : ReadsAs kind limits bytes reading
-  pub told : TellsReading (length reading.entries) reading.ending status old new
+  pub printed : PrintsReading (length reading.entries) reading.ending status old new

@@ -4,7 +4,7 @@ ghost use Rattle.std.specs.Prelude.{◌≡◌, ◌≢◌, ◌++◌, ◌∷◌, [
 ghost use Rattle.std.specs.Io.KnownBytes.{Appends, Keeps};
 ghost use Rattle.jc_sender.specs.Failing.{AckFailsBy};
 ghost use Rattle.jc_sender.specs.Source.{WhyNoEntries, WhyNoSomeEntries};
-ghost use Rattle.jc_sender.specs.Taken.{MovesBy, MovesSender, TellsSomePoint, WhyNoPoint, point_line};
+ghost use Rattle.jc_sender.specs.Taken.{MovesBy, MovesSender, PrintsSomePoint, WhyNoPoint, point_line};
 
 use crate::answers::{answers_on, take_answers};
 use crate::resume_file::{read_resume, write_resume};
@@ -26,7 +26,7 @@ pub fn ack<'a, R: Files + AllocGlobal, I: Read, O: Write>(
     input: &mut I,
     output: &mut O,
 ) -> Result<(), Failure<'a>>
-    ensures told { OnOk result (TellsSomePoint source.entry (I.remaining input.old) (O.contents output.old)
+    ensures printed { OnOk result (PrintsSomePoint source.entry (I.remaining input.old) (O.contents output.old)
         (O.contents output.new)) }
     ensures failed { IfErr result (AckFailsBy source.entry (I.remaining input.old)) }
     ensures untouched { IfErr result (λ failure. failure ≢ Failure.WriteFailed
@@ -38,11 +38,11 @@ pub fn ack<'a, R: Files + AllocGlobal, I: Read, O: Write>(
     let file = open_source(rt, source)?;
     let moved = moved_by(rt.alloc(), uploader, source.kind, file, input)?;
     write_resume(rt, source.resume, &moved)?;
-    tell_point(&moved, output)
+    print_point(&moved, output)
 }
 
 /// The resume point to which the answers on standard input move the sender of a source whose bytes a reader gives. They are
-/// read before the source, and a fault of the source is told before one of theirs.
+/// read before the source, and a fault of the source is reported before one of theirs.
 fn moved_by<'a, F: Read + Drop, I: Read>(
     alloc: Global,
     uploader: Uploader,
@@ -128,7 +128,7 @@ fn file_point<'a>(
     Ok(*uploader.resume())
 }
 
-fn tell_point<'a, O: Write>(resume: &Resume, output: &mut O) -> Result<(), Failure<'a>>
+fn print_point<'a, O: Write>(resume: &Resume, output: &mut O) -> Result<(), Failure<'a>>
     ensures printed { OnOk result (Appends (O.contents output.old) (O.contents output.new) (point_line resume.now ++ 10 ∷ [])) }
     ensures failed { IfErr result (λ failure. failure ≡ Failure.WriteFailed) }
 {

@@ -11,8 +11,8 @@ use std::alloc::Global;
 
 /// How many entries the source gives, and how they end. No entry is kept.
 pub fn count_entries<S: InputSource>(source: &mut S) -> Result<(u64, Ending), Stop>
-    ensures counted { IfOk result (λ told. HasCount (S.remaining source.old) told.0 told.1) }
-    ensures ending { IfOk result (λ told. EndsAs S.kind (S.limits source.old) told.1) }
+    ensures counted { IfOk result (λ found. HasCount (S.remaining source.old) found.0 found.1) }
+    ensures ending { IfOk result (λ found. EndsAs S.kind (S.limits source.old) found.1) }
     ensures failed { result ≡ Err ReadFailed → FailedAtDevice (S.last source.old) (S.failures source.old)
         (S.failures source.new) }
 {
@@ -32,7 +32,7 @@ pub fn all_entries<S: EntrySource>(
     alloc: Global,
     source: &mut S,
 ) -> Result<(Vec<Entry>, Ending), Stop>
-    ensures all { IfOk result (λ told. HasEntries (S.remaining source.old) told.0.items told.1) }
+    ensures all { IfOk result (λ found. HasEntries (S.remaining source.old) found.0.items found.1) }
     ensures failed { result ≡ Err ReadFailed → FailedAtDevice (S.last source.old) (S.failures source.old)
         (S.failures source.new) }
 {

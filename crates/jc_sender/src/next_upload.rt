@@ -3,7 +3,7 @@
 ghost use Rattle.std.specs.Prelude.{◌≡◌, ◌≢◌, Bool, ℕ, List, Some, IfOk, IfErr, OnOk};
 ghost use Rattle.std.specs.Io.KnownBytes.{Appends, Keeps};
 ghost use Rattle.jc_sender.specs.Failing.{UploadFailsBy};
-ghost use Rattle.jc_sender.specs.Sent.{MakesUpload, TellsSomeUpload, WhyNoSomeUpload, WhyNoUpload};
+ghost use Rattle.jc_sender.specs.Sent.{MakesUpload, PrintsSomeUpload, WhyNoSomeUpload, WhyNoUpload};
 
 use crate::resume_file::read_resume;
 use crate::source::{check_file, file_bytes, open_source};
@@ -26,7 +26,7 @@ pub fn upload<'a, R: Files + AllocGlobal, O: Write>(
     whole: bool,
     output: &mut O,
 ) -> Result<(), Failure<'a>>
-    ensures told { OnOk result (TellsSomeUpload source.entry limit whole (O.contents output.old) (O.contents output.new)) }
+    ensures printed { OnOk result (PrintsSomeUpload source.entry limit whole (O.contents output.old) (O.contents output.new)) }
     ensures failed { IfErr result (UploadFailsBy source.entry) }
     ensures untouched { IfErr result (λ failure. failure ≢ Failure.WriteFailed
         → Keeps (O.contents output.old) (O.contents output.new)) }

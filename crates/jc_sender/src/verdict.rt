@@ -2,7 +2,7 @@
 
 ghost use Rattle.std.specs.Prelude.{◌≡◌, ◌≢◌, ◌⊎◌, ℕ, List, Some, IfOk, IfErr};
 ghost use Rattle.std.specs.Io.KnownBytes.{Keeps};
-ghost use Rattle.jc_sender.specs.Verdict.{verdict_text, verdict_status, TellsReading, TellsSomeReading, TellsBytes};
+ghost use Rattle.jc_sender.specs.Verdict.{verdict_text, verdict_status, PrintsReading, PrintsSomeReading, PrintsReadingOf};
 
 use crate::entries::count_entries;
 use crate::source::file_bytes;
@@ -55,8 +55,8 @@ pub fn verify<'a, R: Files + AllocGlobal, O: Write>(
     file: &'a str,
     output: &mut O,
 ) -> Result<Status, Failure<'a>>
-    ensures told { IfOk result (λ status.
-        TellsSomeReading kind status (O.contents output.old) (O.contents output.new)) }
+    ensures printed { IfOk result (λ status.
+        PrintsSomeReading kind status (O.contents output.old) (O.contents output.new)) }
     ensures failed { IfErr result (λ failure. (failure ≡ Failure.CannotOpen file.entry) ⊎ (failure ≡ Failure.ReadFailed)
         ⊎ (failure ≡ Failure.WriteFailed) ⊎ (failure ≡ Failure.OutOfMemory)) }
     ensures untouched { IfErr result (λ failure. failure ≢ Failure.WriteFailed
@@ -77,10 +77,10 @@ fn verify_export<'a, R: ByteStream + Drop, O: Write>(
     device: R,
     output: &mut O,
 ) -> Result<Status, Failure<'a>>
-    ensures told { IfOk result (λ status.
-        TellsSomeReading InputKind.Export status (O.contents output.old) (O.contents output.new)) }
+    ensures printed { IfOk result (λ status.
+        PrintsSomeReading InputKind.Export status (O.contents output.old) (O.contents output.new)) }
     ensures bytes { (bytes : List ℕ) → R.remaining device ≡ Some bytes → IfOk result (λ status.
-        TellsBytes InputKind.Export bytes status (O.contents output.old) (O.contents output.new)) }
+        PrintsReadingOf InputKind.Export bytes status (O.contents output.old) (O.contents output.new)) }
     ensures failed { IfErr result (λ failure. (failure ≡ Failure.ReadFailed) ⊎ (failure ≡ Failure.WriteFailed)
         ⊎ (failure ≡ Failure.OutOfMemory)) }
     ensures untouched { IfErr result (λ failure. failure ≢ Failure.WriteFailed
@@ -90,7 +90,7 @@ fn verify_export<'a, R: ByteStream + Drop, O: Write>(
     one_reading();
     let mut entries = Stream::new(alloc, device, Limits::default())?;
     let (count, ending) = count_entries(&mut entries)?;
-    tell(count, ending, output)
+    print_verdict(count, ending, output)
 }
 
 /// Prints how a file reads as a journal file. If it isn't a regular file, its ranges can't be read, and it is read whole.
@@ -99,8 +99,8 @@ fn verify_file<'a, F: Read + Seek + OpenFile + Drop, O: Write>(
     file: F,
     output: &mut O,
 ) -> Result<Status, Failure<'a>>
-    ensures told { IfOk result (λ status.
-        TellsSomeReading InputKind.File status (O.contents output.old) (O.contents output.new)) }
+    ensures printed { IfOk result (λ status.
+        PrintsSomeReading InputKind.File status (O.contents output.old) (O.contents output.new)) }
     ensures failed { IfErr result (λ failure. (failure ≡ Failure.ReadFailed) ⊎ (failure ≡ Failure.WriteFailed)
         ⊎ (failure ≡ Failure.OutOfMemory)) }
     ensures untouched { IfErr result (λ failure. failure ≢ Failure.WriteFailed
@@ -122,10 +122,10 @@ fn verify_space<'a, B: ByteSpace + Drop, O: Write>(
     space: B,
     output: &mut O,
 ) -> Result<Status, Failure<'a>>
-    ensures told { IfOk result (λ status.
-        TellsSomeReading InputKind.File status (O.contents output.old) (O.contents output.new)) }
+    ensures printed { IfOk result (λ status.
+        PrintsSomeReading InputKind.File status (O.contents output.old) (O.contents output.new)) }
     ensures bytes { (bytes : List ℕ) → B.bytes space ≡ Some bytes → IfOk result (λ status.
-        TellsBytes InputKind.File bytes status (O.contents output.old) (O.contents output.new)) }
+        PrintsReadingOf InputKind.File bytes status (O.contents output.old) (O.contents output.new)) }
     ensures failed { IfErr result (λ failure. (failure ≡ Failure.ReadFailed) ⊎ (failure ≡ Failure.WriteFailed)
         ⊎ (failure ≡ Failure.OutOfMemory)) }
     ensures untouched { IfErr result (λ failure. failure ≢ Failure.WriteFailed
@@ -133,12 +133,16 @@ fn verify_space<'a, B: ByteSpace + Drop, O: Write>(
 {
     let mut entries = FileEntries::new(alloc, space, Limits::default());
     let (count, ending) = count_entries(&mut entries)?;
-    tell(count, ending, output)
+    print_verdict(count, ending, output)
 }
 
 /// Prints a verdict, and answers its status.
-fn tell<'a, O: Write>(count: u64, ending: Ending, output: &mut O) -> Result<Status, Failure<'a>>
-    ensures told { IfOk result (λ status. TellsReading count ending status (O.contents output.old) (O.contents output.new)) }
+fn print_verdict<'a, O: Write>(
+    count: u64,
+    ending: Ending,
+    output: &mut O,
+) -> Result<Status, Failure<'a>>
+    ensures printed { IfOk result (λ status. PrintsReading count ending status (O.contents output.old) (O.contents output.new)) }
     ensures failed { IfErr result (λ failure. failure ≡ Failure.WriteFailed) }
 {
     let verdict = Verdict { count, ending };

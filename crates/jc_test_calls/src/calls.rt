@@ -38,8 +38,8 @@
 
 use crate::disks::{Disks, Harm};
 use crate::operands::number_in;
+use crate::output::no_meaning;
 use crate::tables::Task;
-use crate::told::no_meaning;
 use crate::{collecting, entries, readings, schedules};
 use jc_base::Limits;
 use jc_keeper::MapKeeper;
@@ -52,7 +52,7 @@ pub struct Calls {
     limits: Limits,
     keeper: MapKeeper,
     disks: Disks,
-    told: Vec<u8>,
+    output: Vec<u8>,
 }
 
 impl Calls {
@@ -62,36 +62,37 @@ impl Calls {
             limits: Limits::default(),
             keeper: MapKeeper::new(alloc),
             disks: Disks::new(alloc),
-            told: Vec::new(alloc),
+            output: Vec::new(alloc),
         }
     }
 
     /// What is to be printed.
-    pub fn told(&self) -> &[u8] {
-        &self.told
+    pub fn output(&self) -> &[u8] {
+        &self.output
     }
 
     /// Makes the call of a word. A failure is one of the program, and never the call's.
     pub fn perform(&mut self, rt: &HostRuntime, word: &str, operand: &str) -> io::Result<()> {
         match word {
             "limits" => self.limit(operand),
-            "get" => collecting::get(self.alloc, &mut self.keeper, operand, &mut self.told),
+            "get" => collecting::get(self.alloc, &mut self.keeper, operand, &mut self.output),
             "stop" | "lose" | "rot" => self.expect(word, operand),
             "collect" => {
                 let uploads = read_files(rt, operand)?;
-                self.disks.perform(&Task::Collect(&uploads), &mut self.told)
+                self.disks
+                    .perform(&Task::Collect(&uploads), &mut self.output)
             }
             "collect-old" => {
                 let uploads = read_files(rt, operand)?;
                 self.disks
-                    .perform(&Task::CollectOld(&uploads), &mut self.told)
+                    .perform(&Task::CollectOld(&uploads), &mut self.output)
             }
-            "migrate" => self.disks.perform(&Task::Migrate, &mut self.told),
-            "export" => self.disks.perform(&Task::Export, &mut self.told),
-            "stored" => self.disks.perform(&Task::Get(operand), &mut self.told),
+            "migrate" => self.disks.perform(&Task::Migrate, &mut self.output),
+            "export" => self.disks.perform(&Task::Export, &mut self.output),
+            "stored" => self.disks.perform(&Task::Get(operand), &mut self.output),
             "schedules" => {
                 let files = read_files(rt, operand)?;
-                schedules::take_all(self.alloc, &files, &mut self.told)
+                schedules::take_all(self.alloc, &files, &mut self.output)
             }
             _ => {
                 let bytes = fs::read(rt, operand)?;
@@ -122,23 +123,23 @@ impl Calls {
     }
 
     fn call(&mut self, word: &str, bytes: &[u8]) -> io::Result<()> {
-        let (alloc, limits, told) = (self.alloc, self.limits, &mut self.told);
+        let (alloc, limits, output) = (self.alloc, self.limits, &mut self.output);
         match word {
-            "space" => collecting::space(alloc, &mut self.keeper, bytes, &limits, told),
-            "stream" => collecting::stream(alloc, &mut self.keeper, bytes, &limits, told),
-            "run" => collecting::run_one(alloc, &mut self.keeper, bytes, &limits, told),
-            "read" => readings::read(alloc, bytes, &limits, told),
-            "entries" => readings::entries(alloc, bytes, limits, told),
-            "scan" => readings::scan(alloc, bytes, &limits, usize::MAX, told),
-            "scan-1" => readings::scan(alloc, bytes, &limits, 1, told),
-            "scan-7" => readings::scan(alloc, bytes, &limits, 7, told),
-            "feed" => readings::feed_whole(alloc, bytes, &limits, told),
-            "file" => readings::file(alloc, bytes, limits, told),
-            "pages" => readings::pages(alloc, bytes, limits, told),
-            "copies" => entries::copies(alloc, bytes, &limits, told),
-            "upload" => entries::upload(alloc, bytes, &limits, told),
-            "send" => entries::send(alloc, bytes, told),
-            "resume" => entries::resume(alloc, bytes, told),
+            "space" => collecting::space(alloc, &mut self.keeper, bytes, &limits, output),
+            "stream" => collecting::stream(alloc, &mut self.keeper, bytes, &limits, output),
+            "run" => collecting::run_one(alloc, &mut self.keeper, bytes, &limits, output),
+            "read" => readings::read(alloc, bytes, &limits, output),
+            "entries" => readings::entries(alloc, bytes, limits, output),
+            "scan" => readings::scan(alloc, bytes, &limits, usize::MAX, output),
+            "scan-1" => readings::scan(alloc, bytes, &limits, 1, output),
+            "scan-7" => readings::scan(alloc, bytes, &limits, 7, output),
+            "feed" => readings::feed_whole(alloc, bytes, &limits, output),
+            "file" => readings::file(alloc, bytes, limits, output),
+            "pages" => readings::pages(alloc, bytes, limits, output),
+            "copies" => entries::copies(alloc, bytes, &limits, output),
+            "upload" => entries::upload(alloc, bytes, &limits, output),
+            "send" => entries::send(alloc, bytes, output),
+            "resume" => entries::resume(alloc, bytes, output),
             _ => no_meaning(),
         }
     }

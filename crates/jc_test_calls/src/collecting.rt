@@ -1,8 +1,8 @@
 //! Uploads that are collected into a journal, and entries of it.
 
 use crate::operands::numbered;
+use crate::output::{no_meaning, write_line, write_run, write_text};
 use crate::recorded::{Asked, RecordedSpace};
-use crate::told::{no_meaning, tell_line, tell_run, tell_text};
 use jc_base::{Id128, Key, Limits, OutOfMemory, SliceStream, VecSink};
 use jc_collect::{Delivery, collect_one, run};
 use jc_export::canonical;
@@ -22,15 +22,15 @@ pub fn space<K: Keeper>(
     keeper: &mut K,
     upload: &[u8],
     limits: &Limits,
-    told: &mut Vec<u8>,
+    output: &mut Vec<u8>,
 ) -> io::Result<()> {
     let asked = Asked::nothing();
     let mut delivery: Delivery<SliceStream<'_>, _> = Delivery::Space(RecordedSpace::new(
         upload, &asked,
     ));
     let answer = collect_one(alloc, keeper, &mut delivery, limits);
-    told.write_all(answer.line().bytes())?;
-    asked.tell(told)
+    output.write_all(answer.line().bytes())?;
+    asked.write_to(output)
 }
 
 /// Collects an upload as a stream, and writes the answer's line.
@@ -39,14 +39,14 @@ pub fn stream<K: Keeper>(
     keeper: &mut K,
     upload: &[u8],
     limits: &Limits,
-    told: &mut Vec<u8>,
+    output: &mut Vec<u8>,
 ) -> io::Result<()> {
     let mut delivery: Delivery<_, SliceSpace<'_>> = Delivery::Stream(Pieces {
         inner: SliceStream::new(upload),
         most: PIECE,
     });
     let answer = collect_one(alloc, keeper, &mut delivery, limits);
-    told.write_all(answer.line().bytes())
+    output.write_all(answer.line().bytes())
 }
 
 /// Collects an upload by a run, and writes what the run wrote. Its sink takes memory: without it the run stops, and what was
@@ -56,14 +56,14 @@ pub fn run_one<K: Keeper>(
     keeper: &mut K,
     upload: &[u8],
     limits: &Limits,
-    told: &mut Vec<u8>,
+    output: &mut Vec<u8>,
 ) -> io::Result<()> {
     let mut deliveries: [Delivery<SliceStream<'_>, _>; 1] = [Delivery::Space(SliceSpace {
         bytes: upload,
     })];
     let mut sink = VecSink::new(alloc);
     let end = run(alloc, keeper, &mut deliveries, &mut sink, limits);
-    tell_run(told, end, sink.bytes())
+    write_run(output, end, sink.bytes())
 }
 
 /// Collects uploads by one run, as spaces, and writes what the run wrote.
@@ -72,7 +72,7 @@ pub fn run_all<K: Keeper>(
     keeper: &mut K,
     uploads: &[Vec<u8>],
     limits: &Limits,
-    told: &mut Vec<u8>,
+    output: &mut Vec<u8>,
 ) -> io::Result<()> {
     let mut deliveries: Vec<Delivery<SliceStream<'_>, _>> = Vec::new(alloc);
     for upload in uploads {
@@ -80,7 +80,7 @@ pub fn run_all<K: Keeper>(
     }
     let mut sink = VecSink::new(alloc);
     let end = run(alloc, keeper, &mut deliveries, &mut sink, limits);
-    tell_run(told, end, sink.bytes())
+    write_run(output, end, sink.bytes())
 }
 
 /// Writes the stored entry under a key, an id and a number with a colon between them.
@@ -88,16 +88,16 @@ pub fn get<K: Keeper>(
     alloc: Global,
     keeper: &mut K,
     named: &str,
-    told: &mut Vec<u8>,
+    output: &mut Vec<u8>,
 ) -> io::Result<()> {
     let Some(key) = key_of(named) else {
         return no_meaning();
     };
     match keeper.get(&key) {
-        Ok(None) => tell_line(told, "entry none", &[]),
-        Ok(Some(entry)) => tell_text(told, "entry", canonical(alloc, &entry)),
-        Err(KeepStop::OutOfMemory) => tell_text(told, "entry", Err(OutOfMemory)),
-        Err(_) => tell_line(told, "entry failed", &[]),
+        Ok(None) => write_line(output, "entry none", &[]),
+        Ok(Some(entry)) => write_text(output, "entry", canonical(alloc, &entry)),
+        Err(KeepStop::OutOfMemory) => write_text(output, "entry", Err(OutOfMemory)),
+        Err(_) => write_line(output, "entry failed", &[]),
     }
 }
 

@@ -1,8 +1,8 @@
 //! Two disks in memory for a database, and what befalls them.
 
 use crate::operands::numbered;
+use crate::output::write_line;
 use crate::tables::Task;
-use crate::told::tell_line;
 use crate::worn::Worn;
 use sqlite::{Connection, FileStore, Files, Options};
 use sqlite_disk::{Crash, Disk, Fuse, Memory};
@@ -66,11 +66,11 @@ impl Harm {
     }
 
     /// Says whether the disks met it.
-    fn tell(self, is_met: bool, told: &mut Vec<u8>) -> io::Result<()> {
+    fn write_to(self, is_met: bool, output: &mut Vec<u8>) -> io::Result<()> {
         match (self.kind, is_met) {
             (Kind::Nothing, _) => Ok(()),
-            (_, true) => tell_line(told, "harmed", &[]),
-            (_, false) => tell_line(told, "unharmed", &[]),
+            (_, true) => write_line(output, "harmed", &[]),
+            (_, false) => write_line(output, "unharmed", &[]),
         }
     }
 }
@@ -101,14 +101,14 @@ impl Disks {
     }
 
     /// Performs a task over the files, with the harm that was expected.
-    pub fn perform(&mut self, task: &Task<'_>, told: &mut Vec<u8>) -> io::Result<()> {
+    pub fn perform(&mut self, task: &Task<'_>, output: &mut Vec<u8>) -> io::Result<()> {
         let harm = self.harm;
         self.harm = Harm::NOTHING;
         let is_rotten = self.has_rotten_byte(harm);
         let files = self.harmed(harm)?;
-        let left = perform(self.alloc, files, task, told)?;
+        let left = perform(self.alloc, files, task, output)?;
         let has_stopped = self.take_back(left, harm.kind)?;
-        harm.tell(is_rotten || has_stopped, told)
+        harm.write_to(is_rotten || has_stopped, output)
     }
 
     /// Whether one of the files has the byte that can't be read.
@@ -163,12 +163,12 @@ fn perform<D: Disk + Drop>(
     alloc: Global,
     files: Files<D>,
     task: &Task<'_>,
-    told: &mut Vec<u8>,
+    output: &mut Vec<u8>,
 ) -> io::Result<Files<D>> {
     match open(alloc, files) {
-        Ok(conn) => close(task.perform(alloc, conn, told)?, told),
+        Ok(conn) => close(task.perform(alloc, conn, output)?, output),
         Err(files) => {
-            tell_line(told, "not opened", &[])?;
+            write_line(output, "not opened", &[])?;
             Ok(files)
         }
     }
@@ -193,12 +193,12 @@ fn open<D: Disk + Drop>(
 /// Closes a database as a program does, and gives back what it is in: what the log has is copied first.
 fn close<D: Disk + Drop>(
     conn: Connection<FileStore<D>>,
-    told: &mut Vec<u8>,
+    output: &mut Vec<u8>,
 ) -> io::Result<Files<D>> {
     match conn.close_files() {
         Ok(files) => Ok(files),
         Err((_, store)) => {
-            tell_line(told, "not closed", &[])?;
+            write_line(output, "not closed", &[])?;
             Ok(store.close())
         }
     }

@@ -1,6 +1,6 @@
 //! Copies and texts of entries, and uploads that are made of them.
 
-use crate::told::{no_meaning, no_memory, tell_code, tell_line, tell_refused, tell_text};
+use crate::output::{no_meaning, no_memory, write_code, write_line, write_refused, write_text};
 use jc_base::{Entry, Field, Id128, Limits, OutOfMemory};
 use jc_export::{Reading, canonical, fields_text, read_all, read_fields};
 use jc_test_samples::SOURCE_ID;
@@ -12,14 +12,19 @@ use std::io;
 const ALL: u64 = u64::MAX;
 
 /// Copies and spells each entry of an export stream, and writes the canonical text of what came of it.
-pub fn copies(alloc: Global, bytes: &[u8], limits: &Limits, told: &mut Vec<u8>) -> io::Result<()> {
+pub fn copies(
+    alloc: Global,
+    bytes: &[u8],
+    limits: &Limits,
+    output: &mut Vec<u8>,
+) -> io::Result<()> {
     for entry in &read_whole(alloc, bytes, limits)?.entries {
-        tell_text(told, "canonical", canonical(alloc, entry))?;
-        tell_text(told, "fields", fields_text(alloc, entry))?;
-        tell_entry(alloc, told, "clone", entry.try_clone())?;
-        tell_read_back(alloc, told, entry)?;
-        tell_pairs(alloc, told, entry, limits)?;
-        tell_field_copies(told, alloc, entry)?;
+        write_text(output, "canonical", canonical(alloc, entry))?;
+        write_text(output, "fields", fields_text(alloc, entry))?;
+        write_entry(alloc, output, "clone", entry.try_clone())?;
+        write_read_back(alloc, output, entry)?;
+        write_pairs(alloc, output, entry, limits)?;
+        write_field_copies(output, alloc, entry)?;
     }
     Ok(())
 }
@@ -33,23 +38,23 @@ fn read_whole(alloc: Global, bytes: &[u8], limits: &Limits) -> io::Result<Readin
 }
 
 /// Writes an entry's canonical text. Another refusal, of the memory for that text, is a failure of the program.
-fn tell_entry(
+fn write_entry(
     alloc: Global,
-    told: &mut Vec<u8>,
+    output: &mut Vec<u8>,
     name: &str,
     made: Result<Entry, OutOfMemory>,
 ) -> io::Result<()> {
     let Ok(entry) = made else {
-        return tell_refused(told, name);
+        return write_refused(output, name);
     };
     match canonical(alloc, &entry) {
-        Ok(text) => tell_text(told, name, Ok(text)),
+        Ok(text) => write_text(output, name, Ok(text)),
         Err(OutOfMemory) => no_memory(),
     }
 }
 
 /// An entry of the text of another one's fields.
-fn tell_read_back(alloc: Global, told: &mut Vec<u8>, entry: &Entry) -> io::Result<()> {
+fn write_read_back(alloc: Global, output: &mut Vec<u8>, entry: &Entry) -> io::Result<()> {
     let text = entry.fields_text();
     match Entry::from_text(
         alloc,
@@ -58,68 +63,82 @@ fn tell_read_back(alloc: Global, told: &mut Vec<u8>, entry: &Entry) -> io::Resul
         entry.monotonic(),
         text,
     ) {
-        Ok(Some(read)) => tell_entry(alloc, told, "read back", Ok(read)),
-        Ok(None) => tell_line(told, "read back none", &[]),
-        Err(OutOfMemory) => tell_refused(told, "read back"),
+        Ok(Some(read)) => write_entry(alloc, output, "read back", Ok(read)),
+        Ok(None) => write_line(output, "read back none", &[]),
+        Err(OutOfMemory) => write_refused(output, "read back"),
     }
 }
 
 /// An entry of the fields that another one's text has.
-fn tell_pairs(alloc: Global, told: &mut Vec<u8>, entry: &Entry, limits: &Limits) -> io::Result<()> {
+fn write_pairs(
+    alloc: Global,
+    output: &mut Vec<u8>,
+    entry: &Entry,
+    limits: &Limits,
+) -> io::Result<()> {
     let fields = match read_fields(alloc, entry.fields_text()) {
         Ok(Some(fields)) => fields,
-        Ok(None) => return tell_line(told, "pairs none", &[]),
-        Err(OutOfMemory) => return tell_refused(told, "pairs"),
+        Ok(None) => return write_line(output, "pairs none", &[]),
+        Err(OutOfMemory) => return write_refused(output, "pairs"),
     };
     let (key, realtime, monotonic) = (entry.key(), entry.realtime(), entry.monotonic());
     match Entry::from_pairs(alloc, key, realtime, monotonic, fields, limits) {
-        Ok(Ok(made)) => tell_entry(alloc, told, "pairs", Ok(made)),
-        Ok(Err(fault)) => tell_code(told, "pairs", fault.code, fault.place),
-        Err(OutOfMemory) => tell_refused(told, "pairs"),
+        Ok(Ok(made)) => write_entry(alloc, output, "pairs", Ok(made)),
+        Ok(Err(fault)) => write_code(output, "pairs", fault.code, fault.place),
+        Err(OutOfMemory) => write_refused(output, "pairs"),
     }
 }
 
 /// Copies of an entry's fields.
-fn tell_field_copies(told: &mut Vec<u8>, alloc: Global, entry: &Entry) -> io::Result<()> {
+fn write_field_copies(output: &mut Vec<u8>, alloc: Global, entry: &Entry) -> io::Result<()> {
     for field in entry.fields() {
         match Field::copied(alloc, field.name(), field.value()) {
-            Ok(copy) => tell_same(told, &copy)?,
-            Err(OutOfMemory) => tell_refused(told, "field")?,
+            Ok(copy) => write_same(output, &copy)?,
+            Err(OutOfMemory) => write_refused(output, "field")?,
         }
     }
     Ok(())
 }
 
-fn tell_same(told: &mut Vec<u8>, field: &Field) -> io::Result<()> {
+fn write_same(output: &mut Vec<u8>, field: &Field) -> io::Result<()> {
     match field.try_clone() {
         Ok(copy) => {
             let lengths = [copy.name().len() as u64, copy.value().len() as u64];
-            tell_line(told, "field", &lengths)
+            write_line(output, "field", &lengths)
         }
-        Err(OutOfMemory) => tell_refused(told, "field"),
+        Err(OutOfMemory) => write_refused(output, "field"),
     }
 }
 
 /// Makes the first upload of an export stream's entries.
-pub fn upload(alloc: Global, bytes: &[u8], limits: &Limits, told: &mut Vec<u8>) -> io::Result<()> {
+pub fn upload(
+    alloc: Global,
+    bytes: &[u8],
+    limits: &Limits,
+    output: &mut Vec<u8>,
+) -> io::Result<()> {
     let entries = read_whole(alloc, bytes, limits)?.entries;
     let uploader = Uploader::new(Id128(SOURCE_ID), Resume::default());
     match uploader.next_upload(alloc, &entries, ALL) {
-        Ok(upload) => tell_text(told, "upload", Ok(upload)),
-        Err(UploadFault::OutOfMemory) => tell_text(told, "upload", Err(OutOfMemory)),
-        Err(_) => tell_line(told, "upload changed", &[]),
+        Ok(upload) => write_text(output, "upload", Ok(upload)),
+        Err(UploadFault::OutOfMemory) => write_text(output, "upload", Err(OutOfMemory)),
+        Err(_) => write_line(output, "upload changed", &[]),
     }
 }
 
 /// Makes an upload of a journal file.
-pub fn send(alloc: Global, bytes: &[u8], told: &mut Vec<u8>) -> io::Result<()> {
-    tell_text(told, "upload", file_upload(alloc, Id128(SOURCE_ID), bytes))
+pub fn send(alloc: Global, bytes: &[u8], output: &mut Vec<u8>) -> io::Result<()> {
+    write_text(
+        output,
+        "upload",
+        file_upload(alloc, Id128(SOURCE_ID), bytes),
+    )
 }
 
 /// Writes the text of a resume point that was read from one.
-pub fn resume(alloc: Global, bytes: &[u8], told: &mut Vec<u8>) -> io::Result<()> {
+pub fn resume(alloc: Global, bytes: &[u8], output: &mut Vec<u8>) -> io::Result<()> {
     match Resume::read(bytes) {
-        Some(point) => tell_text(told, "resume", point.text(alloc)),
+        Some(point) => write_text(output, "resume", point.text(alloc)),
         None => no_meaning(),
     }
 }

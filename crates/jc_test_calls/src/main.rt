@@ -9,12 +9,12 @@ mod collecting;
 mod disks;
 mod entries;
 mod operands;
+mod output;
 mod readings;
 mod recorded;
 mod schedules;
 mod stock;
 mod tables;
-mod told;
 mod worlds;
 mod worn;
 
@@ -35,5 +35,5 @@ fn main(rt: HostRuntime) -> io::Result<()> {
             }
         }
     }
-    rt.stdout().write_all(calls.told())
+    rt.stdout().write_all(calls.output())
 }

@@ -1,8 +1,8 @@
 //! Readings of export streams and of journal files.
 
 use crate::collecting::PIECE;
+use crate::output::{write_end, write_line, write_words};
 use crate::recorded::{Asked, RecordedSpace};
-use crate::told::{tell_end, tell_line, tell_words};
 use jc_base::{Ending, EntrySource, Limits, OutOfMemory, SliceStream, Step, Stop};
 use jc_export::read_all;
 use jc_file::{FileEntries, PagedSpace, SliceSpace};
@@ -12,19 +12,24 @@ use std::alloc::Global;
 use std::io;
 
 /// Reads an export stream at once.
-pub fn read(alloc: Global, bytes: &[u8], limits: &Limits, told: &mut Vec<u8>) -> io::Result<()> {
+pub fn read(alloc: Global, bytes: &[u8], limits: &Limits, output: &mut Vec<u8>) -> io::Result<()> {
     match read_all(alloc, bytes, limits) {
-        Ok(reading) => tell_end(told, reading.entries.len() as u64, Ok(reading.end)),
-        Err(OutOfMemory) => tell_end(told, 0, Err(Stop::OutOfMemory)),
+        Ok(reading) => write_end(output, reading.entries.len() as u64, Ok(reading.end)),
+        Err(OutOfMemory) => write_end(output, 0, Err(Stop::OutOfMemory)),
     }
 }
 
 /// Reads an export stream entry by entry, in small pieces.
-pub fn entries(alloc: Global, bytes: &[u8], limits: Limits, told: &mut Vec<u8>) -> io::Result<()> {
+pub fn entries(
+    alloc: Global,
+    bytes: &[u8],
+    limits: Limits,
+    output: &mut Vec<u8>,
+) -> io::Result<()> {
     let inner = SliceStream::new(bytes);
     match Stream::new(alloc, Pieces { inner, most: PIECE }, limits) {
-        Ok(mut source) => tell_reading(told, &mut source),
-        Err(OutOfMemory) => tell_end(told, 0, Err(Stop::OutOfMemory)),
+        Ok(mut source) => write_reading(output, &mut source),
+        Err(OutOfMemory) => write_end(output, 0, Err(Stop::OutOfMemory)),
     }
 }
 
@@ -34,7 +39,7 @@ pub fn scan(
     bytes: &[u8],
     limits: &Limits,
     size: usize,
-    told: &mut Vec<u8>,
+    output: &mut Vec<u8>,
 ) -> io::Result<()> {
     let mut scanner = Scanner::new(alloc, *limits);
     let most = limits.entry + limits.name + limits.value + 16;
@@ -43,26 +48,26 @@ pub fn scan(
     for _ in 0..u64::MAX {
         let (piece, _) = rest.split_at(rest.len().min(size));
         let Ok(used) = feed(&mut scanner, piece) else {
-            return tell_end(told, count, Err(Stop::OutOfMemory));
+            return write_end(output, count, Err(Stop::OutOfMemory));
         };
         if scanner.held() > most {
-            return tell_line(told, "held", &[scanner.held()]);
+            return write_line(output, "held", &[scanner.held()]);
         }
         rest = rest.split_at(used.min(rest.len())).1;
         match scanner.take() {
             Ok(Some(Step::Entry(_))) => count = count.saturating_add(1),
-            Ok(Some(Step::Bad(fault))) => return tell_end(told, count, Ok(Ending::Bad(fault))),
+            Ok(Some(Step::Bad(fault))) => return write_end(output, count, Ok(Ending::Bad(fault))),
             Ok(_) => {
                 if rest.is_empty() {
                     break;
                 }
             }
-            Err(OutOfMemory) => return tell_end(told, count, Err(Stop::OutOfMemory)),
+            Err(OutOfMemory) => return write_end(output, count, Err(Stop::OutOfMemory)),
         }
     }
     match scanner.finish() {
-        Some(Step::End { left }) => tell_end(told, count, Ok(Ending::End { left })),
-        _ => tell_end(told, count, Err(Stop::ReadFailed)),
+        Some(Step::End { left }) => write_end(output, count, Ok(Ending::End { left })),
+        _ => write_end(output, count, Err(Stop::ReadFailed)),
     }
 }
 
@@ -71,21 +76,21 @@ pub fn feed_whole(
     alloc: Global,
     bytes: &[u8],
     limits: &Limits,
-    told: &mut Vec<u8>,
+    output: &mut Vec<u8>,
 ) -> io::Result<()> {
     let mut scanner = Scanner::new(alloc, *limits);
     let mut rest = bytes;
     for _ in 0..u64::MAX {
         let Ok(used) = feed(&mut scanner, rest) else {
-            return tell_line(told, "refused", &[]);
+            return write_line(output, "refused", &[]);
         };
         rest = rest.split_at(used.min(rest.len())).1;
-        tell_words(told, "feed", &[used as u64])?;
-        tell_words(told, " held", &[scanner.held()])?;
-        tell_held(told, &scanner)?;
+        write_words(output, "feed", &[used as u64])?;
+        write_words(output, " held", &[scanner.held()])?;
+        write_held(output, &scanner)?;
         match scanner.take() {
-            Ok(taken) => tell_taken(told, taken)?,
-            Err(OutOfMemory) => return tell_line(told, " refused", &[]),
+            Ok(taken) => write_taken(output, taken)?,
+            Err(OutOfMemory) => return write_line(output, " refused", &[]),
         }
         if used == 0 {
             break;
@@ -95,24 +100,24 @@ pub fn feed_whole(
 }
 
 /// Writes the first field that a scanner holds, and how the stream would end here.
-fn tell_held(told: &mut Vec<u8>, scanner: &Scanner) -> io::Result<()> {
+fn write_held(output: &mut Vec<u8>, scanner: &Scanner) -> io::Result<()> {
     if let Some((name, value)) = scanner.field_at(0) {
-        tell_words(told, " field", &[name.len() as u64, value.len() as u64])?;
+        write_words(output, " field", &[name.len() as u64, value.len() as u64])?;
     }
     match scanner.finish() {
-        Some(Step::End { left }) => tell_words(told, " left", &[left]),
+        Some(Step::End { left }) => write_words(output, " left", &[left]),
         Some(Step::Bad(fault)) => {
-            tell_words(told, " bad", &[fault.code.number() as u64, fault.place])
+            write_words(output, " bad", &[fault.code.number() as u64, fault.place])
         }
-        _ => tell_words(told, " waits", &[]),
+        _ => write_words(output, " waits", &[]),
     }
 }
 
-fn tell_taken(told: &mut Vec<u8>, taken: Option<Step>) -> io::Result<()> {
+fn write_taken(output: &mut Vec<u8>, taken: Option<Step>) -> io::Result<()> {
     match taken {
-        Some(Step::Entry(_)) => tell_line(told, " entry", &[]),
-        Some(_) => tell_line(told, " fault", &[]),
-        None => tell_line(told, " none", &[]),
+        Some(Step::Entry(_)) => write_line(output, " entry", &[]),
+        Some(_) => write_line(output, " fault", &[]),
+        None => write_line(output, " none", &[]),
     }
 }
 
@@ -125,28 +130,28 @@ fn feed(scanner: &mut Scanner, piece: &[u8]) -> Result<usize, OutOfMemory> {
 }
 
 /// Reads a journal file by ranges, and writes how many arrays were visited and what was asked of the space.
-pub fn file(alloc: Global, bytes: &[u8], limits: Limits, told: &mut Vec<u8>) -> io::Result<()> {
+pub fn file(alloc: Global, bytes: &[u8], limits: Limits, output: &mut Vec<u8>) -> io::Result<()> {
     let asked = Asked::nothing();
     let mut source = FileEntries::new(alloc, RecordedSpace::new(bytes, &asked), limits);
-    tell_reading(told, &mut source)?;
-    tell_line(told, "steps", &[source.steps()])?;
-    asked.tell(told)
+    write_reading(output, &mut source)?;
+    write_line(output, "steps", &[source.steps()])?;
+    asked.write_to(output)
 }
 
 /// Reads a journal file by pages.
-pub fn pages(alloc: Global, bytes: &[u8], limits: Limits, told: &mut Vec<u8>) -> io::Result<()> {
+pub fn pages(alloc: Global, bytes: &[u8], limits: Limits, output: &mut Vec<u8>) -> io::Result<()> {
     let space = PagedSpace::new(alloc, SliceSpace { bytes });
-    tell_reading(told, &mut FileEntries::new(alloc, space, limits))
+    write_reading(output, &mut FileEntries::new(alloc, space, limits))
 }
 
 /// Reads a source to its end and once more, and writes how it ended; the second time that has to be the same.
-fn tell_reading<S: EntrySource>(told: &mut Vec<u8>, source: &mut S) -> io::Result<()> {
+fn write_reading<S: EntrySource>(output: &mut Vec<u8>, source: &mut S) -> io::Result<()> {
     let (count, end) = read_out(source);
     let (more, again) = read_out(source);
     if more > 0 || again != end {
-        tell_line(told, "another end", &[])?;
+        write_line(output, "another end", &[])?;
     }
-    tell_end(told, count, end)
+    write_end(output, count, end)
 }
 
 fn read_out<S: EntrySource>(source: &mut S) -> (u64, Result<Ending, Stop>) {

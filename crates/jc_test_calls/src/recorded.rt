@@ -1,9 +1,9 @@
 //! Spaces that keep what is asked of them.
 
 ghost use Rattle.std.specs.Prelude.{length};
-ghost use Rattle.jc_file.specs.SpaceLaws.{nothing_told};
+ghost use Rattle.jc_file.specs.SpaceLaws.{nothing_known};
 
-use crate::told::tell_line;
+use crate::output::write_line;
 use jc_base::ReadFailed;
 use jc_file::{ByteSpace, SliceSpace};
 use std::cell::Cell;
@@ -32,12 +32,12 @@ impl Asked {
         self.bytes.set(self.bytes.get().saturating_add(size));
     }
 
-    pub fn tell(&self, told: &mut Vec<u8>) -> io::Result<()> {
-        tell_line(told, "asked", &[self.end.get(), self.bytes.get()])
+    pub fn write_to(&self, output: &mut Vec<u8>) -> io::Result<()> {
+        write_line(output, "asked", &[self.end.get(), self.bytes.get()])
     }
 }
 
-/// The bytes of a slice. No contract tells them, so that what is known of its readers holds of any space.
+/// The bytes of a slice. No contract says which they are, so that what is known of its readers holds of any space.
 #[derive(Drop)]
 pub struct RecordedSpace<'a> {
     space: SliceSpace<'a>,
@@ -58,7 +58,7 @@ impl ByteSpace for RecordedSpace<'_> {
 
     ghost failures = { λ _. 0 };
 
-    ghost whole = { λ s b h. nothing_told b (length s.space.bytes.now) h };
+    ghost whole = { λ s b h. nothing_known b (length s.space.bytes.now) h };
 
     fn len(&self) -> u64 {
         self.space.len()

@@ -1,8 +1,8 @@
 //! Schedules in worlds of two machines.
 
+use crate::output::{no_meaning, no_memory, write_line};
 use crate::stock::Stock;
-use crate::told::{no_meaning, no_memory, tell_line};
-use crate::worlds::tell_world;
+use crate::worlds::write_world;
 use jc_base::{Id128, Limits, OutOfMemory};
 use jc_keeper::MapKeeper;
 use jc_test_samples::SOURCE_ID;
@@ -20,7 +20,7 @@ const OTHER_ID: [u8; 16] = *b"\xb0\xb1\xb2\xb3\xb4\xb5\xb6\xb7\xb8\xb9\xba\xbb\x
 
 /// Takes schedules, each in worlds of its own. The files are the schedules, one a line, as `stock.rt` has them; an export
 /// stream whose entries machines may have; and files whose bytes events may bring.
-pub fn take_all(alloc: Global, files: &[Vec<u8>], told: &mut Vec<u8>) -> io::Result<()> {
+pub fn take_all(alloc: Global, files: &[Vec<u8>], output: &mut Vec<u8>) -> io::Result<()> {
     let [schedules, entries, bytes @ ..] = files else {
         return no_meaning();
     };
@@ -29,7 +29,7 @@ pub fn take_all(alloc: Global, files: &[Vec<u8>], told: &mut Vec<u8>) -> io::Res
     };
     let stock = Stock::new(alloc, entries, bytes)?;
     for schedule in schedules.lines() {
-        take_schedule(&stock, schedule, told)?;
+        take_schedule(&stock, schedule, output)?;
     }
     Ok(())
 }
@@ -37,58 +37,58 @@ pub fn take_all(alloc: Global, files: &[Vec<u8>], told: &mut Vec<u8>) -> io::Res
 /// Takes the events of a schedule in a new world, one by one, and in another one all in one run. Writes what each event
 /// answered and what the worlds then are, of the second one only if it isn't the same, after `runs differ`. A call that is
 /// refused memory is made once more, and a `-` is written first.
-fn take_schedule(stock: &Stock, schedule: &str, told: &mut Vec<u8>) -> io::Result<()> {
+fn take_schedule(stock: &Stock, schedule: &str, output: &mut Vec<u8>) -> io::Result<()> {
     let alloc = stock.alloc;
     let mut events = Vec::new(alloc);
-    let mut stepped = two_machines(alloc, told)?;
+    let mut stepped = two_machines(alloc, output)?;
     for text in schedule.split(';') {
         let event = stock.event(text)?;
-        step(&mut stepped, &event, told)?;
+        step(&mut stepped, &event, output)?;
         events.push(event)?;
     }
-    let mut run = two_machines(alloc, told)?;
-    run_all(&mut run, &events, told)?;
-    tell_line(told, "", &[])?;
+    let mut run = two_machines(alloc, output)?;
+    run_all(&mut run, &events, output)?;
+    write_line(output, "", &[])?;
     let (mut of_steps, mut of_run) = (Vec::new(alloc), Vec::new(alloc));
-    tell_world(alloc, stepped, &stock.entries, &mut of_steps)?;
-    tell_world(alloc, run, &stock.entries, &mut of_run)?;
-    told.write_all(&of_steps)?;
+    write_world(alloc, stepped, &stock.entries, &mut of_steps)?;
+    write_world(alloc, run, &stock.entries, &mut of_run)?;
+    output.write_all(&of_steps)?;
     if of_run != of_steps {
-        tell_line(told, "runs differ", &[])?;
-        told.write_all(&of_run)?;
+        write_line(output, "runs differ", &[])?;
+        output.write_all(&of_run)?;
     }
     Ok(())
 }
 
-fn two_machines(alloc: Global, told: &mut Vec<u8>) -> io::Result<World<MapKeeper>> {
+fn two_machines(alloc: Global, output: &mut Vec<u8>) -> io::Result<World<MapKeeper>> {
     for _ in 0..TIMES {
         let sources = Vec::from_array(alloc, [Id128(SOURCE_ID), Id128(OTHER_ID)])?;
         match World::new(alloc, MapKeeper::new(alloc), sources, Limits::default()) {
             Ok(Some(world)) => return Ok(world),
             Ok(None) => return no_meaning(),
-            Err(OutOfMemory) => told.write_all(b"-")?,
+            Err(OutOfMemory) => output.write_all(b"-")?,
         }
     }
     no_memory()
 }
 
-fn step(world: &mut World<MapKeeper>, event: &Event, told: &mut Vec<u8>) -> io::Result<()> {
+fn step(world: &mut World<MapKeeper>, event: &Event, output: &mut Vec<u8>) -> io::Result<()> {
     for _ in 0..TIMES {
         match world.step(event) {
-            Ok(true) => return told.write_all(b"1"),
-            Ok(false) => return told.write_all(b"0"),
-            Err(OutOfMemory) => told.write_all(b"-")?,
+            Ok(true) => return output.write_all(b"1"),
+            Ok(false) => return output.write_all(b"0"),
+            Err(OutOfMemory) => output.write_all(b"-")?,
         }
     }
     no_memory()
 }
 
-fn run_all(world: &mut World<MapKeeper>, events: &[Event], told: &mut Vec<u8>) -> io::Result<()> {
+fn run_all(world: &mut World<MapKeeper>, events: &[Event], output: &mut Vec<u8>) -> io::Result<()> {
     let progress = world.run(events);
     if progress.refusal.is_none() {
         return Ok(());
     }
-    told.write_all(b"-")?;
+    output.write_all(b"-")?;
     match world.run(&events[progress.taken..]).refusal {
         None => Ok(()),
         Some(OutOfMemory) => no_memory(),

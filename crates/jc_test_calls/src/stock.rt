@@ -13,7 +13,7 @@
 //! | `restart M P` | machine M goes back to its saved resume point P |
 
 use crate::operands::number_in;
-use crate::told::{no_meaning, no_memory};
+use crate::output::{no_meaning, no_memory};
 use jc_base::{Entry, Limits, OutOfMemory};
 use jc_export::read_all;
 use jc_world::Event;

@@ -2,7 +2,7 @@
 //! here sees how it is stored.
 
 use crate::collecting;
-use crate::told::{tell_code, tell_line, tell_text};
+use crate::output::{write_code, write_line, write_text};
 use jc_base::{Limits, VecSink};
 use jc_schema_one::{MigrateStop, SchemaOne};
 use jc_schema_two::SchemaTwo;
@@ -32,14 +32,14 @@ impl Task<'_> {
         &self,
         alloc: Global,
         conn: Connection<S>,
-        told: &mut Vec<u8>,
+        output: &mut Vec<u8>,
     ) -> io::Result<Connection<S>> {
         match self {
-            Task::Collect(uploads) => collect::<S, SchemaTwo>(alloc, conn, uploads, told),
-            Task::CollectOld(uploads) => collect::<S, SchemaOne>(alloc, conn, uploads, told),
-            Task::Migrate => migrate(alloc, conn, told),
-            Task::Export => export(alloc, conn, told),
-            Task::Get(named) => get(alloc, conn, named, told),
+            Task::Collect(uploads) => collect::<S, SchemaTwo>(alloc, conn, uploads, output),
+            Task::CollectOld(uploads) => collect::<S, SchemaOne>(alloc, conn, uploads, output),
+            Task::Migrate => migrate(alloc, conn, output),
+            Task::Export => export(alloc, conn, output),
+            Task::Get(named) => get(alloc, conn, named, output),
         }
     }
 }
@@ -50,20 +50,20 @@ fn journal<S: Alter + Drop, L: Listed + Drop>(
     alloc: Global,
     conn: Connection<S>,
     may_be_made: bool,
-    told: &mut Vec<u8>,
+    output: &mut Vec<u8>,
 ) -> io::Result<Result<TableKeeper<S, L>, Connection<S>>> {
     let found = if !is_empty(&conn) {
         TableKeeper::adopt(alloc, conn)
     } else if may_be_made {
         TableKeeper::create(alloc, conn)
     } else {
-        tell_line(told, "no tables", &[])?;
+        write_line(output, "no tables", &[])?;
         return Ok(Err(conn));
     };
     match found {
         Ok(keeper) => Ok(Ok(keeper)),
         Err((fault, conn)) => {
-            tell_code(told, "bad", fault.code, fault.row)?;
+            write_code(output, "bad", fault.code, fault.row)?;
             Ok(Err(conn))
         }
     }
@@ -78,11 +78,11 @@ fn collect<S: Alter + Drop, L: Listed + Drop>(
     alloc: Global,
     conn: Connection<S>,
     uploads: &[Vec<u8>],
-    told: &mut Vec<u8>,
+    output: &mut Vec<u8>,
 ) -> io::Result<Connection<S>> {
-    match journal::<S, L>(alloc, conn, true, told)? {
+    match journal::<S, L>(alloc, conn, true, output)? {
         Ok(mut keeper) => {
-            collecting::run_all(alloc, &mut keeper, uploads, &Limits::default(), told)?;
+            collecting::run_all(alloc, &mut keeper, uploads, &Limits::default(), output)?;
             Ok(keeper.into_connection())
         }
         Err(conn) => Ok(conn),
@@ -92,19 +92,19 @@ fn collect<S: Alter + Drop, L: Listed + Drop>(
 fn migrate<S: Alter + Drop>(
     alloc: Global,
     conn: Connection<S>,
-    told: &mut Vec<u8>,
+    output: &mut Vec<u8>,
 ) -> io::Result<Connection<S>> {
-    let keeper = match journal::<S, SchemaOne>(alloc, conn, false, told)? {
+    let keeper = match journal::<S, SchemaOne>(alloc, conn, false, output)? {
         Ok(keeper) => keeper,
         Err(conn) => return Ok(conn),
     };
     match jc_schema_one::migrate::<S, SchemaTwo>(keeper) {
         Ok(keeper) => {
-            tell_line(told, "migrated", &[])?;
+            write_line(output, "migrated", &[])?;
             Ok(keeper.into_connection())
         }
         Err(MigrateStop { code, keeper }) => {
-            tell_line(told, "stopped", &[code.number() as u64])?;
+            write_line(output, "stopped", &[code.number() as u64])?;
             Ok(keeper.into_connection())
         }
     }
@@ -113,16 +113,16 @@ fn migrate<S: Alter + Drop>(
 fn export<S: Alter + Drop>(
     alloc: Global,
     conn: Connection<S>,
-    told: &mut Vec<u8>,
+    output: &mut Vec<u8>,
 ) -> io::Result<Connection<S>> {
-    let mut keeper = match journal::<S, SchemaTwo>(alloc, conn, false, told)? {
+    let mut keeper = match journal::<S, SchemaTwo>(alloc, conn, false, output)? {
         Ok(keeper) => keeper,
         Err(conn) => return Ok(conn),
     };
     let mut sink = VecSink::new(alloc);
     match keeper.export(&mut sink) {
-        Ok(_) => tell_text(told, "entries", Ok(sink.into_bytes()))?,
-        Err(stop) => tell_code(told, "stopped", stop.code, stop.written)?,
+        Ok(_) => write_text(output, "entries", Ok(sink.into_bytes()))?,
+        Err(stop) => write_code(output, "stopped", stop.code, stop.written)?,
     }
     Ok(keeper.into_connection())
 }
@@ -131,11 +131,11 @@ fn get<S: Alter + Drop>(
     alloc: Global,
     conn: Connection<S>,
     named: &str,
-    told: &mut Vec<u8>,
+    output: &mut Vec<u8>,
 ) -> io::Result<Connection<S>> {
-    match journal::<S, SchemaTwo>(alloc, conn, false, told)? {
+    match journal::<S, SchemaTwo>(alloc, conn, false, output)? {
         Ok(mut keeper) => {
-            collecting::get(alloc, &mut keeper, named, told)?;
+            collecting::get(alloc, &mut keeper, named, output)?;
             Ok(keeper.into_connection())
         }
         Err(conn) => Ok(conn),

@@ -26,13 +26,13 @@ pub never_failed : {R B : Type 0} (stream : R → ℕ) (space : B → ℕ) → (
 never_failed stream space streams spaces (Stream device) = streams device
 never_failed stream space streams spaces (Space device) = spaces device
 
--- A run of which it is told what the devices have left is one of which it isn't told.
+-- A run of which it is known what the devices have left is one of which it isn't known.
 module _ (limits : Limits) (uploads : List (List ℕ)) (journal after : Journal) (stores stores_after : ℕ) (reads reads_after : List ℕ)
     (left left_after : List (Option (List ℕ))) (written written_after : Option (List ℕ)) where
-  untold : (uploads : List (List ℕ)) (answers : List Answer)
+  unknown : (uploads : List (List ℕ)) (answers : List Answer)
       → Collected limits uploads (seen journal stores reads left written) (seen after stores_after reads_after left_after written_after) answers
       → Collected limits uploads (seen journal stores reads [] written) (seen after stores_after reads_after [] written_after) answers
-  untold uploads answers h = record {
+  unknown uploads answers h = record {
     each = h.each;
     accepted = h.accepted;
     are_accepted = h.are_accepted;
@@ -45,16 +45,16 @@ module _ (limits : Limits) (uploads : List (List ℕ)) (journal after : Journal)
     unread = λ i answer at fails. record { came = []; front = tt; few = lit< tt };
   }
 
-  pub run_untold : (end : RunEnd)
+  pub run_unknown : (end : RunEnd)
       → IsRun limits uploads (seen journal stores reads left written) end (seen after stores_after reads_after left_after written_after)
       → IsRun limits uploads (seen journal stores reads [] written) end (seen after stores_after reads_after [] written_after)
-  run_untold Done h = record { answers = h.answers; collected = untold uploads h.answers h.collected; lines = h.lines }
-  run_untold (Stopped done count) h = record {
+  run_unknown Done h = record { answers = h.answers; collected = unknown uploads h.answers h.collected; lines = h.lines }
+  run_unknown (Stopped done count) h = record {
     answers = h.answers;
     last = h.last;
     number = h.number;
     inside = h.inside;
-    collected = untold _ _ h.collected;
+    collected = unknown _ _ h.collected;
     within = h.within;
     lines = h.lines;
   }

@@ -23,7 +23,7 @@ abbrev pub no_failures : List (List ℕ) → List ℕ
 no_failures uploads = map (λ _. 0) uploads
 
 -- A run over uploads in memory into a journal in memory, which ended so, and what the sink of its lines had before and
--- after it. What the uploads' devices have left isn't told: that is asked of failed readings alone, and there are none.
+-- after it. What the uploads' devices have left isn't said: that is asked of failed readings alone, and there are none.
 abbrev pub IsRunInMemory : Limits → (uploads : List (List ℕ)) → (before : InMemory) → (written : Option (List ℕ)) → RunEnd
     → (after : InMemory) → (written_after : Option (List ℕ)) → Type 0
 IsRunInMemory limits uploads before written end after written_after =

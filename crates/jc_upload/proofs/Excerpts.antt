@@ -28,12 +28,12 @@ use Rattle.jc_upload.specs.Upload.{Agrees, Sender, key_before, sent_of}
 -- These entries of a reading, if it is known, were given, and this reading is still to come.
 abbrev pub FollowsOn : Option Reading → List LogEntry → Option Reading → Type 0
 FollowsOn None entries now = ⊤
-FollowsOn (Some told) entries None = ⊥
-FollowsOn (Some told) entries (Some now) = (told.entries ≡ entries ++ now.entries) × (now.ending ≡ told.ending)
+FollowsOn (Some known) entries None = ⊥
+FollowsOn (Some known) entries (Some now) = (known.entries ≡ entries ++ now.entries) × (now.ending ≡ known.ending)
 
-pub follows_none : (told : Option Reading) → FollowsOn told [] told
+pub follows_none : (known : Option Reading) → FollowsOn known [] known
 follows_none None = tt
-follows_none (Some told) = (refl, refl)
+follows_none (Some known) = (refl, refl)
 
 none_before : (n : ℕ) → key_before [] n ≡ None
 none_before zero = refl
@@ -102,12 +102,12 @@ one_carried xs e position limit within room =
     ap (take limit) (behind xs e position within) ∙ (take_all limit (drop position xs ++ e ∷ []) long
     ∙ ap (λ (ys : List LogEntry). ys ++ e ∷ []) (sym (take_all limit (drop position xs) (omega arith))))
 
-pub follows_more : (told before now : Option Reading) (entries : List LogEntry) (e : LogEntry) (step : Step)
-    → FollowsOn told entries before → step ≡ Entry e → Gives before now (Ok step) → FollowsOn told (entries ++ e ∷ []) now
+pub follows_more : (known before now : Option Reading) (entries : List LogEntry) (e : LogEntry) (step : Step)
+    → FollowsOn known entries before → step ≡ Entry e → Gives before now (Ok step) → FollowsOn known (entries ++ e ∷ []) now
 follows_more None before now entries e step follows is gives = tt
-follows_more (Some told) None now entries e step follows is gives = absurd follows
-follows_more (Some told) (Some before) None entries e step follows is gives = absurd gives
-follows_more (Some told) (Some before) (Some now) entries e step follows is gives =
+follows_more (Some known) None now entries e step follows is gives = absurd follows
+follows_more (Some known) (Some before) None entries e step follows is gives = absurd gives
+follows_more (Some known) (Some before) (Some now) entries e step follows is gives =
     let gave : GivesOf before now (Ok (Entry e)) = subst (λ (s : Step). GivesOf before now (Ok s)) is gives in (
       follows.0 ∙ (ap (λ (es : List LogEntry). entries ++ es) gave.0 ∙ sym (append_assoc entries (e ∷ []) now.entries)),
       gave.1 ∙ follows.1,

@@ -21,7 +21,7 @@ use Rattle.jc_file.specs.Cut.{IsCutShort}
 use Rattle.jc_file.specs.FileReading.{IsFileReading}
 use Rattle.jc_upload.specs.Front.{CutsBy, CutsOfExport, CutsOfFile, CutsOfSecond, CutsOfWhole, EndsWhole, lacks_header}
 use Rattle.jc_upload.specs.Head.{IsHead, IsHeadFault, fault_at, head_text}
-use Rattle.jc_upload.specs.Says.{IsBodyReading, IsInParts, SaysBehind, BodySays, SaysFault, Says, ending_of_whole, told_as}
+use Rattle.jc_upload.specs.Says.{IsBodyReading, IsInParts, SaysBehind, BodySays, SaysFault, Says, ending_of_whole, reading_under}
 use Rattle.jc_upload.specs.declared.head.Kind.{Kind}
 use Rattle.jc_upload.specs.declared.head.Kind.TheVariants.{Export, File}
 use Rattle.jc_upload.specs.declared.head.UploadHead.{UploadHead}
@@ -77,8 +77,8 @@ module _ (one_fault : (bytes : List ℕ) (a b : Fault) → IsHeadFault bytes a �
       (subst (λ (h : UploadHead). BodySays limits h.version h.kind s.1.body r) same.0 s.1.reads))
       says
 
--- what isn't to be whole is told as it is read
-in_parts : (version : Version) (r : Reading) → IsInParts version → told_as version r ≡ r
+-- what isn't to be whole counts as it is read
+in_parts : (version : Version) (r : Reading) → IsInParts version → reading_under version r ≡ r
 in_parts V1 r parts = refl
 in_parts (V2 false entries) r parts = refl
 in_parts (V2 true entries) r parts = absurd parts
@@ -86,12 +86,12 @@ in_parts (V2 true entries) r parts = absurd parts
 parts_body : (limits : Limits) (version : Version) (kind : Kind) (body : List ℕ) (r : Reading) → IsInParts version
     → BodySays limits version kind body r → IsBodyReading limits kind body r
 parts_body limits version kind body r parts says =
-    subst (λ (s : Reading). IsBodyReading limits kind body s) (sym (says.told ∙ in_parts version says.read parts)) says.reads
+    subst (λ (s : Reading). IsBodyReading limits kind body s) (sym (says.under ∙ in_parts version says.read parts)) says.reads
 
 -- ---- what is to be whole
 
 abbrev whole_of : ℕ → Reading → Reading
-whole_of number s = told_as (V2 true number) s
+whole_of number s = reading_under (V2 true number) s
 
 counted : (number left : ℕ) (s : Reading) (none same : Bool) → nat_eq left 0 ≡ none → nat_eq (length s.entries) number ≡ same
     → ((left ≡ 0) × (length s.entries ≡ number) × (ending_of_whole number (length s.entries) (End left) ≡ End left))
@@ -133,15 +133,15 @@ whole_ends limits entries upload cut s (Bad fault) is front ends codes full =
     bad_end : (fault : Fault) (left : ℕ) → ¬ (Bad fault ≡ End left)
     bad_end fault left h = cc
 whole_ends limits entries upload cut s (End left) is front ends codes full =
-    let told = ap (ending_of_whole (length entries) (length s.entries)) is in
+    let ends = ap (ending_of_whole (length entries) (length s.entries)) is in
     elim (counted (length entries) left s (nat_eq left 0) (nat_eq (length s.entries) (length entries)) refl refl) [
       | inl all ↦
           let same : s.entries ≡ entries = all_front s.entries entries front all.1 in
           inl (
             full all.1,
-            ap (λ (z : Ending). reading s.entries z) (told ∙ all.2 ∙ ap End all.0) ∙ ap (λ (es : List LogEntry). reading es (End 0)) same,
+            ap (λ (z : Ending). reading s.entries z) (ends ∙ all.2 ∙ ap End all.0) ∙ ap (λ (es : List LogEntry). reading es (End 0)) same,
           )
-      | inr none ↦ inr (inl (told ∙ none))
+      | inr none ↦ inr (inl (ends ∙ none))
     ]
 
 whole_well : (entries : List LogEntry) → whole_of (length entries) (reading entries (End 0)) ≡ reading entries (End 0)
@@ -223,11 +223,11 @@ module _ (one_fault : (bytes : List ℕ) (a b : Fault) → IsHeadFault bytes a �
           short = cut_short one_fault limits cut head text lawful r says;
           first = λ enough.
               let b = says_body enough in
-              subst (λ (s : Reading). IsFront s.entries entries) (sym b.told)
+              subst (λ (s : Reading). IsFront s.entries entries) (sym b.under)
               (front limits 0 entries (take (cut - 48) text) (drop (cut - 48) text) b.read are split b.reads);
           ends = λ enough.
               let b = says_body enough in
-              subst (EndsWhole limits entries (head_text head ++ text) cut) (sym b.told)
+              subst (EndsWhole limits entries (head_text head ++ text) cut) (sym b.under)
               (whole_ends limits entries (head_text head ++ text) cut b.read b.read.ending refl
               (front limits 0 entries (take (cut - 48) text) (drop (cut - 48) text) b.read are split b.reads)
               (λ fit. ends limits 0 entries (take (cut - 48) text) (drop (cut - 48) text) b.read are fit split b.reads)
@@ -237,7 +237,7 @@ module _ (one_fault : (bytes : List ℕ) (a b : Fault) → IsHeadFault bytes a �
               let full = whole_body cut head text lawful all in
               let b = says_body full.0 in
               let back = reads_back limits 0 entries b.read are (subst (λ (l : List ℕ). StreamReading limits 0 l b.read) full.1 b.reads) in
-              b.told ∙ ap (whole_of (length entries)) (fitting limits entries b.read fit back) ∙ whole_well entries;
+              b.under ∙ ap (whole_of (length entries)) (fitting limits entries b.read fit back) ∙ whole_well entries;
         }
 
     -- by the version of the header

@@ -254,10 +254,10 @@ head_length h ok =
     let front = front_length h.version (kind_byte h.kind) (flag_of h.version) h.source.0 (to_le_bytes w64 h.start) ok.source.0 refl in
     simp (length-append) (omega (arith, simp (length-append) at front))
 
--- a check that holds tells no fault itself
-passes : (holds : Type 0) (fault : Fault) (behind : Fault → Type 0) → holds → ((told : Fault) → ¬ behind told)
-    → (told : Fault) → ¬ Checks holds fault behind told
-passes holds fault behind ok none told = ⊎_elim (λ w. w.0 ok) (λ w. none told w.1)
+-- a check that holds finds no fault itself
+passes : (holds : Type 0) (fault : Fault) (behind : Fault → Type 0) → holds → ((found : Fault) → ¬ behind found)
+    → (found : Fault) → ¬ Checks holds fault behind found
+passes holds fault behind ok none found = ⊎_elim (λ w. w.0 ok) (λ w. none found w.1)
 
 -- what the text of a version passes
 
@@ -297,7 +297,7 @@ no_head_fault h body ok =
     (passes (HasMagic bytes) _ _ (has_magic version bytes magic)
     (passes (HasKind bytes) _ _ (h.kind, at.0)
     (passes (HasFirstZeros bytes) _ _ (has_zeros version bytes magic at.1 zero)
-    (passes (HasLastZeros bytes) _ (λ _. ⊥) (has_last version bytes magic last) (λ told never. never)))))
+    (passes (HasLastZeros bytes) _ (λ _. ⊥) (has_last version bytes magic last) (λ found never. never)))))
 
 -- what 48 bytes show, they show whatever follows them
 pub front_fault : (bytes body : List ℕ) (fault : Fault) → 48 ≤ length bytes → IsHeadFault bytes fault → IsHeadFault (bytes ++ body) fault

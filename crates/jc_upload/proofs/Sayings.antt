@@ -11,7 +11,7 @@ use Rattle.jc_upload.specs.declared.head.Kind.{Kind}
 use Rattle.jc_upload.specs.declared.head.Kind.TheVariants.{Export, File}
 use Rattle.jc_upload.specs.declared.head.UploadHead.{UploadHead}
 use Rattle.jc_upload.specs.declared.head.Version.{Version}
-use Rattle.jc_upload.specs.Says.{IsBodyReading, SaysBehind, BodySays, SaysFault, Says, told_as}
+use Rattle.jc_upload.specs.Says.{IsBodyReading, SaysBehind, BodySays, SaysFault, Says, reading_under}
 
 module _
     (one : (a b : UploadHead) (x y : List ℕ) → IsHead a → IsHead b → head_text a ++ x ≡ head_text b ++ y → (a ≡ b) × (x ≡ y))
@@ -24,14 +24,14 @@ module _
     body_once limits Export body r s a b = stream limits body r s a b
     body_once limits File body r s a b = file limits body r s a b
 
-    told_once : (limits : Limits) (version : Version) (kind : Kind) (body : List ℕ) (r s : Reading) → BodySays limits version kind body r
+    reading_once : (limits : Limits) (version : Version) (kind : Kind) (body : List ℕ) (r s : Reading) → BodySays limits version kind body r
         → BodySays limits version kind body s → r ≡ s
-    told_once limits version kind body r s a b = a.told ∙ ap (told_as version) (body_once limits kind body a.read b.read a.reads b.reads) ∙ sym b.told
+    reading_once limits version kind body r s a b = a.under ∙ ap (reading_under version) (body_once limits kind body a.read b.read a.reads b.reads) ∙ sym b.under
 
     behind_once : (limits : Limits) (upload : List ℕ) (h k : UploadHead) (r s : Reading) → SaysBehind limits upload h r → SaysBehind limits upload k s → r ≡ s
     behind_once limits upload h k r s a b =
         let same = one h k a.body b.body a.has.lawful b.has.lawful (sym a.has.whole ∙ b.has.whole) in
-        told_once limits k.version k.kind b.body r s
+        reading_once limits k.version k.kind b.body r s
         (subst (λ (body : List ℕ). BodySays limits k.version k.kind body r) same.1
         (subst (λ (head : UploadHead). BodySays limits head.version head.kind a.body r) same.0 a.reads))
         b.reads

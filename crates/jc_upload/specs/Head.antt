@@ -96,7 +96,7 @@ fault_at code place = record { code = code; place = place }
 
 -- The first check that doesn't hold gives the fault: this one, or one after it.
 abbrev pub Checks : Type 0 → Fault → (Fault → Type 0) → Fault → Type 0
-Checks holds fault behind told = ((¬ holds) × (told ≡ fault)) ⊎ (holds × behind told)
+Checks holds fault behind found = ((¬ holds) × (found ≡ fault)) ⊎ (holds × behind found)
 
 -- The fault that the beginning of an upload shows.
 abbrev pub IsHeadFault : List ℕ → Fault → Type 0

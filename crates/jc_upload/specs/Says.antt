@@ -32,11 +32,11 @@ ending_of_whole number count (End left) =
     if nat_eq left 0 && nat_eq count number then End left else Bad (fault_at Incomplete count)
 ending_of_whole number count (Bad fault) = Bad fault
 
--- what the reading of a body is told as under a header of this version
-abbrev pub told_as : Version → Reading → Reading
-told_as V1 r = r
-told_as (V2 false entries) r = r
-told_as (V2 true entries) r = reading r.entries (ending_of_whole entries (length r.entries) r.ending)
+-- what the reading of a body is under a header of this version
+abbrev pub reading_under : Version → Reading → Reading
+reading_under V1 r = r
+reading_under (V2 false entries) r = r
+reading_under (V2 true entries) r = reading r.entries (ending_of_whole entries (length r.entries) r.ending)
 
 -- An upload of this version isn't to be whole.
 abbrev pub IsInParts : Version → Type 0
@@ -48,7 +48,7 @@ IsInParts (V2 true entries) = ⊥
 pub record BodySays (limits : Limits) (version : Version) (kind : Kind) (body : List ℕ) (r : Reading) : Type 0 where
   pub read : Reading
   pub reads : IsBodyReading limits kind body read
-  pub told : r ≡ told_as version read
+  pub under : r ≡ reading_under version read
 
 -- An upload has this header, and its body says so.
 pub record SaysBehind (limits : Limits) (upload : List ℕ) (head : UploadHead) (r : Reading) : Type 0 where

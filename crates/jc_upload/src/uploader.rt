@@ -165,10 +165,10 @@ impl Uploader {
         source: &mut Stream<R>,
         limit: u64,
     ) -> Result<(Excerpt, Ending), Stop>
-        ensures excerpt { IfOk result (λ told. (entries : List LogEntry)
-            × Gave (⟦<Stream<R> as EntrySource>⟧.remaining source.old) entries told.1
-            × AreOfStream (limits_of source.old) entries × IsExcerpt self.now.point.position limit entries told.0) }
-        ensures stream { IfOk result (λ told. IsStreamEnding (limits_of source.old) told.1) }
+        ensures excerpt { IfOk result (λ found. (entries : List LogEntry)
+            × Gave (⟦<Stream<R> as EntrySource>⟧.remaining source.old) entries found.1
+            × AreOfStream (limits_of source.old) entries × IsExcerpt self.now.point.position limit entries found.0) }
+        ensures stream { IfOk result (λ found. IsStreamEnding (limits_of source.old) found.1) }
         ensures failed { result ≡ Err ReadFailed
             → Rose (⟦<Stream<R> as EntrySource>⟧.failures source.old) (⟦<Stream<R> as EntrySource>⟧.failures source.new)
             ⊎ (⟦<Stream<R> as EntrySource>⟧.last source.old ≡ Some (Err ReadFailed)) }

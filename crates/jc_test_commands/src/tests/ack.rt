@@ -140,7 +140,7 @@ run ack --source SOURCE --resume @resume export @in
 fails 1 bad answer 2
 holds @resume "resume 1 000102030405060708090a0b0c0d0e0f 1\n"
 missing @resume.new
-# a fault of the source is told before one of an answer
+# a fault of the source is reported before one of an answer
 file @in ENTRY "=x\n"
 < ack SOURCE
 run ack --source SOURCE --resume @resume export @in
@@ -198,7 +198,7 @@ missing @resume.new
 < ack SOURCE 0 2 1 0
 run ack --source SOURCE --resume @resume file @in
 > resume 1
-# here too a fault of the source is told first
+# here too a fault of the source is reported first
 file @in JOURNAL_FILE cut:399
 < ack SOURCE
 run ack --source SOURCE --resume @resume file @in

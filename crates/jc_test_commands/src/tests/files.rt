@@ -24,7 +24,7 @@ impl Read for Broken {
 }
 
 #[test]
-fn a_failure_in_mid_stream_is_told(rt: HostRuntime) -> Result<(), Fail> {
+fn a_failure_in_mid_stream_is_reported(rt: HostRuntime) -> Result<(), Fail> {
     let alloc = rt.alloc();
     for left in [0, 1, 100_000] {
         let with = io::ErrorKind::Other;

@@ -81,7 +81,7 @@ run --version
 > journal-collect 0.1.0
 fails 3 write failed
 
-case a resume point that cannot be told is kept
+case a resume point that cannot be printed is kept
 file @in ENTRY
 < ack SOURCE 0 1 1 0
 flushes 0

@@ -8,7 +8,7 @@ use jc_test_samples::JOURNAL_FILE;
 use std::test::Fail;
 
 #[test]
-fn a_read_that_fails_is_told_wherever_it_comes(rt: HostRuntime) -> Result<(), Fail> {
+fn a_read_that_fails_is_reported_wherever_it_comes(rt: HostRuntime) -> Result<(), Fail> {
     let alloc = rt.alloc();
     let bytes = JOURNAL_FILE;
     let limits = Limits::default();

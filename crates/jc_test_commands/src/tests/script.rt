@@ -28,9 +28,10 @@
 
 use super::pieces::{add, add_pieces, bad_line};
 use super::room::Room;
-use jc_collector::{DatabaseStore, Databases};
 use jc_command::command;
+use jc_database::open_files;
 use jc_test_samples::SOURCE;
+use sqlite::Unknown;
 use std::alloc::Global;
 use std::fmt::Write;
 use std::rt::Files;
@@ -114,12 +115,7 @@ impl Session {
         }
     }
 
-    fn perform<R: Databases + Files + AllocGlobal>(
-        &mut self,
-        rt: &R,
-        folder: &str,
-        script: &str,
-    ) -> io::Result<()> {
+    fn perform(&mut self, rt: &HostRuntime, folder: &str, script: &str) -> io::Result<()> {
         let mut number = 0usize;
         for line in script.lines() {
             number = number.saturating_add(1);
@@ -140,9 +136,9 @@ impl Session {
     }
 
     /// Performs one line. Before a line that isn't on the last run, that run is compared.
-    fn take<R: Databases + Files + AllocGlobal>(
+    fn take(
         &mut self,
-        rt: &R,
+        rt: &HostRuntime,
         folder: &str,
         number: usize,
         word: &str,
@@ -175,13 +171,7 @@ impl Session {
     }
 
     /// A line that does something, other than a run.
-    fn act<R: Databases + Files + AllocGlobal>(
-        &mut self,
-        rt: &R,
-        folder: &str,
-        word: &str,
-        rest: &str,
-    ) -> io::Result<()> {
+    fn act(&mut self, rt: &HostRuntime, folder: &str, word: &str, rest: &str) -> io::Result<()> {
         let (path, others) = rest.split_once(' ').unwrap_or((rest, ""));
         match word {
             "" | "#" => Ok(()),
@@ -202,16 +192,12 @@ impl Session {
     }
 
     /// A run with these arguments.
-    fn run<R: Databases + Files + AllocGlobal>(
-        &mut self,
-        rt: &R,
-        arguments: &str,
-    ) -> io::Result<()> {
+    fn run(&mut self, rt: &HostRuntime, arguments: &str) -> io::Result<()> {
         let alloc = rt.alloc();
         let words = given_words(alloc, arguments)?;
         let (mut output, mut errors) = (Room::new(alloc, self.room, self.flushes), Vec::new(alloc));
         let mut input = self.input.as_slice();
-        let status = command(rt, words, &mut input, &mut output, &mut errors);
+        let status = command(rt, Unknown, words, &mut input, &mut output, &mut errors);
         self.ran = Ran {
             output: output.kept,
             errors,
@@ -391,12 +377,12 @@ fn write_file<R: Files + AllocGlobal>(rt: &R, path: &str, pieces: &str) -> io::R
 }
 
 /// Runs a statement on a database.
-fn execute<R: Databases>(rt: &R, path: &str, statement: &str) -> io::Result<()> {
-    let Ok(mut conn) = rt.open_database(path) else {
+fn execute(rt: &HostRuntime, path: &str, statement: &str) -> io::Result<()> {
+    let Ok(mut conn) = open_files(rt, path, Unknown) else {
         return bad_line();
     };
     let is_run = conn.execute_batch(statement).is_ok();
-    let is_closed = conn.into_store().close_database().is_ok();
+    let is_closed = conn.close().is_ok();
     if is_run && is_closed {
         Ok(())
     } else {

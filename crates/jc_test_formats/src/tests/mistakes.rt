@@ -1,4 +1,4 @@
-//! Rows that are wrong are told, each with its line.
+//! Rows that are wrong are reported, each with its line.
 
 use super::rows::report_of;
 use super::same::same_bytes;
@@ -44,7 +44,7 @@ line 17: no limits and not 1 2 3
 "#;
 
 #[test]
-fn wrong_rows_are_told(rt: HostRuntime) -> Result<(), OutOfMemory> {
+fn wrong_rows_are_reported(rt: HostRuntime) -> Result<(), OutOfMemory> {
     let alloc = rt.alloc();
     same_bytes(&rt, report_of(alloc, WRONG)?.as_bytes(), REPORT.as_bytes());
     same_bytes(&rt, report_of(alloc, "# no rows")?.as_bytes(), b"no rows\n");

@@ -63,7 +63,7 @@ impl Rows {
                     self.limits = limits;
                     Ok(())
                 }
-                None => self.tell(alloc, b"no limits", rest.as_bytes()),
+                None => self.note(alloc, b"no limits", rest.as_bytes()),
             },
             _ => self.judge(alloc, word, rest),
         }
@@ -73,17 +73,17 @@ impl Rows {
     fn judge(&mut self, alloc: Global, word: &str, rest: &str) -> Result<(), OutOfMemory> {
         self.has_row = true;
         let Ok((bytes, wanted)) = parts(alloc, rest) else {
-            return self.tell(alloc, b"no row", rest.as_bytes());
+            return self.note(alloc, b"no row", rest.as_bytes());
         };
         match said(alloc, &self.limits, word, &bytes)? {
             Some(said) if said.as_slice() == wanted.as_slice() => Ok(()),
-            Some(said) => self.tell(alloc, &said, &wanted),
-            None => self.tell(alloc, b"no such word", word.as_bytes()),
+            Some(said) => self.note(alloc, &said, &wanted),
+            None => self.note(alloc, b"no such word", word.as_bytes()),
         }
     }
 
     /// Adds to the report.
-    fn tell(&mut self, alloc: Global, said: &[u8], wanted: &[u8]) -> Result<(), OutOfMemory> {
+    fn note(&mut self, alloc: Global, said: &[u8], wanted: &[u8]) -> Result<(), OutOfMemory> {
         let line = self.line;
         let (said, wanted) = (said.escape_ascii(), wanted.escape_ascii());
         let text = format!(in alloc; "line {line}: {said} and not {wanted}\n")?;

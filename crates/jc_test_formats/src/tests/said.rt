@@ -120,7 +120,7 @@ fn value(alloc: Global, bytes: &[u8]) -> Result<Vec<u8>, OutOfMemory> {
     }
 }
 
-/// A header is told only if it is of the usual source, and is written as it was read.
+/// A header is written only if it is of the usual source, and is written as it was read.
 fn head(alloc: Global, bytes: &[u8]) -> Result<Vec<u8>, OutOfMemory> {
     let Some(bytes) = bytes.first_chunk::<48>() else {
         return line(alloc, "short", &[]);

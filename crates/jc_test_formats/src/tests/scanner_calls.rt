@@ -17,10 +17,10 @@ fn feed(scanner: &mut Scanner, piece: &[u8]) -> Result<u64, OutOfMemory> {
 }
 
 /// Adds the name and the value of a field that the scanner holds, or that it holds none there.
-fn tell_field(scanner: &Scanner, place: usize, told: &mut Vec<u8>) -> Result<(), OutOfMemory> {
+fn add_field(scanner: &Scanner, place: usize, said: &mut Vec<u8>) -> Result<(), OutOfMemory> {
     let (name, value) = scanner.field_at(place).unwrap_or((b"none", b""));
     for part in [b", ".as_slice(), name, b"=", value] {
-        told.extend_from_slice(part)?;
+        said.extend_from_slice(part)?;
     }
     Ok(())
 }
@@ -38,22 +38,22 @@ fn calls(alloc: Global, first: &[u8], second: &[u8]) -> Result<Vec<u8>, OutOfMem
     let both = [first, second].concat(alloc)?;
     let took = feed(&mut scanner, &both)?;
     let waits = feed(&mut scanner, second)?;
-    let mut told = line(alloc, "takes", &[took, waits, scanner.position()])?;
+    let mut said = line(alloc, "takes", &[took, waits, scanner.position()])?;
     for place in 0..3 {
-        tell_field(&scanner, place, &mut told)?;
+        add_field(&scanner, place, &mut said)?;
     }
     let gave = gives(&mut scanner)?;
     let again = gives(&mut scanner)?;
     let then = feed(&mut scanner, second)?;
-    told.extend_from_slice(&line(alloc, ", gives", &[gave, again, then])?)?;
-    Ok(told)
+    said.extend_from_slice(&line(alloc, ", gives", &[gave, again, then])?)?;
+    Ok(said)
 }
 
 #[test]
 fn an_entry_waits_until_it_is_taken(rt: HostRuntime) -> Result<(), Fail> {
     let first = [METADATA, b"MESSAGE=hi\n_X=1\n\n"].concat(rt.alloc())?;
-    let told = calls(rt.alloc(), &first, ENTRY_2)?;
+    let said = calls(rt.alloc(), &first, ENTRY_2)?;
     let wanted = b"takes 126 0 126, MESSAGE=hi, _X=1, none=, gives 1 0 121";
-    same_bytes(&rt, &told, wanted);
+    same_bytes(&rt, &said, wanted);
     Ok(())
 }

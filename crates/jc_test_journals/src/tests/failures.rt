@@ -27,7 +27,7 @@ fn goes_on<K: Keeper>(
 }
 
 /// The answer if this many reads pass and the next one fails, one byte being read at a time.
-fn told(passes: u64) -> Answer {
+fn answer_after(passes: u64) -> Answer {
     if passes < 48 {
         unread(61, 0)
     } else {
@@ -45,7 +45,7 @@ fn a_read_fails<J: Journals>(
 ) -> Result<(), Fail> {
     let mut keeper = journals.empty()?;
     let answer = collect(rt.alloc(), &mut keeper, &mut stream(upload, 1, passes));
-    same_answer(rt, passes, answer, told(passes));
+    same_answer(rt, passes, answer, answer_after(passes));
     goes_on(rt, &mut keeper, upload, entries)
 }
 
@@ -84,7 +84,7 @@ fn a_stream_fails<J: Journals>(
     Ok(())
 }
 
-/// A conflict in the first 65,536 bytes after the header is told, though the stream fails behind them.
+/// A conflict in the first 65,536 bytes after the header is answered, though the stream fails behind them.
 fn a_conflict_comes_before_the_next_read<J: Journals>(
     rt: &(impl Abort + AllocGlobal),
     journals: &mut J,
@@ -162,7 +162,8 @@ fn a_stream_in_a_space_fails<J: Journals>(
     Ok(())
 }
 
-/// The sink fails after so many bytes: so many answers are written whole, and so many bytes of the next one.
+/// The sink fails after so many calls: so many answers are written whole, and so many bytes of the next one. Behind each
+/// line there is a call that writes nothing.
 fn a_write_fails<J: Journals>(
     rt: &(impl Abort + AllocGlobal),
     journals: &mut J,
@@ -182,7 +183,10 @@ fn a_write_fails<J: Journals>(
     };
     same_end(rt, end, stopped);
     let both = answer_lines(alloc, &["ack S 0 1 1 0", "ack S 0 1 1 0"])?;
-    let front = both.as_bytes().get(..passes as usize).unwrap_or(b"");
+    let front = both
+        .as_bytes()
+        .get(..45u64.saturating_mul(done).saturating_add(bytes) as usize)
+        .unwrap_or(b"");
     same_bytes(rt, &out, front);
     assert!(rt; keeps(alloc, &mut keeper, stored)?);
     let again = collect(alloc, &mut keeper, &mut stream(&first, WHOLE, NEVER));
@@ -197,8 +201,9 @@ fn the_sink_fails<J: Journals>(
 ) -> Result<(), Fail> {
     a_write_fails(rt, journals, 10, (0, 10), &[ENTRY])?;
     a_write_fails(rt, journals, 44, (0, 44), &[ENTRY])?;
-    a_write_fails(rt, journals, 45, (1, 0), &[ENTRY, ENTRY_2])?;
-    a_write_fails(rt, journals, 48, (1, 3), &[ENTRY, ENTRY_2])
+    a_write_fails(rt, journals, 45, (0, 45), &[ENTRY])?;
+    a_write_fails(rt, journals, 46, (1, 0), &[ENTRY, ENTRY_2])?;
+    a_write_fails(rt, journals, 49, (1, 3), &[ENTRY, ENTRY_2])
 }
 
 fn devices_fail<J: Journals>(

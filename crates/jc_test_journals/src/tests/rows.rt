@@ -102,25 +102,25 @@ impl Rows {
             "begins" => self.begin(alloc, rest),
             "upload" => self.add(alloc, rest),
             "stores" => self.judge(alloc, journals, rest),
-            _ => self.tell(alloc, b"no such word"),
+            _ => self.note(alloc, b"no such word"),
         }
     }
 
     fn begin(&mut self, alloc: Global, pieces: &str) -> Result<(), Fail> {
         self.first.clear();
         if add_pieces(alloc, pieces, &mut self.first).is_err() {
-            return self.tell(alloc, b"no pieces");
+            return self.note(alloc, b"no pieces");
         }
         Ok(())
     }
 
     fn add(&mut self, alloc: Global, rest: &str) -> Result<(), Fail> {
         let Some((pieces, short)) = rest.split_once(" => ") else {
-            return self.tell(alloc, b"no answer");
+            return self.note(alloc, b"no answer");
         };
         let mut upload = Vec::new(alloc);
         if add_pieces(alloc, pieces, &mut upload).is_err() {
-            return self.tell(alloc, b"no pieces");
+            return self.note(alloc, b"no pieces");
         }
         self.uploads.push(upload)?;
         let answers = answer_lines(alloc, &[short])?;
@@ -137,7 +137,7 @@ impl Rows {
     ) -> Result<(), Fail> {
         let mut texts = Vec::new(alloc);
         if add_pieces(alloc, pieces, &mut texts).is_err() {
-            return self.tell(alloc, b"no pieces");
+            return self.note(alloc, b"no pieces");
         }
         let lines = Vec::from_slice(alloc, self.lines.as_bytes())?;
         self.compare_ways(alloc, journals, &Left { lines, texts })?;
@@ -169,16 +169,16 @@ impl Rows {
 
     fn compare(&mut self, alloc: Global, found: &Left, wanted: &Left) -> Result<(), Fail> {
         if found.lines.as_slice() != wanted.lines.as_slice() {
-            return self.tell(alloc, &found.lines);
+            return self.note(alloc, &found.lines);
         }
         if found.texts.as_slice() != wanted.texts.as_slice() {
-            return self.tell(alloc, b"other entries are stored");
+            return self.note(alloc, b"other entries are stored");
         }
         Ok(())
     }
 
     /// Adds to the report.
-    fn tell(&mut self, alloc: Global, what: &[u8]) -> Result<(), Fail> {
+    fn note(&mut self, alloc: Global, what: &[u8]) -> Result<(), Fail> {
         let place = line(alloc, "line", &[self.line])?;
         for part in [place.as_slice(), b": ", what, b"\n"] {
             self.report.extend_from_slice(part)?;
@@ -207,7 +207,7 @@ pub(super) fn report_of<J: Journals>(
         rows.take(alloc, journals, line)?;
     }
     if !rows.has_run || !rows.uploads.is_empty() {
-        rows.tell(alloc, b"nothing is run")?;
+        rows.note(alloc, b"nothing is run")?;
     }
     Ok(rows.report)
 }
@@ -391,7 +391,7 @@ line 10: nothing is run
 "#;
 
 #[test]
-fn wrong_rows_are_told(rt: HostRuntime) -> Result<(), Fail> {
+fn wrong_rows_are_reported(rt: HostRuntime) -> Result<(), Fail> {
     let report = report_of(rt.alloc(), &mut Maps(rt.alloc()), WRONG)?;
     same_bytes(&rt, &report, REPORT.as_bytes());
     let report = report_of(rt.alloc(), &mut Maps(rt.alloc()), "# no rows")?;

@@ -49,14 +49,6 @@ upload head:1:0 put:40:7 ENTRY => no - - 4 40
 stores ""
 "#;
 
-fn whole_uploads<J: Journals>(
-    rt: &(impl Abort + AllocGlobal),
-    journals: &mut J,
-) -> Result<(), Fail> {
-    same_bytes(rt, &report_of(rt.alloc(), journals, ROWS)?, b"");
-    Ok(())
-}
-
 /// The row of a whole upload of two entries, with a header of 48 bytes and 290 bytes in all, that is cut to a length, and
 /// what is stored then.
 fn cut_row(alloc: Global, length: u64) -> Result<String, Fail> {
@@ -71,24 +63,19 @@ fn cut_row(alloc: Global, length: u64) -> Result<String, Fail> {
     Ok(row)
 }
 
-/// A whole upload that is cut at each place after its header stores nothing; only all of it is stored.
-fn cut_uploads<J: Journals>(rt: &(impl Abort + AllocGlobal), journals: &mut J) -> Result<(), Fail> {
+/// The rows, and a whole upload that is cut at each place after its header: it stores nothing, and only all of it is
+/// stored.
+fn whole_uploads<J: Journals>(
+    rt: &(impl Abort + AllocGlobal),
+    journals: &mut J,
+) -> Result<(), Fail> {
     let mut rows = String::new(rt.alloc());
+    rows.push_str(ROWS)?;
     for length in 48..=290 {
         rows.push_str(cut_row(rt.alloc(), length)?.as_str())?;
     }
     same_bytes(rt, &report_of(rt.alloc(), journals, rows.as_str())?, b"");
     Ok(())
-}
-
-#[test]
-fn cut_uploads_over_a_map(rt: HostRuntime) -> Result<(), Fail> {
-    cut_uploads(&rt, &mut Maps(rt.alloc()))
-}
-
-#[test]
-fn cut_uploads_over_tables(rt: HostRuntime) -> Result<(), Fail> {
-    cut_uploads(&rt, &mut Tables(rt.alloc()))
 }
 
 #[test]

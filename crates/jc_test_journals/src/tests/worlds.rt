@@ -263,32 +263,60 @@ fn begun_steps<J: Journals>(rt: &(impl Abort + AllocGlobal), journals: &mut J) -
     Ok(())
 }
 
-#[test]
-fn a_world_over_a_map_that_has_entries(rt: HostRuntime) -> Result<(), Fail> {
-    begun_steps(&rt, &mut Maps(rt.alloc()))
+/// A collector that turns to another journal: a machine's entries lie in both, and an answer that was given over the first
+/// one moves its resume point on.
+fn turned_steps<J: Journals>(
+    rt: &(impl Abort + AllocGlobal),
+    journals: &mut J,
+) -> Result<(), Fail> {
+    let alloc = rt.alloc();
+    let mut world = two_machines(alloc, journals.empty()?)?;
+    append(rt, &mut world, 0, &[ENTRY, ENTRY_2, ENTRY_3])?;
+    check(
+        rt,
+        &mut world,
+        &[
+            (Event::Make(0, 2), true, 0, 1),
+            (Event::Deliver(0, 290), true, 0, 1),
+        ],
+    )?;
+    if world.turn(journals.empty()?).is_err() {
+        return Err(Fail::new("no memory"));
+    }
+    check(
+        rt,
+        &mut world,
+        &[
+            (Event::Hand(0), true, 2, 2),
+            (Event::Make(0, 9), true, 2, 2),
+            (Event::Deliver(1, 169), true, 2, 2),
+            (Event::Hand(1), true, 3, 3),
+        ],
+    )?;
+    same_answers(rt, world.answers(), &[ack(0, 2, 2, 0), ack(2, 1, 1, 0)]);
+    same_number(rt, world.past().len() as u64, 1);
+    let (mut past, mut present) = world.into_keepers();
+    for keeper in &mut past {
+        assert!(rt; keeps(alloc, keeper, &[ENTRY, ENTRY_2])?);
+    }
+    assert!(rt; keeps(alloc, &mut present, &[ENTRY_3])?);
+    Ok(())
+}
+
+/// Worlds over empty journals, over one that has entries, and over two in turn.
+fn worlds<J: Journals>(rt: &(impl Abort + AllocGlobal), journals: &mut J) -> Result<(), Fail> {
+    worked_steps(rt, journals)?;
+    whole_steps(rt, journals)?;
+    begun_steps(rt, journals)?;
+    turned_steps(rt, journals)
 }
 
 #[test]
-fn a_world_over_tables_that_have_entries(rt: HostRuntime) -> Result<(), Fail> {
-    begun_steps(&rt, &mut Tables(rt.alloc()))
+fn worlds_over_a_map(rt: HostRuntime) -> Result<(), Fail> {
+    worlds(&rt, &mut Maps(rt.alloc()))
 }
 
 #[test]
-fn whole_uploads_to_a_map(rt: HostRuntime) -> Result<(), Fail> {
-    whole_steps(&rt, &mut Maps(rt.alloc()))
-}
-
-#[test]
-fn whole_uploads_to_tables(rt: HostRuntime) -> Result<(), Fail> {
-    whole_steps(&rt, &mut Tables(rt.alloc()))
-}
-
-#[test]
-fn two_machines_send_to_a_map(rt: HostRuntime) -> Result<(), Fail> {
-    worked_steps(&rt, &mut Maps(rt.alloc()))
-}
-
-#[test]
-fn two_machines_send_to_tables(rt: HostRuntime) -> Result<(), Fail> {
-    worked_steps(&rt, &mut Tables(rt.alloc()))
+fn worlds_over_tables(rt: HostRuntime) -> Result<(), Fail> {
+    worlds(&rt, &mut Tables(rt.alloc()))
 }

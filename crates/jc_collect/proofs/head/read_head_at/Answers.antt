@@ -10,8 +10,8 @@ returns-clause-begins g c =
     (space_come c.if-came-ge-HEAD_LENGTH.bytes c.len-came.result known
     (λ b is. g.met.B.ByteSpace.whole c.args.space.now b is ∙ sym c.len-came.ensures)
     (elim c.if-came-ge-HEAD_LENGTH.branch [
-      | then-came-ge-HEAD_LENGTH+in_ok-read_at w ↦ λ many told.
+      | then-came-ge-HEAD_LENGTH+in_ok-read_at w ↦ λ many is_known.
           let full : length w.read_at.new.out ≡ 48 = omega arith in
-          w.bytes-is ∙ w.in_ok-read_at.ensures.read told ∙ ap (λ (n : ℕ). take n (unwrap_or known [])) full
+          w.bytes-is ∙ w.in_ok-read_at.ensures.read is_known ∙ ap (λ (n : ℕ). take n (unwrap_or known [])) full
       | else-came-ge-HEAD_LENGTH w ↦ λ many. absurd (omega (arith, w.if-came-ge-HEAD_LENGTH.false))
     ]))

@@ -5,6 +5,6 @@ use Rattle.jc_collect.proofs.inspect.file_body.Goals as goal
 
 pub returns-clause-says : goal.returns-clause-says
 returns-clause-says g c =
-    IfOk-weaker c.told_body.result _ _
+    IfOk-weaker c.read_body.result _ _
     (λ body has. file_says c.args.limits.now c.args.version (g.B.ByteSpace.bytes c.args.space) _ body c.new.ensures.reading has)
-    c.told_body.ensures.has
+    c.read_body.ensures.has

@@ -1,6 +1,6 @@
 -- The header, and the body behind it.
 use Rattle.std.proofs.Common.{refl}
-use Rattle.jc_upload.specs.declared.head.Kind.TheVariants.{Export, File}
+use Rattle.jc_upload.specs.declared.head.Kind.TheVariants.{File}
 use Rattle.jc_collect.proofs.Inspecting.{unread_says, upload_says}
 use Rattle.jc_collect.proofs.inspect.inspect_stream.Goals as goal
 
@@ -13,4 +13,4 @@ returns-in-Err-clause-says g c = λ upload known.
 pub returns-in_ok-body-in-File-clause-says : goal.returns-in_ok-body-in-File-clause-says
 returns-in_ok-body-in-File-clause-says g c = λ upload known.
     upload_says c.args.limits.now upload (g.R.ByteStream.remaining c.args.device) _ _ c.in-Ok.head File c.in_ok-body-in-File.body
-    c.told_of-in-File.result known c.in-Ok.ensures.begins c.in-File.is refl c.in_ok-body-in-File.ensures.says c.told_of-in-File.ensures
+    c.as_inspected-in-File.result known c.in-Ok.ensures.begins c.in-File.is refl c.in_ok-body-in-File.ensures.says c.as_inspected-in-File.ensures

@@ -3,20 +3,37 @@ use Rattle.std.proofs.Common.{rules, ◌≡◌, ◌∙◌, [], IfSome, subst, sy
 use Rattle.std.proofs.KnownBytes.{Keeps-trans}
 use Rattle.jc_command_shared.specs.declared.status.Status.{Status}
 use Rattle.jc_collector_answers.specs.Named.{LosesLine}
+use Rattle.jc_collector_answers.proofs.Losing.{loses_then}
 use Rattle.jc_collector_answers.proofs.Successive.{IsUnderWay, ends_named, goes_on_to, success_of}
 use Rattle.jc_collector_answers.proofs.named.answer_names.Goals as goal
 
-pub returns-then-not-branch-clause-told : goal.returns-then-not-branch-clause-told
-returns-then-not-branch-clause-told g c =
+pub returns-then-not-branch-clause-printed : goal.returns-then-not-branch-clause-printed
+returns-then-not-branch-clause-printed g c =
     let rest = g.L.Read.remaining c.names.names in
     let none : IfSome rest (λ left. left ≡ []) = search rules in
     ends_named (g.L.Read.remaining c.args.names.now) rest c.names.status (g.O.Write.contents c.args.output.now)
-    (g.O.Write.contents c.names.output) c.names.invariant.told none
+    (g.O.Write.contents c.names.output) c.names.invariant.printed none
 
 pub returns-in_err-answered-clause-kept : goal.returns-in_err-answered-clause-kept
 returns-in_err-answered-clause-kept g c =
     λ sound made e stored.
     c.in_err-answered.ensures.kept sound (c.names.invariant.made made) e (c.names.invariant.kept (c.in_err-answered.ensures.before sound) made e stored)
+
+pub returns-in_err-answered-clause-crash_kept : goal.returns-in_err-answered-clause-crash_kept
+returns-in_err-answered-clause-crash_kept g c =
+    λ clean made.
+    let keeper = g.K.Keeper in
+    let given = c.in_err-answered.ensures in
+    loses_then (keeper.may_leave c.args.keeper.now) (keeper.may_leave c.names.keeper) (keeper.may_leave c.answer_name.new.keeper)
+    (keeper.sound c.args.keeper.now) (keeper.sound c.names.keeper) (keeper.journal c.args.keeper.now) (keeper.journal c.names.keeper)
+    (c.names.invariant.crash_kept (given.clean clean) made) (given.crash_kept clean (c.names.invariant.made made)) c.names.invariant.before
+    (λ was. c.names.invariant.kept was made)
+
+pub returns-in_err-answered-clause-recovers : goal.returns-in_err-answered-clause-recovers
+returns-in_err-answered-clause-recovers g c =
+    λ clean made leaves.
+    c.in_err-answered.ensures.recovers clean (c.names.invariant.made made)
+    (c.names.invariant.recovers (c.in_err-answered.ensures.clean clean) made leaves)
 
 pub names-preserved : goal.names-preserved
 names-preserved g c =
@@ -29,14 +46,22 @@ names-preserved g c =
     let given = c.in_ok-answered.ensures in
     let loses : LosesLine (g.L.Read.remaining c.names.names) next = search rules in
     record {
-      told = subst (λ (s : Status). IsUnderWay text next s old now) (sym c.worse-status.ensures)
+      printed = subst (λ (s : Status). IsUnderWay text next s old now) (sym c.worse-status.ensures)
           (goes_on_to text (g.L.Read.remaining c.names.names) next status answered old (g.O.Write.contents c.names.output) now
-          c.names.invariant.told loses given.told);
+          c.names.invariant.printed loses given.printed);
       quiet = λ is.
           let both = success_of status answered (sym c.worse-status.ensures ∙ is) in
           Keeps-trans (g.E.Write.contents c.args.errors.now) (g.E.Write.contents c.names.errors)
           (g.E.Write.contents c.answer_name.new.errors) (c.names.invariant.quiet both.0) (given.quiet both.1);
       before = λ sound. c.names.invariant.before (given.before sound);
+      clean = λ clean. c.names.invariant.clean (given.clean clean);
       made = λ made. given.made (c.names.invariant.made made);
+      crash_kept = λ clean made.
+          let keeper = g.K.Keeper in
+          loses_then (keeper.may_leave c.args.keeper.now) (keeper.may_leave c.names.keeper) (keeper.may_leave c.answer_name.new.keeper)
+          (keeper.sound c.args.keeper.now) (keeper.sound c.names.keeper) (keeper.journal c.args.keeper.now) (keeper.journal c.names.keeper)
+          (c.names.invariant.crash_kept (given.clean clean) made) (given.crash_kept clean (c.names.invariant.made made)) c.names.invariant.before
+          (λ was. c.names.invariant.kept was made);
+      recovers = λ clean made leaves. given.recovers clean (c.names.invariant.made made) (c.names.invariant.recovers (given.clean clean) made leaves);
       kept = λ sound made e stored. given.kept sound (c.names.invariant.made made) e (c.names.invariant.kept (given.before sound) made e stored);
     }

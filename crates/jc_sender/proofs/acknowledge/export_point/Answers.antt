@@ -1,4 +1,4 @@
--- The entries that the stream gave up to its end, and for a device that tells its bytes those of the bytes' reading.
+-- The entries that the stream gave up to its end, and for a device with known bytes those of the bytes' reading.
 use Rattle.jc_command_args.specs.declared.request.InputKind.TheVariants.{Export}
 use Rattle.jc_export.specs.Cut.{joined}
 use Rattle.jc_stream.specs.Device.{limits_of}
@@ -18,10 +18,10 @@ returns-in-End-clause-moved g c =
     )
 
 pub returns-in-End-clause-bytes : goal.returns-in-End-clause-bytes
-returns-in-End-clause-bytes g c = λ bytes told.
+returns-in-End-clause-bytes g c = λ bytes is_known.
     let gave = c.in_ok-ending.ensures.taken in
     sender_moved Export bytes gave.0 c.args.answers.now c.args.uploader c.on_answers.new.self c.resume.result.now
-    (known_entries bytes c.default.result _ _ gave.0 c.in_ok-ending.ending c.default.ensures told c.in_ok-entries.ensures.reading
+    (known_entries bytes c.default.result _ _ gave.0 c.in_ok-ending.ending c.default.ensures is_known c.in_ok-entries.ensures.reading
     (c.one_reading.ensures.only c.default.result 0 bytes) gave.1 c.in-End.left c.in-End.is)
     gave.3 c.resume.ensures
 
@@ -31,7 +31,7 @@ returns-clause-failed g c =
     c.default.ensures c.in_ok-entries.ensures.limits c.in-Bad.is c.in_ok-ending.ensures.stream
 
 pub returns-clause-why : goal.returns-clause-why
-returns-clause-why g c = λ bytes told other.
+returns-clause-why g c = λ bytes is_known other.
     let gave = c.in_ok-ending.ensures.taken in
-    known_fault bytes c.default.result _ _ gave.0 c.in_ok-ending.ending c.default.ensures told c.in_ok-entries.ensures.reading
+    known_fault bytes c.default.result _ _ gave.0 c.in_ok-ending.ending c.default.ensures is_known c.in_ok-entries.ensures.reading
     (c.one_reading.ensures.only c.default.result 0 bytes) gave.1 c.in-Bad.fault c.in-Bad.is

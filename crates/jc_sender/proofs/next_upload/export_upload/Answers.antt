@@ -1,4 +1,4 @@
--- The entries that the source gave up to its end, and for a device that tells its bytes those of the bytes' reading.
+-- The entries that the source gave up to its end, and for a device with known bytes those of the bytes' reading.
 use Rattle.std.proofs.Common.{Err, ap}
 use Rattle.jc_export.specs.Cut.{joined}
 use Rattle.jc_stream.specs.Device.{limits_of}
@@ -18,10 +18,10 @@ returns-clause-made g c =
     )
 
 pub returns-clause-bytes : goal.returns-clause-bytes
-returns-clause-bytes g c = λ bytes told.
+returns-clause-bytes g c = λ bytes is_known.
     let gave = c.in_ok-excerpt.ensures.excerpt in
     upload_made bytes gave.0 c.args.uploader.now
-    (known_entries bytes c.default.result _ _ gave.0 c.in_ok-excerpt.ending c.default.ensures told c.in_ok-entries.ensures.reading
+    (known_entries bytes c.default.result _ _ gave.0 c.in_ok-excerpt.ending c.default.ensures is_known c.in_ok-entries.ensures.reading
     (c.one_reading.ensures.only c.default.result 0 bytes) gave.1 c.in-End.left c.in-End.is)
     c.args.limit c.args.whole c.in_ok-upload.upload.items (c.in_ok-upload.ensures.upload gave.0 c.args.limit gave.3)
 
@@ -31,17 +31,17 @@ returns-in-Bad-clause-failed g c =
     c.default.ensures c.in_ok-entries.ensures.limits c.in-Bad.is c.in_ok-excerpt.ensures.stream
 
 pub returns-in-Bad-clause-why : goal.returns-in-Bad-clause-why
-returns-in-Bad-clause-why g c = λ bytes told other.
+returns-in-Bad-clause-why g c = λ bytes is_known other.
     let gave = c.in_ok-excerpt.ensures.excerpt in
-    known_fault bytes c.default.result _ _ gave.0 c.in_ok-excerpt.ending c.default.ensures told c.in_ok-entries.ensures.reading
+    known_fault bytes c.default.result _ _ gave.0 c.in_ok-excerpt.ending c.default.ensures is_known c.in_ok-entries.ensures.reading
     (c.one_reading.ensures.only c.default.result 0 bytes) gave.1 c.in-Bad.fault c.in-Bad.is
 
 pub returns-in_err-upload-clause-why : goal.returns-in_err-upload-clause-why
-returns-in_err-upload-clause-why g c = λ bytes told.
+returns-in_err-upload-clause-why g c = λ bytes is_known.
     let gave = c.in_ok-excerpt.ensures.excerpt in
     let changed = c.in_err-upload.ensures.changed gave.0 c.args.limit gave.3 in
     upload_refused bytes gave.0 c.args.uploader.now
-    (known_entries bytes c.default.result _ _ gave.0 c.in_ok-excerpt.ending c.default.ensures told c.in_ok-entries.ensures.reading
+    (known_entries bytes c.default.result _ _ gave.0 c.in_ok-excerpt.ending c.default.ensures is_known c.in_ok-entries.ensures.reading
     (c.one_reading.ensures.only c.default.result 0 bytes) gave.1 c.in-End.left c.in-End.is)
     c.in_err-upload.field-0.0 c.from_residual-in_err-upload.result (λ same. changed.0 (ap Err same))
     c.from_residual-in_err-upload.ensures.1

@@ -4,7 +4,7 @@ use Rattle.jc_file.specs.contracts.space.SliceSpaceByteSpace.TheImpl.{failures-v
 use Rattle.jc_collect.specs.Delivered.{of_delivery}
 use Rattle.jc_collect.specs.Run.{IsRun, seen}
 use Rattle.jc_theorem_database.specs.InMemory.{no_failures}
-use Rattle.jc_theorem_database.proofs.NoFailures.{never_failed, none_failed, same_length, run_untold}
+use Rattle.jc_theorem_database.proofs.NoFailures.{never_failed, none_failed, same_length, run_unknown}
 use Rattle.jc_theorem_database.proofs.collecting.collect.Goals as goal
 
 pub returns-clause-run : goal.returns-clause-run
@@ -23,7 +23,7 @@ returns-clause-run g c =
     let reads : List ℕ = map (of_delivery stream_failures.it space_failures.it) before in
     let reads_now : List ℕ = map (of_delivery stream_failures.it space_failures.it) after in
     let ran : Ran reads reads_now =
-    run_untold c.args.limits.now uploads c.args.keeper.now.journal c.run.new.keeper.journal c.args.keeper.now.failures
+    run_unknown c.args.limits.now uploads c.args.keeper.now.journal c.run.new.keeper.journal c.args.keeper.now.failures
     c.run.new.keeper.failures reads reads_now (map (of_delivery remaining-value.it (λ _. None)) before)
     (map (of_delivery remaining-value.it (λ _. None)) after) written written_now c.run.result
     (c.run.ensures.run tt tt uploads same) in
