@@ -1,18 +1,22 @@
 -- What an open finds after a crash, of the uploads that a run collected. (own)
-use Rattle.std.specs.Prelude.{ℕ, ◌≡◌, ◌+◌, ◌<◌, ◌≤◌, Bool, List, [], ◌∷◌, ◌++◌, length, map, slice_get, take, Option, Some, Ok}
+use Rattle.std.specs.Prelude.{ℕ, ◌≡◌, ◌+◌, ◌<◌, ◌≤◌, Bool, List, [], ◌∷◌, ◌++◌, length, map, slice_get, take, Option, Some, Result, Ok, ◌⊎◌, ⊤}
 use Rattle.std.specs.Io.KnownBytes.{Appends}
+use Rattle.jc_base.specs.declared.fault.Code.TheVariants.{StoreFailed, OutOfMemory}
 use Rattle.jc_base.specs.declared.fault.Ending.TheVariants.{End}
 use Rattle.jc_base.specs.declared.id.Id128.{Id128}
 use Rattle.jc_base.specs.declared.limits.Limits.{Limits}
+use Rattle.jc_base.specs.Fault.{number_of}
 use Rattle.jc_base.specs.Journal.{Journal}
 use Rattle.jc_base.specs.LogEntry.{LogEntry}
 use Rattle.jc_base.specs.Reading.{Reading}
+use Rattle.jc_keeper.specs.declared.keeper.Absorbed.{Absorbed}
 use Rattle.jc_keeper.specs.declared.keeper.Absorbed.TheVariants.{Taken}
+use Rattle.jc_keeper.specs.declared.keeper.KeepStop.{KeepStop}
 use Rattle.jc_keeper.specs.Agree.{IsStored}
-use Rattle.jc_keeper.specs.Crash.{AddsOnly}
+use Rattle.jc_keeper.specs.Crash.{AddsOnly, MayBeFound}
 use Rattle.jc_upload.specs.Answer.{answer_text}
 use Rattle.jc_upload.specs.declared.answer.Answer.{Answer}
-use Rattle.jc_upload.specs.declared.answer.Answer.TheVariants.{Ack}
+use Rattle.jc_upload.specs.declared.answer.Answer.TheVariants.{Ack, No}
 use Rattle.jc_collect.specs.Accepted.{IsMarked, SaysAt, IsStoredBefore}
 use Rattle.jc_collect.specs.Answer.{IsTaken}
 use Rattle.jc_collect.specs.Body.{AbsorbsBody}
@@ -24,15 +28,22 @@ use Rattle.jc_collect.specs.declared.runs.RunEnd.TheVariants.{Done, Stopped}
 
 -- ---- one upload
 
--- A whole body was taken up: the journal is the one that it has behind an answer which says so.
-pub record TakesBody (Says : Reading → Type 0) (before after : Journal) : Type 0 where
+-- A whole body was taken up, whose answer allows it: the journal is the one that it has behind an answer which says so.
+pub record TakesBody (Says : Reading → Type 0) (before : Journal) (answer : Result Absorbed KeepStop) (after : Journal) : Type 0 where
+  pub answered : MayBeFound answer
   pub count : ℕ
   pub new : ℕ
   pub left : ℕ
   pub absorbs : AbsorbsBody Says before (Ok (Taken count new left)) after
 
--- A whole upload was taken up: the journal is the one that it has behind an acknowledgement.
-pub record TakesUpload (limits : Limits) (known : Option (List ℕ)) (before after : Journal) : Type 0 where
+-- An upload with this answer may be kept behind a crash: it was acknowledged, or the store failed, or was refused memory.
+abbrev pub MayBeKept : Answer → Type 0
+MayBeKept (Ack source start count new left) = ⊤
+MayBeKept (No of code place) = (code ≡ number_of StoreFailed) ⊎ (code ≡ number_of OutOfMemory)
+
+-- A whole upload was taken up, whose answer allows it: the journal is the one that it has behind an acknowledgement.
+pub record TakesUpload (limits : Limits) (known : Option (List ℕ)) (before : Journal) (answer : Answer) (after : Journal) : Type 0 where
+  pub answered : MayBeKept answer
   pub source : Id128
   pub start : ℕ
   pub count : ℕ
@@ -76,7 +87,8 @@ AcksAreRight limits start uploads answers =
     → IsTakenAt limits start uploads (acknowledged_in answers) i (source, from) count new left
 
 -- Uploads were collected and answered so, and a journal has what was stored before them, all of each one that was
--- acknowledged, and nothing else; or it has all of one more of them, which comes behind the acknowledged ones.
+-- acknowledged, and nothing else; or it has all of one more of them, which comes behind the acknowledged ones and wasn't
+-- refused: the store failed, or was refused memory.
 pub record KeepsAcknowledged (limits : Limits) (start : Journal) (uploads : List (List ℕ)) (answers : List Answer) (found : Journal) : Type 0 where
   pub each : length answers ≡ length uploads
   -- the positions of the uploads that it has
@@ -85,6 +97,7 @@ pub record KeepsAcknowledged (limits : Limits) (start : Journal) (uploads : List
   pub stored : IsStoredBefore limits start uploads kept (length uploads) found
   pub whole : (i : ℕ) → IsMarked kept i → IsWhole limits uploads i
   pub acknowledged : (i : ℕ) → IsMarked (acknowledged_in answers) i → IsMarked kept i
+  pub answered : (i : ℕ) (answer : Answer) → IsMarked kept i → slice_get answers i ≡ Some answer → MayBeKept answer
   pub acks : AcksAreRight limits start uploads answers
   pub last : (i k : ℕ) → IsMarked kept i → ¬ IsMarked (acknowledged_in answers) i → IsMarked kept k → k ≤ i
 
