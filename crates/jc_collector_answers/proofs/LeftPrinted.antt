@@ -1,5 +1,5 @@
 -- What a crash leaves of a run through a sink, as the writer behind the sink shows it.
-use Rattle.std.proofs.Common.{◌≡◌, ◌∙◌, ℕ, ◌+◌, List, [], ◌∷◌, ◌++◌, Option, Some, None, IfSome, length, take, sym, subst, ap, arith}
+use Rattle.std.proofs.Common.{◌≡◌, ◌∙◌, ℕ, ◌+◌, ◌-◌, List, [], ◌∷◌, ◌++◌, Option, Some, None, IfSome, length, take, sym, subst, ap, arith}
 use Rattle.std.specs.List.{All}
 use Rattle.std.specs.Io.KnownBytes.{Appends}
 use Rattle.std.proofs.lemmas.List.{take_all}
@@ -14,7 +14,7 @@ use Rattle.jc_upload.specs.Answer.{IsAnswer, answer_text}
 use Rattle.jc_upload.specs.declared.answer.Answer.{Answer}
 use Rattle.jc_command_shared.specs.declared.status.Status.{Status}
 use Rattle.jc_collector_answers.specs.Answered.{KeepsFirst, KeepsPrinted, begun, judged}
-use Rattle.jc_collector_answers.proofs.Printing.{begun_more, begun_same, front_of_lines, shows}
+use Rattle.jc_collector_answers.proofs.Printing.{begun_more, begun_same, front_of_lines, shows, whole_if_all, whole_if_more}
 
 module _ (limits : Limits) (uploads : List (List ℕ)) (start found : Journal)
     (defaults : AreDefaults limits.name limits.value limits.fields limits.entry limits.file) where
@@ -65,6 +65,7 @@ module _ (limits : Limits) (uploads : List (List ℕ)) (start found : Journal)
     answers = left.answers;
     keeps = subst (λ (us : List (List ℕ)). KeepsAcknowledged limits start us left.answers found) (sym (take_all (length uploads) uploads (omega arith))) left.keeps;
     shown = length (run.lines_of_answers left.answers);
+    whole_before = whole_if_all left.answers (length uploads - 1);
     printed = subst (λ (l : List ℕ). Appends old now l)
         (sym (take_all (length (run.lines_of_answers left.answers)) (run.lines_of_answers left.answers) (omega arith)))
         (shows old now there written sunk (run.lines_of_answers left.answers) begins left.lines ends same);
@@ -77,6 +78,7 @@ module _ (limits : Limits) (uploads : List (List ℕ)) (start found : Journal)
     answers = left.answers ++ left.last ∷ [];
     keeps = left.keeps;
     shown = length (run.lines_of_answers left.answers) + bytes;
+    whole_before = whole_if_more left.answers left.last done bytes left.number;
     printed = subst (λ (l : List ℕ). Appends old now l) (front_of_lines left.answers left.last bytes)
         (shows old now there written sunk (run.lines_of_answers left.answers ++ take bytes (answer_text left.last)) begins left.lines ends same);
   }

@@ -1,5 +1,5 @@
 -- What `collect` prints, and the status that goes with it. (own)
-use Rattle.std.specs.Prelude.{ℕ, ◌≡◌, ◌≤◌, Bool, true, false, List, ◌∷◌, ◌++◌, zero, suc, length, map, take, Option, Some, None, if◌then◌else◌}
+use Rattle.std.specs.Prelude.{ℕ, ◌≡◌, ◌≤◌, ◌-◌, Bool, true, false, List, ◌∷◌, ◌++◌, zero, suc, length, map, take, Option, Some, None, if◌then◌else◌}
 use Rattle.std.specs.Io.KnownBytes.{Appends}
 use Rattle.std.specs.List.{All, list_any}
 use Rattle.std.proofs.Props.{props}
@@ -39,8 +39,8 @@ pub record RunsByDefault (uploads : List (List ℕ)) (before after : Seen) : Typ
   pub defaults : AreDefaults limits.name limits.value limits.fields limits.entry limits.file
   pub ran : IsRun limits uploads before Done after
 
--- The first ones of some uploads were collected under the default limits, and the others weren't. What was printed is a front
--- of the lines of their answers.
+-- The first ones of some uploads were collected under the default limits, and the others weren't. What was printed are the
+-- lines of their answers, of the last one's a front.
 pub record CollectsFirst (uploads : List (List ℕ)) (before after : Seen) : Type 0 where
   pub limits : Limits
   pub defaults : AreDefaults limits.name limits.value limits.fields limits.entry limits.file
@@ -49,10 +49,11 @@ pub record CollectsFirst (uploads : List (List ℕ)) (before after : Seen) : Typ
   pub answers : List Answer
   pub collected : Collected limits (take done uploads) before after answers
   pub shown : ℕ
+  pub whole_before : length (lines_of_answers (take (done - 1) answers)) ≤ shown
   pub printed : Appends before.written after.written (take shown (lines_of_answers answers))
 
 -- Uploads were collected in one run under the default limits, and the line of each answer was printed. What is found after
--- a crash has what was stored before, each upload that was acknowledged, and all of one more at most.
+-- a crash has what was stored before, each upload that was acknowledged, and all of one more at most, which wasn't refused.
 pub record KeepsPrinted (uploads : List (List ℕ)) (start : Journal) (old new : Option (List ℕ)) (found : Journal) : Type 0 where
   pub limits : Limits
   pub defaults : AreDefaults limits.name limits.value limits.fields limits.entry limits.file
@@ -60,8 +61,8 @@ pub record KeepsPrinted (uploads : List (List ℕ)) (start : Journal) (old new :
   pub keeps : KeepsAcknowledged limits start uploads answers found
   pub printed : Appends old new (lines_of_answers answers)
 
--- The first ones of some uploads were collected so, and the others weren't. What was printed is a front of the lines of their
--- answers: so all that it acknowledges is found.
+-- The first ones of some uploads were collected so, and the others weren't. What was printed are the lines of their answers,
+-- of the last one's a front: so all that it acknowledges is found.
 pub record KeepsFirst (uploads : List (List ℕ)) (start : Journal) (old new : Option (List ℕ)) (found : Journal) : Type 0 where
   pub limits : Limits
   pub defaults : AreDefaults limits.name limits.value limits.fields limits.entry limits.file
@@ -70,6 +71,7 @@ pub record KeepsFirst (uploads : List (List ℕ)) (start : Journal) (old new : O
   pub answers : List Answer
   pub keeps : KeepsAcknowledged limits start (take done uploads) answers found
   pub shown : ℕ
+  pub whole_before : length (lines_of_answers (take (done - 1) answers)) ≤ shown
   pub printed : Appends old new (take shown (lines_of_answers answers))
 
 -- how many uploads there are: those that are named, or the one on standard input
