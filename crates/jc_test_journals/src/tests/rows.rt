@@ -290,6 +290,8 @@ stores ENTRY
 upload head:1:0 ENTRY => ack S 0 1 1 0
 upload head:1:0 ENTRY_2 ENTRY_3 CHANGED_ENTRY => no S 0 60 2
 upload head:1:0 ENTRY_2 ENTRY_3 => ack S 0 2 2 0
+upload head:1:0 ENTRY_2 ENTRY_3 => ack S 0 2 0 0
+upload head:1:0 ENTRY ENTRY_2 CHANGED_ENTRY ENTRY_3 => no S 0 60 2
 stores ENTRY ENTRY_2 ENTRY_3
 upload head:1:0 ENTRY => ack S 0 1 1 0
 upload head:1:0 CHANGED_ENTRY "=x" => no S 0 60 0
@@ -297,6 +299,18 @@ stores ENTRY
 upload head:1:0 ENTRY => ack S 0 1 1 0
 upload head:1:0 ENTRY_2 "=x" => no S 0 10 121
 stores ENTRY
+
+# repeats and conflicts of entries that differ in their number of fields, and of entries of two ids in turn
+upload head:1:0 METADATA "A=1\nB=2\n\n" METADATA_2 "A=1\n\n" => ack S 0 2 2 0
+upload head:1:0 METADATA "A=1\n\n" => no S 0 60 0
+upload head:1:0 METADATA "A=1\nB=2\nC=3\n\n" => no S 0 60 0
+upload head:1:0 METADATA "A=1\nB=2\n\n" METADATA_2 "A=1\nB=2\n\n" => no S 0 60 1
+upload head:1:0 METADATA "A=1\nB=2\n\n" METADATA_2 "A=1\n\n" => ack S 0 2 0 0
+stores METADATA "A=1\nB=2\n\n" METADATA_2 "A=1\n\n"
+upload head:1:0 ENTRY LAST_ENTRY ENTRY_2 => ack S 0 3 3 0
+upload head:1:0 ENTRY LAST_ENTRY ENTRY_2 => ack S 0 3 0 0
+upload head:1:0 LAST_ENTRY ENTRY_2 ENTRY ENTRY_3 => ack S 0 4 1 0
+stores ENTRY ENTRY_2 ENTRY_3 LAST_ENTRY
 
 # a journal that has entries when the run begins
 begins head:1:0 ENTRY ENTRY_2
