@@ -1,7 +1,9 @@
 -- From the files that a run begins with to those that it ends with.
-use Rattle.std.proofs.Common.{◌≡◌, ℕ, List, Option, inl, inr, length, sym, ap, subst, subst₂, ◌∙◌, arith}
+use Rattle.std.proofs.Common.{◌≡◌, ℕ, List, [], ◌∷◌, ◌++◌, Option, Some, None, inl, inr, length, sym, ap, subst, subst₂, ◌∙◌, arith}
 use Rattle.std.proofs.Math.Logic.{∥∥₁_map}
+use Rattle.std.specs.Prelude.{MatchOption}
 use Rattle.std.specs.FinMap.{empty}
+use Rattle.std.specs.Io.KnownBytes.{Appends}
 use Rattle.sqlite_disk.specs.declared.Disk as disk
 use Rattle.sqlite.specs.declared.Files.{Files}
 use Rattle.sqlite.specs.declared.FileStore.{FileStore}
@@ -12,14 +14,17 @@ use Rattle.sqlite.specs.WalReads.{AreClean}
 use Rattle.sqlite.specs.Held.{Held}
 use Rattle.sqlite.specs.Files.{file_state, over_files}
 use Rattle.jc_base.specs.Journal.{Journal}
-use Rattle.jc_store.specs.Meaning.{AreMade, IsSound, KeepsJournal, journal_of}
+use Rattle.jc_store.specs.Meaning.{Meaning, AreMade, IsSound, KeepsJournal, MovesJournal, journal_of}
 use Rattle.jc_store.specs.Schema.{no_schema}
 use Rattle.jc_store.specs.Statements.{IsBlank}
 use Rattle.jc_schema_two.specs.Schema.{Shape, fresh, migrated, schema_two}
 use Rattle.jc_schema_two.specs.Tables.{two}
 use Rattle.jc_database.specs.Files.{BeginsWith, IsFound, Keeps, KeepsAlways, LeadsTo}
 use Rattle.jc_collector_answers.specs.Answered.{KeepsPrinted}
-use Rattle.jc_collector.specs.OverFiles.{LeavesPrinted}
+use Rattle.jc_command_shared.specs.declared.status.Status.{Status}
+use Rattle.jc_collector.specs.declared.health.Health.{Health}
+use Rattle.jc_collector.specs.Checked.{Counts, PrintsHealth, count_line, health_text}
+use Rattle.jc_collector.specs.OverFiles.{LeavesPrinted, Prints}
 use Rattle.jc_database.specs.FilesLaws.{database_found, keeps_found}
 
 -- ---- how a run begins
@@ -41,13 +46,13 @@ module _ {D : Type 0} {g : disk.Ghosts D} (image : Image) (opened kept : Held (F
     made_anew blank made none sound before (inr nothing) = record { made = made; is = none sound ∙ sym nothing.1 }
 
     -- tables that were there
-    pub adopted : (¬ IsBlank (file_state opened).now) → KeepsJournal two over_files opened kept
-        → IsSound over_files kept → (before : Journal) → BeginsWith two image before → Keeps two kept before
-    adopted tables keeps sound before (inl holds) =
+    pub adopted : (m : Meaning) → (¬ IsBlank (file_state opened).now) → KeepsJournal m over_files opened kept
+        → IsSound over_files kept → (before : Journal) → BeginsWith m image before → Keeps m kept before
+    adopted m tables keeps sound before (inl holds) =
         let was = back sound in
-        let it = keeps_found two image opened (found was.clean) before holds in
+        let it = keeps_found m image opened (found was.clean) before holds in
         record { made = keeps.made it.made; is = keeps.same was it.made sound ∙ it.is }
-    adopted tables keeps sound before (inr nothing) = absurd (tables ((found (back sound).clean).none nothing.0))
+    adopted m tables keeps sound before (inr nothing) = absurd (tables ((found (back sound).clean).none nothing.0))
 
 -- ---- how it goes on
 
@@ -71,6 +76,26 @@ module _ {D : Type 0} {g : disk.Ghosts D} (image : Image) (first then last : Hel
           is = subst₂ Step it.is (sym (keeps.same sound_then made_then sound_last)) (step sound_then it.made);
           keeps = always clean (keeps.made made_then);
         }
+
+-- tables that became those of another meaning
+pub went_over : (m n : Meaning) → {D : Type 0} {g : disk.Ghosts D} (first moved : Held (FileStore D g))
+    → (IsSound over_files moved → IsSound over_files first) → MovesJournal m n over_files first moved
+    → (before : Journal) → IsSound over_files moved → Keeps m first before → Keeps n moved before
+went_over m n first moved back moves before sound it = record { made = moves.made it.made; is = moves.same (back sound) it.made sound ∙ it.is }
+
+-- what was counted is printed
+pub prints_counted : (health : Health) (status : Status) (old new : Option (List ℕ)) → PrintsHealth health status old new
+    → (before after : Journal) → Counts health before after → Prints count_line old new before after
+prints_counted health status old new prints before after counts = record {
+  printed = subst (λ (h : Health). Appends old new (health_text h ++ 10 ∷ [])) counts.counted prints.printed;
+  stays = counts.stays;
+}
+
+-- files that are given back, or none
+pub match_each : {F : Type 0} (files : Option F) (Without Lacking : Type 0) (With Given : F → Type 0) → MatchOption files Without With
+    → (Without → Lacking) → ((f : F) → With f → Given f) → MatchOption files Lacking Given
+match_each None Without Lacking With Given is none some = none is
+match_each (Some f) Without Lacking With Given is none some = some f is
 
 -- ---- the next run
 

@@ -42,3 +42,6 @@ if_some (Some x) P each = each x refl
 pub on_ok_if : {T E : Type 0} (r : Result T E) (Z : Type 0) → ((x : T) → ((P : Type 0) → OnOk r P → P) → Z) → OnOk r Z
 on_ok_if (Ok x) Z each = each x (λ P p. p)
 on_ok_if (Err e) Z each = tt
+
+pub at_ok : {T E : Type 0} (r : Result T E) (x : T) (P : T → Type 0) → r ≡ Ok x → IfOk r P → P x
+at_ok r x P is p = subst (λ d. IfOk d P) is p

@@ -1,7 +1,11 @@
 -- What a command makes of the journal in a database's files. (own)
-use Rattle.std.specs.Prelude.{◌≡◌, ℕ, List, Option}
+use Rattle.std.specs.Prelude.{◌≡◌, ℕ, List, Option, Some, map}
 use Rattle.std.specs.Io.KnownBytes.{Appends}
+use Rattle.sqlite_disk.specs.declared.Disk as disk
+use Rattle.sqlite.specs.declared.FileStore.{FileStore}
 use Rattle.sqlite.specs.Recovery.{Image}
+use Rattle.sqlite.specs.FileStore.{state, view}
+use Rattle.sqlite.specs.View.{IsClean}
 use Rattle.jc_base.specs.declared.id.Id128.{Id128}
 use Rattle.jc_base.specs.Journal.{Journal}
 use Rattle.jc_base.specs.LogEntry.{LogEntry}
@@ -10,7 +14,7 @@ use Rattle.jc_collector.specs.Database.{AsksId, asked_text}
 use Rattle.jc_collect.specs.Run.{Seen}
 use Rattle.jc_collector_answers.specs.Answered.{KeepsPrinted, RunsByDefault}
 use Rattle.jc_schema_two.specs.Tables.{two}
-use Rattle.jc_database.specs.Files.{HoldsJournal}
+use Rattle.jc_database.specs.Files.{BeginsWith, HoldsJournal}
 
 -- Uploads were collected in one run under the default limits, from this journal to that one, and the line of each answer
 -- was printed.
@@ -22,6 +26,15 @@ pub record CollectsAll (uploads : List (List ℕ)) (old new : Option (List ℕ))
   pub journal_after : last.journal ≡ after
   pub output_before : first.written ≡ old
   pub output_after : last.written ≡ new
+
+-- What is said of a run over uploads that is stopped: if its disks returned what was written, the files had this journal when
+-- it began, or none, and the uploads have these bytes, then so is whatever a crash leaves of the files.
+abbrev pub WhenStopped : {D : Type 0} {g : disk.Ghosts D} → (first : Image) → (known : List (Option (List ℕ))) → (stopped : FileStore D g)
+    → ((uploads : List (List ℕ)) → (before : Journal) → (left : Image) → Type 0) → Type 0
+WhenStopped first known stopped Leaves =
+    IsClean (view stopped) → (before : Journal) → BeginsWith two first before
+    → (uploads : List (List ℕ)) → known ≡ map (λ u. Some u) uploads
+    → (left : Image) → (state stopped).may_leave left → Leaves uploads before left
 
 -- What a crash left of the files has a journal: what was stored, each upload whose acknowledgement was printed, and all of
 -- one more at most.

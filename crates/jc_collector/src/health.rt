@@ -1,19 +1,28 @@
 //! `check`: whether a database has a journal, and how many entries it keeps.
 
-ghost use Rattle.std.specs.Prelude.{◌≡◌, ◌≢◌, Some, IfOk, IfErr};
+ghost use Rattle.std.specs.Prelude.{◌≡◌, ◌≢◌, Some, IfOk, IfErr, MatchOption};
 ghost use Rattle.std.specs.FinMap.{len};
 ghost use Rattle.std.specs.Io.KnownBytes.{Keeps};
-ghost use Rattle.jc_collector.specs.Checked.{IsHealth, PrintsHealth, health_text, health_status};
+ghost use Rattle.sqlite.specs.WalFiles.{image_at};
+ghost use Rattle.sqlite.specs.WalReads.{AreClean};
+ghost use Rattle.sqlite.specs.Files.{over_files};
+ghost use Rattle.jc_base.specs.Journal.{Journal};
+ghost use Rattle.jc_store.specs.Meaning.{IsSound, KeepsJournal};
+ghost use Rattle.jc_schema_two.specs.Tables.{two};
+ghost use Rattle.jc_database.specs.Files.{EndsWith, Keeps as HasJournal, LeadsTo};
+ghost use Rattle.jc_collector.specs.Checked.{Counts, IsHealth, PrintsHealth, count_line, health_text, health_status};
 ghost use Rattle.jc_collector.specs.Database.{CheckFailsBy, IsStoreFailure, WhyNoHealth};
+ghost use Rattle.jc_collector.specs.OverFiles.{Prints};
 ghost use Rattle.jc_command_shared.specs.Failure.{status_of};
 
-use crate::database::{check_name, close_after, open_there};
+use crate::database::{Closed, FileKeeper, check_name, close_after, open_there};
 use crate::failures::why_unanswered;
 use jc_base::Fault;
 use jc_command_shared::{Failure, Status, printed};
 use jc_keeper::Keeper;
 use jc_schema_two::SqlKeeper;
-use sqlite::{Alter, Start};
+use sqlite::{Alter, FileFrom, Files, Start};
+use sqlite_disk::Disk;
 use std::fmt;
 use std::io::Write;
 
@@ -24,6 +33,13 @@ pub enum Health {
     Whole(u64),
     /// It has no journal, or one with a row that isn't an entry; the place is that row's number, from 0.
     Bad(Fault),
+}
+
+/// What is said of a database, and its files, closed, if it has a journal.
+#[derive(Drop)]
+pub struct Examined<T: Drop, S: Start> {
+    pub value: T,
+    pub files: Option<Files<FileFrom<S>>>,
 }
 
 impl Health {
@@ -54,40 +70,72 @@ pub fn check<'a, S: Start, O: Write>(
     start: S,
     database: &'a str,
     output: &mut O,
-) -> Result<Status, Failure<'a>>
-    ensures printed { IfOk result (λ status. (health : Health) × IsHealth health × PrintsHealth health status (O.contents output.old)
-        (O.contents output.new)) }
+) -> Result<Examined<Status, S>, Failure<'a>>
+    // It prints the number of the entries that the files had, and leaves these to them, or it is refused.
+    ensures counted { IfOk result (λ examined. MatchOption examined.files (examined.value ≡ Status.Refused)
+        (λ files. LeadsTo two (image_at S.Start) ⟦<FileFrom<S> as Disk>⟧ files
+        (Prints count_line (O.contents output.old) (O.contents output.new)))) }
+    ensures printed { IfOk result (λ examined. (health : Health) × IsHealth health
+        × PrintsHealth health examined.value (O.contents output.old) (O.contents output.new)) }
     ensures failed { IfErr result (CheckFailsBy database.now) }
     ensures untouched { IfErr result (λ failure. status_of failure ≢ Status.Failed
         → Keeps (O.contents output.old) (O.contents output.new)) }
 {
     check_name(database)?;
-    let health = read_health(rt, start, database)?;
-    print_health(health, output)
+    let Examined { value, files } = read_health(rt, start, database)?;
+    let value = print_health(value, output)?;
+    Ok(Examined { value, files })
 }
 
+/// Counts the entries of the journal in the database at a path.
 fn read_health<'a, S: Start>(
     rt: &HostRuntime,
     start: S,
     database: &'a str,
-) -> Result<Health, Failure<'a>>
-    ensures health { IfOk result IsHealth }
+) -> Result<Examined<Health, S>, Failure<'a>>
+    ensures counted { IfOk result (λ examined. MatchOption examined.files (health_status examined.value ≡ Status.Refused)
+        (λ files. LeadsTo two (image_at S.Start) ⟦<FileFrom<S> as Disk>⟧ files (Counts examined.value))) }
+    ensures health { IfOk result (λ examined. IsHealth examined.value) }
     ensures failed { IfErr result (WhyNoHealth database.now) }
 {
     match open_there(rt, database, start) {
-        Ok(mut keeper) => {
-            let counted = count(&mut keeper);
-            Ok(close_after(keeper, counted)?.value)
+        Ok(keeper) => {
+            let Closed { value, files } = count_and_close(keeper)?;
+            Ok(Examined {
+                value,
+                files: Some(files),
+            })
         }
-        Err(Failure::Bad(fault)) => Ok(Health::Bad(fault)),
+        Err(Failure::Bad(fault)) => Ok(Examined {
+            value: Health::Bad(fault),
+            files: None,
+        }),
         Err(failure) => Err(failure),
     }
 }
 
+/// Counts the entries of a keeper's journal, and closes its database.
+pub fn count_and_close<'a, S: Start>(
+    mut keeper: FileKeeper<S>,
+) -> Result<Closed<Health, S>, Failure<'a>>
+    ensures sound { IfOk result (λ closed. AreClean ⟦<FileFrom<S> as Disk>⟧ closed.files.log closed.files.db
+        → IsSound over_files keeper.conn) }
+    ensures counted { IfOk result (λ closed. AreClean ⟦<FileFrom<S> as Disk>⟧ closed.files.log closed.files.db
+        → (before : Journal) → HasJournal two keeper.conn before
+        → EndsWith two ⟦<FileFrom<S> as Disk>⟧ closed.files (Counts closed.value before)) }
+    ensures health { IfOk result (λ closed. IsHealth closed.value) }
+    ensures failed { IfErr result IsStoreFailure }
+{
+    let counted = count(&mut keeper);
+    close_after(keeper, counted)
+}
+
 /// How many entries a keeper's journal has.
-pub fn count<'a, S: Alter>(keeper: &mut SqlKeeper<S>) -> Result<Health, Failure<'a>>
+fn count<'a, S: Alter>(keeper: &mut SqlKeeper<S>) -> Result<Health, Failure<'a>>
     ensures counted { ⟦<SqlKeeper<S> as Keeper>⟧.sound keeper.new → ⟦<SqlKeeper<S> as Keeper>⟧.made keeper.old
         → IfOk result (λ health. health ≡ Health.Whole (len (⟦<SqlKeeper<S> as Keeper>⟧.journal keeper.old))) }
+    ensures before { IsSound S.Store keeper.new.conn → IsSound S.Store keeper.old.conn }
+    ensures keeps { KeepsJournal two S.Store keeper.old.conn keeper.new.conn }
     ensures health { IfOk result IsHealth }
     ensures failed { IfErr result IsStoreFailure }
 {

@@ -15,9 +15,9 @@ mod then_export;
 
 pub use collecting::{collect, collect_deliveries};
 pub use database::{Closed, FileKeeper};
-pub use health::{Health, check};
+pub use health::{Examined, Health, check};
 pub use inspecting::inspect;
 pub use listed::collect_listed;
 pub use listing::{export, show};
 pub use migrating::migrate;
-pub use stopping::{collect_and_stop, open_after_stop};
+pub use stopping::{Stopped, collect_and_stop, open_after_stop};

@@ -1,19 +1,27 @@
 //! `migrate`: a journal goes over from tables of the older version to those of the present one.
 
-ghost use Rattle.std.specs.Prelude.{◌≡◌, ◌≢◌, IfOk, IfErr};
+ghost use Rattle.std.specs.Prelude.{◌≡◌, ◌≢◌, IfOk, IfErr, MatchOption};
 ghost use Rattle.std.specs.Io.KnownBytes.{Keeps};
-ghost use Rattle.jc_collector.specs.Checked.{IsHealth, PrintsHealth};
+ghost use Rattle.sqlite.specs.WalFiles.{image_at};
+ghost use Rattle.sqlite.specs.Files.{over_files};
+ghost use Rattle.jc_store.specs.Meaning.{IsSound, MovesJournal};
+ghost use Rattle.jc_schema_one.specs.Tables.{one};
+ghost use Rattle.jc_schema_two.specs.Tables.{two};
+ghost use Rattle.jc_database.specs.Files.{LeadsOver};
+ghost use Rattle.jc_collector.specs.Checked.{Counts, IsHealth, PrintsHealth, count_line, health_status};
 ghost use Rattle.jc_collector.specs.Database.{CheckFailsBy, IsStoreFailure, WhyNoHealth};
+ghost use Rattle.jc_collector.specs.OverFiles.{Prints};
 ghost use Rattle.jc_collector.specs.declared.health.Health.{Health};
 ghost use Rattle.jc_command_shared.specs.Failure.{status_of};
 
-use crate::database::{FileKeeper, check_name, close_after, close_connection, open_old};
-use crate::health::{Health, count, print_health};
+use crate::database::{Closed, FileKeeper, check_name, close_connection, open_old};
+use crate::health::{Examined, Health, count_and_close, print_health};
 use jc_base::Code;
 use jc_command_shared::{Failure, Status};
 use jc_schema_one::{MigrateStop, SqlKeeper1};
 use jc_schema_two::SchemaTwo;
 use sqlite::{FileFrom, FileStore, Start};
+use sqlite_disk::Disk;
 use std::io::Write;
 
 /// Puts the journal of a database into tables of the present version, and prints what is in them; or what is wrong with the
@@ -23,33 +31,47 @@ pub fn migrate<'a, S: Start, O: Write>(
     start: S,
     database: &'a str,
     output: &mut O,
-) -> Result<Status, Failure<'a>>
-    ensures printed { IfOk result (λ status. (health : Health) × IsHealth health × PrintsHealth health status (O.contents output.old)
-        (O.contents output.new)) }
+) -> Result<Examined<Status, S>, Failure<'a>>
+    // It prints the number of the entries that the files had in tables of schema 1, and leaves these to them in those of
+    // schema 2, or it is refused.
+    ensures moved { IfOk result (λ examined. MatchOption examined.files (examined.value ≡ Status.Refused)
+        (λ files. LeadsOver one two (image_at S.Start) ⟦<FileFrom<S> as Disk>⟧ files
+        (Prints count_line (O.contents output.old) (O.contents output.new)))) }
+    ensures printed { IfOk result (λ examined. (health : Health) × IsHealth health
+        × PrintsHealth health examined.value (O.contents output.old) (O.contents output.new)) }
     ensures failed { IfErr result (CheckFailsBy database.now) }
     ensures untouched { IfErr result (λ failure. status_of failure ≢ Status.Failed
         → Keeps (O.contents output.old) (O.contents output.new)) }
 {
     check_name(database)?;
-    let health = migrated(rt, start, database)?;
-    print_health(health, output)
+    let Examined { value, files } = migrated(rt, start, database)?;
+    let value = print_health(value, output)?;
+    Ok(Examined { value, files })
 }
 
+/// Puts the journal of the database at a path into tables of the present version, and counts its entries.
 fn migrated<'a, S: Start>(
     rt: &HostRuntime,
     start: S,
     database: &'a str,
-) -> Result<Health, Failure<'a>>
-    ensures health { IfOk result IsHealth }
+) -> Result<Examined<Health, S>, Failure<'a>>
+    ensures moved { IfOk result (λ examined. MatchOption examined.files (health_status examined.value ≡ Status.Refused)
+        (λ files. LeadsOver one two (image_at S.Start) ⟦<FileFrom<S> as Disk>⟧ files (Counts examined.value))) }
+    ensures health { IfOk result (λ examined. IsHealth examined.value) }
     ensures failed { IfErr result (WhyNoHealth database.now) }
 {
     match open_old(rt, database, start) {
         Ok(keeper) => {
-            let mut keeper = go_over(keeper)?;
-            let counted = count(&mut keeper);
-            Ok(close_after(keeper, counted)?.value)
+            let Closed { value, files } = count_and_close(go_over(keeper)?)?;
+            Ok(Examined {
+                value,
+                files: Some(files),
+            })
         }
-        Err(Failure::Bad(fault)) => Ok(Health::Bad(fault)),
+        Err(Failure::Bad(fault)) => Ok(Examined {
+            value: Health::Bad(fault),
+            files: None,
+        }),
         Err(failure) => Err(failure),
     }
 }
@@ -58,7 +80,9 @@ fn migrated<'a, S: Start>(
 fn go_over<'a, S: Start>(
     keeper: SqlKeeper1<FileStore<FileFrom<S>>>,
 ) -> Result<FileKeeper<S>, Failure<'a>>
-    ensures { IfErr result IsStoreFailure }
+    ensures before { IfOk result (λ moved. IsSound over_files moved.conn → IsSound over_files keeper.conn) }
+    ensures moved { IfOk result (λ moved. MovesJournal one two over_files keeper.conn moved.conn) }
+    ensures failed { IfErr result IsStoreFailure }
 {
     match jc_schema_one::migrate::<FileStore<FileFrom<S>>, SchemaTwo>(keeper) {
         Ok(keeper) => Ok(keeper),

@@ -46,13 +46,18 @@ module _ (m : Meaning) where
     pub is : Is found
     pub keeps : KeepsAlways g files found
 
-  -- What a run does with the journal that the files had which it began with, if their disks returned what was written.
-  abbrev pub LeadsTo : {D : Type 0} → Image → disk.Ghosts D → Files D → (Journal → Journal → Type 0) → Type 0
-  LeadsTo first g files Step = AreClean g files.log files.db → (before : Journal) → BeginsWith first before → EndsWith g files (Step before)
-
   -- Databases of this meaning obey their schemas.
   abbrev pub AreLawful : Type 0
   AreLawful = (db : Database) → m.is_journal db → IsDatabase db
+
+-- What a run does with the journal that the files had which it began with, if their disks returned what was written. It finds
+-- it in tables of the one meaning, and leaves one in those of the other.
+abbrev pub LeadsOver : (m n : Meaning) → {D : Type 0} → Image → disk.Ghosts D → Files D → (Journal → Journal → Type 0) → Type 0
+LeadsOver m n first g files Step = AreClean g files.log files.db → (before : Journal) → BeginsWith m first before → EndsWith n g files (Step before)
+
+-- The tables stay those of one meaning.
+abbrev pub LeadsTo : Meaning → {D : Type 0} → Image → disk.Ghosts D → Files D → (Journal → Journal → Type 0) → Type 0
+LeadsTo m first g files Step = LeadsOver m m first g files Step
 
 -- ---- a connection
 
