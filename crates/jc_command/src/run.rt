@@ -122,8 +122,8 @@ fn perform<'a, S: Start, I: Read, O: Write, E: Write>(
             first,
             last,
         } => show(rt, start, database, field, id, first, last, output)?.value,
-        Request::Check { database } => return check(rt, start, database, output),
-        Request::Migrate { database } => return migrate(rt, start, database, output),
+        Request::Check { database } => return Ok(check(rt, start, database, output)?.value),
+        Request::Migrate { database } => return Ok(migrate(rt, start, database, output)?.value),
         Request::ListCodes => list_codes(output)?,
     }
     Ok(Status::Success)
