@@ -87,8 +87,8 @@ AcksAreRight limits start uploads answers =
     → IsTakenAt limits start uploads (acknowledged_in answers) i (source, from) count new left
 
 -- Uploads were collected and answered so, and a journal has what was stored before them, all of each one that was
--- acknowledged, and nothing else; or it has all of one more of them, which comes behind the acknowledged ones and wasn't
--- refused: the store failed, or was refused memory.
+-- acknowledged, and nothing else; or it has all of one more of them, which comes behind the acknowledged ones and was
+-- answered 62 or 63: the store failed, or was refused memory.
 pub record KeepsAcknowledged (limits : Limits) (start : Journal) (uploads : List (List ℕ)) (answers : List Answer) (found : Journal) : Type 0 where
   pub each : length answers ≡ length uploads
   -- the positions of the uploads that it has

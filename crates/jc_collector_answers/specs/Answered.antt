@@ -39,8 +39,8 @@ pub record RunsByDefault (uploads : List (List ℕ)) (before after : Seen) : Typ
   pub defaults : AreDefaults limits.name limits.value limits.fields limits.entry limits.file
   pub ran : IsRun limits uploads before Done after
 
--- The first ones of some uploads were collected under the default limits, and the others weren't. What was printed are the
--- lines of their answers, of the last one's a front.
+-- The first ones of some uploads were collected under the default limits, and the others weren't. The lines of their
+-- answers were printed, of the last line perhaps only a front.
 pub record CollectsFirst (uploads : List (List ℕ)) (before after : Seen) : Type 0 where
   pub limits : Limits
   pub defaults : AreDefaults limits.name limits.value limits.fields limits.entry limits.file
@@ -53,7 +53,8 @@ pub record CollectsFirst (uploads : List (List ℕ)) (before after : Seen) : Typ
   pub printed : Appends before.written after.written (take shown (lines_of_answers answers))
 
 -- Uploads were collected in one run under the default limits, and the line of each answer was printed. What is found after
--- a crash has what was stored before, each upload that was acknowledged, and all of one more at most, which wasn't refused.
+-- a crash has what was stored before, each upload that was acknowledged, and all of one more at most, which was answered 62
+-- or 63.
 pub record KeepsPrinted (uploads : List (List ℕ)) (start : Journal) (old new : Option (List ℕ)) (found : Journal) : Type 0 where
   pub limits : Limits
   pub defaults : AreDefaults limits.name limits.value limits.fields limits.entry limits.file
@@ -61,8 +62,8 @@ pub record KeepsPrinted (uploads : List (List ℕ)) (start : Journal) (old new :
   pub keeps : KeepsAcknowledged limits start uploads answers found
   pub printed : Appends old new (lines_of_answers answers)
 
--- The first ones of some uploads were collected so, and the others weren't. What was printed are the lines of their answers,
--- of the last one's a front: so all that it acknowledges is found.
+-- The first ones of some uploads were collected so, and the others weren't. The lines of their answers were printed, of the
+-- last line perhaps only a front: so all that the printed lines acknowledge is found.
 pub record KeepsFirst (uploads : List (List ℕ)) (start : Journal) (old new : Option (List ℕ)) (found : Journal) : Type 0 where
   pub limits : Limits
   pub defaults : AreDefaults limits.name limits.value limits.fields limits.entry limits.file
