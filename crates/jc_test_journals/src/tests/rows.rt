@@ -310,7 +310,7 @@ stores METADATA "A=1\nB=2\n\n" METADATA_2 "A=1\n\n"
 upload head:1:0 ENTRY LAST_ENTRY ENTRY_2 => ack S 0 3 3 0
 upload head:1:0 ENTRY LAST_ENTRY ENTRY_2 => ack S 0 3 0 0
 upload head:1:0 LAST_ENTRY ENTRY_2 ENTRY ENTRY_3 => ack S 0 4 1 0
-stores ENTRY ENTRY_2 ENTRY_3 LAST_ENTRY
+stores ENTRY ENTRY_2 ENTRY_3
 
 # a journal that has entries when the run begins
 begins head:1:0 ENTRY ENTRY_2
