@@ -50,8 +50,8 @@ module _ (m : Meaning) where
   abbrev pub AreLawful : Type 0
   AreLawful = (db : Database) → m.is_journal db → IsDatabase db
 
--- What a run does with the journal that the files had which it began with, if their disks returned what was written. It finds
--- it in tables of the one meaning, and leaves one in those of the other.
+-- What a run does with the journal in the files that it began with, if their disks returned what was written. It finds it in
+-- tables of meaning m, and leaves one in those of n.
 abbrev pub LeadsOver : (m n : Meaning) → {D : Type 0} → Image → disk.Ghosts D → Files D → (Journal → Journal → Type 0) → Type 0
 LeadsOver m n first g files Step = AreClean g files.log files.db → (before : Journal) → BeginsWith m first before → EndsWith n g files (Step before)
 
