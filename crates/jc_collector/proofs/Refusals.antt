@@ -4,7 +4,7 @@ use Rattle.jc_base.specs.declared.fault.Code.{Code}
 use Rattle.jc_base.specs.declared.fault.Code.TheVariants.{BadRow, NotAJournal, OldSchema, OutOfMemory, StoreFailed}
 use Rattle.jc_command_shared.specs.declared.failure.Failure.{Failure}
 use Rattle.jc_collector.specs.Database.{WhyNoTables}
-use Rattle.jc_collector.specs.Stopped.{adopt_failure}
+use Rattle.jc_collector.specs.Failures.{adopt_failure}
 
 -- by the codes of a layout, which are 64 and 67
 pub why_refused : (Refuses : Code → Type 0) → ((code : Code) → Refuses code → (code ≡ NotAJournal) ⊎ (code ≡ OldSchema))

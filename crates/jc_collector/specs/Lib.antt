@@ -1,4 +1,4 @@
-pub mod Stopped
+pub mod Failures
 pub mod Database
 pub mod Listed
 pub mod Checked

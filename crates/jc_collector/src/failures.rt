@@ -1,7 +1,7 @@
 //! The failures that a store's own ones become.
 
 ghost use Rattle.std.specs.Prelude.{◌≡◌};
-ghost use Rattle.jc_collector.specs.Stopped.{adopt_failure, keep_failure, out_failure};
+ghost use Rattle.jc_collector.specs.Failures.{adopt_failure, keep_failure, out_failure};
 
 use jc_base::{Code, Fault};
 use jc_command_shared::Failure;
