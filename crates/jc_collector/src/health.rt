@@ -1,6 +1,6 @@
 //! `check`: whether a database has a journal, and how many entries it keeps.
 
-ghost use Rattle.std.specs.Prelude.{◌≡◌, ◌≢◌, Some, IfOk, IfErr, MatchOption};
+ghost use Rattle.std.specs.Prelude.{◌≡◌, ◌≢◌, None, Some, IfOk, IfErr, MatchOption};
 ghost use Rattle.std.specs.FinMap.{len};
 ghost use Rattle.std.specs.Io.KnownBytes.{Keeps};
 ghost use Rattle.sqlite.specs.WalFiles.{image_at};
@@ -71,7 +71,7 @@ pub fn check<'a, S: Start, O: Write>(
     database: &'a str,
     output: &mut O,
 ) -> Result<Examined<Status, S>, Failure<'a>>
-    // It prints the number of the entries that the files had, and leaves these to them, or it is refused.
+    // It prints how many entries the files had, and they keep them; or the database is refused.
     ensures counted { IfOk result (λ examined. MatchOption examined.files (examined.value ≡ Status.Refused)
         (λ files. LeadsTo two (image_at S.Start) ⟦<FileFrom<S> as Disk>⟧ files
         (Prints count_line (O.contents output.old) (O.contents output.new)))) }
@@ -106,11 +106,19 @@ fn read_health<'a, S: Start>(
                 files: Some(files),
             })
         }
-        Err(Failure::Bad(fault)) => Ok(Examined {
-            value: Health::Bad(fault),
-            files: None,
-        }),
+        Err(Failure::Bad(fault)) => Ok(refused(fault)),
         Err(failure) => Err(failure),
+    }
+}
+
+/// What is said of a database with this fault. It has no journal, and so its files aren't given back.
+pub fn refused<S: Start>(fault: Fault) -> Examined<Health, S>
+    ensures value { result.value ≡ Health.Bad fault }
+    ensures files { result.files ≡ None }
+{
+    Examined {
+        value: Health::Bad(fault),
+        files: None,
     }
 }
 

@@ -15,7 +15,7 @@ ghost use Rattle.jc_collector.specs.declared.health.Health.{Health};
 ghost use Rattle.jc_command_shared.specs.Failure.{status_of};
 
 use crate::database::{Closed, FileKeeper, check_name, close_connection, open_old};
-use crate::health::{Examined, Health, count_and_close, print_health};
+use crate::health::{Examined, Health, count_and_close, print_health, refused};
 use jc_base::Code;
 use jc_command_shared::{Failure, Status};
 use jc_schema_one::{MigrateStop, SqlKeeper1};
@@ -32,8 +32,7 @@ pub fn migrate<'a, S: Start, O: Write>(
     database: &'a str,
     output: &mut O,
 ) -> Result<Examined<Status, S>, Failure<'a>>
-    // It prints the number of the entries that the files had in tables of schema 1, and leaves these to them in those of
-    // schema 2, or it is refused.
+    // The same of a journal in tables of schema 1, which the files then have in those of schema 2.
     ensures moved { IfOk result (λ examined. MatchOption examined.files (examined.value ≡ Status.Refused)
         (λ files. LeadsOver one two (image_at S.Start) ⟦<FileFrom<S> as Disk>⟧ files
         (Prints count_line (O.contents output.old) (O.contents output.new)))) }
@@ -68,10 +67,7 @@ fn migrated<'a, S: Start>(
                 files: Some(files),
             })
         }
-        Err(Failure::Bad(fault)) => Ok(Examined {
-            value: Health::Bad(fault),
-            files: None,
-        }),
+        Err(Failure::Bad(fault)) => Ok(refused(fault)),
         Err(failure) => Err(failure),
     }
 }
