@@ -12,7 +12,7 @@ use Rattle.jc_base.specs.LogEntry.{LogEntry}
 use Rattle.jc_keeper.specs.Agree.{IsStored}
 use Rattle.jc_collector.specs.Database.{AsksId, asked_text}
 use Rattle.jc_collect.specs.Run.{Seen}
-use Rattle.jc_collector_answers.specs.Answered.{KeepsPrinted, RunsByDefault}
+use Rattle.jc_collector_answers.specs.Answered.{KeepsFirst, KeepsPrinted, RunsByDefault}
 use Rattle.jc_schema_two.specs.Tables.{two}
 use Rattle.jc_database.specs.Files.{BeginsWith, HoldsJournal}
 
@@ -28,7 +28,7 @@ pub record CollectsAll (uploads : List (List ℕ)) (old new : Option (List ℕ))
   pub output_after : last.written ≡ new
 
 -- What is said of a run over uploads that is stopped: if its disks returned what was written, the files had this journal when
--- it began, or none, and the uploads have these bytes, then so is whatever a crash leaves of the files.
+-- it began, or none, and the uploads have these bytes, then this holds of whatever a crash leaves of the files.
 abbrev pub WhenStopped : {D : Type 0} {g : disk.Ghosts D} → (first : Image) → (known : List (Option (List ℕ))) → (stopped : FileStore D g)
     → ((uploads : List (List ℕ)) → (before : Journal) → (left : Image) → Type 0) → Type 0
 WhenStopped first known stopped Leaves =
@@ -41,6 +41,13 @@ WhenStopped first known stopped Leaves =
 pub record LeavesPrinted (uploads : List (List ℕ)) (before : Journal) (old new : Option (List ℕ)) (left : Image) : Type 0 where
   pub found : Journal
   pub keeps : KeepsPrinted uploads before old new found
+  pub holds : HoldsJournal two left found
+
+-- The same if printing failed: the first ones of the uploads were collected, and the lines of their answers were printed, of
+-- the last one's a front.
+pub record LeavesFirst (uploads : List (List ℕ)) (before : Journal) (old new : Option (List ℕ)) (left : Image) : Type 0 where
+  pub found : Journal
+  pub keeps : KeepsFirst uploads before old new found
   pub holds : HoldsJournal two left found
 
 -- What was stored is.

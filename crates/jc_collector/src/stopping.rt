@@ -1,6 +1,6 @@
 //! A run that is stopped, and the one after it.
 
-ghost use Rattle.std.specs.Prelude.{◌≡◌, IfOk, OnOk, map};
+ghost use Rattle.std.specs.Prelude.{◌≡◌, Err, IfOk, OnOk, map};
 ghost use Rattle.sqlite.specs.State.{HasCleanDisk};
 ghost use Rattle.sqlite.specs.WalFiles.{image_at};
 ghost use Rattle.sqlite.specs.Files.{file_state, over_files};
@@ -8,7 +8,7 @@ ghost use Rattle.jc_collect.specs.Delivered.{of_delivery};
 ghost use Rattle.jc_store.specs.Meaning.{journal_of};
 ghost use Rattle.jc_schema_two.specs.Tables.{two};
 ghost use Rattle.jc_collector_answers.specs.Answered.{KeepsPrinted};
-ghost use Rattle.jc_collector.specs.OverFiles.{LeavesPrinted, WhenStopped};
+ghost use Rattle.jc_collector.specs.OverFiles.{LeavesFirst, LeavesPrinted, WhenStopped};
 
 use crate::database::{FileKeeper, open_or_make};
 use jc_base::ByteStream;
@@ -38,9 +38,14 @@ pub fn collect_and_stop<'a, S: Start, R: ByteStream, B: ByteSpace, O: Write>(
     deliveries: &mut [Delivery<R, B>],
     output: &mut O,
 ) -> Result<Stopped<'a, FileFrom<S>>, Failure<'a>>
-    ensures { IfOk result (λ run. WhenStopped (image_at S.Start) (map (of_delivery R.remaining B.bytes) deliveries.old) run.files
+    ensures printed { IfOk result (λ run.
+        WhenStopped (image_at S.Start) (map (of_delivery R.remaining B.bytes) deliveries.old) run.files
         (λ uploads before left. OnOk run.answered
         (∥ LeavesPrinted uploads before (O.contents output.old) (O.contents output.new) left ∥₁))) }
+    ensures unprinted { IfOk result (λ run.
+        WhenStopped (image_at S.Start) (map (of_delivery R.remaining B.bytes) deliveries.old) run.files
+        (λ uploads before left. run.answered ≡ Err Failure.WriteFailed
+        → ∥ LeavesFirst uploads before (O.contents output.old) (O.contents output.new) left ∥₁)) }
 {
     let mut keeper = open_or_make(rt, database, start)?;
     // Does nothing: from its contract the proof has what might have been left before.

@@ -14,5 +14,5 @@ returns g c = λ clean before begin uploads are left may same.
     on_ok_if c.in_ok-stopped.stopped.answered _
     (λ status is. IfOk-both c.open_or_make.result _ _ _
     (λ opened sound begins late. found_again uploads before old new (image_at g.T.Start) opened.conn (begins (sound late))
-    (subst (λ (image : Image). ∥ LeavesPrinted uploads before old new image ∥₁) same (is _ (c.in_ok-stopped.ensures clean before begin uploads are left may))))
+    (subst (λ (image : Image). ∥ LeavesPrinted uploads before old new image ∥₁) same (is _ (c.in_ok-stopped.ensures.printed clean before begin uploads are left may))))
     c.open_or_make.ensures.sound c.open_or_make.ensures.begins)
