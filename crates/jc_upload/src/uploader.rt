@@ -397,7 +397,7 @@ fn write_entries<W: ByteSink>(sink: &mut W, entries: &[Entry]) -> Result<(), Wri
     ensures lawful { OnOk result (All IsEntry entries.now) }
 {
     for entry in entries {
-        // The proof has from it that the entry is one.
+        // Its contract has that the entry is lawful.
         let _key = entry.key();
         write_entry(entry, sink)?;
     }
