@@ -89,7 +89,7 @@ class Judge:
         unread = report.unread()
         if unread is None:
             self.refused |= set(report.refused_beside([it.edit.function for it in batch]))
-            return [(it, report.ruling(it.edit.function)) for it in batch]
+            return [(it, report.ruling(it.edit)) for it in batch]
         if len(batch) == 1:
             return [(batch[0], Ruling(Kind.UNREAD, (unread,)))]
         half = len(batch) // 2
@@ -114,7 +114,7 @@ class Judge:
         texts = self.sources.with_bodies(edits, taken)
         with self.turn():
             self.say(f"{self.crate.name}: a check {f'of {len(edits)} edits' if edits else 'without edits'}")
-            ran = check(self.crate, texts, asked, self.kept, taken)
+            ran = check(self.crate, texts, asked, self.kept, taken, edits)
         return Report(ran.returncode, ran.stdout, set(texts))
 
 

@@ -54,6 +54,30 @@ pub fn lower(one: u64, other: u64) -> u64
     if one < other { one } else { other }
 }
 
+pub fn least(number: u64) -> u64
+    ensures low { result ≤ number }
+    ensures none { result ≡ 0 }
+{
+    let least = 0;
+    least
+}
+
+pub fn first(number: u64) -> u64
+    ensures low { result ≤ number }
+    ensures none { result ≡ 0 }
+{
+    let first = 0;
+    first
+}
+
+pub fn none(number: u64) -> u64
+    ensures low { result ≤ number }
+    ensures none { result ≡ 0 }
+{
+    let none = 0;
+    none
+}
+
 pub struct Kept {
     number: u64,
 }
@@ -79,23 +103,34 @@ impl Starts for Kept {
 """
 
 REFUSED = "refused, as it must be: "
-PASSED = "NOT REFUSED: it is proved"
+PASSED = "NOT REFUSED: nothing of it is refused"
 UNREAD = "NOT REFUSED: the checker's words can't be read"
 UNTELLING = "NOT REFUSED: no promise of its own is refused: "
+NO_GOAL = "NOT REFUSED: it leaves open what is no goal: "
 
 Edits = dict[str, tuple[str, str, str]]
 
 # For each edit: the text that is there once, what takes its place, and how the report on it must begin.
 EDITS: Edits = {
+    "all-left-open": ("let first = 0;", "let first = 1;", PASSED),
     "another-answer": ("number <= 9", "number <= 8", REFUSED + "returns"),
     "another-answer-of-a-trait": ("3 + 4", "3 + 5", REFUSED + "returns"),
     "beside-a-refused-function": ("{ Some(number) }", "{ Some(0) }", REFUSED + "returns"),
     "clause-turned": ("≡ number + 1", "≡ number + 2", "BAD EDIT: it changes more than the body"),
     "hidden-by-a-refused-function": ("    if is_digit(number) {", "    if !!is_digit(number) {", PASSED),
+    "no-goal-left-open": ("let none = 0;", "let none = 1;", NO_GOAL + "returns-clause-high"),
+    "one-left-open": ("let least = 0;", "let least = 1;", REFUSED + "returns-clause-none"),
     "only-arithmetic": ("    given", "    given + 1 - 1", UNTELLING + "overflow_add"),
     "same-meaning": ("if one < other {", "if one <= other {", PASSED),
     "same-text": ("let one = 1;", "let one = 1;", "BAD EDIT: it changes nothing"),
     "stands-nowhere": ("number <= 10", "number <= 11", "BAD EDIT: an 'old:' text is in src/lib.rt 0 times"),
+}
+
+# The goals that edits leave open.
+LEFT_OPEN = {
+    "all-left-open": ["returns-clause-low", "returns-clause-none"],
+    "no-goal-left-open": ["returns-clause-high"],
+    "one-left-open": ["returns-clause-low"],
 }
 
 # Edits that can't be read, beside one that can: if a check can't be read, its halves are tried.
@@ -131,9 +166,9 @@ def main() -> int:
     failures = [] if refused == ["small::alone"] else [f"beside an edit: reported {refused}"]
     with tempfile.TemporaryDirectory(prefix="refused-test-") as root:
         small = Small(root)
-        failures += small.failures("as it is", LIBRARY, EDITS, PROVED)
         failures += small.failures("over work on another text", LIBRARY, ONE, PROVED, before=WEAKER)
         small.build(LIBRARY)
+        failures += small.failures("as it is", LIBRARY, EDITS, PROVED)
         failures += small.failures("built", LIBRARY, UNREADABLE, PROVED)
         failures += small.failures("changed since it was built", WRONG, ONE, "without its edits it is NOT PROVED")
     for it in failures:
@@ -179,7 +214,8 @@ class Small:
         folder = os.path.join(self.folder, "refused")
         shutil.rmtree(folder, ignore_errors=True)
         for name, (old, new, _) in edits.items():
-            _write(os.path.join(folder, f"{name}.edit"), f"file: src/lib.rt\nold: {old}\nnew: {new}\n")
+            left_open = "".join(f"open: {it}\n" for it in LEFT_OPEN.get(name, []))
+            _write(os.path.join(folder, f"{name}.edit"), f"file: src/lib.rt\nold: {old}\nnew: {new}\n{left_open}")
         with tempfile.TemporaryDirectory(prefix="refused-") as kept:
             if before:
                 ran = toolchain.rt().checked(small, {"src/lib.rt": before}, ["--jobs", "1"], kept)

@@ -23,6 +23,8 @@ from dataclasses import dataclass
 from enum import Enum
 
 import toolchain
+from checking import NOT_A_GOAL
+from edits import Edit
 from functions import Function
 
 FUNCTION = re.compile(r"fn (\S+): (.*)")
@@ -32,6 +34,8 @@ GOAL_AT_LINE = re.compile(
 GOAL_OF_PROOF = re.compile(r"(?:\./)?(proofs/\S+)/\w+\.antt:\d+:\d+: error: `([^`]+)`: (.*)")
 SEARCHED = re.compile(r"`search` did not prove ((?:`[^`]+`(?:, | and )?)+)")
 CALLED = re.compile(r"(?:; |no proof: )it [^;]*?((?:`[^`]+`(?:, | and )?)+), which (?:is|are) not proved")
+# An answer to what is no goal of the function.
+NO_GOAL = re.compile(r"(?:\./)?(proofs/\S+)/Answers\.antt:\d+:\d+: error: `([^`]+)`: `goal\.\2`: .* has no ")
 # A proof file that names what the edit took away says nothing of the contract.
 STALE = re.compile(r"has no field|is not in scope|has no `|was not admitted")
 # A goal of the function's own promises: its clauses, a loop's invariant, or what its type always keeps. The other goals
@@ -47,9 +51,10 @@ class Kind(Enum):
     """What became of an edit's function in one check."""
 
     REFUSED = "a promise of its own isn't proved"
-    PROVED = "it is proved"
+    PROVED = "nothing of it is refused"
     UNTELLING = "no promise of its own is refused"
     HIDDEN = "the checker says only that it calls what isn't proved"
+    OPENS_NOTHING = "it leaves open what is no goal"
     UNREAD = "the checker's words can't be read"
 
 
@@ -84,8 +89,11 @@ class Report:
             return None
         return next((it for it in self.lines if "error" in it), self.lines[-1])
 
-    def ruling(self, function: Function) -> Ruling:
-        """What became of a function. The crate must have been judged."""
+    def ruling(self, edit: Edit) -> Ruling:
+        """What became of an edit's function. The crate must have been judged."""
+        function = edit.function
+        if no_goals := self._no_goals(edit):
+            return Ruling(Kind.OPENS_NOTHING, no_goals)
         heads = tuple(f"fn {it}: " for it in function.symbols)
         found = [it.split(": ", 1)[1] for it in self.lines if it.startswith(heads)]
         if len(found) == 1 and PROVED.match(found[0]):
@@ -95,16 +103,27 @@ class Report:
         goals = tuple(dict.fromkeys([*_searched(found[0]), *self._goals_at(function)]))
         if any(PROMISE.match(it) for it in goals):
             return Ruling(Kind.REFUSED, goals)
-        called = CALLED.findall(found[0])
-        if goals or not called:
+        if goals:
             return Ruling(Kind.UNTELLING, goals)
-        return Ruling(Kind.HIDDEN, hidden_by=frozenset(_ticked(" ".join(called))))
+        if hidden_by := self._unproved(_ticked(" ".join(CALLED.findall(found[0])))):
+            return Ruling(Kind.HIDDEN, hidden_by=hidden_by)
+        return Ruling(Kind.PROVED)
 
     def refused_beside(self, functions: list[Function]) -> list[str]:
         """The functions other than these that aren't proved, though they call nothing that isn't."""
         named = {symbol for it in functions for symbol in it.symbols}
         found = [it.groups() for line in self.lines if (it := FUNCTION.match(line))]
         return [name for name, said in found if name not in named and not (PROVED.match(said) or CALLED.search(said))]
+
+    def _unproved(self, called: list[str]) -> frozenset[str]:
+        """Those of these functions that aren't proved, by the contracts of those whose proofs are left open."""
+        proved = {it[1] for line in self.lines if (it := FUNCTION.match(line)) and PROVED.match(it[2])}
+        return frozenset(called) - proved
+
+    def _no_goals(self, edit: Edit) -> tuple[str, ...]:
+        """What the edit leaves open and is no goal of its function."""
+        found = [it.groups() for line in self.lines if (it := NO_GOAL.match(line))]
+        return tuple(name for folder, name in found if folder in edit.function.proofs and name in edit.left_open)
 
     def _goals_at(self, function: Function) -> list[str]:
         """The goals that the notes at a function's lines and the errors at its proof files name."""
@@ -114,7 +133,7 @@ class Report:
                 if found[1] == function.file and int(found[2]) in function.lines:
                     goals.append(found[3])
             elif found := GOAL_OF_PROOF.match(line):
-                if found[1] in function.proofs and not STALE.search(found[3]):
+                if found[1] in function.proofs and found[2] != NOT_A_GOAL and not STALE.search(found[3]):
                     goals.append(found[2])
         return goals
 
