@@ -55,8 +55,9 @@ class Ci:
 
 
 class Turns:
-    """Which checks run at once: as many as are given, those of the largest crates first. While `rt ci` runs, one begins
-    only when a processor is idle and there is memory for it and for the largest of the checks of `rt ci`."""
+    """Which checks run at once: as many as are given, those of the largest crates first. Beside another check one begins
+    only when a processor is idle, since scripts may run besides; and while `rt ci` runs, none begins but on an idle
+    processor, and with memory for it and for the largest of the checks of `rt ci`."""
 
     def __init__(self, at_once: int, ci: Ci) -> None:
         self._at_once = at_once
@@ -87,11 +88,11 @@ class Turns:
     def _is_free(self) -> bool:
         if self._running >= self._at_once:
             return False
-        if self._ci.has_ended:
+        if self._ci.has_ended and not self._running:
             return True
         if time.monotonic() < self._latest + BETWEEN or _busy() >= toolchain.rt().processors():
             return False
-        return int(toolchain.rt().free()) >= LARGEST + EACH * self._running
+        return self._ci.has_ended or int(toolchain.rt().free()) >= LARGEST + EACH * self._running
 
 
 def _busy() -> int:
