@@ -55,9 +55,9 @@ class Ci:
 
 
 class Turns:
-    """Which checks run at once: as many as are given, those of the largest crates first. Beside another check one begins
-    only when a processor is idle, since scripts may run besides; and while `rt ci` runs, none begins but on an idle
-    processor, and with memory for it and for the largest of the checks of `rt ci`."""
+    """Which checks run at once: as many as are given, those of the largest crates first. Beside `rt ci`, or another
+    check, one begins only when a processor is idle, since scripts run too when `rt ci` has ended; and beside `rt ci`
+    only if there is memory for it and for the largest check of that."""
 
     def __init__(self, at_once: int, ci: Ci) -> None:
         self._at_once = at_once
