@@ -1,6 +1,6 @@
 //! The files of a database, closed, and what a run leaves of them that is stopped.
 
-ghost use Rattle.std.specs.Prelude.{IfOk};
+ghost use Rattle.std.specs.Prelude.{◌≡◌, IfOk};
 ghost use Rattle.sqlite.specs.Recovery.{Image};
 ghost use Rattle.sqlite.specs.View.{IsClean};
 ghost use Rattle.sqlite.specs.FileStore.{state, view};
@@ -37,10 +37,13 @@ pub fn close_keeper<D: Disk + Drop, L: Layout>(
     }
 }
 
-/// What may be left of the database of a keeper that is sound is a journal. Does nothing: a proof has it from the contract.
+/// What may be left of the database of a keeper that is sound is its journal. Does nothing: a proof has it from the contract.
 pub fn sound_leaves_journals<D: Disk + Drop, L: Layout>(keeper: &TableKeeper<FileStore<D>, L>)
-    ensures { IsSound over_files keeper.now.conn → AreMade L.meaning over_files keeper.now.conn
+    ensures journals { IsSound over_files keeper.now.conn → AreMade L.meaning over_files keeper.now.conn
         → LeavesJournals L.meaning over_files keeper.now.conn }
+    ensures durable { IsSound over_files keeper.now.conn → AreMade L.meaning over_files keeper.now.conn
+        → (found : Journal) → MayLeave L.meaning over_files keeper.now.conn found
+        → found ≡ journal_of L.meaning over_files keeper.now.conn }
 {
     let _ = keeper;
 }
