@@ -18,3 +18,5 @@ pub mod Crashed
 pub mod Chains
 pub mod Inspecting
 pub mod Losing
+pub mod Each
+pub mod EachKnown

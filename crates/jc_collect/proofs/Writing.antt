@@ -19,7 +19,7 @@ alone : (answer : Answer) → IsAnswer answer → All IsAnswer (answer ∷ [])
 alone answer lawful zero d within = lawful
 alone answer lawful (suc i) d within = absurd (omega (arith, within))
 
-one_more : (answers : List Answer) (answer : Answer) → All IsAnswer answers → IsAnswer answer → All IsAnswer (answers ++ answer ∷ [])
+pub one_more : (answers : List Answer) (answer : Answer) → All IsAnswer answers → IsAnswer answer → All IsAnswer (answers ++ answer ∷ [])
 one_more answers answer all lawful = All-append IsAnswer answers (answer ∷ []) all (alone answer lawful)
 
 module _ (count : ℕ) (before written now : Option (List ℕ)) (answer : Answer) (so_far : AreWritten count before written) (lawful : IsAnswer answer) where

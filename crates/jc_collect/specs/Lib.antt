@@ -10,3 +10,5 @@ pub mod Begun
 pub mod Body
 pub mod Chain
 pub mod Inspected
+pub mod Each
+pub mod EachLaws

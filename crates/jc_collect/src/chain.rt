@@ -1,9 +1,11 @@
 //! What holds of deliveries one after the other.
 
-ghost use Rattle.std.specs.Prelude.{List};
+ghost use Rattle.std.specs.Prelude.{List, Option, Some, ℕ, map};
 ghost use Rattle.jc_base.specs.declared.limits.Limits.{Limits};
 ghost use Rattle.jc_base.specs.Journal.{Journal};
+ghost use Rattle.jc_upload.specs.declared.answer.Answer.{Answer};
 ghost use Rattle.jc_collect.specs.Chain.{AreTaken, IsChain, Turn};
+ghost use Rattle.jc_collect.specs.Each.{CollectsEach, HasAcknowledged, IsKnownChain, KeepsEach, StoresEach};
 
 use jc_upload::one_saying;
 
@@ -16,3 +18,25 @@ pub fn chain_stored()
     // Does nothing: from its contract the proof has that no upload says two things.
     one_saying();
 }
+
+/// A run over deliveries with known bytes is such a chain. Does nothing.
+pub fn known_chain()
+    ensures { (limits : Limits) (uploads : List (List ℕ)) (start last : Journal) (answers : List Answer) →
+        CollectsEach limits (map (λ u. Some u) uploads) start answers last → IsKnownChain limits uploads start answers last }
+{}
+
+/// Whether bytes are known or not, there is a reading for each acknowledgement, and the journal is what these make of the
+/// first one. Does nothing.
+pub fn each_stored()
+    ensures { (limits : Limits) (known : List (Option (List ℕ))) (start last : Journal) (answers : List Answer) →
+        CollectsEach limits known start answers last → StoresEach start answers last }
+{
+    // Does nothing: from its contract the proof has that no upload says two things.
+    one_saying();
+}
+
+/// What is acknowledged is in the journal at the end, and in one that a crash left. Does nothing.
+pub fn acknowledged_stored()
+    ensures stored { (start last : Journal) (answers : List Answer) → StoresEach start answers last → HasAcknowledged start answers last }
+    ensures found { (start found : Journal) (answers : List Answer) → KeepsEach start answers found → HasAcknowledged start answers found }
+{}

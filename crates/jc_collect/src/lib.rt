@@ -14,7 +14,7 @@ mod law;
 mod runs;
 mod space_stream;
 
-pub use chain::chain_stored;
+pub use chain::{acknowledged_stored, chain_stored, each_stored, known_chain};
 pub use collect::collect_one;
 pub use complete::Whole;
 pub use delivery::Delivery;
