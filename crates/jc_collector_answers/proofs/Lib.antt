@@ -4,3 +4,4 @@ pub mod Judging
 pub mod Printing
 pub mod LeftPrinted
 pub mod Losing
+pub mod Tying

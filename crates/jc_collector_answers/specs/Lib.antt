@@ -1,3 +1,4 @@
 pub mod Answered
 pub mod Named
 pub mod Opened
+pub mod Tied

@@ -1,6 +1,6 @@
 //! The sink that answers are printed through.
 
-ghost use Rattle.std.specs.Prelude.{◌≡◌, [], ◌∷◌, List, ℕ, Option, Some, IfSome, false};
+ghost use Rattle.std.specs.Prelude.{◌≡◌, [], ◌∷◌, List, ℕ, Option, Some, IfSome, IsTrue, false};
 ghost use Rattle.std.specs.Io.KnownBytes.{Appends, Keeps};
 ghost use Rattle.std.specs.List.{All};
 ghost use Rattle.jc_collector_answers.specs.Answered.{Appends-prop, begun, judged};
@@ -102,8 +102,9 @@ impl<O: Write> ByteSink for AnswerSink<'_, O> {
 }
 
 /// Flushes what went out, if that was all. False if it wasn't, or if flushing failed.
-fn flushed<O: Write>(output: &mut O, all: bool) -> bool
-    ensures { Keeps (O.contents output.old) (O.contents output.new) }
+pub(crate) fn flushed<O: Write>(output: &mut O, all: bool) -> bool
+    ensures keeps { Keeps (O.contents output.old) (O.contents output.new) }
+    ensures all { IsTrue result → IsTrue all }
 {
     all && output.flush().is_ok()
 }

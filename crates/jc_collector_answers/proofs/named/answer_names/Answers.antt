@@ -1,10 +1,12 @@
 -- One name more is answered, until there is none.
 use Rattle.std.proofs.Common.{rules, ◌≡◌, ◌∙◌, [], IfSome, subst, sym}
-use Rattle.std.proofs.KnownBytes.{Keeps-trans}
+use Rattle.std.proofs.KnownBytes.{Keeps-refl, Keeps-trans}
 use Rattle.jc_command_shared.specs.declared.status.Status.{Status}
+use Rattle.jc_collect.specs.Each.{held}
 use Rattle.jc_collector_answers.specs.Named.{LosesLine}
-use Rattle.jc_collector_answers.proofs.Losing.{loses_then}
-use Rattle.jc_collector_answers.proofs.Successive.{IsUnderWay, ends_named, goes_on_to, success_of}
+use Rattle.jc_collector_answers.proofs.Losing.{loses_none, loses_then}
+use Rattle.jc_collector_answers.proofs.Successive.{HoldsSoFar, IsUnderWay, begins, ends_named, goes_on_to, holds_first, holds_front, holds_front_on, holds_named, holds_on_to, success_of}
+use Rattle.jc_collector_answers.proofs.Tying.{for_any}
 use Rattle.jc_collector_answers.proofs.named.answer_names.Goals as goal
 
 pub returns-then-not-branch-clause-printed : goal.returns-then-not-branch-clause-printed
@@ -64,4 +66,74 @@ names-preserved g c =
           (λ was. c.names.invariant.kept was made);
       recovers = λ clean made leaves. given.recovers clean (c.names.invariant.made made) (c.names.invariant.recovers (given.clean clean) made leaves);
       kept = λ sound made e stored. given.kept sound (c.names.invariant.made made) e (c.names.invariant.kept (given.before sound) made e stored);
+      each = λ clean made.
+          let keeper = g.K.Keeper in
+          let first = held (keeper.journal c.args.keeper.now) (keeper.sound c.args.keeper.now) (keeper.may_leave c.args.keeper.now) in
+          let mid = held (keeper.journal c.names.keeper) (keeper.sound c.names.keeper) (keeper.may_leave c.names.keeper) in
+          let late = held (keeper.journal c.answer_name.new.keeper) (keeper.sound c.answer_name.new.keeper) (keeper.may_leave c.answer_name.new.keeper) in
+          subst (λ (s : Status). HoldsSoFar text next s first late old now) (sym c.worse-status.ensures)
+          (holds_on_to text (g.L.Read.remaining c.names.names) next status answered first mid late old (g.O.Write.contents c.names.output) now
+          (c.names.invariant.each (given.clean clean) made) loses (given.each clean (c.names.invariant.made made)) c.names.invariant.before given.before);
+    }
+
+pub returns-then-not-branch-clause-each : goal.returns-then-not-branch-clause-each
+returns-then-not-branch-clause-each g c =
+    λ clean made.
+    let rest = g.L.Read.remaining c.names.names in
+    let none : IfSome rest (λ left. left ≡ []) = search rules in
+    let keeper = g.K.Keeper in
+    let first = held (keeper.journal c.args.keeper.now) (keeper.sound c.args.keeper.now) (keeper.may_leave c.args.keeper.now) in
+    let mid = held (keeper.journal c.names.keeper) (keeper.sound c.names.keeper) (keeper.may_leave c.names.keeper) in
+    holds_named (g.L.Read.remaining c.args.names.now) rest c.names.status first mid (g.O.Write.contents c.args.output.now)
+    (g.O.Write.contents c.names.output) (c.names.invariant.each clean made) none
+
+pub returns-in_err-answered-clause-each_unprinted : goal.returns-in_err-answered-clause-each_unprinted
+returns-in_err-answered-clause-each_unprinted g c =
+    λ clean made.
+    let keeper = g.K.Keeper in
+    let first = held (keeper.journal c.args.keeper.now) (keeper.sound c.args.keeper.now) (keeper.may_leave c.args.keeper.now) in
+    let mid = held (keeper.journal c.names.keeper) (keeper.sound c.names.keeper) (keeper.may_leave c.names.keeper) in
+    let late = held (keeper.journal c.answer_name.new.keeper) (keeper.sound c.answer_name.new.keeper) (keeper.may_leave c.answer_name.new.keeper) in
+    let given = c.in_err-answered.ensures in
+    for_any _ c.from_residual-in_err-answered.result
+    (holds_front_on (g.L.Read.remaining c.args.names.now) (g.L.Read.remaining c.names.names) c.names.status first mid late
+    (g.O.Write.contents c.args.output.now) (g.O.Write.contents c.names.output) (g.O.Write.contents c.answer_name.new.output)
+    (c.names.invariant.each (given.clean clean) made) (given.each_unprinted clean (c.names.invariant.made made)) c.names.invariant.before given.before)
+
+pub returns-in_err-read_name-clause-each_unprinted : goal.returns-in_err-read_name-clause-each_unprinted
+returns-in_err-read_name-clause-each_unprinted g c =
+    λ clean made.
+    let keeper = g.K.Keeper in
+    let first = held (keeper.journal c.args.keeper.now) (keeper.sound c.args.keeper.now) (keeper.may_leave c.args.keeper.now) in
+    let mid = held (keeper.journal c.names.keeper) (keeper.sound c.names.keeper) (keeper.may_leave c.names.keeper) in
+    for_any _ c.from_residual.result
+    (holds_front (g.L.Read.remaining c.args.names.now) (g.L.Read.remaining c.names.names) c.names.status first mid
+    (g.O.Write.contents c.args.output.now) (g.O.Write.contents c.names.output) (c.names.invariant.each clean made))
+
+pub returns-clause-each_unprinted : goal.returns-clause-each_unprinted
+returns-clause-each_unprinted g c =
+    λ clean made.
+    let keeper = g.K.Keeper in
+    let first = held (keeper.journal c.args.keeper.now) (keeper.sound c.args.keeper.now) (keeper.may_leave c.args.keeper.now) in
+    let mid = held (keeper.journal c.names.keeper) (keeper.sound c.names.keeper) (keeper.may_leave c.names.keeper) in
+    holds_front (g.L.Read.remaining c.args.names.now) (g.L.Read.remaining c.names.names) c.names.status first mid
+    (g.O.Write.contents c.args.output.now) (g.O.Write.contents c.names.output) (c.names.invariant.each clean made)
+
+pub names-init : goal.names-init
+names-init g c =
+    let keeper = g.K.Keeper in
+    let text = g.L.Read.remaining c.args.names.now in
+    let old = g.O.Write.contents c.args.output.now in
+    let first = held (keeper.journal c.args.keeper.now) (keeper.sound c.args.keeper.now) (keeper.may_leave c.args.keeper.now) in
+    record {
+      printed = begins text old;
+      quiet = λ is. Keeps-refl (g.E.Write.contents c.args.errors.now);
+      before = λ sound. sound;
+      clean = λ clean. clean;
+      made = λ made. made;
+      crash_kept = λ clean made.
+          loses_none (keeper.may_leave c.args.keeper.now) (keeper.sound c.args.keeper.now) (keeper.journal c.args.keeper.now);
+      recovers = λ clean made leaves. leaves;
+      kept = λ sound made e stored. stored;
+      each = λ clean made. holds_first text old first;
     }
