@@ -1,10 +1,10 @@
 -- Why a command over a database fails, by the failures of what it does.
-use Rattle.std.proofs.Common.{◌≡◌, ◌≢◌, ◌⊎◌, inl, inr, ℕ, List, Option, refl, sym, subst}
+use Rattle.std.proofs.Common.{◌≡◌, ◌⊎◌, inl, inr, ℕ, List, Option, refl, sym, subst}
 use Rattle.jc_command_shared.specs.Failure.{status_of}
 use Rattle.jc_command_shared.specs.declared.failure.Failure.{Failure}
 use Rattle.jc_command_shared.specs.declared.failure.Failure.TheVariants.{Bad, BadAnswer, BadDatabaseName, BadExportName, BadFieldName, BadId, BadResume, CannotOpen, OutOfMemory, ReadFailed, SourceChanged, StoreFailed, WordsAreNoText, WriteFailed}
 use Rattle.jc_command_shared.specs.declared.status.Status.TheVariants.{Failed}
-use Rattle.jc_collector.specs.Database.{DatabaseFailsBy, IsOutFailure, ShowFailsBy, WhyNoJournal, WhyNoTables}
+use Rattle.jc_collector.specs.Database.{DatabaseFailsBy, IsOutFailure, MayEndNames, ShowFailsBy, WhyNoJournal, WhyNoTables}
 
 pub no_tables : (path : List ℕ) (failure : Failure) → WhyNoTables failure → WhyNoJournal path failure
 no_tables path (Bad fault) why = why
@@ -36,9 +36,6 @@ pub by_showing : (path : List ℕ) (field digits : Option (List ℕ)) (failure :
 by_showing path field digits failure (inl is) = subst (ShowFailsBy path field digits) (sym is) tt
 by_showing path field digits failure (inr (inl is)) = subst (ShowFailsBy path field digits) (sym is) tt
 by_showing path field digits failure (inr (inr is)) = subst (ShowFailsBy path field digits) (sym is) tt
-
-abbrev pub MayEndNames : Failure → Type 0
-MayEndNames failure = (failure ≡ ReadFailed) ⊎ IsOutFailure failure
 
 pub by_names : (path : List ℕ) (failure : Failure) → MayEndNames failure → (failure ≡ ReadFailed) ⊎ DatabaseFailsBy path failure
 by_names path failure (inl is) = inl is

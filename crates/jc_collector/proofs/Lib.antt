@@ -5,3 +5,4 @@ pub mod Inspections
 pub mod Results
 pub mod OverFiles
 pub mod Causes
+pub mod Open

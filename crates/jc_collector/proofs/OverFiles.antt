@@ -1,9 +1,9 @@
 -- From the files that a run begins with to those that it ends with.
-use Rattle.std.proofs.Common.{◌≡◌, ℕ, List, [], ◌∷◌, ◌++◌, Option, Some, None, inl, inr, length, sym, ap, subst, subst₂, ◌∙◌, arith}
+use Rattle.std.proofs.Common.{◌≡◌, ℕ, List, [], ◌∷◌, ◌++◌, Option, Some, None, inl, inr, length, refl, sym, ap, subst, subst₂, ◌∙◌, arith}
 use Rattle.std.proofs.Math.Logic.{∥∥₁_map}
-use Rattle.std.specs.Prelude.{MatchOption}
+use Rattle.std.specs.Prelude.{MatchOption, codes}
 use Rattle.std.specs.FinMap.{empty}
-use Rattle.std.specs.Io.KnownBytes.{Appends}
+use Rattle.std.specs.Io.KnownBytes.{Appends, prepend_known}
 use Rattle.sqlite_disk.specs.declared.Disk as disk
 use Rattle.sqlite.specs.declared.Files.{Files}
 use Rattle.sqlite.specs.declared.FileStore.{FileStore}
@@ -23,8 +23,11 @@ use Rattle.jc_database.specs.Files.{BeginsWith, IsFound, Keeps, KeepsAlways, Lea
 use Rattle.jc_collector_answers.specs.Answered.{KeepsPrinted}
 use Rattle.jc_command_shared.specs.declared.status.Status.{Status}
 use Rattle.jc_collector.specs.declared.health.Health.{Health}
+use Rattle.jc_collector.specs.Open.{StandsOver}
 use Rattle.jc_collector.specs.Checked.{Counts, PrintsHealth, count_line, health_text}
-use Rattle.jc_collector.specs.OverFiles.{LeavesPrinted, Prints}
+use Rattle.jc_collect.specs.Each.{KeepsEach}
+use Rattle.jc_upload.specs.declared.answer.Answer.{Answer}
+use Rattle.jc_collector.specs.OverFiles.{LeavesEach, LeavesPrinted, Prints, StoresListed, StoresNamed, StoresPrinted}
 use Rattle.jc_database.specs.FilesLaws.{database_found, keeps_found}
 
 -- ---- how a run begins
@@ -54,6 +57,16 @@ module _ {D : Type 0} {g : disk.Ghosts D} (image : Image) (opened kept : Held (F
         record { made = keeps.made it.made; is = keeps.same was it.made sound ∙ it.is }
     adopted m tables keeps sound before (inr nothing) = absurd (tables ((found (back sound).clean).none nothing.0))
 
+-- ---- how it ends
+
+module _ {D : Type 0} {g : disk.Ghosts D} (image : Image) (last : Held (FileStore D g)) (files : Files D)
+    (sound : AreClean g files.log files.db → IsSound over_files last)
+    (always : AreClean g files.log files.db → AreMade two over_files last → KeepsAlways two g files (journal_of two over_files last))
+  where
+    pub leads_on : (Step : Journal → Journal → Type 0) → StandsOver image last Step → LeadsTo two image g files Step
+    leads_on Step stands clean before begin =
+        let it = stands (sound clean) before begin in record { found = journal_of two over_files last; is = it.1; keeps = always clean it.0 }
+
 -- ---- how it goes on
 
 module _ {D : Type 0} {g : disk.Ghosts D} (image : Image) (first then last : Held (FileStore D g))
@@ -63,19 +76,17 @@ module _ {D : Type 0} {g : disk.Ghosts D} (image : Image) (first then last : Hel
     (step : IsSound over_files then → AreMade two over_files first → Step (journal_of two over_files first) (journal_of two over_files then))
     (back' : IsSound over_files last → IsSound over_files then) (keeps : KeepsJournal two over_files then last)
   where
-    pub leads_to : (files : Files D) → (AreClean g files.log files.db → IsSound over_files last)
-        → (AreClean g files.log files.db → AreMade two over_files last → KeepsAlways two g files (journal_of two over_files last))
-        → LeadsTo two image g files Step
-    leads_to files sound always clean before begin =
-        let sound_last = sound clean in
+    pub stands_over : StandsOver image last Step
+    stands_over sound_last before begin =
         let sound_then = back' sound_last in
         let it = begins (back sound_then) before begin in
         let made_then = made it.made in
-        record {
-          found = journal_of two over_files last;
-          is = subst₂ Step it.is (sym (keeps.same sound_then made_then sound_last)) (step sound_then it.made);
-          keeps = always clean (keeps.made made_then);
-        }
+        (keeps.made made_then, subst₂ Step it.is (sym (keeps.same sound_then made_then sound_last)) (step sound_then it.made))
+
+    pub leads_to : (files : Files D) → (AreClean g files.log files.db → IsSound over_files last)
+        → (AreClean g files.log files.db → AreMade two over_files last → KeepsAlways two g files (journal_of two over_files last))
+        → LeadsTo two image g files Step
+    leads_to files sound always = leads_on image last files sound always Step stands_over
 
 -- tables that became those of another meaning
 pub went_over : (m n : Meaning) → {D : Type 0} {g : disk.Ghosts D} (first moved : Held (FileStore D g))
@@ -104,3 +115,35 @@ pub found_again : {D : Type 0} {g : disk.Ghosts D} (uploads : List (List ℕ)) (
     → ∥ KeepsPrinted uploads before old new (journal_of two over_files opened) ∥₁
 found_again uploads before old new image opened begins left = ∥∥₁_map left
     (λ (it : LeavesPrinted uploads before old new image). subst (λ found. KeepsPrinted uploads before old new found) (sym (begins it.found (inl it.holds)).is) it.keeps)
+
+pub found_each : {D : Type 0} {g : disk.Ghosts D} (before : Journal) (answers : List Answer) (image : Image) (opened : Held (FileStore D g))
+    → ((found : Journal) → BeginsWith two image found → Keeps two opened found) → LeavesEach before answers image
+    → ∥ KeepsEach before answers (journal_of two over_files opened) ∥₁
+found_each before answers image opened begins left =
+    ∣ subst (λ (found : Journal). KeepsEach before answers found) (sym (begins left.found (inl left.holds)).is) left.keeps ∣₁
+
+-- a step that says less
+pub leads_weaker : {D : Type 0} {g : disk.Ghosts D} (image : Image) (files : Files D) (Step Other : Journal → Journal → Type 0)
+    → ((before after : Journal) → Step before after → Other before after) → LeadsTo two image g files Step → LeadsTo two image g files Other
+leads_weaker image files Step Other each leads clean before begin =
+    let it = leads clean before begin in record { found = it.found; is = each before it.found it.is; keeps = it.keeps }
+
+-- what is said of the lines of a text, by the name of the list that has it
+pub listed_named : (list : List ℕ) (given text : Option (List ℕ)) (status : Status) (old new : Option (List ℕ)) → (list ≡ codes "-" → text ≡ given)
+    → (before after : Journal) → StoresNamed text status old new before after → StoresListed list given status old new before after
+listed_named list given text status old new input before after stored = record { text = text; input = input; stored = stored }
+
+-- ---- one number for another, one text for another
+
+pub other_count : (count other : ℕ) → count ≡ other → (status : Status) (old new : Option (List ℕ)) (before after : Journal)
+    → StoresPrinted count status old new before after → StoresPrinted other status old new before after
+other_count count other same status old new before after it = subst (λ (n : ℕ). StoresPrinted n status old new before after) same it
+
+pub other_text : (text other : Option (List ℕ)) → text ≡ other → (status : Status) (old new : Option (List ℕ)) (before after : Journal)
+    → StoresNamed text status old new before after → StoresNamed other status old new before after
+other_text text other same status old new before after it =
+    subst (λ (t : Option (List ℕ)). StoresNamed t status old new before after) same it
+
+pub prepend_nothing : (known : Option (List ℕ)) → prepend_known [] known ≡ known
+prepend_nothing None = refl
+prepend_nothing (Some bytes) = refl

@@ -1,5 +1,5 @@
 -- What is said of a result by what is said of another one.
-use Rattle.std.proofs.Common.{◌≡◌, ◌⊎◌, inl, inr, None, Ok, Err, Option, Result, Some, refl, sym, subst}
+use Rattle.std.proofs.Common.{◌≡◌, ◌⊎◌, inl, inr, None, Ok, Err, Option, Result, Some, refl, subst}
 use Rattle.std.specs.Prelude.{IfOk, IfErr, IfSome, OnOk}
 
 pub IfOk-each : {T E : Type 0} (r : Result T E) (P Q : T → Type 0) → ((x : T) → P x → Q x) → IfOk r P → IfOk r Q

@@ -42,6 +42,10 @@ IsStoreFailure failure = (failure ≡ StoreFailed) ⊎ (failure ≡ OutOfMemory)
 abbrev pub IsOutFailure : Failure → Type 0
 IsOutFailure failure = (failure ≡ WriteFailed) ⊎ (failure ≡ StoreFailed) ⊎ (failure ≡ OutOfMemory)
 
+-- Why answering the uploads that a list names stopped.
+abbrev pub MayEndNames : Failure → Type 0
+MayEndNames failure = (failure ≡ ReadFailed) ⊎ IsOutFailure failure
+
 -- Why a command over a database fails: its name isn't taken, there is no journal, or a device or memory fails.
 abbrev pub DatabaseFailsBy : (database : List ℕ) → Failure → Type 0
 DatabaseFailsBy database BadDatabaseName = IsBadName database

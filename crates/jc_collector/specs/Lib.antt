@@ -4,3 +4,4 @@ pub mod Listed
 pub mod Checked
 pub mod Inspected
 pub mod OverFiles
+pub mod Open

@@ -1,18 +1,25 @@
 -- What a command makes of the journal in a database's files. (own)
-use Rattle.std.specs.Prelude.{◌≡◌, ℕ, List, Option, Some, map}
+use Rattle.std.specs.Prelude.{◌≡◌, ℕ, List, Option, Some, codes, map}
 use Rattle.std.specs.Io.KnownBytes.{Appends}
 use Rattle.sqlite_disk.specs.declared.Disk as disk
 use Rattle.sqlite.specs.declared.FileStore.{FileStore}
 use Rattle.sqlite.specs.Recovery.{Image}
 use Rattle.sqlite.specs.FileStore.{state, view}
 use Rattle.sqlite.specs.View.{IsClean}
+use Rattle.sqlite.specs.State.{HasCleanDisk}
+use Rattle.sqlite.specs.Files.{file_state, over_files}
+use Rattle.jc_store.specs.Meaning.{Kept, journal_of}
 use Rattle.jc_base.specs.declared.id.Id128.{Id128}
 use Rattle.jc_base.specs.Journal.{Journal}
 use Rattle.jc_base.specs.LogEntry.{LogEntry}
 use Rattle.jc_keeper.specs.Agree.{IsStored}
 use Rattle.jc_collector.specs.Database.{AsksId, asked_text}
+use Rattle.jc_collect.specs.Each.{KeepsEach, StoresEach}
 use Rattle.jc_collect.specs.Run.{Seen}
 use Rattle.jc_collector_answers.specs.Answered.{KeepsFirst, KeepsPrinted, RunsByDefault}
+use Rattle.jc_collector_answers.specs.Tied.{NamedWith, PrintsWith}
+use Rattle.jc_upload.specs.declared.answer.Answer.{Answer}
+use Rattle.jc_command_shared.specs.declared.status.Status.{Status}
 use Rattle.jc_schema_two.specs.Tables.{two}
 use Rattle.jc_database.specs.Files.{BeginsWith, HoldsJournal}
 
@@ -26,6 +33,45 @@ pub record CollectsAll (uploads : List (List ℕ)) (old new : Option (List ℕ))
   pub journal_after : last.journal ≡ after
   pub output_before : first.written ≡ old
   pub output_after : last.written ≡ new
+
+-- The lines of this many answers were printed, the status is theirs, and each acknowledged upload is stored: there is a
+-- reading with as many entries as its answer counts, which was taken up whole over what the answers before left.
+abbrev pub StoresPrinted : (count : ℕ) → Status → (old new : Option (List ℕ)) → (before after : Journal) → Type 0
+StoresPrinted count status old new before after = PrintsWith (λ answers. StoresEach before answers after) count status old new
+
+-- The same of an answer for each line of a text.
+abbrev pub StoresNamed : (text : Option (List ℕ)) → Status → (old new : Option (List ℕ)) → (before after : Journal) → Type 0
+StoresNamed text status old new before after = NamedWith (λ answers. StoresEach before answers after) text status old new
+
+-- The same of an answer for each line of a list. The list is given by its name, which is that of a file unless it is
+-- standard input.
+pub record StoresListed (list : List ℕ) (given : Option (List ℕ)) (status : Status) (old new : Option (List ℕ)) (before after : Journal)
+    : Type 0 where
+  pub text : Option (List ℕ)
+  pub input : list ≡ codes "-" → text ≡ given
+  pub stored : StoresNamed text status old new before after
+
+-- What is said of a run that is stopped: if its disks returned what was written, and the files had this journal when it
+-- began, or none, then this holds of that journal.
+abbrev pub WhenBegun : {D : Type 0} {g : disk.Ghosts D} → (first : Image) → (stopped : FileStore D g) → (Journal → Type 0) → Type 0
+WhenBegun first stopped Says = IsClean (view stopped) → (before : Journal) → BeginsWith two first before → Says before
+
+-- Whatever a crash leaves of its files is such an image.
+abbrev pub AnyLeft : {D : Type 0} {g : disk.Ghosts D} → (stopped : FileStore D g) → (Image → Type 0) → Type 0
+AnyLeft stopped Is = (left : Image) → (state stopped).may_leave left → ∥ Is left ∥₁
+
+-- What a crash left of the files has a journal: what these answers acknowledge, over what was stored, and all of one more
+-- upload at most, which was answered 62 or 63.
+pub record LeavesEach (before : Journal) (answers : List Answer) (left : Image) : Type 0 where
+  pub found : Journal
+  pub keeps : KeepsEach before answers found
+  pub holds : HoldsJournal two left found
+
+-- What the next run finds, if its disks returned what was written: a journal with what these answers acknowledge, over what
+-- was stored, and all of one more upload at most. `opened` is its keeper.
+abbrev pub FindsEach : {D : Type 0} {g : disk.Ghosts D} → (before : Journal) → List Answer → (opened : Kept (FileStore D g)) → Type 0
+FindsEach before answers opened =
+    HasCleanDisk (file_state opened.conn) → ∥ KeepsEach before answers (journal_of two over_files opened.conn) ∥₁
 
 -- What is said of a run over uploads that is stopped: if its disks returned what was written, the files had this journal when
 -- it began, or none, and the uploads have these bytes, then this holds of whatever a crash leaves of the files.

@@ -2,6 +2,7 @@
 //! `migrate`.
 #![tactic(auto)]
 
+mod answered;
 mod collecting;
 mod database;
 mod failures;
@@ -13,6 +14,7 @@ mod migrating;
 mod stopping;
 mod then_export;
 
+pub use answered::{Answered, answer_deliveries, answer_lines};
 pub use collecting::{collect, collect_deliveries};
 pub use database::{Closed, FileKeeper};
 pub use health::{Examined, Health, check};
@@ -20,4 +22,6 @@ pub use inspecting::inspect;
 pub use listed::collect_listed;
 pub use listing::{export, show};
 pub use migrating::migrate;
-pub use stopping::{Stopped, collect_and_stop, open_after_stop};
+pub use stopping::{
+    Stopped, collect_and_stop, collect_lines_and_stop, open_after_lines, open_after_stop,
+};

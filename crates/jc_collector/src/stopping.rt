@@ -1,6 +1,6 @@
 //! A run that is stopped, and the one after it.
 
-ghost use Rattle.std.specs.Prelude.{◌≡◌, Err, IfOk, OnOk, map};
+ghost use Rattle.std.specs.Prelude.{◌≡◌, Err, IfOk, IfErr, OnOk, length, map};
 ghost use Rattle.sqlite.specs.State.{HasCleanDisk};
 ghost use Rattle.sqlite.specs.WalFiles.{image_at};
 ghost use Rattle.sqlite.specs.Files.{file_state, over_files};
@@ -8,18 +8,19 @@ ghost use Rattle.jc_collect.specs.Delivered.{of_delivery};
 ghost use Rattle.jc_store.specs.Meaning.{journal_of};
 ghost use Rattle.jc_schema_two.specs.Tables.{two};
 ghost use Rattle.jc_collector_answers.specs.Answered.{KeepsPrinted};
-ghost use Rattle.jc_collector.specs.OverFiles.{LeavesFirst, LeavesPrinted, WhenStopped};
+ghost use Rattle.jc_collector_answers.specs.Tied.{NamedWith, PrintsFront, PrintsWith};
+ghost use Rattle.jc_collector.specs.OverFiles.{AnyLeft, FindsEach, LeavesEach, LeavesFirst, LeavesPrinted, WhenBegun, WhenStopped};
 
+use crate::answered::{Answered, answer_deliveries, answer_lines};
 use crate::database::{FileKeeper, open_or_make};
 use jc_base::ByteStream;
 use jc_collect::Delivery;
-use jc_collector_answers::answer_all;
 use jc_command_shared::{Failure, Status};
-use jc_database::{sound_leaves_journals, stop_keeper};
+use jc_database::stop_keeper;
 use jc_file::ByteSpace;
 use sqlite::{FileFrom, FileStore, Start};
 use sqlite_disk::Disk;
-use std::io::Write;
+use std::io::{BufRead, Write};
 
 /// What a run had answered when it was stopped, and what it has of its database's files.
 #[derive(Drop)]
@@ -28,16 +29,24 @@ pub struct Stopped<'a, D: Disk> {
     pub files: FileStore<D>,
 }
 
-/// Takes deliveries up into the journal of a database, which is made if there is none, prints an answer for each, and then
-/// is stopped: what a crash may leave of the files is what it may leave at this moment. It is a journal with what was
-/// stored, all that was acknowledged, and all of one more upload at most.
+/// Does what `collect` does of deliveries up to where it closes its database, and then is stopped: what a crash may leave
+/// of the files is what it may leave at this moment. It is a journal with what was stored, all that was acknowledged, and
+/// all of one more upload at most.
 pub fn collect_and_stop<'a, S: Start, R: ByteStream, B: ByteSpace, O: Write>(
     rt: &HostRuntime,
     start: S,
     database: &'a str,
+    then_export: Option<&'a str>,
     deliveries: &mut [Delivery<R, B>],
     output: &mut O,
 ) -> Result<Stopped<'a, FileFrom<S>>, Failure<'a>>
+    ensures each { IfOk result (λ run. WhenBegun (image_at S.Start) run.files (λ before. IfOk run.answered (λ status.
+        PrintsWith (λ answers. AnyLeft run.files (LeavesEach before answers)) (length deliveries.old) status
+        (O.contents output.old) (O.contents output.new)))) }
+    ensures each_failed { IfOk result (λ run. WhenBegun (image_at S.Start) run.files (λ before. IfErr run.answered (λ _.
+        PrintsFront (λ answers. AnyLeft run.files (LeavesEach before answers))
+        (O.contents output.old) (O.contents output.new)))) }
+    // If the deliveries' bytes are known, these are the uploads that it says.
     ensures printed { IfOk result (λ run.
         WhenStopped (image_at S.Start) (map (of_delivery R.remaining B.bytes) deliveries.old) run.files
         (λ uploads before left. OnOk run.answered
@@ -47,28 +56,92 @@ pub fn collect_and_stop<'a, S: Start, R: ByteStream, B: ByteSpace, O: Write>(
         (λ uploads before left. run.answered ≡ Err Failure.WriteFailed
         → ∥ LeavesFirst uploads before (O.contents output.old) (O.contents output.new) left ∥₁)) }
 {
-    let mut keeper = open_or_make(rt, database, start)?;
-    // Does nothing: from its contract the proof has what might have been left before.
-    sound_leaves_journals(&keeper);
-    let answered = answer_all(rt.alloc(), &mut keeper, deliveries, output);
+    let Answered { done, keeper } = answer_deliveries(
+        rt,
+        start,
+        database,
+        then_export,
+        deliveries,
+        output,
+    )?;
     let files = stop_keeper(keeper);
-    Ok(Stopped { answered, files })
+    Ok(Stopped {
+        answered: done,
+        files,
+    })
 }
 
-/// The same, and then the next run opens the database: if its files hold what the crash left, it has that journal.
+/// The same of the uploads that lines name.
+pub fn collect_lines_and_stop<'a, S: Start, L: BufRead, O: Write, E: Write>(
+    rt: &HostRuntime,
+    start: S,
+    database: &'a str,
+    then_export: Option<&'a str>,
+    names: &mut L,
+    output: &mut O,
+    errors: &mut E,
+) -> Result<Stopped<'a, FileFrom<S>>, Failure<'a>>
+    ensures each { IfOk result (λ run. WhenBegun (image_at S.Start) run.files (λ before. IfOk run.answered (λ status.
+        NamedWith (λ answers. AnyLeft run.files (LeavesEach before answers)) (L.remaining names.old) status
+        (O.contents output.old) (O.contents output.new)))) }
+    ensures each_failed { IfOk result (λ run. WhenBegun (image_at S.Start) run.files (λ before. IfErr run.answered (λ _.
+        PrintsFront (λ answers. AnyLeft run.files (LeavesEach before answers))
+        (O.contents output.old) (O.contents output.new)))) }
+{
+    let Answered { done, keeper } = answer_lines(
+        rt,
+        start,
+        database,
+        then_export,
+        names,
+        output,
+        errors,
+    )?;
+    let files = stop_keeper(keeper);
+    Ok(Stopped {
+        answered: done,
+        files,
+    })
+}
+
+/// A run over deliveries that is stopped, and then the next run opens the database: if its files hold what the crash left,
+/// it has that journal.
 pub fn open_after_stop<'a, S: Start, T: Start, R: ByteStream, B: ByteSpace, O: Write>(
     rt: &HostRuntime,
     start: S,
     next: T,
     database: &'a str,
+    then_export: Option<&'a str>,
     deliveries: &mut [Delivery<R, B>],
     output: &mut O,
 ) -> Result<(Stopped<'a, FileFrom<S>>, Result<FileKeeper<T>, Failure<'a>>), Failure<'a>>
-    ensures { IfOk result (λ runs. WhenStopped (image_at S.Start) (map (of_delivery R.remaining B.bytes) deliveries.old) runs.0.files
+    ensures each { IfOk result (λ runs. WhenBegun (image_at S.Start) runs.0.files (λ before. IfOk runs.0.answered (λ status.
+        PrintsWith (λ answers. AnyLeft runs.0.files (λ left. left ≡ image_at T.Start → IfOk runs.1 (FindsEach before answers)))
+        (length deliveries.old) status (O.contents output.old) (O.contents output.new)))) }
+    ensures found { IfOk result (λ runs. WhenStopped (image_at S.Start) (map (of_delivery R.remaining B.bytes) deliveries.old) runs.0.files
         (λ uploads before left. left ≡ image_at T.Start → OnOk runs.0.answered
         (IfOk runs.1 (λ opened. HasCleanDisk (file_state opened.conn)
         → ∥ KeepsPrinted uploads before (O.contents output.old) (O.contents output.new) (journal_of two over_files opened.conn) ∥₁)))) }
 {
-    let stopped = collect_and_stop(rt, start, database, deliveries, output)?;
+    let stopped = collect_and_stop(rt, start, database, then_export, deliveries, output)?;
+    Ok((stopped, open_or_make(rt, database, next)))
+}
+
+/// A run over the uploads that lines name, which is stopped, and the next one.
+pub fn open_after_lines<'a, S: Start, T: Start, L: BufRead, O: Write, E: Write>(
+    rt: &HostRuntime,
+    start: S,
+    next: T,
+    database: &'a str,
+    then_export: Option<&'a str>,
+    names: &mut L,
+    output: &mut O,
+    errors: &mut E,
+) -> Result<(Stopped<'a, FileFrom<S>>, Result<FileKeeper<T>, Failure<'a>>), Failure<'a>>
+    ensures { IfOk result (λ runs. WhenBegun (image_at S.Start) runs.0.files (λ before. IfOk runs.0.answered (λ status.
+        NamedWith (λ answers. AnyLeft runs.0.files (λ left. left ≡ image_at T.Start → IfOk runs.1 (FindsEach before answers)))
+        (L.remaining names.old) status (O.contents output.old) (O.contents output.new)))) }
+{
+    let stopped = collect_lines_and_stop(rt, start, database, then_export, names, output, errors)?;
     Ok((stopped, open_or_make(rt, database, next)))
 }

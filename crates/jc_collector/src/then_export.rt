@@ -1,6 +1,9 @@
 //! `--then-export`: a journal goes to a file once the uploads are answered.
 
-ghost use Rattle.std.specs.Prelude.{◌≡◌, ◌⊎◌, Ok, Err, IfOk, IfErr};
+ghost use Rattle.std.specs.Prelude.{◌≡◌, ◌⊎◌, ◌≤◌, Ok, Err, IfOk, IfErr};
+ghost use Rattle.sqlite.specs.Held.{state};
+ghost use Rattle.sqlite.specs.View.{doubt};
+ghost use Rattle.jc_store.specs.Crash.{LeavesNoMore};
 ghost use Rattle.jc_store.specs.Meaning.{IsSound, KeepsJournal};
 ghost use Rattle.jc_schema_two.specs.Tables.{two};
 ghost use Rattle.jc_collector.specs.Database.{IsOutFailure};
@@ -76,8 +79,11 @@ pub fn export_after<'a, R: Files + AllocGlobal, S: Alter>(
     path: Option<&'a str>,
 ) -> Result<Status, Failure<'a>>
     ensures answered { IfOk result (λ status. answered.entry ≡ Ok status) }
+    ensures passed_on { IfErr answered.entry (λ failure. result ≡ Err failure) }
     ensures before { IsSound S.Store keeper.new.conn → IsSound S.Store keeper.old.conn }
     ensures keeps { KeepsJournal two S.Store keeper.old.conn keeper.new.conn }
+    ensures clean { doubt (state S.Store keeper.old.conn).is_clean ≤ doubt (state S.Store keeper.new.conn).is_clean }
+    ensures crash { LeavesNoMore (state S.Store keeper.old.conn) (state S.Store keeper.new.conn) }
     ensures failed { IfErr result (λ failure. (answered.entry ≡ Err failure) ⊎ IsOutFailure failure) }
 {
     let status = answered?;
@@ -95,6 +101,8 @@ fn export_file<'a, R: Files + AllocGlobal, S: Alter>(
 ) -> Result<(), Failure<'a>>
     ensures before { IsSound S.Store keeper.new.conn → IsSound S.Store keeper.old.conn }
     ensures keeps { KeepsJournal two S.Store keeper.old.conn keeper.new.conn }
+    ensures clean { doubt (state S.Store keeper.old.conn).is_clean ≤ doubt (state S.Store keeper.new.conn).is_clean }
+    ensures crash { LeavesNoMore (state S.Store keeper.old.conn) (state S.Store keeper.new.conn) }
     ensures failed { IfErr result IsOutFailure }
 {
     let beside = name_beside(rt.alloc(), path)?;

@@ -1,5 +1,5 @@
 -- The keeper has the journal that the files had, or the empty one if they had none.
-use Rattle.std.proofs.Common.{◌≡◌, true≢false, sym, ◌∙◌}
+use Rattle.std.proofs.Common.{true≢false, sym, ◌∙◌}
 use Rattle.sqlite.specs.WalFiles.{image_at}
 use Rattle.jc_schema_two.specs.Tables.{two}
 use Rattle.jc_collector.proofs.OverFiles.{adopted, made_anew}

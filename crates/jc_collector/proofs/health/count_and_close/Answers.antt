@@ -1,5 +1,5 @@
 -- The closed files have the journal that was counted.
-use Rattle.std.proofs.Common.{◌≡◌, inl, ap, ◌∙◌}
+use Rattle.std.proofs.Common.{inl, ap, ◌∙◌}
 use Rattle.std.specs.FinMap.{len}
 use Rattle.sqlite.specs.Files.{over_files}
 use Rattle.jc_base.specs.Journal.{Journal}

@@ -1,5 +1,5 @@
 -- What was counted is printed.
-use Rattle.std.proofs.Common.{◌≡◌, ◌∙◌}
+use Rattle.std.proofs.Common.{◌∙◌}
 use Rattle.jc_collector.proofs.OverFiles.{match_each, prints_counted}
 use Rattle.jc_collector.proofs.migrating.migrate.Goals as goal
 

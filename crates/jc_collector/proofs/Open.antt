@@ -1,0 +1,196 @@
+-- The answers of a run over a database that it has open.
+use Rattle.std.proofs.Common.{◌≡◌, ℕ, zero, suc, ◌≤◌, ◌-◌, List, [], ◌∷◌, ◌++◌, Option, Result, Ok, Err, inl, ⊎_elim, length, take, sym, subst, subst₂, ◌∙◌, append-nil, arith}
+use Rattle.std.specs.Prelude.{IfOk, IfErr, OnOk, ⊤}
+use Rattle.std.specs.Io.KnownBytes.{Appends}
+use Rattle.std.proofs.lemmas.List.{length-append, take_all}
+use Rattle.std.proofs.Math.Logic.{∥∥₁_map}
+use Rattle.sqlite_disk.specs.declared.Disk as disk
+use Rattle.sqlite.specs.declared.Files.{Files}
+use Rattle.sqlite.specs.declared.FileStore.{FileStore}
+use Rattle.sqlite.specs.Recovery.{Image}
+use Rattle.sqlite.specs.FileStore.{state, view}
+use Rattle.sqlite.specs.View.{IsClean}
+use Rattle.sqlite.specs.WalReads.{AreClean}
+use Rattle.sqlite.specs.State.{HasCleanDisk}
+use Rattle.sqlite.specs.Held.{Held}
+use Rattle.sqlite.specs.Files.{file_state, over_files}
+use Rattle.jc_base.specs.Journal.{Journal}
+use Rattle.jc_collect.specs.Crash.{KeepsAcknowledged}
+use Rattle.jc_collect.specs.Each.{HoldsEach, KeepsEach, StoresEach, held}
+use Rattle.jc_collect.specs.EachLaws.{holds_refused}
+use Rattle.jc_collect.specs.Run.{lines_of_answers}
+use Rattle.jc_collector_answers.specs.Answered.{KeepsFirst, KeepsPrinted}
+use Rattle.jc_collector_answers.specs.Tied.{NamedWith, PrintsFront, PrintsWith}
+use Rattle.jc_command_shared.specs.declared.failure.Failure.{Failure}
+use Rattle.jc_command_shared.specs.declared.status.Status.{Status}
+use Rattle.jc_database.specs.Files.{BeginsWith, HoldsJournal, Keeps, KeepsAlways, LeadsTo}
+use Rattle.jc_schema_two.specs.Tables.{two}
+use Rattle.jc_store.specs.Crash.{LeavesJournals, LeavesNoMore, MayLeave}
+use Rattle.jc_store.specs.Meaning.{AreMade, IsSound, KeepsJournal, journal_of}
+use Rattle.jc_upload.specs.Answer.{answer_text}
+use Rattle.jc_upload.specs.declared.answer.Answer.{Answer}
+use Rattle.jc_collector.specs.Open.{HoldsOpen, Recovers, WhileClean}
+use Rattle.jc_collector.specs.OverFiles.{AnyLeft, LeavesEach, StoresNamed, StoresPrinted}
+use Rattle.jc_collector.proofs.Results.{at_ok}
+
+-- ---- what is printed
+
+pub with_other : (H Z : List Answer → Type 0) → ((answers : List Answer) → H answers → Z answers) → (count : ℕ) (status : Status) (old new : Option (List ℕ))
+    → PrintsWith H count status old new → PrintsWith Z count status old new
+with_other H Z each count status old new p = record { shown = p.shown; holds = each p.shown.answers p.holds }
+
+pub named_other : (H Z : List Answer → Type 0) → ((answers : List Answer) → H answers → Z answers) → (text : Option (List ℕ)) (status : Status) (old new : Option (List ℕ))
+    → NamedWith H text status old new → NamedWith Z text status old new
+named_other H Z each text status old new p = record { shown = p.shown; holds = each p.shown.printed.answers p.holds }
+
+pub front_other : (H Z : List Answer → Type 0) → ((answers : List Answer) → H answers → Z answers) → (old new : Option (List ℕ))
+    → PrintsFront H old new → PrintsFront Z old new
+front_other H Z each old new p = record {
+  answers = p.answers;
+  more = p.more;
+  one = p.one;
+  bytes = p.bytes;
+  printed = p.printed;
+  holds = each (p.answers ++ p.more) p.holds;
+}
+
+-- all lines are a front of them
+front_of_all : (H : List Answer → Type 0) (answers : List Answer) (old new : Option (List ℕ)) → Appends old new (lines_of_answers answers)
+    → H answers → PrintsFront H old new
+front_of_all H answers old new printed holds = record {
+  answers = answers;
+  more = [];
+  one = omega arith;
+  bytes = 0;
+  printed = subst (λ (l : List ℕ). Appends old new l) (sym (append-nil (lines_of_answers answers))) printed;
+  holds = subst H (sym (append-nil answers)) holds;
+}
+
+pub front_with : (H : List Answer → Type 0) (count : ℕ) (r : Result Status Failure) (old new : Option (List ℕ))
+    → IfOk r (λ status. PrintsWith H count status old new) → IfErr r (λ _. PrintsFront H old new) → PrintsFront H old new
+front_with H count (Ok status) old new p q = front_of_all H p.shown.answers old new p.shown.printed p.holds
+front_with H count (Err failure) old new p q = q
+
+pub front_named : (H : List Answer → Type 0) (text : Option (List ℕ)) (r : Result Status Failure) (old new : Option (List ℕ))
+    → IfOk r (λ status. NamedWith H text status old new) → IfErr r (λ _. PrintsFront H old new) → PrintsFront H old new
+front_named H text (Ok status) old new p q = front_of_all H p.shown.printed.answers old new p.shown.printed.printed p.holds
+front_named H text (Err failure) old new p q = q
+
+pub on_err : {T E : Type 0} (r : Result T E) (P : Type 0) → P → IfErr r (λ _. P)
+on_err (Ok x) P p = tt
+on_err (Err e) P p = p
+
+-- a value that was passed on
+pub on_ok_of_other : {T E : Type 0} (done answered : Result T E) (P : Type 0) → IfOk done (λ x. answered ≡ Ok x) → OnOk answered P → OnOk done P
+on_ok_of_other (Ok x) answered P is p = subst (λ r. OnOk r P) is p
+on_ok_of_other (Err e) answered P is p = tt
+
+pub on_ok_each : {T E : Type 0} (r : Result T E) (P Q : Type 0) → (P → Q) → OnOk r P → OnOk r Q
+on_ok_each (Ok x) P Q each p = each p
+on_ok_each (Err e) P Q each p = tt
+
+-- a failure of something behind, or one that was passed on
+pub failed_before : {T E : Type 0} (done answered : Result T E) (e : E) (P : Type 0) → IfErr answered (λ failure. done ≡ Err failure)
+    → OnOk answered P → (answered ≡ Err e → P) → done ≡ Err e → P
+failed_before done (Ok x) e P on p first is = p
+failed_before done (Err failure) e P on p first is = first (sym on ∙ is)
+
+-- ---- the first ones are all
+
+lines_within : (answers : List Answer) (n : ℕ) → length (lines_of_answers (take n answers)) ≤ length (lines_of_answers answers)
+lines_within [] zero = omega arith
+lines_within [] (suc n) = omega arith
+lines_within (first ∷ rest) zero = omega arith
+lines_within (first ∷ rest) (suc n) =
+    omega
+    (arith, lines_within rest n, length-append (answer_text first) (lines_of_answers (take n rest)), length-append (answer_text first) (lines_of_answers rest))
+
+pub all_first : (uploads : List (List ℕ)) (before : Journal) (old new : Option (List ℕ)) (found : Journal)
+    → KeepsPrinted uploads before old new found → KeepsFirst uploads before old new found
+all_first uploads before old new found p =
+    let lines = lines_of_answers p.answers in record {
+      limits = p.limits;
+      defaults = p.defaults;
+      done = length uploads;
+      within = omega arith;
+      answers = p.answers;
+      keeps = subst (λ (us : List (List ℕ)). KeepsAcknowledged p.limits before us p.answers found)
+          (sym (take_all (length uploads) uploads (omega arith))) p.keeps;
+      shown = length lines;
+      whole_before = lines_within p.answers (length uploads - 1);
+      printed = subst (λ (l : List ℕ). Appends old new l) (sym (take_all (length lines) lines (omega arith))) p.printed;
+    }
+
+-- ---- over a connection
+
+module _ {D : Type 0} {g : disk.Ghosts D} (first then last : Held (FileStore D g)) (before : Journal) (sound : IsSound over_files first)
+    (has : Keeps two first before) (durable : (found : Journal) → MayLeave two over_files first found → found ≡ journal_of two over_files first)
+    (made : AreMade two over_files then)
+    (back : IsSound over_files last → IsSound over_files then) (keeps : KeepsJournal two over_files then last)
+    (less : LeavesNoMore (file_state then) (file_state last)) (clean : HasCleanDisk (file_state last))
+  where
+    pub less_left : (found : Journal) → MayLeave two over_files last found → MayLeave two over_files then found
+    less_left found may = record { trees = may.trees; left = less clean may.trees may.left; is = may.is }
+
+    pub holds_open : (answers : List Answer)
+        → HoldsEach (held (journal_of two over_files first) (IsSound over_files first) (MayLeave two over_files first))
+        (held (journal_of two over_files then) (IsSound over_files then) (MayLeave two over_files then)) answers
+        → HoldsOpen last before answers
+    holds_open answers h = record {
+      stored = λ late. let early = back late in
+          subst₂ (λ (b a : Journal). StoresEach b answers a) has.is (sym (keeps.same early made late)) (h.stored early);
+      found = λ found may. ⊎_elim
+          (λ was. record {
+            last = before;
+            stored = (holds_refused (held before ⊤ (λ _. ⊤)) answers was.1).stored tt;
+            is = inl (durable found was.0 ∙ has.is);
+          })
+          (λ kept. subst (λ (b : Journal). KeepsEach b answers found) has.is kept.1)
+          (h.found found (less_left found may));
+    }
+
+-- ---- once it is closed
+
+module _ {D : Type 0} {g : disk.Ghosts D} (image : Image) (last : Held (FileStore D g)) (files : Files D)
+    (sound : AreClean g files.log files.db → IsSound over_files last)
+    (always : AreClean g files.log files.db → AreMade two over_files last → KeepsAlways two g files (journal_of two over_files last))
+    (recovers : WhileClean image last (λ _. Recovers last))
+    (status : Status) (old new : Option (List ℕ)) (done : Result Status Failure) (is : done ≡ Ok status)
+  where
+    pub leads_with : (count : ℕ)
+        → WhileClean image last (λ before. IfOk done (λ status. PrintsWith (HoldsOpen last before) count status old new))
+        → LeadsTo two image g files (StoresPrinted count status old new)
+    leads_with count each clean before begin =
+        let late = sound clean in
+        record {
+          found = journal_of two over_files last;
+          is = with_other (HoldsOpen last before) (λ answers. StoresEach before answers (journal_of two over_files last))
+              (λ answers h. h.stored late) count status old new (at_ok done status _ is (each late.clean before begin));
+          keeps = always clean (recovers late.clean before begin).made;
+        }
+
+    pub leads_named : (text : Option (List ℕ))
+        → WhileClean image last (λ before. IfOk done (λ status. NamedWith (HoldsOpen last before) text status old new))
+        → LeadsTo two image g files (StoresNamed text status old new)
+    leads_named text each clean before begin =
+        let late = sound clean in
+        record {
+          found = journal_of two over_files last;
+          is = named_other (HoldsOpen last before) (λ answers. StoresEach before answers (journal_of two over_files last))
+              (λ answers h. h.stored late) text status old new (at_ok done status _ is (each late.clean before begin));
+          keeps = always clean (recovers late.clean before begin).made;
+        }
+
+-- ---- once it is stopped
+
+module _ {D : Type 0} {g : disk.Ghosts D} (image : Image) (last : Held (FileStore D g)) (stopped : FileStore D g)
+    (clean : IsClean (view stopped) → HasCleanDisk (file_state last))
+    (left : IsClean (view stopped) → LeavesJournals two over_files last → (left : Image) → (state stopped).may_leave left
+    → ∥ ((found : Journal) × MayLeave two over_files last found × HoldsJournal two left found) ∥₁)
+    (recovers : WhileClean image last (λ _. Recovers last))
+  where
+    pub left_each : IsClean (view stopped) → (before : Journal) → BeginsWith two image before → (answers : List Answer)
+        → HoldsOpen last before answers → AnyLeft stopped (LeavesEach before answers)
+    left_each is before begin answers h image may =
+        ∥∥₁_map (left is (recovers (clean is) before begin).journals image may)
+        (λ it. record { found = it.0; keeps = h.found it.0 it.1; holds = it.2 })
