@@ -2,6 +2,7 @@
 #![tactic(auto)]
 
 pub use jc_command::command;
+use jc_command::run_command;
 use jc_command_shared::Failure;
 use sqlite::Unknown;
 use std::process::ExitCode;
@@ -11,14 +12,17 @@ fn main(rt: HostRuntime) -> ExitCode {
     let mut errors = rt.stderr();
     let number = match given_words(&rt) {
         // A commit syncs once, as under SQLite's `synchronous=FULL`.
-        Ok(words) => command(
-            &rt,
-            Unknown,
-            words,
-            &mut rt.reader(),
-            &mut rt.stdout(),
-            &mut errors,
-        ),
+        Ok(words) => {
+            run_command(
+                &rt,
+                Unknown,
+                words,
+                &mut rt.reader(),
+                &mut rt.stdout(),
+                &mut errors,
+            )
+            .status
+        }
         Err(failure) => failure.report(&mut errors).number(),
     };
     ExitCode::from(number)

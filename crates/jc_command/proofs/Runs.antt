@@ -1,9 +1,12 @@
 -- How a run ends, from what its parts promise.
-use Rattle.std.proofs.Common.{◌≡◌, ◌≢◌, ◌⊎◌, ◌∙◌, ap, refl, sym, subst, inl, inr, Bool, true, false, List, ℕ, Option, Some, None}
-use Rattle.std.specs.Prelude.{IfOk, IfErr, Result, Ok, Err, if◌then◌else◌}
+use Rattle.std.proofs.Common.{◌≡◌, ◌≢◌, ◌⊎◌, ◌∙◌, ap, arith, length, refl, sym, subst, inl, inr, Bool, true, false, List, [], ◌∷◌, ℕ, Option, Some, None}
+use Rattle.std.specs.Prelude.{IfOk, IfErr, IfSome, Result, Ok, Err, if◌then◌else◌}
 use Rattle.std.specs.List.{list_any}
 use Rattle.std.specs.Io.KnownBytes.{Keeps}
 use Rattle.clap.specs.Words.{Text}
+use Rattle.sqlite_disk.specs.declared.Disk as disk
+use Rattle.sqlite_disk.specs.declared.Files.{Files}
+use Rattle.sqlite.specs.Recovery.{Image}
 use Rattle.clap.specs.declared.error.kind.ErrorKind.{ErrorKind}
 use Rattle.clap.specs.declared.error.kind.ErrorKind.TheVariants as kind
 use Rattle.jc_base.specs.declared.fault.Ending.{Ending}
@@ -28,7 +31,7 @@ use Rattle.jc_command_shared.specs.Failure.{status_of}
 use Rattle.jc_command.specs.Run.{Ends, FailsBy, Performs, Stops, StopsAsked}
 use Rattle.jc_command_shared.specs.Status.{number_of}
 use Rattle.jc_sender.specs.Verdict.{verdict_status}
-use Rattle.jc_command_args.specs.Words.{AreAnswered, AskFor}
+use Rattle.jc_command_args.specs.Words.{AreAnswered, AreWrong, AskFor}
 
 -- a reading's status is one of two
 not_misused : (ending : Ending) → Misused ≡ verdict_status ending → ⊥
@@ -49,27 +52,27 @@ judged_not_misused false true same = cc
 judged_not_misused false false same = cc
 
 -- what was asked for is performed
-pub performed : (words : List Text) (request : Request) (given output output' errors errors' : Option (List ℕ)) (status : Status)
-    → AskFor words request → Performs request given output output' status → (status ≡ Success → Keeps errors errors')
-    → Ends words given output output' errors errors' status
-performed words request given output output' errors errors' Success asks does quiet = (quiet refl, inr (request, asks, does))
-performed words request given output output' errors errors' Refused asks does quiet = inl (request, asks, does)
-performed words request given output output' errors errors' Failed asks does quiet = (request, asks, does)
-performed words (Verify k file) given output output' errors errors' Misused asks does quiet = absurd (not_misused does.ending does.printed.judged)
-performed words (Upload source limit whole) given output output' errors errors' Misused asks does quiet = let same : Misused ≡ Success = does.0 in cc
-performed words (Ack source) given output output' errors errors' Misused asks does quiet = let same : Misused ≡ Success = does.0 in cc
-performed words (requests.Inspect file) given output output' errors errors' Misused asks does quiet =
+pub performed : {D : Type 0} (image : Image) (g : disk.Ghosts D) (files : Option (Files D)) (words : List Text) (request : Request) (given output output' errors errors' : Option (List ℕ)) (status : Status)
+    → AskFor words request → Performs image g files request given output output' status → (status ≡ Success → Keeps errors errors')
+    → Ends image g files words given output output' errors errors' status
+performed image g files words request given output output' errors errors' Success asks does quiet = (quiet refl, inr (request, asks, does))
+performed image g files words request given output output' errors errors' Refused asks does quiet = inl (request, asks, does)
+performed image g files words request given output output' errors errors' Failed asks does quiet = (request, asks, does)
+performed image g files words (Verify k file) given output output' errors errors' Misused asks does quiet = absurd (not_misused does.ending does.printed.judged)
+performed image g files words (Upload source limit whole) given output output' errors errors' Misused asks does quiet = let same : Misused ≡ Success = does.0 in cc
+performed image g files words (Ack source) given output output' errors errors' Misused asks does quiet = let same : Misused ≡ Success = does.0 in cc
+performed image g files words (requests.Inspect file) given output output' errors errors' Misused asks does quiet =
     absurd (inspected_not_misused does.inspected does.printed.judged)
-performed words (requests.Collect database uploads then_export) given output output' errors errors' Misused asks does quiet =
-    absurd (judged_not_misused (list_any is_failure does.answers) (list_any is_refusal does.answers) does.is)
-performed words (requests.CollectListed database list then_export) given output output' errors errors' Misused asks does quiet =
-    let printed = does.printed.printed in
+performed image g files words (requests.Collect database uploads then_export) given output output' errors errors' Misused asks does quiet =
+    absurd (judged_not_misused (list_any is_failure does.printed.answers) (list_any is_refusal does.printed.answers) does.printed.is)
+performed image g files words (requests.CollectListed database list then_export) given output output' errors errors' Misused asks does quiet =
+    let printed = does.printed.printed.printed in
     absurd (judged_not_misused (list_any is_failure printed.answers) (list_any is_refusal printed.answers) printed.is)
-performed words (requests.Export database) given output output' errors errors' Misused asks does quiet = let same : Misused ≡ Success = does in cc
-performed words (requests.Show database field id first last) given output output' errors errors' Misused asks does quiet = let same : Misused ≡ Success = does in cc
-performed words requests.ListCodes given output output' errors errors' Misused asks does quiet = let same : Misused ≡ Success = does in cc
-performed words (requests.Check database) given output output' errors errors' Misused asks (health, is, printed) quiet = absurd (health_not_misused health printed.judged)
-performed words (requests.Migrate database) given output output' errors errors' Misused asks (health, is, printed) quiet = absurd (health_not_misused health printed.judged)
+performed image g files words (requests.Export database) given output output' errors errors' Misused asks does quiet = let same : Misused ≡ Success = does.0 in cc
+performed image g files words (requests.Show database field id first last) given output output' errors errors' Misused asks does quiet = let same : Misused ≡ Success = does.0 in cc
+performed image g files words requests.ListCodes given output output' errors errors' Misused asks does quiet = let same : Misused ≡ Success = does in cc
+performed image g files words (requests.Check database) given output output' errors errors' Misused asks does quiet = absurd (health_not_misused does.health does.printed.judged)
+performed image g files words (requests.Migrate database) given output output' errors errors' Misused asks does quiet = absurd (health_not_misused does.health does.printed.judged)
 
 -- a failure's status is that of a device or memory, or another one
 device_or_not : (status : Status) → (status ≡ Failed) ⊎ (status ≢ Failed)
@@ -95,6 +98,20 @@ pub IfErr-both : {T E : Type 0} (r : Result T E) (P Q R : E → Type 0) → ((e 
 IfErr-both (Ok x) P Q R both p q = tt
 IfErr-both (Err e) P Q R both p q = both e p q
 
+pub some_each : {X : Type 0} (o : Option X) (P Q : X → Type 0) → ((x : X) → P x → Q x) → IfSome o P → IfSome o Q
+some_each None P Q each p = tt
+some_each (Some x) P Q each p = each x p
+
+pub at_ok : {T E : Type 0} (r : Result T E) (x : T) (P : T → Type 0) → r ≡ Ok x → IfOk r P → P x
+at_ok r x P is p = subst (λ d. IfOk d P) is p
+
+pub at_err : {T E : Type 0} (r : Result T E) (e : E) (P : E → Type 0) → r ≡ Err e → IfErr r P → P e
+at_err r e P is p = subst (λ d. IfErr d P) is p
+
+pub no_items : {X : Type 0} (xs : List X) → length xs ≡ 0 → xs ≡ []
+no_items [] none = refl
+no_items (x ∷ xs) none = absurd (omega (arith, none))
+
 -- what was asked for fails
 pub failed : (words : List Text) (request : Request) (given output output' : Option (List ℕ)) (failure : Failure)
     → AskFor words request → FailsBy request given failure → (status_of failure ≢ Failed → Keeps output output')
@@ -119,14 +136,14 @@ sorted kind.OutOfMemory = inr (inl refl)
 sorted _ = inr (inr (λ asked. elim asked [ inl e ↦ cc | inr e ↦ cc ], λ e. cc))
 
 -- the words are answered in place of a request
-pub ends_answered : (words : List Text) (k : ErrorKind) (r : Result Status Failure)
+ends_answered : {D : Type 0} (image : Image) (g : disk.Ghosts D) (files : Option (Files D)) (words : List Text) (k : ErrorKind) (r : Result Status Failure)
     (given output output' errors errors' : Option (List ℕ)) → AreAnswered words k
     → (IsAskedFor k → IfOk r (λ status. status ≡ Success) × IfErr r (λ why. why ≡ failures.WriteFailed) × Keeps errors errors')
     → (¬ IsAskedFor k → k ≢ kind.OutOfMemory → (r ≡ Ok Misused) × Keeps output output')
     → (k ≡ kind.OutOfMemory → r ≡ Err failures.OutOfMemory)
-    → IfOk r (Ends words given output output' errors errors')
-ends_answered words k r given output output' errors errors' answered asked mistaken memory =
-    let Goal : Result Status Failure → Type 0 = λ r. IfOk r (Ends words given output output' errors errors') in
+    → IfOk r (Ends image g files words given output output' errors errors')
+ends_answered image g files words k r given output output' errors errors' answered asked mistaken memory =
+    let Goal : Result Status Failure → Type 0 = λ r. IfOk r (Ends image g files words given output output' errors errors') in
     elim (sorted k) [
       | inl h ↦ shown r (asked h) h
       | inr rest ↦ elim rest [
@@ -137,10 +154,22 @@ ends_answered words k r given output output' errors errors' answered asked mista
   where
     shown : (r : Result Status Failure)
         → IfOk r (λ status. status ≡ Success) × IfErr r (λ why. why ≡ failures.WriteFailed) × Keeps errors errors'
-        → IsAskedFor k → IfOk r (Ends words given output output' errors errors')
+        → IsAskedFor k → IfOk r (Ends image g files words given output output' errors errors')
     shown (Ok status) facts h =
-        subst (Ends words given output output' errors errors') (sym facts.0) (facts.2, inl (k, h, answered))
+        subst (Ends image g files words given output output' errors errors') (sym facts.0) (facts.2, inl (k, h, answered))
     shown (Err why) facts h = tt
+
+-- memory is refused, or the words are answered
+pub ends_words : {D : Type 0} (image : Image) (g : disk.Ghosts D) (files : Option (Files D)) (words : List Text) (k : ErrorKind) (r : Result Status Failure)
+    (given output output' errors errors' : Option (List ℕ)) → (k ≡ kind.OutOfMemory) ⊎ AreAnswered words k
+    → (IsAskedFor k → IfOk r (λ status. status ≡ Success) × IfErr r (λ why. why ≡ failures.WriteFailed) × Keeps errors errors')
+    → (¬ IsAskedFor k → k ≢ kind.OutOfMemory → (r ≡ Ok Misused) × Keeps output output')
+    → (k ≡ kind.OutOfMemory → r ≡ Err failures.OutOfMemory)
+    → IfOk r (Ends image g files words given output output' errors errors')
+ends_words image g files words k r given output output' errors errors' (inl refused) asked mistaken memory =
+    subst (λ (r : Result Status Failure). IfOk r (Ends image g files words given output output' errors errors')) (sym (memory refused)) tt
+ends_words image g files words k r given output output' errors errors' (inr answered) asked mistaken memory =
+    ends_answered image g files words k r given output output' errors errors' answered asked mistaken memory
 
 -- a status is known by its number
 pub same_status : (s t : Status) → number_of s ≡ number_of t → s ≡ t
@@ -162,34 +191,34 @@ same_status Failed Misused e = cc
 same_status Failed Failed e = refl
 
 -- the status that a number says, over words that are the same
-pub by_number : (words texts : List Text) (given output output' errors errors' : Option (List ℕ)) (n : ℕ) (status wanted : Status)
-    → texts ≡ words → n ≡ number_of status → n ≡ number_of wanted → Ends texts given output output' errors errors' status
-    → Ends words given output output' errors errors' wanted
-by_number words texts given output output' errors errors' n status wanted same is wants ends =
-    subst (Ends words given output output' errors errors') (same_status status wanted (sym is ∙ wants))
-    (subst (λ (t : List Text). Ends t given output output' errors errors' status) same ends)
+pub by_number : {D : Type 0} (image : Image) (g : disk.Ghosts D) (files : Option (Files D)) (words texts : List Text) (given output output' errors errors' : Option (List ℕ)) (n : ℕ) (status wanted : Status)
+    → texts ≡ words → n ≡ number_of status → n ≡ number_of wanted → Ends image g files texts given output output' errors errors' status
+    → Ends image g files words given output output' errors errors' wanted
+by_number image g files words texts given output output' errors errors' n status wanted same is wants ends =
+    subst (Ends image g files words given output output' errors errors') (same_status status wanted (sym is ∙ wants))
+    (subst (λ (t : List Text). Ends image g files t given output output' errors errors' status) same ends)
 
 -- a run that stops short ends with the failure's status
-stops : (words : List Text) (given output output' errors errors' : Option (List ℕ)) (failure : Failure) (wanted : Status)
+stops : {D : Type 0} (image : Image) (g : disk.Ghosts D) (files : Option (Files D)) (words : List Text) (given output output' errors errors' : Option (List ℕ)) (failure : Failure) (wanted : Status)
     → status_of failure ≡ wanted → (wanted ≡ Refused) ⊎ (wanted ≡ Misused) → Stops words given output output' failure
-    → Ends words given output output' errors errors' wanted
-stops words given output output' errors errors' failure Success same which stopped = elim which [ inl e ↦ cc | inr e ↦ cc ]
-stops words given output output' errors errors' failure Failed same which stopped = elim which [ inl e ↦ cc | inr e ↦ cc ]
-stops words given output output' errors errors' failure Refused same which stopped = elim stopped [
+    → Ends image g files words given output output' errors errors' wanted
+stops image g files words given output output' errors errors' failure Success same which stopped = elim which [ inl e ↦ cc | inr e ↦ cc ]
+stops image g files words given output output' errors errors' failure Failed same which stopped = elim which [ inl e ↦ cc | inr e ↦ cc ]
+stops image g files words given output output' errors errors' failure Refused same which stopped = elim stopped [
   | inl failed ↦ let both : Failed ≡ Refused = sym failed ∙ same in cc
   | inr asked ↦ inr (subst (StopsAsked words given output output') same asked)
 ]
-stops words given output output' errors errors' failure Misused same which stopped = elim stopped [
+stops image g files words given output output' errors errors' failure Misused same which stopped = elim stopped [
   | inl failed ↦ let both : Failed ≡ Misused = sym failed ∙ same in cc
   | inr asked ↦ inr (subst (StopsAsked words given output output') same asked)
 ]
 
-pub stops_by_number : (words texts : List Text) (given output output' errors errors' : Option (List ℕ)) (n : ℕ)
+pub stops_by_number : {D : Type 0} (image : Image) (g : disk.Ghosts D) (files : Option (Files D)) (words texts : List Text) (given output output' errors errors' : Option (List ℕ)) (n : ℕ)
     (failure : Failure) (wanted : Status) → texts ≡ words → n ≡ number_of (status_of failure) → n ≡ number_of wanted
     → (wanted ≡ Refused) ⊎ (wanted ≡ Misused) → Stops texts given output output' failure
-    → Ends words given output output' errors errors' wanted
-stops_by_number words texts given output output' errors errors' n failure wanted same is wants which stopped =
-    stops words given output output' errors errors' failure wanted (same_status (status_of failure) wanted (sym is ∙ wants)) which
+    → Ends image g files words given output output' errors errors' wanted
+stops_by_number image g files words texts given output output' errors errors' n failure wanted same is wants which stopped =
+    stops image g files words given output output' errors errors' failure wanted (same_status (status_of failure) wanted (sym is ∙ wants)) which
     (subst (λ (t : List Text). Stops t given output output' failure) same stopped)
 
 -- ... and an answer in place of a request fails only where a device or memory does
@@ -211,3 +240,14 @@ stops_answered words k r given output output' errors errors' asked mistaken memo
     by_write : (r : Result Status Failure) → IfErr r (λ why. why ≡ failures.WriteFailed) → IfErr r (Stops words given output output')
     by_write (Ok status) fact = tt
     by_write (Err why) fact = inl (ap status_of fact)
+
+-- ... whatever the files are
+pub misused_by_number : (words texts : List Text) (given output output' : Option (List ℕ)) (n : ℕ) (failure : Failure) → texts ≡ words
+    → n ≡ number_of (status_of failure) → n ≡ number_of Misused → Stops texts given output output' failure
+    → (AreWrong words × Keeps output output') ⊎ StopsAsked words given output output' Misused
+misused_by_number words texts given output output' n failure same is wants stopped =
+    let status : status_of failure ≡ Misused = same_status (status_of failure) Misused (sym is ∙ wants) in
+    elim (subst (λ (t : List Text). Stops t given output output' failure) same stopped) [
+      | inl failed ↦ let both : Failed ≡ Misused = sym failed ∙ status in cc
+      | inr asked ↦ inr (subst (StopsAsked words given output output') status asked)
+    ]

@@ -1,7 +1,15 @@
 -- How a run of the program ends. (own)
-use Rattle.std.specs.Prelude.{◌≡◌, ◌⊎◌, ◌∷◌, [], ⊤, ℕ, List, Option, length, map, option_map}
+use Rattle.std.specs.Prelude.{◌≡◌, ◌⊎◌, ◌∷◌, [], ⊤, ℕ, List, Option, IfSome, IsSomeAnd, MatchOption, length, map, option_map}
 use Rattle.std.specs.Io.KnownBytes.{Keeps}
 use Rattle.clap.specs.Words.{Text}
+use Rattle.sqlite_disk.specs.declared.Disk as disk
+use Rattle.sqlite_disk.specs.declared.Files.{Files}
+use Rattle.sqlite.specs.Recovery.{Image}
+use Rattle.jc_base.specs.Journal.{Journal}
+use Rattle.jc_keeper.specs.Listing.{export_text}
+use Rattle.jc_schema_one.specs.Tables.{one}
+use Rattle.jc_schema_two.specs.Tables.{two}
+use Rattle.jc_database.specs.Files.{LeadsOver, LeadsTo}
 use Rattle.jc_collector.specs.declared.health.Health.{Health}
 use Rattle.jc_command_shared.specs.declared.failure.Failure.{Failure}
 use Rattle.jc_command_shared.specs.declared.failure.Failure.TheVariants.{CannotOpen, OutOfMemory, ReadFailed, WriteFailed}
@@ -11,33 +19,74 @@ use Rattle.jc_command_args.specs.declared.request.Request.{Request}
 use Rattle.jc_command_args.specs.declared.request.Request.TheVariants.{Collect, CollectListed, Show, Check, Migrate, Verify, Inspect, Upload, Ack, ListCodes}
 use Rattle.jc_command_args.specs.declared.request.Request.TheVariants as request
 use Rattle.jc_collector_answers.specs.Answered.{PrintsAnswers, number_of_uploads}
-use Rattle.jc_collector.specs.Checked.{IsHealth, PrintsHealth}
+use Rattle.jc_collector.specs.Checked.{IsHealth, PrintsHealth, count_line}
 use Rattle.jc_collector.specs.Database.{CheckFailsBy, CollectFailsBy, DatabaseFailsBy, ShowFailsBy}
 use Rattle.jc_command_shared.specs.Failure.{status_of}
 use Rattle.jc_collector.specs.Inspected.{PrintsSomeInspected}
 use Rattle.jc_collector.specs.Listed.{PrintsListed}
+use Rattle.jc_collector.specs.OverFiles.{CollectsAll, KeepsStored, Prints, PrintsAsked, StoresListed, StoresPrinted}
 use Rattle.jc_sender.specs.Sent.{PrintsSomeUpload}
 use Rattle.jc_sender.specs.Failing.{AckFailsBy, UploadFailsBy}
 use Rattle.jc_sender.specs.Taken.{PrintsSomePoint}
 use Rattle.jc_sender.specs.Verdict.{PrintsSomeReading}
 use Rattle.jc_command_args.specs.Words.{AreWrong, AskFor, AskForHelp}
 
--- What standard output gains when a request is performed, over what standard input gives, and the status: from `verify` a
--- reading, from `inspect` what an upload says, from `upload` an upload, from `ack` a resume point, from `collect` an answer to each upload, and from `check`
--- and `migrate` what there is of a journal. Nothing is said of listings, nor which answers come: the functions of
--- `collect`, `export` and `show` say that, by what a database's files hold.
-abbrev pub Performs : Request → (given old new : Option (List ℕ)) → Status → Type 0
-Performs (Verify kind file) given old new status = PrintsSomeReading kind status old new
-Performs (Inspect file) given old new status = PrintsSomeInspected status old new
-Performs (Upload source limit whole) given old new status = (status ≡ Success) × PrintsSomeUpload source limit whole old new
-Performs (Ack source) given old new status = (status ≡ Success) × PrintsSomePoint source given old new
-Performs (Collect database uploads then_export) given old new status = PrintsAnswers (number_of_uploads (length uploads.items)) status old new
-Performs (CollectListed database list then_export) given old new status = PrintsListed list.now given status old new
-Performs (request.Export database) given old new status = status ≡ Success
-Performs (Show database field id first last) given old new status = status ≡ Success
-Performs (Check database) given old new status = (health : Health) × IsHealth health × PrintsHealth health status old new
-Performs (Migrate database) given old new status = (health : Health) × IsHealth health × PrintsHealth health status old new
-Performs ListCodes given old new status = status ≡ Success
+-- ---- what is done over a database
+
+module _ {D : Type 0} (image : Image) (g : disk.Ghosts D) (files : Option (Files D)) where
+  -- A run ends with the files of its database, closed, and made such a step over the journal that they had.
+  abbrev pub Leads : (Journal → Journal → Type 0) → Type 0
+  Leads Step = IsSomeAnd files (λ closed. LeadsTo two image g closed Step)
+
+  -- An answer to each upload was printed, and what they acknowledge is in the files. What one upload on standard input makes
+  -- of the journal, and how it is answered.
+  pub record Collects (named : ℕ) (given old new : Option (List ℕ)) (status : Status) : Type 0 where
+    pub printed : PrintsAnswers (number_of_uploads named) status old new
+    pub kept : Leads KeepsStored
+    pub stores : Leads (StoresPrinted (number_of_uploads named) status old new)
+    pub collects : named ≡ 0 → IfSome given (λ upload. Leads (CollectsAll (upload ∷ []) old new))
+
+  -- An answer to each upload that a list names was printed, and what they acknowledge is in the files.
+  pub record CollectsListed (list : List ℕ) (given old new : Option (List ℕ)) (status : Status) : Type 0 where
+    pub printed : PrintsListed list given status old new
+    pub kept : Leads KeepsStored
+    pub stores : Leads (StoresListed list given status old new)
+
+  -- The line of what there is of a journal was printed. If the files are given back, it is that of the journal which they
+  -- had, and they keep it.
+  pub record Checks (old new : Option (List ℕ)) (status : Status) : Type 0 where
+    pub health : Health
+    pub is : IsHealth health
+    pub printed : PrintsHealth health status old new
+    pub counted : MatchOption files (status ≡ Refused) (λ closed. LeadsTo two image g closed (Prints count_line old new))
+
+  -- The same of a journal in tables of schema 1, which the files then have in those of schema 2.
+  pub record Migrates (old new : Option (List ℕ)) (status : Status) : Type 0 where
+    pub health : Health
+    pub is : IsHealth health
+    pub printed : PrintsHealth health status old new
+    pub moved : MatchOption files (status ≡ Refused) (λ closed. LeadsOver one two image g closed (Prints count_line old new))
+
+  -- What standard output gains when a request is performed, over what standard input gives, the status, and what becomes of
+  -- the files of its database: from `verify` a reading, from `inspect` what an upload says, from `upload` an upload, from
+  -- `ack` a resume point, from `collect` an answer to each upload, from `export` and `show` a listing, and from `check` and
+  -- `migrate` what there is of a journal.
+  abbrev pub Performs : Request → (given old new : Option (List ℕ)) → Status → Type 0
+  Performs (Verify kind file) given old new status = PrintsSomeReading kind status old new
+  Performs (Inspect file) given old new status = PrintsSomeInspected status old new
+  Performs (Upload source limit whole) given old new status = (status ≡ Success) × PrintsSomeUpload source limit whole old new
+  Performs (Ack source) given old new status = (status ≡ Success) × PrintsSomePoint source given old new
+  Performs (Collect database uploads then_export) given old new status = Collects (length uploads.items) given old new status
+  Performs (CollectListed database list then_export) given old new status = CollectsListed list.now given old new status
+  Performs (request.Export database) given old new status = (status ≡ Success) × Leads (Prints export_text old new)
+  Performs (Show database field id first last) given old new status =
+      (status ≡ Success)
+      × Leads (PrintsAsked (option_map (λ name. name.now) field) (option_map (λ digits. digits.now) id) first last old new)
+  Performs (Check database) given old new status = Checks old new status
+  Performs (Migrate database) given old new status = Migrates old new status
+  Performs ListCodes given old new status = status ≡ Success
+
+-- ---- why nothing is done
 
 -- Why a command that reads one file fails.
 abbrev pub FileFailsBy : (file : List ℕ) → Failure → Type 0
@@ -62,9 +111,13 @@ FailsBy (Check database) given failure = CheckFailsBy database.now failure
 FailsBy (Migrate database) given failure = CheckFailsBy database.now failure
 FailsBy ListCodes given failure = failure ≡ WriteFailed
 
+-- ---- a run
+
 -- The arguments ask for something, and it is performed.
-abbrev pub PerformsAsked : List Text → (given old new : Option (List ℕ)) → Status → Type 0
-PerformsAsked words given old new status = (request : Request) × AskFor words request × Performs request given old new status
+abbrev pub PerformsAsked : {D : Type 0} → (image : Image) → disk.Ghosts D → (files : Option (Files D)) → List Text → (given old new : Option (List ℕ))
+    → Status → Type 0
+PerformsAsked image g files words given old new status =
+    (request : Request) × AskFor words request × Performs image g files request given old new status
 
 -- The arguments ask for something that fails with this status, before anything is printed.
 pub record StopsAsked (words : List Text) (given old new : Option (List ℕ)) (status : Status) : Type 0 where
@@ -77,14 +130,15 @@ pub record StopsAsked (words : List Text) (given old new : Option (List ℕ)) (s
 
 -- How a run over these arguments ends, by its status, unless something fails that is reported on standard error: what it
 -- prints on standard output, and that it prints nothing on standard error if all is well.
-abbrev pub Ends : List Text → (given output output' errors errors' : Option (List ℕ)) → Status → Type 0
-Ends words given output output' errors errors' Success =
-    Keeps errors errors' × (AskForHelp words ⊎ PerformsAsked words given output output' Success)
-Ends words given output output' errors errors' Refused =
-    PerformsAsked words given output output' Refused ⊎ StopsAsked words given output output' Refused
-Ends words given output output' errors errors' Misused =
+abbrev pub Ends : {D : Type 0} → (image : Image) → disk.Ghosts D → (files : Option (Files D)) → List Text
+    → (given output output' errors errors' : Option (List ℕ)) → Status → Type 0
+Ends image g files words given output output' errors errors' Success =
+    Keeps errors errors' × (AskForHelp words ⊎ PerformsAsked image g files words given output output' Success)
+Ends image g files words given output output' errors errors' Refused =
+    PerformsAsked image g files words given output output' Refused ⊎ StopsAsked words given output output' Refused
+Ends image g files words given output output' errors errors' Misused =
     (AreWrong words × Keeps output output') ⊎ StopsAsked words given output output' Misused
-Ends words given output output' errors errors' Failed = PerformsAsked words given output output' Failed
+Ends image g files words given output output' errors errors' Failed = PerformsAsked image g files words given output output' Failed
 
 -- If a run stops short, a device or memory failed, or something was asked for that is refused.
 abbrev pub Stops : List Text → (given output output' : Option (List ℕ)) → Failure → Type 0

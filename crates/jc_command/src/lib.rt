@@ -3,4 +3,4 @@
 
 mod run;
 
-pub use run::command;
+pub use run::{Ended, command, run_command};

@@ -1,25 +1,85 @@
 //! One run of the program.
 
-ghost use Rattle.std.specs.Prelude.{◌≡◌, ◌≢◌, ◌≤◌, ⊤, Ok, Err, OnOk, IfOk, IfErr, map, string_bytes};
+ghost use Rattle.std.specs.Prelude.{◌≡◌, ◌≢◌, ◌≤◌, ⊤, None, Some, IsSome, Ok, Err, OnOk, IfOk, IfErr, map, string_bytes};
 ghost use Rattle.std.specs.Io.KnownBytes.{Appends, Keeps};
 ghost use Rattle.clap.specs.Words.{kind_of};
+ghost use Rattle.sqlite.specs.WalFiles.{image_at};
 ghost use Rattle.jc_command_args.specs.Answer.{IsAskedFor};
 ghost use Rattle.jc_command_shared.specs.Failure.{status_of};
 ghost use Rattle.jc_command.specs.Run.{Ends, FailsBy, Performs, Stops};
 
 use clap::error::ErrorKind;
-use jc_collector::{check, collect, collect_listed, export, inspect, migrate, show};
+use jc_collector::{
+    Closed, Examined, check, collect, collect_listed, export, inspect, migrate, show,
+};
 use jc_command_args::{CODES, Request, parse};
 use jc_command_shared::{Failure, Status, printed};
 use jc_sender::{ack, upload, verify};
-use sqlite::Start;
+use sqlite::{FileFrom, Files, Start};
+use sqlite_disk::Disk;
 use std::io::{Read, Write};
 
-/// Does what the arguments ask for and answers the status to end with. The first argument is the program's name.
-///
-/// What is asked for goes to `output`. A failure, or what is wrong with the arguments, goes to `errors`. With status 3
-/// something failed, and no clause says what went to either. `input` has the answers for `ack`, and for `collect` the
-/// upload if none is named, or their names if the list is `-`. `start` stands for what a database's files hold.
+/// What a run ended with: its status, and the files of its database, closed, if it had one open.
+#[derive(Drop)]
+pub struct Ended<S: Start> {
+    pub status: u8,
+    pub files: Option<Files<FileFrom<S>>>,
+}
+
+/// What was asked for is done.
+#[derive(Drop)]
+struct Done<S: Start> {
+    status: Status,
+    files: Option<Files<FileFrom<S>>>,
+}
+
+impl<S: Start> Done<S> {
+    /// By a command that works on no database.
+    fn without(status: Status) -> Done<S>
+        ensures status { result.status ≡ status }
+        ensures files { result.files ≡ None }
+    {
+        Done {
+            status,
+            files: None,
+        }
+    }
+
+    /// By a command that answers a status, and has closed its database.
+    fn closed(closed: Closed<Status, S>) -> Done<S>
+        ensures status { result.status ≡ closed.value }
+        ensures files { result.files ≡ Some closed.files }
+    {
+        Done {
+            status: closed.value,
+            files: Some(closed.files),
+        }
+    }
+
+    /// By a command that lists a journal, and has closed its database.
+    fn listed(closed: Closed<(), S>) -> Done<S>
+        ensures status { result.status ≡ Status.Success }
+        ensures files { result.files ≡ Some closed.files }
+    {
+        Done {
+            status: Status::Success,
+            files: Some(closed.files),
+        }
+    }
+
+    /// By a command that says what there is of a journal.
+    fn examined(examined: Examined<Status, S>) -> Done<S>
+        ensures status { result.status ≡ examined.value }
+        ensures files { result.files ≡ examined.files }
+    {
+        Done {
+            status: examined.value,
+            files: examined.files,
+        }
+    }
+}
+
+/// Does what the arguments ask for, as `run_command` does, and answers the status to end with.
 pub fn command<S: Start, I: Read, O: Write, E: Write>(
     rt: &HostRuntime,
     start: S,
@@ -29,16 +89,44 @@ pub fn command<S: Start, I: Read, O: Write, E: Write>(
     errors: &mut E,
 ) -> u8
     ensures status { result ≤ 3 }
-    ensures success { result ≡ 0 → Ends (map string_bytes words.items) (I.remaining input.old)
+{
+    run_command(rt, start, words, input, output, errors).status
+}
+
+/// Does what the arguments ask for. The first argument is the program's name.
+///
+/// What is asked for goes to `output`. A failure, or what is wrong with the arguments, goes to `errors`. With status 3
+/// something failed, and no clause says what went to either. `input` has the answers for `ack`, and for `collect` the
+/// upload if none is named, or their names if the list is `-`. `start` stands for what a database's files hold as they are
+/// opened, and the files that come back are those, closed.
+pub fn run_command<S: Start, I: Read, O: Write, E: Write>(
+    rt: &HostRuntime,
+    start: S,
+    words: Vec<String>,
+    input: &mut I,
+    output: &mut O,
+    errors: &mut E,
+) -> Ended<S>
+    ensures status { result.status ≤ 3 }
+    ensures success { result.status ≡ 0 → Ends (image_at S.Start) ⟦<FileFrom<S> as Disk>⟧ result.files (map string_bytes words.items) (I.remaining input.old)
         (O.contents output.old) (O.contents output.new) (E.contents errors.old) (E.contents errors.new) Status.Success }
-    ensures refused { result ≡ 1 → Ends (map string_bytes words.items) (I.remaining input.old)
+    ensures refused { result.status ≡ 1 → Ends (image_at S.Start) ⟦<FileFrom<S> as Disk>⟧ result.files (map string_bytes words.items) (I.remaining input.old)
         (O.contents output.old) (O.contents output.new) (E.contents errors.old) (E.contents errors.new) Status.Refused }
-    ensures misused { result ≡ 2 → Ends (map string_bytes words.items) (I.remaining input.old)
+    ensures misused { result.status ≡ 2 → Ends (image_at S.Start) ⟦<FileFrom<S> as Disk>⟧ result.files (map string_bytes words.items) (I.remaining input.old)
         (O.contents output.old) (O.contents output.new) (E.contents errors.old) (E.contents errors.new) Status.Misused }
+    // What was stored and printed before a failure of the answers' status is there too.
+    ensures failed { result.status ≡ 3 → IsSome result.files → Ends (image_at S.Start) ⟦<FileFrom<S> as Disk>⟧ result.files (map string_bytes words.items) (I.remaining input.old)
+        (O.contents output.old) (O.contents output.new) (E.contents errors.old) (E.contents errors.new) Status.Failed }
 {
     match answered(rt, start, words.as_slice(), input, output, errors) {
-        Ok(status) => status.number(),
-        Err(failure) => failure.report(errors).number(),
+        Ok(done) => Ended {
+            status: done.status.number(),
+            files: done.files,
+        },
+        Err(failure) => Ended {
+            status: failure.report(errors).number(),
+            files: None,
+        },
     }
 }
 
@@ -50,15 +138,15 @@ fn answered<'a, S: Start, I: Read, O: Write, E: Write>(
     input: &mut I,
     output: &mut O,
     errors: &mut E,
-) -> Result<Status, Failure<'a>>
-    ensures ended { IfOk result (Ends (map string_bytes words.entry.now) (I.remaining input.old)
-        (O.contents output.old) (O.contents output.new) (E.contents errors.old) (E.contents errors.new)) }
+) -> Result<Done<S>, Failure<'a>>
+    ensures ended { IfOk result (λ done. Ends (image_at S.Start) ⟦<FileFrom<S> as Disk>⟧ done.files (map string_bytes words.entry.now) (I.remaining input.old)
+        (O.contents output.old) (O.contents output.new) (E.contents errors.old) (E.contents errors.new) done.status) }
     ensures stopped { IfErr result (Stops (map string_bytes words.entry.now) (I.remaining input.old) (O.contents output.old)
         (O.contents output.new)) }
 {
     match parse(rt.alloc(), words) {
         Ok(request) => perform(rt, start, request, input, output, errors),
-        Err(answer) => answer_words(&answer, output, errors),
+        Err(answer) => Ok(Done::without(answer_words(&answer, output, errors)?)),
     }
 }
 
@@ -70,63 +158,73 @@ fn perform<'a, S: Start, I: Read, O: Write, E: Write>(
     input: &mut I,
     output: &mut O,
     errors: &mut E,
-) -> Result<Status, Failure<'a>>
-    ensures performed { IfOk result (Performs request.entry (I.remaining input.old) (O.contents output.old)
-        (O.contents output.new)) }
-    ensures quiet { IfOk result (λ status. status ≡ Status.Success → Keeps (E.contents errors.old) (E.contents errors.new)) }
+) -> Result<Done<S>, Failure<'a>>
+    ensures performed { IfOk result (λ done. Performs (image_at S.Start) ⟦<FileFrom<S> as Disk>⟧ done.files request.entry (I.remaining input.old)
+        (O.contents output.old) (O.contents output.new) done.status) }
+    ensures quiet { IfOk result (λ done. done.status ≡ Status.Success → Keeps (E.contents errors.old) (E.contents errors.new)) }
     ensures failed { IfErr result (FailsBy request.entry (I.remaining input.old)) }
     ensures untouched { IfErr result (λ failure. status_of failure ≢ Status.Failed
         → Keeps (O.contents output.old) (O.contents output.new)) }
 {
     match request {
-        Request::Verify { kind, file } => return verify(rt, kind, file, output),
-        Request::Inspect { file } => return inspect(rt, file, output),
+        Request::Verify { kind, file } => Ok(Done::without(verify(rt, kind, file, output)?)),
+        Request::Inspect { file } => Ok(Done::without(inspect(rt, file, output)?)),
         Request::Upload {
             source,
             limit,
             whole,
-        } => upload(rt, source, limit, whole, output)?,
-        Request::Ack { source } => ack(rt, source, input, output)?,
+        } => {
+            upload(rt, source, limit, whole, output)?;
+            Ok(Done::without(Status::Success))
+        }
+        Request::Ack { source } => {
+            ack(rt, source, input, output)?;
+            Ok(Done::without(Status::Success))
+        }
         Request::Collect {
             database,
             uploads,
             then_export,
         } => {
             let uploads = uploads.as_slice();
-            return Ok(collect(rt, start, database, uploads, then_export, input, output)?.value);
+            let closed = collect(rt, start, database, uploads, then_export, input, output)?;
+            Ok(Done::closed(closed))
         }
         Request::CollectListed {
             database,
             list,
             then_export,
         } => {
-            return Ok(
-                collect_listed(
-                    rt,
-                    start,
-                    database,
-                    list,
-                    then_export,
-                    input,
-                    output,
-                    errors,
-                )?
-                .value,
-            );
+            let closed = collect_listed(
+                rt,
+                start,
+                database,
+                list,
+                then_export,
+                input,
+                output,
+                errors,
+            )?;
+            Ok(Done::closed(closed))
         }
-        Request::Export { database } => export(rt, start, database, output)?.value,
+        Request::Export { database } => Ok(Done::listed(export(rt, start, database, output)?)),
         Request::Show {
             database,
             field,
             id,
             first,
             last,
-        } => show(rt, start, database, field, id, first, last, output)?.value,
-        Request::Check { database } => return Ok(check(rt, start, database, output)?.value),
-        Request::Migrate { database } => return Ok(migrate(rt, start, database, output)?.value),
-        Request::ListCodes => list_codes(output)?,
+        } => {
+            let closed = show(rt, start, database, field, id, first, last, output)?;
+            Ok(Done::listed(closed))
+        }
+        Request::Check { database } => Ok(Done::examined(check(rt, start, database, output)?)),
+        Request::Migrate { database } => Ok(Done::examined(migrate(rt, start, database, output)?)),
+        Request::ListCodes => {
+            list_codes(output)?;
+            Ok(Done::without(Status::Success))
+        }
     }
-    Ok(Status::Success)
 }
 
 /// Prints what each code means.

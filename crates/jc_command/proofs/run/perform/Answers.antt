@@ -1,0 +1,27 @@
+-- What `collect` makes of the files that it gives back.
+use Rattle.std.proofs.Common.{◌≡◌}
+use Rattle.jc_command.proofs.Runs.{at_ok, no_items, some_each}
+use Rattle.jc_command.proofs.run.perform.Goals as goal
+
+pub returns-in_ok-closed-in-Collect-clause-performed : goal.returns-in_ok-closed-in-Collect-clause-performed
+returns-in_ok-closed-in-Collect-clause-performed g c =
+    let it = c.in_ok-closed-in-Collect.ensures in
+    let same = c.as_slice-uploads.ensures.value in
+    let printed = rw same at it.printed in
+    let stores = rw same at it.each in
+    let collected = rw same at c.collect.ensures.collected in
+    rw (c.in-Collect.is, c.closed.ensures.files, c.closed.ensures.status)
+    (record {
+      printed = printed;
+      kept = it.kept;
+      stores = stores;
+      collects = λ none. some_each (g.I.Read.remaining c.args.input.now) _ _
+          (λ upload collects. at_ok c.collect.result c.in_ok-closed-in-Collect.closed _ c.in_ok-closed-in-Collect.was collects)
+          (collected (no_items c.in-Collect.uploads.items none));
+    })
+
+pub returns-in_ok-closed-in-CollectListed-clause-performed : goal.returns-in_ok-closed-in-CollectListed-clause-performed
+returns-in_ok-closed-in-CollectListed-clause-performed g c =
+    let it = c.in_ok-closed-in-CollectListed.ensures in
+    rw (c.in-CollectListed.is, c.closed-in-CollectListed.ensures.files, c.closed-in-CollectListed.ensures.status)
+    (record { printed = it.printed; kept = it.kept; stores = it.each })
