@@ -1,8 +1,10 @@
 """The databases of a folder that are finished: NAME.db with NAME.db.sha256 beside it never changes again."""
+import os
 import re
 from dataclasses import dataclass
 from datetime import date, datetime, timezone
 from pathlib import Path
+from typing import NamedTuple
 
 from shared import files
 
@@ -62,19 +64,65 @@ def natural(name: str) -> list[tuple[int, str]]:
     return [(int(part), "") if part.isdigit() else (-1, part) for part in re.split(r"(\d+)", name)]
 
 
+class Mark(NamedTuple):
+    """The digest beside a database: the database's name and folder, and what says whether the digest's file was
+    replaced since it was read."""
+    name: str
+    folder: Path
+    identity: tuple[int, int]
+
+    @property
+    def database(self) -> Path:
+        return self.folder / f"{self.name}.db"
+
+    @property
+    def path(self) -> Path:
+        return self.folder / f"{self.name}.db.sha256"
+
+
+@dataclass
+class Listing:
+    """The databases of a folder: the marks of the finished ones, and the names of those that were set aside and of the
+    others."""
+    marks: list[Mark]
+    aside: set[str]
+    unfinished: set[str]
+
+
+def listing(folder: Path) -> Listing:
+    """What a folder has, without opening any of it."""
+    found: set[str] = set()
+    refused: set[str] = set()
+    marks: list[Mark] = []
+    with os.scandir(folder) as entries:
+        for entry in entries:
+            if entry.name.endswith(".db") and entry.is_file(follow_symlinks=False):
+                found.add(entry.name[:-3])
+            elif entry.name.endswith(".db.sha256"):
+                status = entry.stat(follow_symlinks=False)
+                marks.append(Mark(entry.name[:-10], folder, (status.st_ino, status.st_ctime_ns)))
+            elif entry.name.endswith(".db.refused"):
+                refused.add(entry.name[:-11])
+    left = found - {mark.name for mark in marks}
+    return Listing([mark for mark in marks if mark.name in found], left & refused, left - refused)
+
+
+def digest(mark: Path) -> str | None:
+    """The digest that a file beside a database says, if it can be read."""
+    try:
+        match = DIGEST.match(mark.read_text(encoding="ascii", errors="replace"))
+    except OSError:
+        return None
+    return match[1] if match else None
+
+
 def finished(folder: Path) -> tuple[list[Database], list[str]]:
     """The finished databases in the order of their names, and the names of those whose digest can't be read."""
     found, unread = [], []
-    for mark in folder.glob("*.db.sha256"):
-        path = mark.with_suffix("")
-        try:
-            match = DIGEST.match(mark.read_text(encoding="ascii", errors="replace"))
-        except OSError:
-            match = None
-        if not path.is_file() or path.is_symlink():
-            continue
-        if match:
-            found.append(Database(path.stem, path, match[1]))
+    for mark in listing(folder).marks if folder.is_dir() else []:
+        said = digest(mark.path)
+        if said:
+            found.append(Database(mark.name, mark.database, said))
         else:
-            unread.append(path.stem)
+            unread.append(mark.name)
     return sorted(found, key=lambda database: natural(database.name)), sorted(unread, key=natural)

@@ -48,9 +48,21 @@ class Numbers:
 
 @dataclass
 class Sequence:
-    """The journal files of one sequence on one day, and the numbers of the entries in them."""
+    """The journal files of one sequence on one day, and the numbers of the entries in them. It is of a machine, in
+    whose overflow file some of its entries may be."""
     parts: list[Part] = field(default_factory=list)
     numbers: Numbers = field(default_factory=Numbers)
+    machine: str = ""
+    overflows: bool = False
+
+    @property
+    def is_open(self) -> bool:
+        """Its last file takes more."""
+        return bool(self.parts) and not self.parts[-1].full
+
+    @property
+    def entries(self) -> int:
+        return sum(part.entries for part in self.parts)
 
     def part_for(self, name: str) -> Part:
         """The file that the next entry goes to: one is open, and when it is full the next one."""
@@ -71,7 +83,8 @@ class Day:
 
     def as_json(self) -> Any:
         return {"version": 1, "sequences": {name: {"parts": [asdict(part) for part in sequence.parts],
-                                                   "numbers": sequence.numbers.ranges}
+                                                   "numbers": sequence.numbers.ranges, "machine": sequence.machine,
+                                                   "overflows": sequence.overflows}
                                             for name, sequence in self.sequences.items()}}
 
 
@@ -85,7 +98,8 @@ def of_json(value: Any, path: Path) -> Day:
     try:
         if value["version"] != 1:
             raise ValueError("an unknown version")
-        return Day({name: Sequence([Part(**part) for part in item["parts"]], Numbers(item["numbers"]))
+        return Day({name: Sequence([Part(**part) for part in item["parts"]], Numbers(item["numbers"]),
+                                   item.get("machine", ""), item.get("overflows", False))
                     for name, item in value["sequences"].items()})
     except (KeyError, TypeError, ValueError) as error:
         raise Failure(f"{path} isn't the state of a day: {error!r}") from error

@@ -3,6 +3,8 @@ import hashlib
 import re
 from collections.abc import Iterator
 from dataclasses import dataclass
+from itertools import chain
+from struct import pack
 from typing import IO
 
 LONGEST = 1 << 26
@@ -27,11 +29,16 @@ class Entry:
     fields: list[bytes]
 
     def digest(self) -> bytes:
-        """What two entries have in common exactly if times and pairs are equal; the key plays no part."""
-        digest = hashlib.blake2b(b"%d %d" % (self.realtime, self.monotonic), digest_size=16)
-        for name, value in sorted({(name, value_of(name, field)) for name, field in zip(self.names, self.fields)}):
-            digest.update(b"%d %d " % (len(name), len(value)) + name + value)
-        return digest.digest()
+        pairs = {(name, value_of(name, field)) for name, field in zip(self.names, self.fields)}
+        return digest_of(self.realtime, self.monotonic, sorted(pairs))
+
+
+def digest_of(realtime: int, monotonic: int, pairs: list[tuple[bytes, bytes]]) -> bytes:
+    """What two entries have in common exactly if times and pairs, which are in order, are equal; the key plays no
+    part."""
+    parts = list(chain.from_iterable(pairs))
+    head = b"%d %d %d " % (realtime, monotonic, len(pairs)) + pack(f"<{len(parts)}I", *map(len, parts))
+    return hashlib.blake2b(head + b"".join(parts), digest_size=16).digest()
 
 
 def value_of(name: bytes, field: bytes) -> bytes:
@@ -68,7 +75,7 @@ def entries(stream: IO[bytes], keys: bool = True) -> Iterator[Entry]:
         name, equals, value = line.partition(b"=")
         if not equals and line != b"\n":
             name, value = line[:-1], read_value(stream)
-            line += value
+            line, value = line + value, value[8:]
         if line == b"\n":
             if known or names:
                 yield entry_of(known, names, fields, keys)
@@ -83,7 +90,7 @@ def entries(stream: IO[bytes], keys: bool = True) -> Iterator[Entry]:
 
 
 def entry_of(known: dict[bytes, bytes], names: list[bytes], fields: list[bytes], keys: bool) -> Entry:
-    sequence = known.get(b"__SEQNUM_ID", b"")
+    sequence = known.get(b"__SEQNUM_ID", b"").lower()
     if keys and not SEQUENCE.fullmatch(sequence):
         raise Malformed("an entry without the id of its sequence")
     number = number_of(known, b"__SEQNUM") if keys else 0

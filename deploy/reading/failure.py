@@ -17,3 +17,7 @@ class BadDatabase(Exception):
     def __init__(self, name: str, reason: str, lasting: bool) -> None:
         super().__init__(f"{name}: {reason}")
         self.name, self.reason, self.lasting = name, reason, lasting
+
+    def __reduce__(self) -> tuple[type, tuple[str, str, bool]]:
+        """It comes from other processes, too."""
+        return BadDatabase, (self.name, self.reason, self.lasting)

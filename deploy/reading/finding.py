@@ -1,122 +1,195 @@
-"""Entries of many databases in the order of their times, each once, as a stream.
+"""Entries of many sources in the order of their times, each once, as a stream; forwards, or backwards from the end.
 
-Time is gone through in windows that have some thousands of entries. So what is held doesn't grow with what is found,
-however many databases there are and however their times overlap.
+Time is gone through in slices that have some thousands of entries, and only what has something of a slice is opened for
+it. So what is held doesn't grow with what is found, however many sources there are and however their times overlap. A
+slice's sources are read side by side, and then what was found in them.
 """
+from collections import Counter
 from collections.abc import Callable, Iterator
-from dataclasses import dataclass
-from pathlib import Path
+from dataclasses import dataclass, replace
+from itertools import groupby, islice
 
-from reading.conditions import Conditions
 from reading.failure import BadDatabase
-from reading.tables import Key, Open
+from reading.found import Found
+from reading.reader import MOST_KEYS, Place, Reader, Values
+from reading.spans import Span
+from reading.workers import Workers, processors
 
-WINDOW = 600_000_000
-MOST_KEYS = 50_000
-
-
-@dataclass
-class Found:
-    """An entry as it is shown."""
-    realtime: int
-    monotonic: int
-    sequence: str
-    number: int
-    pairs: list[tuple[bytes, bytes]]
+# A slice has about so many entries that fit, and so many spans.
+KEYS, SPANS = 50_000, 64
+# So many entries are shown or counted together.
+TOGETHER = 1_000
+# With fewer entries in all spans, other processes cost more than they bring.
+FEW = 60_000
 
 
 @dataclass
-class Candidate:
-    """A database, how many entries it has, and the times of its next and its last one that may be shown."""
-    path: Path
-    count: int
-    next: int | None
+class Piece:
+    """A span of a source, of which the slices before have taken something. Backwards its times are negative."""
+    source: int
+    count: float
+    first: int
     last: int
+
+    def rest(self, end: int) -> "Piece":
+        """What slices up to this end leave of it."""
+        if self.first > end:
+            return self
+        return replace(self, first=end + 1, count=self.count * (self.last - end) / (self.last - self.first + 1))
+
+
+class TooMany(Exception):
+    """A slice has too many entries."""
 
 
 class Finder:
-    """A search. `tell` gets what is wrong with a database; `look` hears how many of them were looked at."""
+    """A search. `tell` gets what is wrong with a source; `look` hears how many spans are done, of how many."""
 
-    def __init__(self, conditions: Conditions, tell: Callable[[BadDatabase], None],
-                 look: Callable[[int, int], None]) -> None:
-        self.conditions, self.tell, self.look = conditions, tell, look
-        self.open = Open()
-        self.width = WINDOW
+    def __init__(self, reader: Reader, tell: Callable[[BadDatabase], None], look: Callable[[int, int], None]) -> None:
+        self.reader, self.tell, self.look = reader, tell, look
+        self.since, self.until = reader.conditions.since, reader.conditions.until
+        self.spans = [(number, span) for number, source in enumerate(reader.open.sources) for span in source.spans
+                      if span.first <= self.until and span.last >= self.since]
+        self.begin()
+        # How many of the entries that are looked at fit, as the slices before have shown.
+        self.share = 1.0
 
-    def find(self, paths: list[Path]) -> Iterator[Found]:
-        candidates = list(self.candidates(paths))
-        while times := [candidate.next for candidate in candidates if candidate.next is not None]:
-            first = min(times)
-            keys = self.window(candidates, first)
-            yield from self.entries(keys)
-            candidates = [candidate for candidate in candidates if candidate.next is not None]
+    def begin(self) -> None:
+        """The processes that search know the conditions as they are now."""
+        self.workers = Workers(self.reader.work,
+                               processors() if sum(span.count for _, span in self.spans) > FEW else 1)
 
-    def candidates(self, paths: list[Path]) -> Iterator[Candidate]:
-        """The databases that have entries in the span."""
-        for number, path in enumerate(paths, 1):
-            self.look(number, len(paths))
-            try:
-                span = self.open.get(path).span(self.conditions.since, self.conditions.until)
-            except BadDatabase as bad:
-                self.tell(bad)
-                continue
-            if span.first is not None and span.last is not None:
-                yield Candidate(path, span.count, span.first, span.last)
+    @property
+    def numbers(self) -> list[int]:
+        """The numbers of the sources that are looked at."""
+        return sorted({number for number, _ in self.spans})
 
-    def window(self, candidates: list[Candidate], first: int) -> list[tuple[Key, Path]]:
-        """The keys of a window that begins at a time, in order. It is made smaller if it has too many, and the next one
-        larger if it has few."""
-        while True:
-            last = min(first + self.width - 1, self.conditions.until)
-            keys = self.keys_between(candidates, first, last)
-            if len(keys) <= MOST_KEYS or self.width == 1:
-                break
-            self.width = max(self.width // 4, 1)
-        if len(keys) < MOST_KEYS // 8:
-            self.width *= 4
-        for candidate in candidates:
-            if candidate.next is not None and candidate.next <= last:
-                candidate.next = self.next_after(candidate, last)
-        keys.sort()
-        return keys
+    def show(self, places: Iterator[Place]) -> Iterator[bytes]:
+        """Entries as they are shown, in pieces."""
+        for batch in batches(places, TOGETHER * self.workers.number * 4):
+            parts = list(batches(iter(batch), TOGETHER))
+            for part, made in zip(parts, self.workers.map(("texts", part) for part in parts)):
+                while part:
+                    for error in made.bad:
+                        self.tell(error)
+                    for place, text in zip(part, made.texts):
+                        yield from self.large(place) if text is ... else [text or b""]
+                    part = part[len(made.texts):]
+                    made = self.reader.texts(part)
 
-    def keys_between(self, candidates: list[Candidate], first: int, last: int) -> list[tuple[Key, Path]]:
-        """The keys of a window; the first ones, if there are too many."""
-        keys: list[tuple[Key, Path]] = []
-        for candidate in candidates:
-            if candidate.next is None or candidate.next > last or len(keys) > MOST_KEYS:
-                continue
-            try:
-                found = self.open.get(candidate.path).keys(first, last, candidate.count, self.conditions,
-                                                           -1 if self.width == 1 else MOST_KEYS + 1)
-                keys += [(key, candidate.path) for key in found]
-            except BadDatabase as bad:
-                self.tell(bad)
-                candidate.next = None
-        return keys
-
-    def next_after(self, candidate: Candidate, last: int) -> int | None:
-        if candidate.last <= last:
-            return None
+    def large(self, place: Place) -> Iterator[bytes]:
         try:
-            return self.open.get(candidate.path).next_after(last, self.conditions.until)
+            yield from self.reader.form(self.reader.found(place))
         except BadDatabase as bad:
             self.tell(bad)
-            return None
 
-    def entries(self, keys: list[tuple[Key, Path]]) -> Iterator[Found]:
-        """The entries of keys. One that is in two databases comes once; two that differ under one key both come."""
+    def count(self, places: Iterator[Place]) -> Counter[Values]:
+        """How often values of the counted fields are there."""
+        total: Counter[Values] = Counter()
+        for counter, bad in self.workers.map(("counts", batch) for batch in batches(places, TOGETHER)):
+            total.update(counter)
+            for error in bad:
+                self.tell(error)
+        return total
+
+    def last(self, most: int) -> list[Place]:
+        """The last entries, so many at most, the last one first."""
+        return list(islice(self.places(backwards=True), most))
+
+    def places(self, backwards: bool = False) -> Iterator[Place]:
+        """Where the entries are, in the order of their times, each once. Two that differ under one key both come."""
+        for places in self.slices(backwards):
+            for _, group in groupby(places, key=lambda place: place[:3]):
+                yield from self.distinct(list(group))
+
+    def distinct(self, places: list[Place]) -> list[Place]:
+        """Those of some entries with one key and time that differ. They are read only if there are several."""
+        if len(places) == 1:
+            return places
         before: list[Found] = []
-        for key, path in keys:
+        kept = []
+        for place in places:
             try:
-                tables = self.open.get(path)
-                found = Found(key[0], tables.monotonic(key), key[1].hex(), key[2], tables.pairs(key))
+                found = self.reader.found(place)
             except BadDatabase as bad:
                 self.tell(bad)
                 continue
-            if before and (before[0].realtime, before[0].sequence, before[0].number) != (
-                    found.realtime, found.sequence, found.number):
-                before = []
             if found not in before:
                 before.append(found)
-                yield found
+                kept.append(place)
+        return kept
+
+    def slices(self, backwards: bool) -> Iterator[list[Place]]:
+        """The places of slice after slice, sorted."""
+        waiting = sorted((self.piece(*span, backwards) for span in self.spans), key=lambda piece: -piece.first)
+        total = len(waiting)
+        active: list[Piece] = []
+        while active or waiting:
+            begin = min(piece.first for piece in [*active, *waiting[-1:]])
+            end = self.end_of_slice(begin, active, waiting)
+            places, end = self.slice(begin, end, active, waiting, backwards)
+            while waiting and waiting[-1].first <= end:
+                active.append(waiting.pop())
+            active = [piece.rest(end) for piece in active if piece.last > end]
+            self.look(total - len(waiting) - len(active), total)
+            yield places
+
+    def piece(self, source: int, span: Span, backwards: bool) -> Piece:
+        """What is asked for of a span."""
+        first, last = max(span.first, self.since), min(span.last, self.until)
+        count = span.count * (last - first + 1) / (span.last - span.first + 1)
+        return Piece(source, count, -last, -first) if backwards else Piece(source, count, first, last)
+
+    def end_of_slice(self, begin: int, active: list[Piece], waiting: list[Piece]) -> int:
+        """The end of a slice that has about as many entries as it should. It ends before a span if that can be."""
+        pieces, keys = len(active), sum(piece.count for piece in active) * self.share
+        end = max((piece.last for piece in active), default=begin)
+        for piece in reversed(waiting):
+            if piece.first > begin and (pieces >= SPANS or keys >= KEYS):
+                end = min(end, piece.first - 1)
+                break
+            pieces, keys, end = pieces + 1, keys + piece.count * self.share, max(end, piece.last)
+        return begin + int((end - begin) * KEYS / keys) if keys > 2 * KEYS else end
+
+    def slice(self, begin: int, end: int, active: list[Piece], waiting: list[Piece],
+              backwards: bool) -> tuple[list[Place], int]:
+        """The places of a slice, and where it ends: earlier than it should if there are too many."""
+        while True:
+            pieces = list(active)
+            for piece in reversed(waiting):
+                if piece.first > end:
+                    break
+                pieces.append(piece)
+            try:
+                places = self.keys(pieces, begin, end, backwards)
+                return sorted(places, reverse=backwards), end
+            except TooMany:
+                end = begin + (end - begin) // 8
+                self.share = min(self.share * 8, 1.0)
+
+    def keys(self, pieces: list[Piece], begin: int, end: int, backwards: bool) -> list[Place]:
+        """The places of a slice. A source of which it has several spans is read once for all."""
+        bounds: dict[int, tuple[int, int]] = {}
+        for piece in pieces:
+            first, last = max(begin, piece.first), min(end, piece.last)
+            before = bounds.get(piece.source, (first, last))
+            bounds[piece.source] = min(first, before[0]), max(last, before[1])
+        tasks = [("keys", source, *((-last, -first) if backwards else (first, last)))
+                 for source, (first, last) in bounds.items()]
+        places: list[Place] = []
+        for (_, source, _, _), found in zip(tasks, self.workers.map(tasks)):
+            if isinstance(found, BadDatabase):
+                self.tell(found)
+                continue
+            places += [(*key, source) for key in found]
+            if len(places) > MOST_KEYS and begin < end:
+                raise TooMany
+        looked = sum(piece.count for piece in pieces)
+        self.share = min(1.0, max(len(places) / max(looked, 1.0), self.share / 8, 1e-6))
+        return places
+
+
+def batches(places: Iterator[Place], size: int) -> Iterator[list[Place]]:
+    """Places in lists of this size."""
+    while batch := list(islice(places, size)):
+        yield batch

@@ -1,32 +1,17 @@
 """Of which databases journal files are made. One file says it."""
-from dataclasses import asdict, dataclass, field
+from dataclasses import asdict, dataclass
 from pathlib import Path
 from typing import Any
 
 from reading import json_files
-from reading.databases import Database
 from reading.failure import Failure
+from reading.taken import Taken
 
 
 @dataclass
-class Made:
-    """The databases that are made, each with its digest; those that are damaged, each with its identity; and the newest
-    day that most entries of a database have."""
-    databases: dict[str, str] = field(default_factory=dict)
-    bad: dict[str, str] = field(default_factory=dict)
+class Made(Taken):
+    """The databases of which journal files are made, and the newest day that most entries of a database have."""
     newest_day: str | None = None
-
-    def waits(self, database: Database) -> bool:
-        """It isn't made yet, and wasn't found to be damaged."""
-        return (self.databases.get(database.name) != database.digest
-                and self.bad.get(database.name) != database.identity)
-
-    def add(self, batch: list[Database], present: list[Database]) -> None:
-        """These are made now. What isn't present any more is forgotten."""
-        names = {database.name for database in present}
-        self.databases = {name: digest for name, digest in self.databases.items() if name in names}
-        self.databases |= {database.name: database.digest for database in batch}
-        self.bad = {name: value for name, value in self.bad.items() if name in names and name not in self.databases}
 
     def add_day(self, day: str) -> None:
         self.newest_day = max(day, self.newest_day or "")

@@ -84,7 +84,8 @@ class Maker:
     def step(self, batch: list[Database], state: Made) -> None:
         """Makes some databases, or finds out that one of them can't be."""
         try:
-            spools = taking.take(batch, self.places, self.writer, self.keep_days, state)
+            room = max(0, files.free_bytes(self.folder) - self.free_bytes // 2)
+            spools = taking.take(batch, self.places, self.writer, self.keep_days, state, room)
         except BadDatabase as bad:
             self.pass_over(bad, batch)
             return

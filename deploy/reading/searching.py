@@ -1,93 +1,38 @@
-"""Shows entries of all finished databases, in the order of their times: search [OPTIONS] [FIELD=VALUE..]"""
-import argparse
+"""Shows entries of all databases, in the order of their times: search [OPTIONS] [FIELD=VALUE..]"""
 import os
 import signal
 import sys
+import time
 from collections.abc import Iterator
+from dataclasses import replace
+from itertools import islice
 from pathlib import Path
 
-from reading import conditions, databases, printing, settings, span
-from reading.conditions import Conditions
-from reading.databases import Database
+from reading import boots, follow, listing, machines, options, printing, query, settings, sources, text
+from reading.conditions import Conditions, Test
 from reading.failure import FAILED, NEEDS_A_LOOK, BadDatabase, Failure
 from reading.finding import Finder
+from reading.machines import Owners
+from reading.options import Words, wrong
+from reading.printing import Style
+from reading.reader import Place, Reader
+from reading.terminal import Output, wants_colours
 
-EXAMPLES = """\
-TIME is as for journalctl: '2026-12-01 14:00', '14:00', 'today', '-1h', '@1764590400'. Without UTC after it, it is this
-machine's.
-Fields of one name are alternatives, those of several names have to be there together.
-Status: 0 all went well; 1 a database was passed over; 2 the call is wrong; 3 something failed."""
-
-
-def field_of(text: str) -> tuple[bytes, bytes]:
-    name, equals, value = os.fsencode(text).partition(b"=")
-    if not equals or not name or b"\n" in name:
-        raise argparse.ArgumentTypeError(f"that isn't FIELD=VALUE: {text!r}")
-    if name.startswith(b"__"):
-        raise argparse.ArgumentTypeError(f"{text!r} is no field of an entry")
-    return name, value
-
-
-def word_of(text: str) -> bytes:
-    if not text:
-        raise argparse.ArgumentTypeError("a word has at least one character")
-    return os.fsencode(text)
-
-
-def time_of(text: str) -> int:
-    try:
-        return span.moment(text)
-    except ValueError as error:
-        raise argparse.ArgumentTypeError(str(error)) from error
-
-
-def duration_of(text: str) -> int:
-    try:
-        return span.duration(text)
-    except ValueError as error:
-        raise argparse.ArgumentTypeError(str(error)) from error
-
-
-def arguments() -> argparse.Namespace:
-    parser = argparse.ArgumentParser(
-        prog="search", description="Shows entries of all finished databases, in the order of their times.",
-        epilog=EXAMPLES, formatter_class=argparse.RawDescriptionHelpFormatter, allow_abbrev=False)
-    parser.add_argument("--since", metavar="TIME", type=time_of, default=0, help="entries of this time and later ones")
-    parser.add_argument("--until", metavar="TIME", type=time_of, default=(1 << 63) - 1, help="entries up to this time")
-    parser.add_argument("--machine", metavar="NAME", type=os.fsencode, action="append", default=[],
-                        help="entries of the machine with this _HOSTNAME")
-    parser.add_argument("--unit", metavar="UNIT", type=os.fsencode, action="append", default=[],
-                        help="entries of this unit, and of systemd about it")
-    parser.add_argument("--word", metavar="TEXT", type=word_of, action="append", default=[],
-                        help="entries that have this text in their message")
-    parser.add_argument("--output", choices=sorted(printing.FORMS), default="short", help="how they are shown")
-    parser.add_argument("--folder", metavar="FOLDER", type=Path, help="the collector's folder")
-    parser.add_argument("--database", metavar="FILE", type=Path, action="append",
-                        help="a database to look at, in place of all")
-    parser.add_argument("--slack", metavar="TIME", type=duration_of,
-                        help="look only at databases that were begun so long before or after the span, by their names")
-    parser.add_argument("fields", metavar="FIELD=VALUE", type=field_of, nargs="*", help="entries that have this field")
-    return parser.parse_args(list(joined(sys.argv[1:])))
-
-
-def joined(words: list[str]) -> Iterator[str]:
-    """The words of a call, with each time joined to its option: `-1h` would be taken for an option of its own."""
-    rest = iter(words)
-    for word in rest:
-        after = next(rest, None) if word in ("--since", "--until", "--slack") else None
-        yield word if after is None else f"{word}={after}"
+LINES, LINES_OF_PAGER = 10, 1000
 
 
 class Search:
     """One call."""
 
-    def __init__(self, asked: argparse.Namespace) -> None:
-        self.asked, self.status, self.shown = asked, 0, 0
+    def __init__(self, words: Words) -> None:
+        self.words, self.status = words, 0
         self.bad: set[str] = set()
-        self.shows_progress = sys.stderr.isatty()
+        self.output = Output(not words.has("no-pager") and not words.has("follow"), words.has("pager-end"))
+        self.folder = Path(words.last("folder") or settings.collector_folder())
 
-    def tell(self, text: str, status: int = 0) -> None:
-        print(f"{self.wiped()}search: {printing.harmless(text)}", file=sys.stderr, flush=True)
+    def tell(self, said: str, status: int = 0) -> None:
+        self.output.progress.wipe()
+        print(f"search: {text.harmless(said)}", file=sys.stderr, flush=True)
         self.status = max(self.status, status)
 
     def tell_bad(self, bad: BadDatabase) -> None:
@@ -95,71 +40,111 @@ class Search:
             self.bad.add(bad.name)
             self.tell(f"{bad}; it is passed over", NEEDS_A_LOOK)
 
-    def wiped(self) -> str:
-        return "\r\x1b[K" if self.shows_progress else ""
+    def sources(self, conditions: Conditions) -> sources.Sources:
+        """What to look at."""
+        files = self.words.all("database")
+        if files:
+            return sources.of_files([Path(file) for file in files], self.tell_bad)
+        found = sources.of_folder(self.folder, self.tell_bad, lambda number, of: self.output.look(
+            number, of, "databases that weren't looked at before"), conditions.since, conditions.until)
+        if found.unfinished and not self.words.has("quiet"):
+            self.tell(f"{found.unfinished} databases aren't finished, and aren't looked at")
+        return found
 
-    def look(self, number: int, of: int) -> None:
-        if self.shows_progress and (number % 16 == 0 or number == of):
-            print(f"\r\x1b[Klooking at {number} of {of} databases", end="", file=sys.stderr, flush=True)
+    def form(self) -> str:
+        """How entries are shown."""
+        form = self.words.last("output") or "short"
+        if form not in printing.FORMS:
+            raise wrong(f"there is no output {form!r}; there are {', '.join(printing.FORMS)}")
+        if form == "export" and self.output.is_terminal and not self.words.has("force"):
+            raise wrong("an export isn't for a terminal: it has all bytes as they are; --force prints it nevertheless")
+        return form
 
-    def conditions(self) -> Conditions:
-        asked = Conditions(self.asked.since, self.asked.until, words=self.asked.word,
-                           units=[conditions.unit_name(unit) for unit in self.asked.unit])
-        for name, value in [*((b"_HOSTNAME", name) for name in self.asked.machine), *self.asked.fields]:
-            asked.fields.setdefault(name, []).append(value)
-        return asked
+    def style(self) -> Style:
+        utc = self.words.has("utc")
+        return Style(all=self.words.has("all"), utc=utc, people=self.output.is_terminal,
+                     colours=self.output.is_terminal and wants_colours(), hostname=not self.words.has("no-hostname"),
+                     year=(time.gmtime() if utc else time.localtime()).tm_year)
 
-    def paths(self) -> list[Path]:
-        """The databases to look at."""
-        if self.asked.database:
-            return self.asked.database
-        folder = (self.asked.folder or Path(settings.collector_folder())) / "databases"
-        if not folder.is_dir():
-            raise Failure(f"{folder} isn't there, or can't be read")
-        found, unread = databases.finished(folder)
-        for name in unread:
-            self.tell_bad(BadDatabase(name, "its .sha256 can't be read", True))
-        known = {database.name for database in found} | set(unread)
-        unfinished = len({path.stem for path in folder.glob("*.db")} - known)
-        if unfinished:
-            self.tell(f"{unfinished} databases aren't finished, and aren't looked at")
-        near = [database for database in found if self.is_near(database)]
-        if len(near) < len(found):
-            self.tell(f"{len(found) - len(near)} databases were begun too long before or after, and aren't looked at")
-        return [database.path for database in near]
-
-    def is_near(self, database: Database) -> bool:
-        """It was begun not much before or after the span, or its name doesn't tell when."""
-        if self.asked.slack is None or database.begun is None:
-            return True
-        begun = span.microseconds(database.begun)
-        return self.asked.since - self.asked.slack <= begun <= self.asked.until + self.asked.slack
+    def most(self) -> int | None:
+        """How many entries are shown at most."""
+        said = self.words.last("lines")
+        if said is None and self.words.has("follow"):
+            return LINES
+        if said is None:
+            return LINES_OF_PAGER if self.words.has("pager-end") else None
+        if said not in ("", "all") and not said.isdigit():
+            raise wrong(f"that is no number of lines: {said!r}")
+        return None if said == "all" else int(said or LINES)
 
     def run(self) -> int:
-        if self.asked.since > self.asked.until:
-            raise Failure("--since is after --until", 2)
-        finder = Finder(self.conditions(), self.tell_bad, self.look)
-        form = printing.FORMS[self.asked.output]
-        for entry in finder.find(self.paths()):
-            self.write(form(entry))
-        sys.stdout.buffer.flush()
-        if self.shows_progress:
-            print(self.wiped(), end="", file=sys.stderr, flush=True)
+        form, most, style = self.form(), self.most(), self.style()
+        conditions = query.of_words(self.words)
+        owners = machines.known(self.folder)
+        conditions.machines = owners.choose(self.words.all("machine"))
+        counted = listing.counted(self.words)
+        found = self.sources(conditions)
+        reader = Reader(found.sources, conditions, printing.FORMS[form](style), counted)
+        finder = Finder(reader, self.tell_bad, lambda number, of: self.output.look(number, of, "parts of databases"))
+        if self.words.has("follow"):
+            return follow.run(self, finder, found)
+        for piece in self.pieces(finder, owners, most, style):
+            self.output.write(piece)
+        if not self.output.has_written and not self.words.has("quiet"):
+            self.say_nothing(len(finder.numbers), found.total)
+        self.output.close()
         return self.status
 
-    def write(self, text: bytes) -> None:
-        if self.shows_progress and sys.stdout.isatty() and not self.shown:
-            print(self.wiped(), end="", file=sys.stderr, flush=True)
-        sys.stdout.buffer.write(text)
-        self.shown += 1
+    def pieces(self, finder: Finder, owners: Owners, most: int | None, style: Style) -> Iterator[bytes]:
+        """What is printed."""
+        words = self.words
+        if words.has("fields"):
+            return listing.fields(finder, style.people)
+        if words.has("field"):
+            return listing.values(finder, query.field_name(words.last("field") or ""), style.people)
+        if words.has("list-machines"):
+            return listing.machine_lines(finder, owners, style, (words.last("output") or "").startswith("json"))
+        if words.has("list-boots"):
+            found = listing.boots_of(finder, None, False)
+            return iter([boots.table(found, style, words.has("quiet")).encode()])
+        self.choose_boots(finder)
+        if words.has("count-by") or words.has("histogram"):
+            return listing.counts(finder, words, style, most)
+        return finder.show(self.places(finder, most))
+
+    def choose_boots(self, finder: Finder) -> None:
+        """Only entries of the boots that are asked for; --dmesg asks for the last ones."""
+        said = self.words.last("boot")
+        wish = boots.wanted("0" if said is None else said) if said is not None or self.words.has("dmesg") else None
+        if wish is None:
+            return
+        ids = [wish.id] if wish.id and not wish.offset else boots.chosen(
+            listing.boots_of(finder, wish, len(set(self.words.all("machine"))) == 1), wish)
+        before = finder.reader.conditions
+        finder.reader.conditions = replace(before, needs=[*before.needs, [[Test(b"_BOOT_ID", tuple(ids))]]])
+        finder.begin()
+
+    def places(self, finder: Finder, most: int | None) -> Iterator[Place]:
+        """The entries in the order in which they are shown. With --grep a number of them begins at the end."""
+        if self.words.has("reverse") or (most is not None and self.words.has("grep")):
+            return islice(finder.places(backwards=True), most)
+        return finder.places() if most is None else reversed(finder.last(most))
+
+    def say_nothing(self, looked_at: int, total: int) -> None:
+        """That nothing was found, where a person sees it."""
+        if self.output.is_terminal or self.output.progress.is_shown:
+            self.tell(f"no entries; {looked_at} of {total} databases have some of that time, and were looked at")
 
 
 def main() -> int:
-    asked = arguments()
     signal.signal(signal.SIGPIPE, signal.SIG_DFL)
     signal.signal(signal.SIGINT, signal.SIG_DFL)
     try:
-        return Search(asked).run()
+        words = options.parse(sys.argv[1:])
+        if words.has("help"):
+            print(options.usage())
+            return 0
+        return Search(words).run()
     except Failure as failure:
         print(f"search: {failure}", file=sys.stderr)
         return failure.status

@@ -5,12 +5,15 @@ from collections.abc import Iterator
 from datetime import date
 from pathlib import Path
 
-from reading import export, journal_file
+from reading import export, journal_file, overflow
 from reading.day import Day, Part, Sequence
+from reading.failure import Failure
 from reading.journal_file import Writer
 from shared import files
 
 MOST_FILES, MOST_NAMES = 6_000, 10_000
+# What systemd-journal-remote makes a new file of.
+FILE_BYTES = 8 << 20
 BUFFER = 1 << 16
 # What systemd-journal-remote takes: it ends at a time that isn't below, without a word and with status 0.
 TIMES = range(1, 1 << 55)
@@ -84,8 +87,11 @@ class Spools:
     """The entries of some databases, each put where it belongs. An entry whose number a day has already is kept aside
     until what the day has can be compared with it."""
 
-    def __init__(self, work: Path, journals: Path, days: dict[date, Day], writer: Writer) -> None:
+    def __init__(self, work: Path, journals: Path, days: dict[date, Day], writer: Writer, room: int) -> None:
         self.work, self.journals, self.days, self.writer = work, journals, days, writer
+        # So many bytes may new files take.
+        self.room = room
+        self.of_machines: dict[date, Counter[str]] = {}
         self.spools: dict[Place, Spool] = {}
         self.aside: dict[tuple[date, str], Spool] = {}
         self.told: Counter[str] = Counter()
@@ -99,8 +105,8 @@ class Spools:
             self.told["entries can't stand in a journal file, and are left out"] += 1
             return
         sequences = self.days[day].sequences
-        if entry.sequence not in sequences and self.days[day].files >= MOST_FILES:
-            self.told[f"entries are left out, since {day} has {MOST_FILES} journal files"] += 1
+        if entry.sequence not in sequences and len(sequences) >= overflow.DAY_SEQUENCES:
+            self.told[f"entries are left out, since {day} has {overflow.DAY_SEQUENCES} sequences"] += 1
             return
         sequence = sequences.setdefault(entry.sequence, Sequence())
         if entry.number in sequence.numbers:
@@ -129,15 +135,37 @@ class Spools:
         self.aside[place].put(entry)
 
     def put(self, day: date, name: str, entry: export.Entry) -> None:
-        part = self.days[day].sequences[name].part_for(name)
+        sequence = self.days[day].sequences[name]
+        if not sequence.is_open and self.overflows(day, sequence, entry):
+            sequence.overflows = True
+            name, entry = overflow.name_of(sequence.machine), overflow.folded(entry)
+            sequence = self.days[day].sequences.setdefault(name, Sequence())
+            self.told[f"entries are in {name}, since their machine has so many journal files of {day}"] += 1
+        part = sequence.part_for(name)
         spool = self.spools.get((day, part.name)) or self.begin(day, part)
         spool.put(entry)
         part.entries += 1
         part.last = max(part.last, entry.realtime)
         part.full = part.full or spool.is_full
 
+    def overflows(self, day: date, sequence: Sequence, entry: export.Entry) -> bool:
+        """Whether an entry that needs a new file is in its machine's overflow file instead."""
+        sequence.machine = sequence.machine or machine_of(entry)
+        if sequence.parts:
+            return len(sequence.parts) >= overflow.FILES + sequence.entries // overflow.ENTRIES_OF_A_FILE
+        state = self.days[day]
+        if day not in self.of_machines:
+            self.of_machines[day] = Counter(each.machine for each in state.sequences.values() if each.parts)
+        of_machine = self.of_machines[day]
+        is_too_many = of_machine[sequence.machine] >= overflow.MACHINE_SEQUENCES or state.files >= MOST_FILES
+        of_machine[sequence.machine] += not is_too_many
+        return is_too_many
+
     def begin(self, day: date, part: Part) -> Spool:
         """The spool of a file; one that isn't known stays as it is, and the new one gets another name."""
+        self.room -= FILE_BYTES * (part.entries == 0)
+        if self.room < 0:
+            raise Failure("the disk has too little room for the journal files that are to be begun")
         while part.entries == 0 and (self.journals / str(day) / f"{part.name}.journal").exists():
             part.name += "-again"
         spool = Spool(self.work / f"{day}.{part.name}.export", part.entries, part.last)
@@ -149,7 +177,7 @@ class Spools:
         for (day, name), aside in self.aside.items():
             known = {entry.digest() for entry in self.written(day, name)}
             for entry in aside.entries():
-                if entry.digest() in known:
+                if not known.isdisjoint((entry.digest(), overflow.folded(entry).digest())):
                     self.told["entries came a second time"] += 1
                 else:
                     known.add(entry.digest())
@@ -158,7 +186,11 @@ class Spools:
 
     def written(self, day: date, name: str) -> Iterator[export.Entry]:
         """The entries that a sequence has on a day, in its files and in what goes to them."""
-        for part in list(self.days[day].sequences[name].parts):
+        sequences = self.days[day].sequences
+        parts = list(sequences[name].parts)
+        if sequences[name].overflows:
+            parts += sequences[overflow.name_of(sequences[name].machine)].parts
+        for part in parts:
             path = self.journals / str(day) / f"{part.name}.journal"
             if path.exists():
                 yield from self.writer.read(path)

@@ -1,6 +1,7 @@
 """The tables of a database that never changes, read by SQL."""
+import itertools
 import sqlite3
-from collections import OrderedDict
+from collections.abc import Iterable, Iterator
 from dataclasses import dataclass
 from pathlib import Path
 from typing import Any
@@ -10,96 +11,176 @@ from reading.conditions import Conditions
 from reading.failure import BadDatabase
 from shared import files
 
+# One entry is looked up in the time in which some of them are read.
 FEW = 20
-MOST_OPEN = 64
 # A log with fewer bytes has no page.
 LOG_WITH_A_PAGE = 56
+# More of what is found of one source isn't held.
+MOST_HELD = 200_000
 Key = tuple[int, bytes, int]
+Id = tuple[bytes, int]
+Pair = tuple[bytes, bytes]
 
 
-@dataclass
-class Span:
-    """How many entries a database has, and the times of the first and last one that is asked for."""
-    count: int
-    first: int | None
-    last: int | None
+def connect(path: Path) -> sqlite3.Connection:
+    """Opens a database that never changes: nothing is written beside it."""
+    name = path.name.removesuffix(".db")
+    log = path.with_name(path.name + "-wal")
+    if files.size(log) >= LOG_WITH_A_PAGE:
+        raise BadDatabase(name, f"it isn't closed: {log.name} has pages", False)
+    try:
+        return sqlite3.connect(f"file:{quote(str(path.absolute()))}?mode=ro&immutable=1", uri=True)
+    except sqlite3.Error as error:
+        raise BadDatabase(name, str(error), False) from error
+
+
+@dataclass(frozen=True)
+class Among:
+    """A condition on rows of `record`, and the values in it."""
+    text: str
+    values: list[object]
+
+    def of(self, sequences: list[bytes]) -> "Among":
+        """Only those of some sequences."""
+        return Among(f"{self.text} AND seqid IN ({', '.join('?' * len(sequences))})", [*self.values, *sequences])
 
 
 class Tables:
-    """One database."""
+    """One database, or what has the same tables."""
 
-    def __init__(self, path: Path) -> None:
-        self.name = path.name.removesuffix(".db")
-        log = path.with_name(path.name + "-wal")
-        if files.size(log) >= LOG_WITH_A_PAGE:
-            raise BadDatabase(self.name, f"it isn't closed: {log.name} has pages", False)
-        try:
-            self.connection = sqlite3.connect(f"file:{quote(str(path.absolute()))}?mode=ro&immutable=1", uri=True)
-        except sqlite3.Error as error:
-            raise BadDatabase(self.name, str(error), False) from error
+    def __init__(self, name: str, connection: sqlite3.Connection) -> None:
+        self.name, self.connection = name, connection
         self.check()
 
-    def rows(self, query: str, values: list[object]) -> sqlite3.Cursor:
+    def rows(self, query: str, values: Iterable[object]) -> Iterator[Any]:
+        """The rows of a query, one after the other."""
         try:
-            return self.connection.execute(query, values)
+            yield from self.connection.execute(query, list(values))
         except sqlite3.Error as error:
             raise BadDatabase(self.name, str(error), True) from error
 
-    def fetch(self, query: str, values: list[object]) -> list[Any]:
+    def fetch(self, query: str, values: Iterable[object] = ()) -> list[Any]:
         """All rows of a query."""
-        try:
-            return self.rows(query, values).fetchall()
-        except sqlite3.Error as error:
-            raise BadDatabase(self.name, str(error), True) from error
+        return list(self.rows(query, values))
 
     def check(self) -> None:
-        versions = self.fetch("SELECT version FROM journal", [])
+        versions = self.fetch("SELECT version FROM journal")
         if versions == [(1,)]:
             raise BadDatabase(self.name, "its tables are of version 1: see `journal-collect migrate`", True)
         if versions != [(2,)]:
             raise BadDatabase(self.name, "it has no journal of version 2", True)
 
-    def span(self, since: int, until: int) -> Span:
-        (total,), = self.fetch("SELECT count(*) FROM record", [])
-        (first, last), = self.fetch("SELECT min(realtime), max(realtime) FROM record WHERE realtime BETWEEN ? AND ?",
-                                    [since, until])
-        return Span(total, first, last)
+    def times(self) -> Iterator[int]:
+        """The times of all entries, in order."""
+        return (time for time, in self.rows("SELECT realtime FROM record ORDER BY realtime", []))
 
-    def keys(self, since: int, until: int, total: int, conditions: Conditions, most: int) -> list[Key]:
-        """The times and keys of entries in a span that fit, at most so many."""
-        (count,), = self.fetch("SELECT count(*) FROM record WHERE realtime BETWEEN ? AND ?", [since, until])
-        text, values = conditions.sql(few=count * FEW < total)
-        query = f"SELECT realtime, seqid, seqnum FROM record WHERE realtime BETWEEN ? AND ? AND {text} LIMIT ?"
-        return self.fetch(query, [since, until, *values, most])
+    def sequences(self) -> list[bytes]:
+        """The ids of all sequences."""
+        return [sequence for sequence, in self.fetch(
+            "WITH RECURSIVE next(id) AS (SELECT min(seqid) FROM record UNION ALL SELECT (SELECT min(seqid) FROM record "
+            "WHERE seqid > id) FROM next WHERE id IS NOT NULL) SELECT id FROM next WHERE id IS NOT NULL")]
 
-    def next_after(self, time: int, until: int) -> int | None:
-        """The first time after one."""
-        (first,), = self.fetch("SELECT min(realtime) FROM record WHERE realtime > ? AND realtime <= ?", [time, until])
-        return first
+    def keys(self, since: int, until: int, conditions: Conditions, most: int) -> list[Key]:
+        """The times and keys of entries in a span that fit, at most so many (-1: all), in no order."""
+        among = Among("realtime BETWEEN ? AND ?", [since, until])
+        if conditions.machines is None:
+            return self.keys_among(among, conditions, most)
+        mine, nobodys = conditions.machines.split(self.sequences())
+        found = self.keys_among(among.of(mine), conditions, most) if mine else []
+        if nobodys and len(found) != most:
+            found += self.keys_among(among.of(nobodys), conditions.by_name, most)
+        return found
+
+    def keys_among(self, among: "Among", conditions: Conditions, most: int) -> list[Key]:
+        """The times and keys of those of some entries that fit."""
+        if not conditions.needs:
+            return self.fetch(f"SELECT realtime, seqid, seqnum FROM record WHERE {among.text} LIMIT ?",
+                              [*among.values, most])
+        (total,), = self.fetch("SELECT count(*) FROM record")
+        (count,), = self.fetch(f"SELECT count(*) FROM record WHERE {among.text}", among.values)
+        if count * FEW < total:
+            found = self.each(self.rows(f"SELECT seqid, seqnum FROM record WHERE {among.text}", among.values),
+                              conditions)
+        else:
+            found = self.all(conditions, total // FEW)
+        query = f"SELECT realtime, seqid, seqnum FROM record WHERE seqid = ? AND seqnum = ? AND {among.text}"
+        times = (key for id_of in found for key in self.rows(query, [*id_of, *among.values]))
+        return list(itertools.islice(times, None if most < 0 else most))
+
+    def each(self, keys: Iterable[Id], conditions: Conditions) -> Iterator[Id]:
+        """Those of some entries that fit. Each is looked up."""
+        self.prepare(conditions)
+        row, where, values, more = conditions.sql
+        query = f"SELECT {row} FROM field WHERE ({where}) AND seqid = ? AND seqnum = ?"
+        return (key for key in keys if conditions.holds(conditions.mask(self.rows(query, [*values, *more, *key]))))
+
+    def all(self, conditions: Conditions, few: int) -> Iterator[Id]:
+        """All entries that fit. All fields are read for the first tests; if few entries fit these, and there is more to
+        be tested, they are looked up, and otherwise all fields are read for all tests."""
+        open_ones: list[Id] = []
+        sure: list[Id] = []
+        for key, mask in self.scan(conditions.first):
+            (sure if conditions.holds(conditions.of_first(mask)) else open_ones).append(key)
+            if len(open_ones) > few or len(sure) > MOST_HELD:
+                return (key for key, mask in self.scan(conditions) if conditions.holds(mask))
+        return itertools.chain(sure, self.each(open_ones, conditions))
+
+    def scan(self, conditions: Conditions) -> Iterator[tuple[Id, int]]:
+        """The entries that have something that a test is about, with the tests that hold. The fields of an entry lie
+        together, as they were stored."""
+        self.prepare(conditions)
+        row, where, values, more = conditions.sql
+        rows = self.rows(f"SELECT seqid, seqnum, {row} FROM field WHERE {where} ORDER BY rowid", [*values, *more])
+        for key, some in itertools.groupby(rows, key=lambda row: row[:2]):
+            yield key, conditions.mask(row[2:] for row in some)
+
+    def prepare(self, conditions: Conditions) -> None:
+        """SQL asks for patterns and expressions by their numbers."""
+        patterns = conditions.patterns
+        self.connection.create_function("fits", 2, lambda number, value: patterns[number - 1].fits(value))
 
     def monotonic(self, key: Key) -> int:
-        rows = self.fetch("SELECT monotonic FROM record WHERE seqid = ? AND seqnum = ?", [key[1], key[2]])
+        rows = self.fetch("SELECT monotonic FROM record WHERE seqid = ? AND seqnum = ?", key[1:])
         if not rows:
             raise BadDatabase(self.name, "its index and its rows differ", True)
         return rows[0][0]
 
-    def pairs(self, key: Key) -> list[tuple[bytes, bytes]]:
-        return self.fetch("SELECT name, value FROM field WHERE seqid = ? AND seqnum = ? ORDER BY pos", [key[1], key[2]])
+    def pairs(self, key: Key) -> list[Pair]:
+        return self.fetch("SELECT name, value FROM field WHERE seqid = ? AND seqnum = ? ORDER BY pos", key[1:])
+
+    def values(self, key: Key, names: tuple[bytes, ...]) -> tuple[bytes | None, ...]:
+        """The first value of each of these fields."""
+        wanted = ", ".join("?" * len(names))
+        rows = self.fetch(f"SELECT name, value FROM field WHERE seqid = ? AND seqnum = ? AND name IN ({wanted}) "
+                          "ORDER BY pos DESC", [*key[1:], *names])
+        found: dict[bytes, bytes] = dict(rows)
+        return tuple(map(found.get, names))
+
+    def boots(self) -> list[tuple[bytes, bytes, int, int, int]]:
+        """Each boot of each sequence, with the times of its first and last entry, and the number of one."""
+        return self.fetch("SELECT value, seqid, min(realtime), max(realtime), seqnum FROM field JOIN record USING "
+                          "(seqid, seqnum) WHERE name = ? GROUP BY value, seqid", [b"_BOOT_ID"])
+
+    def lasts(self) -> list[tuple[bytes, int, int]]:
+        """Of each sequence the time of its last entry, and the number of that."""
+        return self.fetch("SELECT seqid, max(realtime), seqnum FROM record GROUP BY seqid")
+
+    def names(self, since: int, until: int) -> list[bytes]:
+        """The names of the fields of entries in a span."""
+        return [name for name, in self.fetch(
+            "SELECT DISTINCT name FROM field JOIN record USING (seqid, seqnum) WHERE realtime BETWEEN ? AND ?",
+            [since, until])]
+
+    def all_values(self, key: Key, name: bytes) -> list[bytes]:
+        """All values of a field of an entry."""
+        return [value for value, in self.fetch("SELECT value FROM field WHERE seqid = ? AND seqnum = ? AND name = ?",
+                                               [*key[1:], name])]
+
+    def values_between(self, since: int, until: int, name: bytes) -> list[bytes]:
+        """The values of a field in a span."""
+        return [value for value, in self.fetch(
+            "SELECT DISTINCT value FROM field JOIN record USING (seqid, seqnum) WHERE name = ? AND realtime BETWEEN ? "
+            "AND ?", [name, since, until])]
 
     def close(self) -> None:
         self.connection.close()
-
-
-class Open:
-    """Databases that are open: not too many at once."""
-
-    def __init__(self) -> None:
-        self.tables: OrderedDict[Path, Tables] = OrderedDict()
-
-    def get(self, path: Path) -> Tables:
-        if path not in self.tables:
-            while len(self.tables) >= MOST_OPEN:
-                self.tables.popitem(last=False)[1].close()
-            self.tables[path] = Tables(path)
-        self.tables.move_to_end(path)
-        return self.tables[path]

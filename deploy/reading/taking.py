@@ -1,7 +1,7 @@
 """The entries of finished databases, each put where it belongs."""
 import subprocess
 from collections import Counter
-from datetime import date, datetime, timezone
+from datetime import date
 from pathlib import Path
 from typing import BinaryIO
 
@@ -11,11 +11,10 @@ from reading.day import Day
 from reading.failure import BadDatabase, Failure
 from reading.journal_file import Writer
 from reading.made import Made
+from reading.placing import LAST, Placing, ordinal_of
 from reading.plan import Places
 from reading.spool import Spools
 from shared import files
-
-EPOCH, LAST = date(1970, 1, 1).toordinal(), date.max.toordinal()
 
 
 class Days(dict[date, Day]):
@@ -63,9 +62,10 @@ class Source:
         files.remove(self.work / "export")
 
 
-def take(batch: list[Database], places: Places, writer: Writer, keep_days: int, made: Made) -> Spools:
-    """All entries of some databases. The newest day of `made` is raised by them."""
-    spools = Spools(places.work, places.journals, Days(places), writer)
+def take(batch: list[Database], places: Places, writer: Writer, keep_days: int, made: Made, room: int) -> Spools:
+    """All entries of some databases, for which new files may take so much room. The newest day of `made` is raised by
+    them."""
+    spools = Spools(places.work, places.journals, Days(places), writer, room)
     for database in batch:
         take_one(database, spools, keep_days, made)
     spools.compare()
@@ -73,16 +73,14 @@ def take(batch: list[Database], places: Places, writer: Writer, keep_days: int, 
 
 
 def take_one(database: Database, spools: Spools, keep_days: int, made: Made) -> None:
-    """The entries of one database. Its day has those whose time can't be right."""
-    own = database.day or datetime.fromtimestamp(database.path.stat().st_mtime, timezone.utc).date()
-    plausible = range(own.toordinal() - keep_days, min(own.toordinal() + 1, LAST) + 1)
+    """The entries of one database."""
+    placing = Placing(database, keep_days)
     seen: Counter[int] = Counter()
     with Source(database, spools.work) as stream:
         try:
             for entry in export.entries(stream):
-                ordinal = entry.realtime // 86_400_000_000 + EPOCH
-                seen[ordinal] += 1
-                spools.take(date.fromordinal(ordinal) if ordinal in plausible else own, entry)
+                seen[ordinal_of(entry.realtime)] += 1
+                spools.take(placing.day(entry.realtime), entry)
         except export.Malformed as error:
             raise BadDatabase(database.name, f"its export can't be read: {error}", True) from error
     if seen:

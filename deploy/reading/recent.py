@@ -1,0 +1,124 @@
+"""What is acknowledged and isn't in a finished database yet: the uploads recent/DATABASE/FIRST-LAST-NUMBER.upload.
+
+They are put into the tables of a database in memory, so all that can be asked of a database can be asked of them. The
+collector removes them some time after their database is finished: whoever lists them first, and the finished databases
+after that, misses nothing.
+"""
+import re
+import sqlite3
+import subprocess
+import tempfile
+from collections.abc import Container, Iterable, Iterator
+from dataclasses import dataclass
+from pathlib import Path
+
+from reading import export
+from reading.export import Entry
+from shared import files
+
+FOLDER = "recent"
+NAME = re.compile(r"([0-9]{20})-([0-9]{20})-([0-9]+)\.upload")
+HEAD = 48
+STREAM = 1
+TABLES = """
+CREATE TABLE journal(one INTEGER PRIMARY KEY, version INTEGER NOT NULL) STRICT;
+INSERT INTO journal VALUES(1, 2);
+CREATE TABLE record(seqid BLOB NOT NULL, seqnum INTEGER NOT NULL, realtime INTEGER NOT NULL,
+  monotonic INTEGER NOT NULL, PRIMARY KEY(seqid, seqnum)) STRICT;
+CREATE TABLE field(seqid BLOB NOT NULL, seqnum INTEGER NOT NULL, pos INTEGER NOT NULL, name BLOB NOT NULL,
+  value BLOB NOT NULL, PRIMARY KEY(seqid, seqnum, pos)) STRICT;
+CREATE INDEX times ON record(realtime);
+"""
+
+
+@dataclass(frozen=True)
+class Upload:
+    """An upload that was stored: its number, its database, and the times between which its entries are."""
+    number: int
+    database: str
+    first: int
+    last: int
+    path: Path
+
+
+def uploads(folder: Path) -> list[Upload]:
+    """The uploads in a collector's folder, in the order in which they were stored."""
+    found = []
+    for database in files.names(folder / FOLDER):
+        for name in files.names(folder / FOLDER / database, ".upload"):
+            match = NAME.fullmatch(name)
+            if match:
+                path = folder / FOLDER / database / name
+                found.append(Upload(int(match[3]), database, int(match[1]), int(match[2]), path))
+    return sorted(found, key=lambda upload: upload.number)
+
+
+def by_database(found: Iterable[Upload], finished: Container[str], since: int, until: int) -> dict[str, list[Upload]]:
+    """The uploads that may have entries of a span, by their databases; none of databases that are finished."""
+    chosen: dict[str, list[Upload]] = {}
+    for upload in found:
+        if upload.database not in finished and upload.first <= until and upload.last >= since:
+            chosen.setdefault(upload.database, []).append(upload)
+    return chosen
+
+
+def entries(upload: Upload) -> Iterator[Entry]:
+    """The entries of an upload; none if it is there no more. An unfinished last one isn't stored, so it isn't given."""
+    try:
+        with upload.path.open("rb") as file:
+            head = file.read(HEAD)
+            if head[8:9] != bytes([STREAM]):
+                yield from entries_of_file(upload)
+                return
+            yield from export.entries(file)
+    except (FileNotFoundError, export.Malformed):
+        return
+
+
+def entries_of_file(upload: Upload) -> Iterator[Entry]:
+    """The entries of an upload that is a journal file: the program reads it."""
+    with tempfile.TemporaryDirectory() as folder:
+        stream = Path(folder, "export")
+        subprocess.run(["journal-collect", "collect", "--then-export", stream, Path(folder, "db"), upload.path],
+                       stdout=subprocess.DEVNULL, stderr=subprocess.DEVNULL, check=False)
+        if stream.exists():
+            with stream.open("rb") as file:
+                yield from export.entries(file)
+
+
+def connect(found: Iterable[Upload]) -> sqlite3.Connection:
+    """Tables of the entries of some uploads, each entry once."""
+    connection = empty()
+    for upload in found:
+        put(connection, entries(upload))
+    return connection
+
+
+def of_bytes(data: bytes) -> sqlite3.Connection:
+    """Tables that another connection had: each process that searches has its own."""
+    connection = sqlite3.connect(":memory:")
+    connection.deserialize(data)
+    return connection
+
+
+def empty() -> sqlite3.Connection:
+    """Tables without an entry."""
+    connection = sqlite3.connect(":memory:")
+    connection.executescript(TABLES)
+    return connection
+
+
+def put(connection: sqlite3.Connection, found: Iterable[Entry]) -> None:
+    """Puts entries into the tables that aren't there."""
+    for entry in found:
+        key = bytes.fromhex(entry.sequence), entry.number
+        done = connection.execute("INSERT OR IGNORE INTO record VALUES(?, ?, ?, ?)",
+                                  [*key, entry.realtime, entry.monotonic])
+        if done.rowcount:
+            connection.executemany("INSERT INTO field VALUES(?, ?, ?, ?, ?)",
+                                   ((*key, at, *pair) for at, pair in enumerate(pairs_of(entry))))
+
+
+def pairs_of(entry: Entry) -> list[tuple[bytes, bytes]]:
+    """The pairs of an entry, in the order of the canonical text."""
+    return sorted({(name, export.value_of(name, field)) for name, field in zip(entry.names, entry.fields)})

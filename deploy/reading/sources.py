@@ -1,0 +1,104 @@
+"""What a search reads: each finished database, and what was stored in others."""
+import sqlite3
+from collections import OrderedDict
+from collections.abc import Callable
+from dataclasses import dataclass, field
+from functools import partial
+from pathlib import Path
+
+from reading import databases, recent, spans, tables
+from reading.failure import BadDatabase, Failure
+from reading.recent import Upload
+from reading.spans import Spans
+from reading.tables import Tables
+
+MOST_OPEN = 64
+Tell = Callable[[BadDatabase], None]
+Told = Callable[[int, int], None]
+
+
+@dataclass(frozen=True)
+class Source:
+    """Something that has entries: what it is called, when they were written, and what opens it. It has the tables of a
+    database, in memory or in a file, which is named."""
+    name: str
+    spans: Spans
+    connect: Callable[[], sqlite3.Connection]
+    file: Path | None = None
+
+
+def of_database(name: str, path: Path, known: Spans) -> Source:
+    return Source(name, known, partial(tables.connect, path), path)
+
+
+@dataclass
+class Sources:
+    """What has something of a time; how many sources there are in all, how many databases aren't finished and have
+    nothing that could be read, the names of the finished ones, and the uploads that were stored in others."""
+    sources: list[Source]
+    total: int = 0
+    unfinished: int = 0
+    finished: set[str] = field(default_factory=set)
+    uploads: list[Upload] = field(default_factory=list)
+
+
+def of_uploads(uploads: list[Upload], finished: set[str], since: int, until: int) -> list[Source]:
+    """What was stored between two times and isn't in a finished database."""
+    found = []
+    for name, some in recent.by_database(uploads, finished, since, until).items():
+        connection = recent.connect(some)
+        known = spans.spans_of(Tables(name, connection).times())
+        found.append(Source(name, known, partial(recent.of_bytes, connection.serialize())))
+        connection.close()
+    return found
+
+
+def of_folder(folder: Path, tell: Tell, told: Told, since: int = 0, until: int = (1 << 63) - 1) -> Sources:
+    """All that a collector's folder has, and of what isn't in finished databases that which may be of a time. `tell`
+    hears of databases that can't be read, `told` how many were opened that weren't known."""
+    below = folder / "databases"
+    if not below.is_dir():
+        raise Failure(f"{below} isn't there, or can't be read")
+    # Uploads are listed first: those that go meanwhile are in a finished database.
+    uploads = recent.uploads(folder)
+    listing = databases.listing(below)
+    finished = {mark.name for mark in listing.marks}
+    for name in sorted(listing.aside, key=databases.natural):
+        tell(BadDatabase(name, "it was set aside", True))
+    known = spans.of_marks(folder / spans.NAME, listing.marks, tell, told)
+    near = [mark for mark in listing.marks if any(
+        span.first <= until and span.last >= since for span in known.get(mark.name, ()))]
+    found = [of_database(mark.name, mark.database, known[mark.name]) for mark in sorted(near)]
+    others = of_uploads(uploads, finished, since, until)
+    unread = listing.unfinished - {upload.database for upload in uploads}
+    return Sources(found + others, len(known) + len(others), len(unread), finished, uploads)
+
+
+def of_files(paths: list[Path], tell: Tell) -> Sources:
+    """Databases that are named, whether they are finished or not."""
+    found = Sources([])
+    for path in paths:
+        of_path = spans.look(path)
+        if isinstance(of_path, BadDatabase):
+            tell(of_path)
+        else:
+            found.sources.append(of_database(path.name.removesuffix(".db"), path, of_path))
+            found.total += 1
+    return found
+
+
+class Open:
+    """What is open of the sources: not too many at once."""
+
+    def __init__(self, sources: list[Source]) -> None:
+        self.sources = sources
+        self.tables: OrderedDict[int, Tables] = OrderedDict()
+
+    def get(self, number: int) -> Tables:
+        """The tables of the source with this number."""
+        if number not in self.tables:
+            while len(self.tables) >= MOST_OPEN:
+                self.tables.popitem(last=False)[1].close()
+            self.tables[number] = Tables(self.sources[number].name, self.sources[number].connect())
+        self.tables.move_to_end(number)
+        return self.tables[number]
