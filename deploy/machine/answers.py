@@ -5,15 +5,27 @@
     last SOURCE POSITION SEQUENCE-ID SEQNUM
     waits SOURCE
 """
-import re
-from dataclasses import dataclass, field
-from typing import Optional
+from __future__ import annotations
 
-PATTERNS = {
-    "ack": r"ack ([0-9a-f]{32}) ([0-9]+) ([0-9]+) [0-9]+ [0-9]+",
-    "no": r"no ([0-9a-f]{32}) [0-9]+ [0-9]+ [0-9]+",
-    "last": r"last ([0-9a-f]{32}) ([0-9]+) ([0-9a-f]{32}) ([0-9]+)",
-    "waits": r"waits ([0-9a-f]{32})",
+from shared.records import dataclass, field
+
+HEXADECIMAL = frozenset("0123456789abcdef")
+
+
+def is_id(word: str) -> bool:
+    return len(word) == 32 and HEXADECIMAL.issuperset(word)
+
+
+def is_number(word: str) -> bool:
+    return word.isascii() and word.isdigit()
+
+
+# What the words of each line are.
+FORMS = {
+    "ack": (is_id, is_number, is_number, is_number, is_number),
+    "no": (is_id, is_number, is_number, is_number),
+    "last": (is_id, is_number, is_id, is_number),
+    "waits": (is_id,),
 }
 
 
@@ -22,7 +34,7 @@ class Told:
     """What is said of one source."""
     acks: list[tuple[int, int]] = field(default_factory=list)
     refusals: list[str] = field(default_factory=list)
-    position: Optional[int] = None
+    position: int | None = None
     key: str = ""
     waits: bool = False
 
@@ -35,17 +47,17 @@ def parse(text: str) -> dict[str, Told]:
     """What is said of each source. A line that was cut off isn't one."""
     answers: dict[str, Told] = {}
     for line in text.split("\n")[:-1]:
-        word = line.partition(" ")[0]
-        match = re.fullmatch(PATTERNS.get(word, "(?!)"), line, re.ASCII)
-        if not match:
+        word, *words = line.split(" ")
+        form = FORMS.get(word, ())
+        if not form or len(words) != len(form) or not all(is_so(each) for is_so, each in zip(form, words)):
             continue
-        told = answers.setdefault(match[1], Told())
+        told = answers.setdefault(words[0], Told())
         if word == "ack":
-            told.acks.append((int(match[2]), int(match[3])))
+            told.acks.append((int(words[1]), int(words[2])))
         elif word == "no":
             told.refusals.append(line)
         elif word == "last":
-            told.position, told.key = int(match[2]), f"{match[3]} {match[4]}"
+            told.position, told.key = int(words[1]), f"{words[2]} {words[3]}"
         else:
             told.waits = True
     return answers

@@ -1,4 +1,4 @@
-#!/usr/bin/env python3
+#!/usr/bin/python3 -IB
 """Makes an export stream one that journal-collect takes: fit-stream [--leave-out-large] < STREAM > FITTED
 or several streams, each of which systemd-journal-remote makes one journal file of:
 fit-stream --split FOLDER < STREAM
@@ -11,16 +11,22 @@ stream is cut off within an entry, can't be followed, or can't be written.
 A value is read in pieces, and an entry is held as long as it is within the limits. So memory is bounded by them,
 whatever the stream has.
 """
-import argparse
+from __future__ import annotations
+
 import os
-import re
 import sys
-from typing import BinaryIO, Callable, Iterator, Optional
+
+TYPE_CHECKING = False
+if TYPE_CHECKING:
+    from typing import BinaryIO, Callable, Iterator, Optional, TypeVar
+
+    Kind = TypeVar("Kind", bound="Entry")
 
 NAME, VALUE, FIELDS, ENTRY = 1_024, 16_777_216, 4_096, 33_554_432
 # journald takes no value of 768 MiB, so a length over this is of no stream.
 LONGEST = 1 << 30
 PIECE = 1 << 16
+HEXADECIMAL = frozenset("0123456789abcdefABCDEF")
 
 
 class Unfit(Exception):
@@ -39,10 +45,12 @@ class Entry:
     """One entry: its metadata, and its text while it is within the limits. What goes over them is handed to
     `overflow`, and is dropped if there is none."""
 
-    def __init__(self, overflow: Optional[Callable[[bytes], object]]) -> None:
+    def __init__(self, overflow: Optional[Callable[[bytes], object]] = None) -> None:
         self.overflow = overflow
         self.known: dict[bytes, bytes] = {}
         self.pieces: list[bytes] = []
+        # The name of each field, and which piece it begins with, as long as all pieces are held.
+        self.begins: list[tuple[bytes, int]] = []
         self.fields = self.counted = self.bytes = 0
         self.is_large = False
 
@@ -50,6 +58,7 @@ class Entry:
         """A field of this name begins."""
         if not name:
             raise Unfit("a field has no name: this isn't an export stream, or it is damaged")
+        self.begins.append((name, len(self.pieces)))
         is_metadata = name.startswith(b"__")
         self.fields += not is_metadata
         self.is_metadata, self.value = is_metadata, 0
@@ -78,6 +87,7 @@ class Entry:
             for piece in self.pieces:
                 self.overflow(piece)
         self.pieces.clear()
+        self.begins.clear()
 
     def key(self) -> tuple[bytes, bytes]:
         """The sequence id and the sequence number, as text."""
@@ -89,11 +99,19 @@ class Entry:
         except (KeyError, ValueError):
             raise Unfit("an entry has neither a sequence number nor a cursor that has it") from None
 
-    def end(self) -> bytes:
-        """The rest of its text: what it lacks of its key, and the empty line."""
-        if b"__SEQNUM" in self.known and b"__SEQNUM_ID" in self.known:
-            return b"\n"
-        return b"__SEQNUM_ID=%s\n__SEQNUM=%s\n\n" % self.key()
+    def text(self, seqnum_id: Optional[bytes] = None) -> list[bytes]:
+        """Its text with its key, perhaps under another sequence id."""
+        own, number = self.key()
+        pieces, missing = self.pieces, []
+        if seqnum_id is not None:
+            ends = [at for _, at in self.begins[1:]] + [len(pieces)]
+            pieces = [piece for (name, begin), end in zip(self.begins, ends) if name != b"__SEQNUM_ID"
+                      for piece in pieces[begin:end]]
+        if seqnum_id is not None or b"__SEQNUM_ID" not in self.known:
+            missing.append(b"__SEQNUM_ID=%s\n" % (seqnum_id or own))
+        if b"__SEQNUM" not in self.known:
+            missing.append(b"__SEQNUM=%s\n" % number)
+        return [*pieces, *missing, b"\n"]
 
     def named(self) -> str:
         number_id, number = self.key()
@@ -157,15 +175,16 @@ def read_field(stream: BinaryIO, line: bytes, entry: Entry) -> None:
         entry.known[line[:-1].partition(b"=")[0]] = value
 
 
-def entries(stream: BinaryIO, overflow: Optional[Callable[[bytes], object]] = None) -> Iterator[Entry]:
-    """Each entry of a stream, once it is read whole."""
-    entry = Entry(overflow)
+def entries(stream: BinaryIO, begun: Optional[Callable[[], Kind]] = None) -> Iterator[Kind]:
+    """Each entry of a stream, once it is read whole; `begun` makes one."""
+    begin = begun or Entry
+    entry = begin()
     while line := stream.readline(PIECE):
         if line != b"\n":
             read_field(stream, line, entry)
         elif entry.fields or entry.known:
             yield entry
-            entry = Entry(overflow)
+            entry = begin()
     if entry.fields or entry.known:
         raise CutOff(entry.known)
 
@@ -186,7 +205,7 @@ class Split:
     def write(self, entry: Entry) -> None:
         number_id = entry.key()[0].decode(errors="replace")
         time = int(entry.known.get(b"__REALTIME_TIMESTAMP", b"0"))
-        if not re.fullmatch("[0-9a-fA-F]{32}", number_id):
+        if len(number_id) != 32 or not HEXADECIMAL.issuperset(number_id):
             raise Unfit("a sequence id isn't 32 hexadecimal digits")
         if entry.is_large:
             raise Unfit(f"over a limit: {entry.named()}")
@@ -194,7 +213,7 @@ class Split:
         number += time < last
         self.last[number_id] = number, time
         file = self.use(f"{number_id}-{number}.export" if number > 1 else f"{number_id}.export")
-        file.writelines([*entry.pieces, entry.end()])
+        file.writelines(entry.text())
 
     def use(self, name: str) -> BinaryIO:
         if self.file is None or name != self.name:
@@ -220,20 +239,22 @@ class One:
         if entry.is_large and self.leave_out_large:
             print("left out:", entry.named(), file=sys.stderr)
             return
-        self.file.writelines([*entry.pieces, entry.end()])
+        self.file.writelines(entry.text())
 
     def close(self) -> None:
         self.file.flush()
 
 
 def main() -> None:
-    parser = argparse.ArgumentParser(description="Makes an export stream one that journal-collect takes.")
+    import argparse
+    parser = argparse.ArgumentParser(prog="fit-stream",
+                                     description="Makes an export stream one that journal-collect takes.")
     parser.add_argument("--leave-out-large", action="store_true", help="leave out entries over the limits")
     parser.add_argument("--split", metavar="FOLDER", help="write the entries of each sequence to a stream in FOLDER")
     arguments = parser.parse_args()
     out: Split | One = Split(arguments.split) if arguments.split else One(arguments.leave_out_large)
     try:
-        for entry in entries(sys.stdin.buffer, out.overflow):
+        for entry in entries(sys.stdin.buffer, lambda: Entry(out.overflow)):
             out.write(entry)
         out.close()
     except Unfit as fault:

@@ -3,23 +3,36 @@
 A step is so many entries or bytes. It counts once the stream is on the disk and `gathered` says so; what a run that was
 stopped left behind it is cut off. So no entry stands twice in a stream, and no place passes an entry that isn't in one.
 """
+from __future__ import annotations
+
 import os
-from dataclasses import dataclass
-from typing import BinaryIO, Optional
 
 from machine import places, streams, texts
-from machine.fit_stream import Entry, Unfit
+from machine.fit_stream import Unfit
+from machine.forks import Forks
 from machine.journal import Journal, JournalFile, Listing, Reading, cursor_of
+from machine.kept import NEW, Large, name_of, status
 from machine.places import Gathered, Place
 from machine.report import FAILED, LOOK, Report
 from machine.sent import Clock
 from machine.settings import Settings
+from machine.shortened import Shortened
 from machine.streams import Stream
 from machine.unreadable import next_readable
 from shared import files
+from shared.records import dataclass
+
+TYPE_CHECKING = False
+if TYPE_CHECKING:
+    from typing import BinaryIO, Optional
 
 # journald may rename a file between two looks at it.
 LISTINGS = 3
+
+
+def is_removed(handle: int) -> bool:
+    """The file has no name any more. journalctl opens none such."""
+    return os.fstat(handle).st_nlink == 0
 
 
 @dataclass
@@ -39,21 +52,29 @@ class Gathering:
         self.stream: Optional[Stream] = None
         self.out: Optional[BinaryIO] = None
         self.is_paused = False
+        self.forks = Forks(report)
+        self.large = Large(settings.folder_bytes)
+        # Where the whole text of an entry over a limit goes.
+        self.whole = None if settings.leave_out_large else self.large.write
 
     # What an earlier run left
 
     def resume(self) -> None:
-        streams.recover()
-        files.remove("upload.new")
-        self.gathered = places.load(self.settings.since)
-        if not os.path.exists("gathered"):
-            self.gathered.newest = max(streams.numbers(), default=0)
+        streams.recover(self.report)
+        for name in ("upload.new", NEW):
+            files.remove(name)
+        is_known = os.path.exists("gathered")
+        self.gathered = places.load(self.settings.since, self.report)
+        newest = max(streams.numbers(), default=0)
+        if not is_known or self.gathered.newest == 0:
+            self.gathered.newest = newest
             self.begin_stream()
             return
         self.stream = Stream(self.gathered.newest)
         size = self.stream.size()
         if size < self.gathered.size:
             self.report.say(LOOK, f"{self.stream.path('stream')} isn't there as it was gathered")
+            self.gathered.newest = max(newest, self.gathered.newest)
             self.begin_stream()
         else:
             self.cut_off()
@@ -68,7 +89,7 @@ class Gathering:
     def begin_stream(self) -> None:
         self.close()
         now = self.gathered
-        self.stream = streams.begin(now.newest + 1)
+        self.stream = streams.begin(now.newest + 1, now.is_again)
         now.newest, now.size, now.boot, now.begun = now.newest + 1, 0, self.clock.boot, self.clock.seconds()
         now.save()
 
@@ -95,11 +116,27 @@ class Gathering:
         try:
             self.gather_all()
             self.cut_off()
+            if self.is_paused and self.gathered.size:
+                # A stream that is still appended to isn't deleted, and perhaps it is what fills the folder.
+                self.begin_stream()
         except OSError as error:
             self.report.say(FAILED, f"gathering failed: {error}")
-            self.gathered = places.load(self.settings.since)
+            self.gathered = places.load(self.settings.since, self.report)
             self.stream = Stream(self.gathered.newest)
             self.cut_off()
+
+    def gather_again(self, seconds: str) -> None:
+        """Gathers a second time what the journal has since a time. Whatever stops that, a further run goes on."""
+        now, begin = self.gathered, float(seconds[1:]) * 1_000_000
+        places_again = [place for place in now.places.values()
+                        if place.number and (place.cursor == "-" or place.realtime() >= begin)]
+        for place in places_again:
+            place.begin_anew()
+            place.state, place.option, place.count = "open", f"--since={seconds}", -1
+        self.report.say(0, f"again: what {len(places_again)} files of the journal have since {seconds} is sent")
+        now.is_again = True
+        self.begin_stream()
+        self.gather()
 
     def gather_all(self) -> None:
         self.pause_if_full(files.bytes_in("."))
@@ -122,6 +159,9 @@ class Gathering:
         if listing.is_whole:
             self.tell_gaps(listing)
         self.gathered.save()
+        if self.gathered.is_again:
+            self.gathered.is_again = False
+            self.begin_stream()
 
     def see(self, listed: list[JournalFile]) -> None:
         """Each file has a place from now on."""
@@ -173,7 +213,7 @@ class Gathering:
                                 f"after it; cursor {cursor}")
 
     def gather_files(self, listed: list[JournalFile]) -> bool:
-        """Whether a file was no longer under its name."""
+        """Whether a file was no longer under its name, or was removed while it was read."""
         moved = False
         for file in listed:
             place = self.gathered.place(file)
@@ -185,6 +225,7 @@ class Gathering:
                 continue
             try:
                 self.gather_file(file, handle, place)
+                moved = moved or (place.state != "read" and is_removed(handle))
             finally:
                 os.close(handle)
         return moved
@@ -197,7 +238,7 @@ class Gathering:
         options: Optional[list[str]] = place.options()
         before, first = "", place.cursor
         while place.number < file.tail and file.entries and not self.is_paused:
-            reading = self.journal.read(handle, options or [], self.overflow())
+            reading = self.journal.read(handle, options or [], self.whole)
             shown = self.take(reading, place, before)
             status = reading.end() if self.is_paused or reading.is_other else reading.finish()
             if reading.is_other:
@@ -206,12 +247,14 @@ class Gathering:
                 continue
             if self.is_paused or self.is_at_end(place, file, reading, status, shown):
                 break
+            if is_removed(handle):
+                return
             self.report.pass_on(reading.said or reading.fault)
-            if place.number == 0 and place.option.startswith("--since") and status != 0 and not shown:
-                raise OSError("journalctl failed, as it says above: is SINCE a time?")
             before = place.cursor if shown or not before else before
             place.see(reading.broken is not None)
-            options = next_readable(self.journal, handle, file, place, reading.broken)
+            options = self.next_options(file, handle, place, reading)
+            if is_removed(handle):
+                return
             if options is None:
                 self.end_unreadable(file, place, before)
                 return
@@ -219,6 +262,15 @@ class Gathering:
             self.tell_unseen(place, file, first)
             if file.is_finished:
                 place.state = "read"
+
+    def next_options(self, file: JournalFile, handle: int, place: Place, reading: Reading) -> Optional[list[str]]:
+        """The options with which journalctl shows more of the file; nothing if it shows no more, or it is removed."""
+        try:
+            return next_readable(self.journal, handle, file, place, reading.broken)
+        except OSError:
+            if is_removed(handle):
+                return None
+            raise
 
     def look_at_shortened(self, file: JournalFile, place: Place) -> None:
         """A file has fewer entries than were gathered of it: the disk lost its end, or it was set back. If it was, and
@@ -259,10 +311,6 @@ class Gathering:
 
     # Entries
 
-    def overflow(self) -> Optional[object]:
-        """Where the text of an entry over the limits goes."""
-        return None if self.settings.leave_out_large else lambda piece: self.open_stream().write(piece)
-
     def open_stream(self) -> BinaryIO:
         if self.out is None:
             assert self.stream
@@ -273,6 +321,7 @@ class Gathering:
     def take(self, reading: Reading, place: Place, before: str) -> int:
         """Appends a reading's entries, in steps; how many came."""
         shown, used = 0, files.bytes_in(".")
+        self.large.drop()
         step = Step(place.number, place.cursor, self.gathered.size)
         self.open_stream().seek(step.end)
         for entry in reading.entries():
@@ -281,9 +330,9 @@ class Gathering:
                 break
             if number <= step.number:
                 reading.is_other = place.differs(number, self.cursor(entry))
+                self.large.drop()
                 if reading.is_other:
                     break
-                self.open_stream().seek(step.end)
                 continue
             if before and not shown:
                 self.report.say(LOOK, f"left out, for journalctl can't read it: what is after {before}, before "
@@ -307,7 +356,7 @@ class Gathering:
         return step.end - self.gathered.size >= limit or step.entries >= self.settings.upload_entries
 
     @staticmethod
-    def number_of(entry: Entry, reading: Reading) -> Optional[int]:
+    def number_of(entry: Shortened, reading: Reading) -> Optional[int]:
         try:
             return int(entry.key()[1])
         except (Unfit, ValueError) as fault:
@@ -315,7 +364,7 @@ class Gathering:
             return None
 
     @staticmethod
-    def cursor(entry: Entry) -> str:
+    def cursor(entry: Shortened) -> str:
         """The entry's cursor, of which a line can be made."""
         text = entry.known.get(b"__CURSOR", b"").decode("ascii", "replace")
         seqnum_id, number = entry.key()
@@ -323,11 +372,12 @@ class Gathering:
             return text
         return cursor_of(seqnum_id.decode("ascii", "replace"), int(number))
 
-    def append(self, entry: Entry) -> None:
-        if entry.is_large and self.settings.leave_out_large:
-            self.report.say(LOOK, f"left out, for it is over a limit: {entry.named()}; cursor {self.cursor(entry)}")
-            return
-        self.open_stream().writelines([*entry.pieces, entry.end()])
+    def append(self, entry: Shortened) -> None:
+        if entry.is_large:
+            kept = self.large.keep(name_of(entry, ""))
+            self.report.say(status(self.clock), "over a limit, and goes out without what makes it so: "
+                            f"{entry.named()}; cursor {self.cursor(entry)}{kept}")
+        self.open_stream().writelines(entry.text(self.forks.new_id(entry)))
 
     def commit(self, place: Place, step: Step) -> None:
         """What was appended counts from now on."""
@@ -342,7 +392,8 @@ class Gathering:
             self.begin_stream()
 
     def pause_if_full(self, used: int) -> None:
-        if used >= self.settings.folder_bytes:
+        """What isn't in a stream doesn't become less: it alone pauses nothing."""
+        if used >= self.settings.folder_bytes and any(Stream(number).size() > 0 for number in streams.numbers()):
             self.report.say(LOOK, f"paused: the folder has {used} bytes; journald keeps what is not gathered, as long "
                             "as it can")
             self.is_paused = True

@@ -4,14 +4,19 @@ journalctl says which files the journal has. Each is read by itself: within one 
 their numbers, whatever the clocks said, and what journald does to other files meanwhile changes nothing. A file is
 handed to journalctl open, so it is the one that was looked at, also if journald has renamed or removed it since.
 """
-import os
-import re
-import subprocess
-import tempfile
-from dataclasses import dataclass
-from typing import IO, Iterator, Optional
+from __future__ import annotations
 
-from machine.fit_stream import CutOff, Entry, Unfit, entries
+import os
+from itertools import takewhile
+
+from machine.fit_stream import CutOff, Unfit, entries
+from machine.shortened import Shortened
+from shared import processes
+from shared.records import dataclass
+
+TYPE_CHECKING = False
+if TYPE_CHECKING:
+    from typing import Callable, Iterator, Optional
 
 # The header of a journal file: what stands at which offset.
 SIGNATURE, HEADER_BYTES = b"LPKSHHRH", 208
@@ -43,7 +48,7 @@ class JournalFile:
     @property
     def kind(self) -> str:
         """`system`, or the user whose it is."""
-        return re.match(r"[^@.\s]*", self.name)[0] or "-"  # type: ignore[index]
+        return "".join(takewhile(lambda each: each not in "@." and not each.isspace(), self.name)) or "-"
 
 
 def describe(path: str, header: bytes) -> Optional[JournalFile]:
@@ -71,6 +76,13 @@ def look_at(path: str) -> tuple[Optional[JournalFile], str]:
         return None, f"{path}: {error.strerror}\n"
 
 
+def named_in(said: str) -> list[JournalFile]:
+    """The files that are named in what journalctl complains of."""
+    import re
+    looked_at = (look_at(path)[0] for path in re.findall(r"/\S+\.journal~?", said))
+    return [file for file in looked_at if file]
+
+
 @dataclass
 class Listing:
     """The journal's files. `unreadable` are those that are there, and that journalctl can't read; if it complained of
@@ -84,21 +96,25 @@ class Listing:
 class Reading:
     """The entries of one file from some place on, and how their reading ended."""
 
-    def __init__(self, command: list[str], handles: list[int], overflow: Optional[object]) -> None:
-        self.errors: IO[bytes] = tempfile.TemporaryFile()
-        self.process = subprocess.Popen(command, stdin=subprocess.DEVNULL, stdout=subprocess.PIPE, stderr=self.errors,
-                                        pass_fds=handles)
-        self.overflow = overflow
+    def __init__(self, command: list[str], handles: list[int], whole: Optional[Callable[[bytes], object]]) -> None:
+        self.errors = open(os.memfd_create("errors"), "w+b")
+        output, said = os.pipe()
+        self.output = open(output, "rb")
+        try:
+            with open(os.devnull, "rb") as nothing:
+                self.process = processes.Process(command, nothing.fileno(), said, self.errors.fileno(), handles)
+        finally:
+            os.close(said)
+        self.whole = whole
         # The first entry isn't the one that was gathered with its number.
         self.is_other = False
         # The metadata of the entry at which journalctl broke off, if it began to write one.
         self.broken: Optional[dict[bytes, bytes]] = None
         self.fault = self.said = ""
 
-    def entries(self) -> Iterator[Entry]:
-        assert self.process.stdout
+    def entries(self) -> Iterator[Shortened]:
         try:
-            yield from entries(self.process.stdout, self.overflow)  # type: ignore[arg-type]
+            yield from entries(self.output, lambda: Shortened(self.whole))
         except CutOff as fault:
             self.broken = fault.known
         except Unfit as fault:
@@ -111,8 +127,7 @@ class Reading:
 
     def finish(self) -> int:
         """Waits for journalctl, none of whose output is read any more; its status."""
-        assert self.process.stdout
-        self.process.stdout.close()
+        self.output.close()
         status = self.process.wait()
         self.errors.seek(0)
         with self.errors:
@@ -127,19 +142,18 @@ class Journal:
 
     def files(self) -> Listing:
         """The files that journalctl can read, and what it says of others."""
-        told = subprocess.run(["journalctl", *self.options, "--quiet", "--header"], stdin=subprocess.DEVNULL,
-                              capture_output=True, check=False, pass_fds=[self.lock])
+        _, headers, errors = processes.run(["journalctl", *self.options, "--quiet", "--header"], held=[self.lock])
         found: dict[str, JournalFile] = {}
-        said = told.stderr.decode(errors="surrogateescape")
-        for line in told.stdout.decode(errors="surrogateescape").splitlines():
+        said = errors.decode(errors="surrogateescape")
+        for line in headers.decode(errors="surrogateescape").splitlines():
             if line.startswith("File path: "):
                 file, fault = look_at(line[len("File path: "):])
                 said += fault
                 # Of a file and a copy of it the one counts that went on.
                 if file and (file.file_id not in found or file.tail > found[file.file_id].tail):
                     found[file.file_id] = file
-        named = [look_at(path)[0] for path in re.findall(r"/\S+\.journal~?", said)]
-        unreadable = {file.file_id for file in named if file}
+        named = named_in(said) if said else []
+        unreadable = {file.file_id for file in named}
         files = sorted(found.values(), key=lambda file: (file.head_realtime, file.seqnum_id, file.head))
         return Listing(files, unreadable, not said or bool(named), said)
 
@@ -157,7 +171,8 @@ class Journal:
         os.close(handle)
         return None
 
-    def read(self, handle: int, options: list[str], overflow: Optional[object]) -> Reading:
-        """The entries of the file with this handle, from where the options say."""
+    def read(self, handle: int, options: list[str], whole: Optional[Callable[[bytes], object]]) -> Reading:
+        """The entries of the file with this handle, from where the options say. The text of one that is over a limit
+        goes to `whole`."""
         command = ["journalctl", "--quiet", "--output=export", f"--file=/proc/self/fd/{handle}", *options]
-        return Reading(command, [handle, self.lock], overflow)
+        return Reading(command, [handle, self.lock], whole)

@@ -1,9 +1,12 @@
 """The program `journal-collect`, which decides what an answer or a stream says."""
-import re
-import subprocess
-from typing import IO, Optional
+from __future__ import annotations
 
 from machine.streams import Stream
+from shared import processes
+
+TYPE_CHECKING = False
+if TYPE_CHECKING:
+    from typing import IO
 
 
 # More entries than any stream has.
@@ -14,11 +17,11 @@ class Program:
     def __init__(self, lock: int) -> None:
         self.lock = lock
 
-    def run(self, words: list[str], given: str = "", output: Optional[IO[bytes]] = None) -> tuple[int, str, str]:
+    def run(self, words: list[str], given: str = "", output: IO[bytes] | None = None) -> tuple[int, str, str]:
         """Its status, and what it said on both outputs."""
-        told = subprocess.run(["journal-collect", *words], input=given.encode(), stdout=output or subprocess.PIPE,
-                              stderr=subprocess.PIPE, check=False, pass_fds=[self.lock])
-        return told.returncode, (told.stdout or b"").decode(errors="replace"), told.stderr.decode(errors="replace")
+        status, out, errors = processes.run(["journal-collect", *words], given.encode(),
+                                            output.fileno() if output else None, [self.lock])
+        return status, out.decode(errors="replace"), errors.decode(errors="replace")
 
     def acknowledge(self, stream: Stream, resume: str, line: str) -> tuple[int, str, str]:
         """What an answer makes of this resume file."""
@@ -35,5 +38,5 @@ class Program:
     def entries(self, stream: Stream) -> int:
         """How many entries the stream has."""
         _, told, _ = self.run(["verify", "export", stream.path("stream")])
-        found = re.fullmatch(r"ok ([0-9]+) [0-9]+\n", told)
-        return int(found[1]) if found else 0
+        words = told.split()
+        return int(words[1]) if words[:1] == ["ok"] else 0

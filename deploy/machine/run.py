@@ -2,15 +2,78 @@
 import os
 import sys
 
+from machine import last, since
+from machine.collector import Collector
+from machine.done import Done
 from machine.gathering import Gathering
 from machine.journal import Journal
-from machine.places import Unreadable
 from machine.report import BUSY, FAILED, LOOK, WRONG, Report, Stop
 from machine.sent import Clock
 from machine.serving import Serving
 from machine.settings import DEFAULT_FILE, Settings, read
 from shared import files
+from shared.records import NamedTuple
 from shared.settings import Wrong
+
+
+USAGE = "usage: send [--follow | --again SINCE | --check] [CONFIG]"
+
+
+class Call(NamedTuple):
+    """What `send` is called with."""
+    config: str
+    again: str
+    follows: bool
+    checks: bool
+
+
+def parse(words: list[str]) -> Call:
+    again, follows, checks = "", words[:1] == ["--follow"], words[:1] == ["--check"]
+    if follows or checks:
+        words = words[1:]
+    elif words[:1] == ["--again"]:
+        if len(words) < 2 or not words[1]:
+            raise Wrong("--again needs a time, as SINCE takes it: --again yesterday")
+        again, words = words[1], words[2:]
+    if len(words) > 1 or "".join(words).startswith("-"):
+        raise Wrong(USAGE)
+    return Call(os.path.abspath(words[0]) if words else DEFAULT_FILE, again, follows, checks)
+
+
+def look_for_owner(settings: Settings, call: Call) -> None:
+    """Fails if the folder belongs to another user, or is to belong to the one who has the key: what this run leaves
+    there couldn't be read by the next one."""
+    path = next((each for each in (settings.folder, settings.key) if os.path.exists(each)), None)
+    owner = os.stat(path).st_uid if path else os.geteuid()
+    if owner != os.geteuid():
+        raise Wrong(f"{path} belongs to {name_of(owner)}; run it so: {right_command(name_of(owner), call)}")
+
+
+def name_of(user: int) -> str:
+    import pwd
+    try:
+        return pwd.getpwuid(user).pw_name
+    except KeyError:
+        return f"#{user}"
+
+
+def right_command(user: str, call: Call) -> str:
+    """The command with which this user runs `send`."""
+    import shlex
+    if call.config == DEFAULT_FILE and not call.again and not call.checks:
+        return "systemctl start journal-collect-send.service"
+    asked = ["--again", call.again] if call.again else ["--check"] if call.checks else []
+    words = [os.path.abspath(sys.argv[0]), *asked, call.config]
+    return f"runuser -u {user} -G systemd-journal -- {shlex.join(words)}"
+
+
+def look_for_strangers(settings: Settings) -> None:
+    """Fails if something in the folder is of another user, as a run of an earlier version as root left it."""
+    for folder in (".", "streams"):
+        for name in os.listdir(folder):
+            if not os.access(os.path.join(folder, name), os.R_OK | os.W_OK):
+                raise Wrong(f"{os.path.normpath(os.path.join(settings.folder, folder, name))} is of another user; as "
+                            f"root: chown -R --reference={settings.folder} {settings.folder}")
 
 
 def enter_folder(settings: Settings, report: Report) -> int:
@@ -20,6 +83,7 @@ def enter_folder(settings: Settings, report: Report) -> int:
     os.makedirs(f"{settings.folder}/streams", exist_ok=True)
     os.chmod(settings.folder, 0o700)
     os.chdir(settings.folder)
+    look_for_strangers(settings)
     lock = os.open("lock", os.O_RDWR | os.O_CREAT, 0o600)
     if not files.lock_now(lock):
         report.say(BUSY, "another run is under way")
@@ -33,28 +97,79 @@ def report_backlog(settings: Settings, report: Report) -> None:
         report.say(LOOK, f"a backlog: the streams have {waiting} bytes")
 
 
-def run(settings: Settings, report: Report) -> None:
+def run(settings: Settings, report: Report, again: str) -> None:
     lock = enter_folder(settings, report)
-    clock = Clock(settings.boot_id_file)
-    gathering = Gathering(settings, report, Journal(settings.namespace, lock), clock)
+    collector = Collector(settings, report, lock)
+    try:
+        run_once(settings, report, lock, Journal(settings.namespace, lock), collector, again)
+    finally:
+        collector.close()
+
+
+def check(settings: Settings, report: Report) -> None:
+    """Says nothing if the collector answers to this machine's key. Nothing is made or gathered."""
+    with open(os.devnull, "r+b") as nothing:
+        collector = Collector(settings, report, nothing.fileno())
+        if collector.ask("answers", nothing.fileno(), nothing.fileno()) != 0:
+            report.say(FAILED, f"{settings.collector} doesn't answer to this machine's key")
+
+
+def follow(settings: Settings, report: Report) -> None:
+    """Runs until it is told to stop."""
+    from machine.follow import Following
+    if not settings.follow:
+        report.say(0, "FOLLOW isn't `yes`: nothing is followed")
+        return
+    lock = enter_folder(settings, report)
+    following = Following(settings, report, lock)
+    following.run(lambda journal, collector: run_once(settings, following.report, lock, journal, collector))
+
+
+def run_once(settings: Settings, report: Report, lock: int, journal: Journal, collector: Collector,
+             again: str = "") -> None:
+    """Gathers what is new and sends it, and notes what it did."""
+    clock, done = Clock(settings.boot_id_file), Done()
+    gathering = Gathering(settings, report, journal, clock)
+    try:
+        if resume(gathering, report):
+            gathering.gather()
+            if again:
+                gathering.gather_again(again)
+            Serving(settings, report, gathering, clock, lock, collector, done).serve_all()
+            done.say(report)
+            report_backlog(settings, report)
+    except OSError as error:
+        report.say(FAILED, str(error))
+    last.note(report, done)
+
+
+def resume(gathering: Gathering, report: Report) -> bool:
+    """Takes up what an earlier run left. Whether it could be."""
     try:
         gathering.resume()
-    except (OSError, ValueError, Unreadable) as error:
-        report.say(FAILED, f"what was gathered can't be taken up: {error or 'gathered is damaged'}")
-        return
-    gathering.gather()
-    Serving(settings, report, gathering, clock, lock).serve_all()
-    report_backlog(settings, report)
+    except OSError as error:
+        report.say(FAILED, f"what was gathered can't be taken up: {error}")
+        return False
+    return True
 
 
-def main() -> None:
+def main() -> int:
+    """One run, or with --follow many; the status."""
     report = Report()
     try:
-        run(read(sys.argv[1] if len(sys.argv) > 1 else DEFAULT_FILE), report)
+        call = parse(sys.argv[1:])
+        settings = read(call.config)
+        look_for_owner(settings, call)
+        if call.checks:
+            check(settings, report)
+        elif call.follows:
+            follow(settings, report)
+        else:
+            run(settings, report, since.seconds(call.again) if call.again else "")
     except Wrong as fault:
         report.say(WRONG, str(fault))
     except Stop:
         pass
-    except OSError as error:
+    except (OSError, ValueError) as error:
         report.say(FAILED, str(error))
-    sys.exit(report.status)
+    return report.status

@@ -4,17 +4,21 @@
     last BOOT-ID SECONDS TRIES
     before POSITION
     end POSITION
+    others POSITION
+    refused NO..
+    most ENTRIES
 
 Each `end` is where an upload ended that went out, and so is any position up to `before`, in a stream that an earlier
 version served. A collector that acknowledges up to another position has heard of this id from elsewhere: this stream
 is a copy, or was set back. `last` is when an upload went out for the last time, and how often since something was
-acknowledged.
+acknowledged. `others` is where the last upload ended that had an entry of something else than this product's own units.
+`refused` is the answer that was told last, and `most` how many entries an upload may have since a larger one was
+refused.
 """
-import os
 import time
-from dataclasses import dataclass, field
 
 from machine import texts
+from shared.records import dataclass, field
 
 # The ends that are kept: those of uploads that aren't acknowledged.
 MOST_ENDS = 1_000
@@ -42,10 +46,15 @@ class Sent:
     seconds: int = 0
     tries: int = 0
     before: int = 0
+    others: int = 0
+    refused: str = ""
+    most: int = 0
     ends: list[int] = field(default_factory=list)
 
     def text(self) -> str:
         lines = ["sent 2", f"last {self.boot} {self.seconds} {self.tries}", f"before {self.before}"]
+        lines += [f"others {self.others}"] * bool(self.others)
+        lines += [f"refused {self.refused}"] * bool(self.refused) + [f"most {self.most}"] * bool(self.most)
         return "\n".join(lines + [f"end {end}" for end in self.ends]) + "\n"
 
     def save(self, path: str) -> None:
@@ -54,6 +63,10 @@ class Sent:
     def knows(self, position: int) -> bool:
         """Something that ends at this position went out."""
         return position <= self.before or position in self.ends
+
+    def went_past(self, position: int) -> bool:
+        """The entry at this position went out."""
+        return position < max([self.before, *self.ends])
 
     def went_out(self) -> bool:
         return bool(self.ends or self.before)
@@ -73,23 +86,27 @@ class Sent:
     def acknowledge(self, position: int) -> None:
         """Ends before the position say nothing any more. The last one stays: something went out."""
         self.ends = [end for end in self.ends if end >= position]
-        self.tries = 0
+        self.tries = self.most = 0
 
 
 def load(path: str) -> Sent:
-    """What went out; nothing that is known, if the file is of an earlier version or isn't there."""
+    """What went out; a ValueError if the file isn't right, or is of an earlier version."""
     sent = Sent()
-    lines = texts.read(path).splitlines() if os.path.exists(path) else []
-    if not lines or lines[0] != "sent 2":
+    head, *lines = texts.whole_lines(path)
+    if head != "sent 2":
         raise ValueError("no record of what was sent")
-    for line in lines[1:]:
-        word, *rest = line.split(" ")
+    for line in lines:
+        word, _, rest = line.partition(" ")
         if word == "last":
-            sent.boot, sent.seconds, sent.tries = rest[0], int(rest[1]), int(rest[2])
-        elif word == "before":
-            sent.before = int(rest[0])
+            sent.boot, seconds, tries = rest.split(" ")
+            sent.tries = texts.number(tries)
+            sent.seconds = texts.number(seconds.removeprefix("-")) * (-1 if seconds.startswith("-") else 1)
+        elif word in ("before", "most", "others"):
+            setattr(sent, word, texts.number(rest))
         elif word == "end":
-            sent.ends.append(int(rest[0]))
+            sent.ends.append(texts.number(rest))
+        elif word == "refused":
+            sent.refused = rest
         else:
             raise ValueError("no record of what was sent")
     return sent

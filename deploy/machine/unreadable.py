@@ -4,7 +4,7 @@ journalctl breaks off within an entry that has a damaged field. It shows nothing
 damaged entry, though it shows what follows when it reads the file from its beginning. And it shows nothing of what it
 can't find, without a word: that there is more is seen by the file's header.
 """
-from typing import Optional
+from __future__ import annotations
 
 from machine.fit_stream import Unfit
 from machine.journal import Journal, JournalFile, cursor_of
@@ -41,7 +41,7 @@ class Search:
         self.works = self.works or status == 0 or reading.broken is not None
         return False
 
-    def after(self, number: int) -> Optional[list[str]]:
+    def after(self, number: int) -> list[str] | None:
         """The options with which journalctl shows what it can of the entries after the one of this number."""
         fails, tried, step = number, number + 1, 1
         while not self.shows(self.options(tried), number):
@@ -61,7 +61,7 @@ class Search:
 
 
 def next_readable(journal: Journal, handle: int, file: JournalFile, place: Place,
-                  broken: Optional[dict[bytes, bytes]]) -> Optional[list[str]]:
+                  broken: dict[bytes, bytes] | None) -> list[str] | None:
     """The options with which journalctl shows more of a file; nothing if it shows no more. An OSError if it doesn't
     work at all."""
     search = Search(journal, handle, file)

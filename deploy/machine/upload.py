@@ -1,6 +1,14 @@
 """The file `upload.new`: the upload of a stream that is made, before it goes out."""
+from __future__ import annotations
+
 import os
-from dataclasses import dataclass
+
+from machine.fit_stream import entries
+from shared.records import dataclass
+
+TYPE_CHECKING = False
+if TYPE_CHECKING:
+    from typing import Iterator
 
 PATH, HEADER_BYTES = "upload.new", 48
 
@@ -29,3 +37,11 @@ def body() -> bytes:
     with open(PATH, "rb") as file:
         file.seek(HEADER_BYTES)
         return file.read()
+
+
+def ends() -> Iterator[int]:
+    """Where each of its entries ends, counted from the first one's beginning."""
+    with open(PATH, "rb") as file:
+        file.seek(HEADER_BYTES)
+        for _ in entries(file):
+            yield file.tell() - HEADER_BYTES
