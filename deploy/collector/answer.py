@@ -1,9 +1,17 @@
 """Keys, and answer lines: `ack` with what is acknowledged, or `no` with a code."""
-from typing import NamedTuple
+from shared.records import NamedTuple
 
 # The codes of answers that are failures of the collector: the upload couldn't be read, the database failed, no memory.
 UNREAD, STORE_FAILED, NO_MEMORY = 61, 62, 63
 CONFLICT, NOT_THE_SAME = 60, 70
+
+
+HEXADECIMAL = frozenset("0123456789abcdef")
+
+
+def is_source(name: str) -> bool:
+    """Whether it is a source's id: 32 hexadecimal digits in lower case."""
+    return len(name) == 32 and HEXADECIMAL.issuperset(name)
 
 
 class NoAnswer(Exception):

@@ -1,18 +1,17 @@
-"""Time that no setting of the clock changes.
+"""Time that is known to have gone by.
 
-The age of the collector is how many days it has run for. It grows by the time since the machine started, which nobody
-sets, and over a restart by the clock's difference, if that is from nothing to a day. So time for which the collector
-was off for longer doesn't count, and neither does a clock that was set.
+The age of the collector is for how many days the machine has run since the collector was set up. It grows by the clock
+that counts while the machine runs, and that nobody can set. It counts within one start of the machine alone. What goes
+by while the machine is off, or sleeps, only the clock of the day tells, and that may be wrong: it doesn't count, but it
+is summed up, so that a person can say that it went by.
 """
+from __future__ import annotations
+
 import time
-from typing import NamedTuple
 
-from shared import files
-
-from .report import report
+from shared.records import NamedTuple
 
 DAY = 86400.0
-PATH = "age"
 BOOT_ID = "/proc/sys/kernel/random/boot_id"
 
 
@@ -27,43 +26,24 @@ def now() -> Moment:
     """What the clocks say now."""
     with open(BOOT_ID, encoding="ascii") as file:
         boot = file.read().strip()
-    return Moment(boot, time.clock_gettime(time.CLOCK_BOOTTIME), time.time())
+    return Moment(boot, time.clock_gettime(time.CLOCK_MONOTONIC_RAW), time.time())
 
 
 class Age(NamedTuple):
-    """How old the collector is, in days, and when that was so. `jump` is by how many days the clock was set since."""
+    """How old the collector is, in days, and when that was so. By so many days more the clock of the day went on; so
+    many of them a person was told of."""
     days: float
     last: Moment
-    jump: float = 0.0
+    uncounted: float = 0.0
+    told: int = 0
 
+    def grown(self, present: Moment) -> "Age":
+        """The age now."""
+        past = self.last
+        ran = max(0.0, present.running - past.running) if present.boot == past.boot else 0.0
+        uncounted = self.uncounted + (present.wall - past.wall - ran) / DAY
+        return Age(self.days + ran / DAY, present, uncounted, max(0, min(self.told, round(uncounted))))
 
-def read() -> Age | None:
-    """The age when it was looked at last."""
-    try:
-        with open(PATH, encoding="ascii") as file:
-            days, boot, running, wall = file.read().split()
-        return Age(float(days), Moment(boot, float(running), float(wall)))
-    except (FileNotFoundError, ValueError):
-        return None
-
-
-def grown(age: Age, present: Moment) -> Age:
-    """The age now."""
-    past, set_by = age.last, present.wall - age.last.wall
-    if past.boot == present.boot and present.running >= past.running:
-        ran = present.running - past.running
-        return Age(age.days + ran / DAY, present, (set_by - ran) / DAY)
-    off = set_by if 0 <= set_by <= DAY else 0.0
-    return Age(age.days + off / DAY, present, 0.0 if off else set_by / DAY)
-
-
-def look(least: float = 0.0) -> Age:
-    """The age now, which is kept. If it can't be read, it is the least that it can be."""
-    present = now()
-    age = grown(read() or Age(least, present), present)
-    text = f"{age.days:.6f} {age.last.boot} {age.last.running:.3f} {age.last.wall:.3f}\n"
-    try:
-        files.replace(PATH, text.encode("ascii"))
-    except OSError as error:
-        report(3, f"the age can't be kept: {error}")
-    return age
+    def passed(self, days: int) -> "Age":
+        """The age, if so many of the days that weren't counted went by."""
+        return self._replace(days=self.days + days, uncounted=self.uncounted - days, told=max(0, self.told - days))

@@ -7,11 +7,13 @@ import time
 
 from shared import files
 
-from . import databases, program, spool, storing
+from . import aside, costs, databases, program, shares, spool, storing
 from .answer import Answer
+from .collecting import Collecting
 from .report import report
 from .settings import Settings
 from .spool import Waiting
+from .tally import Tally
 
 # An upload that can't be read, and a database that can't be begun, are tried again after so many seconds.
 AGAIN = 300.0
@@ -29,12 +31,15 @@ class Shared:
         # Signals set these two, and nothing that has a lock.
         self.asked_to_stop = False
         self.turns = 0
-        self.failed = False
+        self.failed = self.is_full = False
         self.age = 0.0
         self.lock = threading.Lock()
         self.in_use: set[str] = set()
-        # The age of the collector when something was stored in a database that an earlier run had left.
-        self.taken_up: dict[str, float] = {}
+        # Databases that an earlier run had left, and that something was stored in since the last look at their days.
+        self.taken_up: set[str] = set()
+        # Machines of which an upload is being stored.
+        self.at_work: set[str] = set()
+        self.at_rest = threading.Condition()
 
     def reserve(self) -> str:
         """A name for a database that nobody else uses."""
@@ -43,6 +48,22 @@ class Shared:
             self.in_use.add(name)
             return name
 
+    def begin(self, machine: str, waits: bool = False) -> bool:
+        """Nobody else stores something of a machine from now on. Whether nobody did; or waits until nobody does."""
+        with self.at_rest:
+            while machine in self.at_work:
+                if not waits:
+                    return False
+                self.at_rest.wait()
+            self.at_work.add(machine)
+            return True
+
+    def end(self, machine: str) -> None:
+        """Somebody else may store something of a machine."""
+        with self.at_rest:
+            self.at_work.discard(machine)
+            self.at_rest.notify_all()
+
     def claim(self, name: str) -> bool:
         """Nobody else may use the database from now on. Whether nobody did."""
         with self.lock:
@@ -50,12 +71,17 @@ class Shared:
             self.in_use.add(name)
             return is_free
 
-    def collecting(self, name: str) -> program.Collecting:
+    def note(self, name: str) -> None:
+        """Something is stored in a database that an earlier run had left."""
+        with self.lock:
+            self.taken_up.add(name)
+
+    def collecting(self, name: str) -> Collecting:
         """Begins the process that stores in a database. An export that an earlier one made has too little from now
         on."""
         databases.remove_export(name)
         export = databases.export_of(name) if self.settings.exports else None
-        return program.Collecting(databases.path_of(name), export, self.held)
+        return Collecting(databases.path_of(name), export, self.held, self.settings)
 
     @property
     def stops(self) -> bool:
@@ -73,6 +99,14 @@ class Shared:
         if ready:
             os.read(self.wake_up, 4096)
 
+    def look_for_room(self) -> None:
+        """Tells that the disk is full, once, until it isn't any more."""
+        free, least = files.free_bytes(), self.settings.free_bytes
+        if free <= least and not self.is_full:
+            report(1, f"the disk of {self.settings.folder} is full: {free} bytes are free, and FREE_BYTES is {least}; "
+                   "nothing is received")
+        self.is_full = free <= least
+
     def fail(self) -> None:
         """Ends the service."""
         self.failed = True
@@ -86,16 +120,19 @@ class Shared:
 
 
 class Collector:
-    """A collector and its present database."""
+    """A collector and its present database. The last one has what takes longer than a turn, so that nothing else waits
+    for that."""
 
     def __init__(self, shared: Shared, number: int, once: bool) -> None:
         self.shared, self.number, self.once = shared, number, once
         self.name = ""
-        self.process: program.Collecting | None = None
+        self.process: Collecting | None = None
+        self.tally, self.new = Tally(), 0
         self.began = 0.0
         self.turns = 0
         self.later: dict[str, float] = {}
         self.pause = self.not_before = 0.0
+        self.is_short = False
 
     def run(self) -> None:
         """Stores what comes until it is told to stop; or, with `once`, until nothing waits. A mistake of this program
@@ -123,9 +160,12 @@ class Collector:
                 shared.stopping.wait(shared.settings.poll_seconds)
         self.finish()
 
-    def is_mine(self, machine: str) -> bool:
-        """Whether it stores this machine's uploads."""
-        return spool.collector_of(machine, self.shared.settings.collectors) == self.number
+    def is_mine(self, upload: Waiting) -> bool:
+        """Whether it stores this upload."""
+        settings = self.shared.settings
+        if not self.once and is_long(settings, os.path.join("incoming", upload.name)):
+            return self.number == settings.collectors
+        return self.number == spool.collector_of(upload.machine, settings.collectors)
 
     def take_turns(self) -> int:
         """Takes one upload of each machine; how many were taken."""
@@ -134,7 +174,7 @@ class Collector:
         self.later = {name: again for name, again in self.later.items() if again > now}
         busy = {upload.of for _, upload in spool.in_batches()}
         waiting = [each for each in spool.waiting_in("incoming") if each.of not in busy and each.name not in self.later]
-        for upload in spool.turns(waiting, self.is_mine):
+        for upload in self.with_room(spool.turns(waiting, self.is_mine)):
             if self.shared.stops or time.monotonic() < self.not_before:
                 break
             taken += self.take(upload)
@@ -145,13 +185,28 @@ class Collector:
         return taken
 
     def take(self, upload: Waiting) -> bool:
-        """Takes an upload that waits. Whether it was there."""
+        """Takes an upload that waits. Whether it was there, and nobody is at work for its machine."""
+        if not self.shared.begin(upload.machine):
+            return False
+        try:
+            return self.take_alone(upload)
+        finally:
+            self.shared.end(upload.machine)
+
+    def take_alone(self, upload: Waiting) -> bool:
+        """Takes an upload that waits, of a machine that nobody else is at work for. Whether it was there."""
         if not self.name:
             self.name = self.shared.reserve()
         if not spool.take(upload, self.name):
             return False
+        is_first, self.new = self.tally.is_first(upload.machine), 0
+        path = os.path.join("batch", self.name, upload.name)
+        meter = costs.Meter(path, self.process and self.process.process.pid, databases.bytes_of(self.name))
         try:
             outcome = storing.store(upload, self.name, self.shared.age, self.ask)
+        except program.TooCostly as error:
+            self.set_aside(upload, error)
+            return True
         except program.Ended as error:
             report(3, f"collecting into {databases.path_of(self.name)} ended: {error}")
             self.leave()
@@ -159,15 +214,37 @@ class Collector:
         if outcome == storing.Outcome.LATER:
             self.later[upload.name] = time.monotonic() + AGAIN
             spool.give_back(self.name, upload)
+        self.tally.add(upload.machine, self.new, self.name, is_first)
+        meter.charge(upload.machine, self.process and self.process.process.pid, databases.bytes_of(self.name))
         self.pause = 0.0
         return True
+
+    def set_aside(self, upload: Waiting, error: program.TooCostly) -> None:
+        """An upload that costs too much is tried no more. What it left of its database is taken up later."""
+        set_aside(self.shared.settings, self.name, upload, error)
+        self.leave_process()
+        self.let_go()
+        self.shared.wake()
+
+    def with_room(self, uploads: list[Waiting]) -> list[Waiting]:
+        """Those that the disk has room for. That it hasn't is told once, until it has."""
+        room = costs.room(self.shared.settings)
+        sizes = {upload: files.size(os.path.join("incoming", upload.name)) for upload in uploads}
+        found = [upload for upload, size in sizes.items() if costs.least_of(size) <= room]
+        is_short = len(found) < len(uploads)
+        if is_short and not self.is_short:
+            report(3, f"only {files.free_bytes()} bytes are free: {len(uploads) - len(found)} uploads wait")
+        self.is_short = is_short
+        return found
 
     def ask(self, path: str) -> Answer:
         """Has an upload stored in the present database, which is begun if there is none yet."""
         if not self.process:
             self.process = self.shared.collecting(self.name)
             self.began, self.turns = time.monotonic(), self.shared.turns
-        return self.process.ask(path)
+        answer = self.process.ask(path)
+        self.new += answer.new
+        return answer
 
     def finish_if_due(self) -> None:
         """Finishes a database that is old or large enough, or if somebody asked for it."""
@@ -187,6 +264,7 @@ class Collector:
         if process.end():
             try:
                 databases.finish(self.name)
+                self.tally.say(self.name)
             except OSError as error:
                 report(3, f"{databases.path_of(self.name)} can't be finished: {error}")
         else:
@@ -196,32 +274,52 @@ class Collector:
     def leave(self) -> None:
         """Leaves a database that failed to whoever takes up what was left, and goes on with another one, after a
         while."""
-        if self.process:
-            process, self.process = self.process, None
-            process.end()
+        process = self.leave_process()
+        if process:
             report(3, f"{databases.path_of(self.name)} is left with status {process.status}: {process.errors}")
         self.pause = min(AGAIN, max(FIRST_PAUSE, 2 * self.pause))
         self.not_before = time.monotonic() + self.pause
         self.let_go()
         self.shared.wake()
 
+    def leave_process(self) -> Collecting | None:
+        """Ends the present process, whatever it says; which one that was."""
+        process, self.process = self.process, None
+        if process:
+            process.end()
+        return process
+
     def let_go(self) -> None:
         """Has no database any more."""
+        self.tally.entries.clear()
         if self.name:
             databases.release(self.name)
             self.shared.release(self.name)
             self.name = ""
 
 
+def is_long(settings: Settings, path: str) -> bool:
+    """Whether an upload may take longer than a turn: it is large, or its bytes don't tell how much it has."""
+    return files.size(path) > settings.turn_bytes or (settings.take_journal_files and program.has_journal_file(path))
+
+
 def begun(shared: Shared, once: bool) -> list[threading.Thread]:
-    """Begins all collectors."""
+    """Begins all collectors. With `once` there is none for what takes longer than a turn: it would end before the
+    others have begun."""
     threads = []
-    for number in range(shared.settings.collectors):
+    for number in range(shared.settings.collectors + (not once)):
         collector = Collector(shared, number, once)
         threads.append(threading.Thread(target=collector.run, name=f"collector {number}"))
     for thread in threads:
         thread.start()
     return threads
+
+
+def set_aside(settings: Settings, name: str, upload: Waiting, error: program.TooCostly) -> None:
+    """An upload of a database costs too much, and is set aside."""
+    aside.put(os.path.join("batch", name, upload.name), upload)
+    report(1, f"set aside: {upload.of}: {error}; it is kept as {aside.path_of(upload)}")
+    shares.use(upload.machine, 0, settings.upload_cpu_seconds)
 
 
 def left_over(shared: Shared) -> list[str]:

@@ -8,18 +8,21 @@ Whatever is a link or no file at all is none of the collector's.
 import hashlib
 import itertools
 import os
+import re
 import shutil
-import stat
 import time
 from collections.abc import Container, Iterator
 
 from shared import files
 
-from .settings import FILE_NAME, Settings
+from . import state
+from .settings import Settings, is_file_name
 
 # A log that is shorter has no page: its header has 32 bytes, that of a page 24.
 LOG_WITH_A_PAGE = 56
 PAGE = 4096
+# A name that stands in a line of its own.
+NAME = re.compile(r"[!-.0-~][ -.0-~]*")
 DIGEST, REFUSED, LOG = ".sha256", ".refused", "-wal"
 
 
@@ -43,7 +46,7 @@ def files_of(name: str) -> list[str]:
 def possible_names(settings: Settings) -> Iterator[str]:
     """The names for a database that is begun now: the time, and the time with a number after it."""
     time_name = time.strftime(settings.database_name, time.gmtime())
-    if not FILE_NAME.fullmatch(time_name):
+    if not is_file_name(time_name):
         time_name = "database"
     yield time_name
     for number in itertools.count(2):
@@ -125,7 +128,7 @@ def remove_export(name: str) -> None:
 def has_nothing(name: str) -> bool:
     """Whether a run was stopped, or found a full disk, before a database had tables: these take more than a page."""
     path = path_of(name)
-    return is_own_file(path) and not is_refused(name) and files.size(path) <= PAGE and not log_has_pages(name)
+    return is_own_file(name) and not is_refused(name) and files.size(path) <= PAGE and not log_has_pages(name)
 
 
 def log_has_pages(name: str) -> bool:
@@ -144,17 +147,13 @@ def is_refused(name: str) -> bool:
 
 
 def all_names() -> list[str]:
-    """The names of all databases."""
-    return [name.removesuffix(".db") for name in files.names("databases", ".db")
-            if is_own_file(os.path.join("databases", name))]
+    """The names of all databases. A name that a line can't have is nobody's."""
+    return [name.removesuffix(".db") for name in files.names("databases", ".db") if is_own_file(name[:-3])]
 
 
-def is_own_file(path: str) -> bool:
+def is_own_file(name: str) -> bool:
     """Whether there is a file, and no link to one elsewhere."""
-    try:
-        return stat.S_ISREG(os.lstat(path).st_mode)
-    except FileNotFoundError:
-        return False
+    return NAME.fullmatch(name) is not None and state.is_file(path_of(name))
 
 
 def unlink_others(name: str) -> None:

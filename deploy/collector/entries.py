@@ -9,7 +9,7 @@ from collections.abc import Iterator
 from .answer import Key
 from .fields import read
 from .program import HEAD
-from .source import PART
+from .records import PART
 
 NUMBER, SEQUENCE = b"__SEQNUM", b"__SEQNUM_ID"
 TIMES = (b"__REALTIME_TIMESTAMP", b"__MONOTONIC_TIMESTAMP")

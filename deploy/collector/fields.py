@@ -1,8 +1,12 @@
 """The fields of an upload of a stream."""
-from collections.abc import Iterator
-from typing import BinaryIO
+from __future__ import annotations
 
 from .program import HEAD
+
+TYPE_CHECKING = False
+if TYPE_CHECKING:
+    from collections.abc import Iterator
+    from typing import BinaryIO
 
 # A longer one is a fault of the stream.
 LONGEST_VALUE = 16777216

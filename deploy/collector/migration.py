@@ -5,18 +5,17 @@ from collections.abc import Iterator
 
 from shared import files
 
-from . import answer, source, spool
+from . import answer, source, spool, state
 from .report import report
 
 OLD_NAME = re.compile(r"([A-Za-z0-9][A-Za-z0-9._-]{0,63})@([0-9a-f]{32})\.upload")
 
 
 def source_of(said: answer.Answer, age: float) -> source.Source:
-    """What an answer says of its source. A machine's uploads begin after what was acknowledged, so all before is."""
+    """What an answer says of its source. A machine's uploads begin after what was acknowledged, so what comes behind it
+    leaves no gap. Which entries were acknowledged isn't known, so those that come again are stored again."""
     known = source.Source(said, age)
-    end = said.start + said.count if said.is_ack else said.start
-    if end:
-        known.runs = [source.Run(0, end, None)]
+    known.before = said.start + said.count if said.is_ack else said.start
     return known
 
 
@@ -31,12 +30,11 @@ def is_known(path: str) -> bool:
 def take_answer(old: str, path: str, age: float) -> bool:
     """Takes up one answer, unless more is known already. Whether its file may go."""
     try:
-        with open(old, encoding="ascii") as file:
-            line = file.readline().rstrip("\n")
+        line = (state.read_bytes(old) or b"").decode("ascii").partition("\n")[0]
         if not is_known(path):
             source.write(path, source_of(answer.read_answer(line), age), is_synced=False)
         return True
-    except (OSError, ValueError, answer.NoAnswer) as error:
+    except (OSError, ValueError, answer.NoAnswer, state.Damaged) as error:
         report(3, f"{old} can't be taken up: {error}")
         return False
 

@@ -1,24 +1,40 @@
 """What is asked of the program journal-collect: it decides what an upload has, cuts it, and stores it."""
+from __future__ import annotations
+
 import os
 import struct
-import subprocess
-from collections.abc import Sequence
-from typing import NamedTuple
 
-from .answer import NO_MEMORY, STORE_FAILED, UNREAD, Answer, Key, NoAnswer, read_answer
+from shared import processes
+from shared.records import NamedTuple
 
+from .answer import Key
+
+# The signal that ends a program which took more than it may. Its module takes longer to load than a call does.
+SIGXCPU = 24
+# No call of the program takes so long on a processor.
+MOST_SECONDS = 1800
 HEAD = 48
 START = 32
+MAGIC = b"JCUPLD"
 STREAM, JOURNAL_FILE = 1, 2
 PIECE = 1 << 20
+CUT = ".cut"
 
 
 class Failed(Exception):
     """The program couldn't do what was asked."""
 
 
+class Stopped(Failed):
+    """The program was ended, since it took as long on a processor as it may."""
+
+
 class Ended(Exception):
     """The collecting process ended in place of an answer, or says that its database failed."""
+
+
+class TooCostly(Ended):
+    """The collecting process was ended, since an upload took more than any may."""
 
 
 class Upload(NamedTuple):
@@ -38,7 +54,7 @@ class Fault(NamedTuple):
 
 def path_of_program() -> str:
     """The program on the PATH, or beside the library that this module is in."""
-    for folder in os.get_exec_path():
+    for folder in os.environ.get("PATH", os.defpath).split(os.pathsep):
         path = os.path.join(folder, "journal-collect")
         if os.path.isfile(path) and os.access(path, os.X_OK):
             return path
@@ -46,20 +62,34 @@ def path_of_program() -> str:
     return os.path.join(here, "..", "..", "..", "bin", "journal-collect")
 
 
-def inspect(path: str) -> Upload | Fault:
-    """What an upload has, or its fault."""
-    told = subprocess.run([path_of_program(), "inspect", path], capture_output=True, check=False)
-    words = told.stdout.decode(errors="replace").split()
+def inspect(path: str, seconds: int = 0) -> Upload | Fault:
+    """What an upload has, or its fault; Stopped if the program takes over so many seconds of a processor."""
+    status, said, errors = processes.run([path_of_program(), "inspect", path], seconds=seconds or MOST_SECONDS)
+    words = said.decode(errors="replace").split()
     try:
-        if told.returncode == 0 and words[0] == "upload":
+        if status == 0 and words[0] == "upload":
             key = None if words[5] == "-" else Key(words[5], int(words[6]))
             return Upload(words[1], int(words[2]), int(words[3]), int(words[4]), key)
-        if told.returncode == 1 and words[0] == "bad":
+        if status == 1 and words[0] == "bad":
             return Fault(int(words[1]), int(words[2]))
     except (IndexError, ValueError):
         pass
-    errors = told.stderr.decode(errors="replace").strip()
-    raise Failed(f"journal-collect inspect {path}: status {told.returncode}: {errors}")
+    failure = Stopped if status == -SIGXCPU else Failed
+    raise failure(f"journal-collect inspect {path}: status {status}: {errors.decode(errors='replace').strip()}")
+
+
+def is_journal_file(head: bytes) -> bool:
+    """Whether these are the first bytes of an upload that is a journal file."""
+    return head[:6] == MAGIC and head[8:9] == bytes([JOURNAL_FILE])
+
+
+def has_journal_file(path: str) -> bool:
+    """Whether an upload is a journal file."""
+    try:
+        with open(path, "rb") as file:
+            return is_journal_file(file.read(HEAD))
+    except FileNotFoundError:
+        return False
 
 
 def header(path: str) -> tuple[int, str, int]:
@@ -82,15 +112,15 @@ def copy_body(path: str, body: str) -> None:
 def cut(path: str, upload: Upload, skipped: int, before: Key | None, count: int) -> str:
     """A part of an upload of a stream, as an upload of its own: `count` entries after the first `skipped`, the last of
     which has this key. The program cuts it, and refuses if another key stands there. Answers the new file's path."""
-    body, resume, made = path + ".body", path + ".resume", path + ".cut"
+    body, resume, made = path + ".body", path + ".resume", path + CUT
     copy_body(path, body)
     with open(resume, "w", encoding="ascii") as file:
         file.write(f"resume {skipped} {before.sequence} {before.number}\n" if before else "resume 0 - -\n")
     words = ["upload", "--whole", "--source", upload.source, "--resume", resume, "--limit", str(count), "export", body]
     with open(made, "wb") as file:
-        told = subprocess.run([path_of_program(), *words], stdout=file, stderr=subprocess.PIPE, check=False)
-    if told.returncode != 0:
-        raise Failed(f"{path} can't be cut: {told.stderr.decode(errors='replace').strip()}")
+        status, _, errors = processes.run([path_of_program(), *words], output=file.fileno(), seconds=MOST_SECONDS)
+    if status != 0:
+        raise Failed(f"{path} can't be cut: {errors.decode(errors='replace').strip()}")
     with open(made, "r+b") as file:
         file.seek(START)
         file.write(struct.pack("<Q", upload.start + skipped))
@@ -99,67 +129,18 @@ def cut(path: str, upload: Upload, skipped: int, before: Key | None, count: int)
 
 def remove_parts(path: str) -> None:
     """Removes what `cut` made."""
-    for end in (".body", ".resume", ".cut"):
+    for end in (".body", ".resume", CUT):
         if os.path.exists(path + end):
             os.unlink(path + end)
 
 
-class Collecting:
-    """One process that stores in one database. It takes names of uploads, and answers each before the next."""
-
-    def __init__(self, database: str, export: str | None, held: Sequence[int]) -> None:
-        """Begins it; it holds these open files as long as it runs. At its end it writes the export, if one is named."""
-        options = ["--then-export", export] if export else []
-        self.process = subprocess.Popen(
-            [path_of_program(), "collect", "--files-from", "-", *options, database], stdin=subprocess.PIPE,
-            stdout=subprocess.PIPE, stderr=subprocess.PIPE, pass_fds=held, start_new_session=True)
-        self.errors = ""
-        self.status = 0
-        self.gave_up = False
-
-    def ask(self, path: str) -> Answer:
-        """Has an upload stored. If the database failed, that is the process's end."""
-        try:
-            self.process.stdin.write(path.encode() + b"\n")
-            self.process.stdin.flush()
-            line = self.process.stdout.readline()
-        except BrokenPipeError:
-            line = b""
-        if not line.endswith(b"\n"):
-            raise Ended("it ended without an answer")
-        try:
-            answer = read_answer(line.decode("ascii", errors="replace")[:-1])
-        except NoAnswer as error:
-            raise Ended(str(error)) from error
-        if answer.code == STORE_FAILED:
-            raise Ended(answer.text)
-        self.gave_up = self.gave_up or answer.code in (UNREAD, NO_MEMORY)
-        return answer
-
-    def end(self) -> bool:
-        """Ends it. Whether the database was closed as it has to be; `status` and `errors` tell how it ended."""
-        try:
-            _, errors = self.process.communicate()
-        except BrokenPipeError:
-            errors = self.process.stderr.read()
-            self.process.wait()
-        self.errors = errors.decode(errors="replace").strip()
-        self.status = self.process.returncode
-        # 3 also says that an upload couldn't be read, or that there was no memory for it.
-        return not self.errors and (self.status in (0, 1) or (self.status == 3 and self.gave_up))
-
-
 def is_sound(database: str) -> bool:
     """Whether a database can be opened, and each of its rows is an entry."""
-    return checked(database) is not None
+    return entries_of(database) is not None
 
 
-def is_empty(database: str) -> bool:
-    """Whether a database has no entry."""
-    return checked(database) == "ok 0"
-
-
-def checked(database: str) -> str | None:
-    """What `check` says of a sound database."""
-    told = subprocess.run([path_of_program(), "check", database], capture_output=True, check=False)
-    return told.stdout.decode().strip() if told.returncode == 0 else None
+def entries_of(database: str) -> int | None:
+    """How many entries a sound database has."""
+    status, said, _ = processes.run([path_of_program(), "check", database], seconds=MOST_SECONDS)
+    words = said.decode(errors="replace").split()
+    return int(words[1]) if status == 0 and words[:1] == ["ok"] else None

@@ -2,17 +2,12 @@
 and then the database is."""
 import os
 
-from shared import files
-
-from . import collector, databases, program, spool, storing
+from . import collector, databases, missing, program, spool, storing
+from .collecting import Collecting
 from .report import report
 
 # A database that fails so often is set aside.
 TRIES = 3
-# One with more bytes has entries.
-EMPTY_BYTES = 131072
-# With fewer bytes free, a failure is the disk's.
-ROOM = 1 << 28
 
 
 class Recovery:
@@ -40,46 +35,63 @@ class Recovery:
 
     def take_up(self, name: str) -> None:
         """Finishes one database. One that has nothing to take up needn't be opened."""
-        path, folder = databases.path_of(name), os.path.join("batch", name)
-        uploads = spool.waiting_in(folder)
+        uploads = spool.waiting_in(os.path.join("batch", name))
         if databases.has_nothing(name):
             databases.delete(name)
-        if not databases.is_own_file(path) or databases.is_refused(name) or databases.is_finished(name):
+        if not databases.is_own_file(name) or databases.is_refused(name) or databases.is_finished(name):
             self.give_back(name)
             return
         if not uploads and not databases.log_has_pages(name):
-            databases.finish(name)
-            databases.release(name)
+            self.finish(name)
             return
         databases.unlink_others(name)
-        self.shared.taken_up[name] = self.shared.age
+        self.shared.note(name)
         process = self.shared.collecting(name)
-        ended = None
+        ended, is_cut = None, False
         try:
             for upload in uploads:
-                if storing.store(upload, name, self.shared.age, process.ask) == storing.Outcome.LATER:
-                    spool.give_back(name, upload)
+                if is_cut := self.shared.stops:
+                    break
+                self.store(upload, name, process)
+        except program.TooCostly as error:
+            collector.set_aside(self.shared.settings, name, upload, error)
+            return
         except program.Ended as error:
             ended = error
         finally:
             is_well = process.end()
+        if is_cut:
+            # The next start goes on with this database, which may have what the uploads that are left have.
+            return
         if ended is None and is_well:
             self.finish(name)
         else:
             self.failed(name, f"status {process.status}: {process.errors or ended}", process.errors.startswith("bad "))
 
+    def store(self, upload: spool.Waiting, name: str, process: Collecting) -> None:
+        """Has one upload stored, of a machine that nobody else is at work for."""
+        self.shared.begin(upload.machine, waits=True)
+        try:
+            if storing.store(upload, name, self.shared.age, process.ask) == storing.Outcome.LATER:
+                spool.give_back(name, upload)
+        finally:
+            self.shared.end(upload.machine)
+
     def finish(self, name: str) -> None:
         """A database without an entry is deleted; each other one is finished."""
         self.tries.pop(name, None)
-        if databases.bytes_of(name) < EMPTY_BYTES and program.is_empty(databases.path_of(name)):
+        entries = program.entries_of(databases.path_of(name))
+        if entries == 0:
             databases.delete(name)
         else:
             databases.finish(name)
         databases.release(name)
+        if entries is not None:
+            missing.look_at(name, entries)
 
     def failed(self, name: str, text: str, is_refused: bool) -> None:
-        """Sets a database aside that is damaged, or fails again and again though the disk has room."""
-        self.tries[name] = self.tries.get(name, 0) + (files.free_bytes() > ROOM)
+        """Sets a database aside that is damaged, or fails again and again."""
+        self.tries[name] = self.tries.get(name, 0) + 1
         if not is_refused and self.tries[name] < TRIES:
             report(3, f"{databases.path_of(name)} failed, and is tried again: {text}")
             return

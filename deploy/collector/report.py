@@ -1,16 +1,17 @@
 """What is said to people, on standard error."""
-import contextlib
 import os
-import threading
+from _thread import allocate_lock
 
-_lock = threading.Lock()
+_lock = allocate_lock()
 _status = 0
 
 
 def tell(text: str) -> None:
     """Says something. That it can't be said changes nothing."""
-    with contextlib.suppress(OSError):
+    try:
         os.write(2, (text + "\n").encode(errors="replace"))
+    except OSError:
+        pass
 
 
 def report(status: int, text: str) -> None:

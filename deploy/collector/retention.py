@@ -1,130 +1,161 @@
 """Deletes what was kept long enough: by the age of the collector, and not by the clock or the times of files.
 
-The file `kept` has, for each database, the age of the collector when it was seen in use last; one that isn't there was
-put there since, and counts from now on.
+A database's days begin with the first look at it after it was closed. One of which nothing is noted was put there
+since, or isn't known any more: its days begin now.
 """
 import math
 import os
 
 from shared import files
 
-from . import clock, collector, databases, receiving, source, spool
-from .report import report
+from . import clock, collector, databases, kept, missing, receiving, source, spool
+from .clock import Age
+from .kept import Kept
+from .report import report, tell
+from .settings import Settings
 
-KEPT = "kept"
-HEADING = "kept 1"
 # A round deletes at most what one day more or less makes.
 ROUND_DAYS = 1.0
+# Whoever makes a backup has the lock of this file.
+BACKUP = "backup.lock"
 
 
-def read_kept() -> dict[str, float] | None:
-    """When each database was in use last; None if nobody has noted that yet."""
-    try:
-        with open(KEPT, encoding="ascii") as file:
-            lines = file.read().splitlines()
-        if lines[:1] != [HEADING]:
-            return None
-        return {name: float(days) for days, name in (line.split(" ", 1) for line in lines[1:])}
-    except (FileNotFoundError, ValueError):
-        return None
-
-
-def greatest_age() -> float:
-    """The greatest age that was noted of a database."""
-    return max((read_kept() or {}).values(), default=0.0)
-
-
-def write_kept(kept: dict[str, float]) -> None:
-    """Notes when each database was in use last."""
-    lines = [f"{days:.6f} {name}" for name, days in sorted(kept.items())]
-    files.replace(KEPT, ("\n".join([HEADING, *lines]) + "\n").encode("ascii"))
-
-
-def first_kept(age: float, keep_days: int) -> dict[str, float]:
-    """What is noted of databases of which nothing was: how much older than the newest they are, by their files; and
-    none goes before a day is over."""
-    times = {name: os.stat(databases.path_of(name)).st_mtime for name in databases.all_names()}
-    newest = max(times.values(), default=0.0)
-    most = max(0.0, keep_days - ROUND_DAYS)
-    return {name: age - min((newest - at) / clock.DAY, most) for name, at in times.items()}
-
-
-def noted(shared: collector.Shared, age: float) -> dict[str, float]:
-    """When each database that is there was in use last, which is noted."""
+def look(shared: collector.Shared) -> Kept:
+    """The age now, and when each database that is there was closed. Both are noted."""
     with shared.lock:
-        in_use = set(shared.in_use)
-    before = read_kept()
-    there = databases.all_names()
-    if before is None:
-        before = first_kept(age, shared.settings.keep_days)
-    kept = {name: age if name in in_use else max(before.get(name, age), shared.taken_up.get(name, -math.inf))
-            for name in there}
-    try:
-        write_kept(kept)
-    except OSError as error:
-        report(3, f"when databases were in use can't be noted: {error}")
-    return kept
+        in_use, taken_up = set(shared.in_use), set(shared.taken_up)
+        shared.taken_up.clear()
+    with kept.locked():
+        present = clock.now()
+        before = kept.read()
+        age = told(before.age.grown(present))
+        # One that is missing stays noted, until that is told.
+        now = {name: days for name, days in before.databases.items() if days is not None}
+        for name in databases.all_names():
+            if name in in_use or not is_closed(name):
+                now[name] = None
+            else:
+                since = None if name in taken_up else before.databases.get(name)
+                now[name] = age.days if since is None else min(since, age.days)
+        noted = Kept(age, now, before.gone)
+        kept.write(noted)
+    shared.age = age.days
+    return noted
 
 
-def due(kept: dict[str, float], last_day: float) -> list[str]:
-    """The databases that were in use last on or before a day, the oldest first, as many as one day has."""
-    old = sorted((days, name) for name, days in kept.items() if days <= last_day)
+def is_closed(name: str) -> bool:
+    """Whether it may be deleted some day. What a collector uses, or a run that was stopped has left, isn't closed: it
+    may yet take uploads."""
+    return databases.is_finished(name) or databases.is_refused(name)
+
+
+def told(age: Age) -> Age:
+    """Tells once of each day that may have gone by while the machine was off."""
+    days = int(age.uncounted + 0.01)
+    if days <= age.told:
+        return age
+    report(1, f"by the clock {days} more days went by than the machine is known to have run for: they don't count, and "
+           f"databases are kept for longer. If they went by: collect-incoming --passed {days}")
+    return age._replace(told=days)
+
+
+def passed(days: int) -> int:
+    """A person says that days went by that weren't counted; the status."""
+    with kept.locked():
+        present = clock.now()
+        before = kept.read()
+        age = before.age.grown(present)
+        if days > age.uncounted + 0.01:
+            tell(f"collect-incoming: by the clock only {max(0.0, age.uncounted):.1f} days went by that weren't counted")
+            return 1
+        kept.write(before._replace(age=age.passed(days)))
+    return 0
+
+
+def due(closed: dict[str, float], last_day: float) -> list[str]:
+    """The databases that were closed on or before a day, the oldest first, as many as one day has."""
+    old = sorted((days, name) for name, days in closed.items() if days <= last_day)
     return [name for days, name in old if days <= old[0][0] + ROUND_DAYS]
 
 
-def delete(names: list[str], kept: dict[str, float], age: float, why: str) -> None:
+def delete(names: list[str], closed: dict[str, float], age: float, why: str) -> None:
     """Deletes databases, and says so."""
     for name in names:
-        report(0, f"deleted: {databases.path_of(name)}, {age - kept[name]:.1f} days after its last upload{why}")
-        databases.delete(name)
+        report(0, f"deleted: {databases.path_of(name)}, {age - closed[name]:.1f} days after its last upload{why}")
+        try:
+            kept.note_gone([name])
+            databases.delete(name)
+        except OSError:
+            # on a full disk there is room to note it once it is gone
+            databases.delete(name)
+            kept.note_gone([name])
 
 
-def make_room(kept: dict[str, float], age: float, least: int) -> None:
+def make_room(closed: dict[str, float], age: float, least: int) -> None:
     """Deletes the oldest databases until there is room, but none of the last day."""
-    for name in due(kept, age - ROUND_DAYS):
+    for name in due(closed, age - ROUND_DAYS):
         if files.free_bytes() > least:
             return
-        delete([name], kept, age, ", since the disk is full")
+        delete([name], closed, age, ", since the disk is full")
 
 
-def is_old(path: str, last_day: float) -> bool:
-    """Whether nothing came of a source since a day."""
+def last_seen(path: str) -> float:
+    """The age at which something of a source was answered last. Of a damaged one that isn't known, so it stays."""
     try:
         known = source.read(path)
     except source.Damaged:
-        return False
-    return known is not None and known.seen < last_day
+        return math.inf
+    return known.seen if known else math.inf
 
 
-def expire_sources(age: float, keep_days: int) -> None:
-    """Forgets sources that nothing came of for long."""
+def expire_sources(age: float, settings: Settings) -> None:
+    """Forgets sources that nothing came of for long, and the oldest of a machine that has too many."""
+    waiting = {each.of for each in spool.waiting_in("incoming")} | {each.of for _, each in spool.in_batches()}
     for machine in files.names("sources"):
-        paths = [os.path.join("sources", machine, name) for name in source.names(machine)]
-        old = [path for path in paths if is_old(path, age - keep_days)]
-        if not old:
-            continue
-        with source.locked(machine):
-            for path in old:
-                # An upload may have come meanwhile.
-                if is_old(path, age - keep_days):
-                    files.remove(path)
-                    files.remove(path + ".entries")
+        names = source.names(machine)
+        idle = [os.path.join("sources", machine, name) for name in names if f"{machine}@{name}" not in waiting]
+        seen = {path: last_seen(path) for path in idle}
+        old = {path: days for path, days in seen.items() if days < age - settings.keep_answers_days}
+        left = sorted((days, path) for path, days in seen.items() if path not in old and days < math.inf)
+        many = {path: days for days, path in left[:max(0, len(names) - len(old) - settings.sources)]}
+        if many:
+            report(1, f"{machine} has over {settings.sources} sources: the {len(many)} oldest are forgotten")
+        forget_sources(machine, {**old, **many})
 
 
-def round_of(shared: collector.Shared, age: clock.Age) -> None:
-    """One round: what is old goes, if the clock went on as it should."""
-    settings = shared.settings
-    shared.age = age.days
+def forget_sources(machine: str, seen: dict[str, float]) -> None:
+    """Forgets sources, but for those that something came of meanwhile."""
+    if not seen:
+        return
+    with source.locked(machine):
+        for path, days in seen.items():
+            if last_seen(path) == days:
+                files.remove(path)
+                files.remove(path + source.ENTRIES)
+
+
+def round_of(shared: collector.Shared) -> None:
+    """One round: what is old goes, unless a backup is being made."""
     with files.locked(spool.ORDER):
         receiving.drop_dead_parts()
-    kept = noted(shared, age.days)
-    if abs(age.jump) > ROUND_DAYS:
-        report(1, f"the clock was set by {age.jump:.1f} days: nothing is deleted now")
-        return
-    # What a collector uses, or a run that was stopped has left, isn't closed. It may yet take uploads.
-    closed = {name: days for name, days in kept.items() if databases.is_finished(name) or databases.is_refused(name)}
-    delete(due(closed, age.days - settings.keep_days), kept, age.days, "")
+    noted = look(shared)
+    there = set(databases.all_names())
+    closed = {name: days for name, days in noted.databases.items() if days is not None}
+    if not closed.keys() <= there:
+        missing.look()
+    with files.locked_now(BACKUP) as is_free:
+        if is_free:
+            delete_old(shared.settings, {name: days for name, days in closed.items() if name in there}, noted.age.days)
+    expire_sources(noted.age.days, shared.settings)
+
+
+def delete_old(settings: Settings, closed: dict[str, float], age: float) -> None:
+    """Deletes the databases whose days are over, or for which there is no room."""
+    delete(due(closed, age - settings.keep_days), closed, age, "")
     if settings.delete_oldest and files.free_bytes() <= settings.free_bytes:
-        make_room({name: days for name, days in closed.items() if databases.is_finished(name)}, age.days,
-                  settings.free_bytes)
-    expire_sources(age.days, settings.keep_answers_days)
+        finished = {name: days for name, days in closed.items() if databases.is_finished(name)}
+        make_room(finished, age, settings.free_bytes)
+    gone = frozenset(closed) - frozenset(databases.all_names())
+    if gone:
+        missing.settle(missing.Change(gone, frozenset()))
+        kept.note_settled()

@@ -5,39 +5,35 @@ import time
 
 from shared import files
 
-from . import clock, collector, migration, program, recovery, retention, settings, source
+from . import collector, migration, missing, program, recovery, renaming, retention, settings, shares
+from .recent import recent
 from .report import report, status, tell
 
 BUSY = 75
 ROUND_SECONDS = 600.0
 RECOVER_SECONDS = 60.0
-USAGE = "usage: collect-incoming [--once | --forget MACHINE SOURCE] [CONFIG]"
 
 
-def main(words: list[str]) -> int:
-    """Runs until it is told to stop by SIGTERM, or with --once until nothing waits; the status."""
-    once, forgotten = words[:1] == ["--once"], words[1:3] if words[:1] == ["--forget"] else []
-    words = words[once + len(forgotten) + bool(forgotten):]
-    try:
-        if len(words) > 1 or words[:1] and words[0].startswith("--") or not is_source(forgotten):
-            raise settings.Wrong(USAGE)
-        chosen = settings.read(os.path.abspath(words[0] if words else settings.DEFAULT_FILE))
-    except settings.Wrong as error:
-        tell(f"collect-incoming: {error}")
-        return 2
-    try:
-        settings.enter(chosen)
-        if forgotten:
-            return forget(*forgotten)
-        lock = os.open("lock", os.O_RDWR | os.O_CREAT | os.O_CLOEXEC, 0o600)
-    except OSError as error:
-        tell(f"collect-incoming: {error}")
-        return 3
+def run(chosen: settings.Settings) -> int:
+    """Runs until it is told to stop by SIGTERM; the status."""
+    return begin(chosen, once=False)
+
+
+def run_once(chosen: settings.Settings) -> int:
+    """Runs until nothing waits; the status."""
+    return begin(chosen, once=True)
+
+
+def begin(chosen: settings.Settings, once: bool) -> int:
+    """Begins the service, and ends with it; the status."""
+    lock = os.open("lock", os.O_RDWR | os.O_CREAT | os.O_CLOEXEC, 0o600)
     if not files.lock_now(lock):
         tell("collect-incoming: another run is under way")
         return BUSY
     shared = collector.Shared(chosen, [lock])
     listen(shared)
+    os.ftruncate(lock, 0)
+    os.pwrite(lock, b"%d\n" % os.getpid(), 0)
     try:
         serve(shared, once)
     except (OSError, program.Failed) as error:
@@ -64,13 +60,17 @@ def listen(shared: collector.Shared) -> None:
 
 def serve(shared: collector.Shared, once: bool) -> None:
     """Takes up what was left, and then stores what comes."""
-    age = clock.look(retention.greatest_age())
-    shared.age = age.days
+    renaming.finish()
+    missing.look()
+    retention.look(shared)
     migration.run(shared.age)
+    recent.begin(shared.settings, once)
+    recent.clean()
     recovering = recovery.Recovery(shared)
     if once:
         recovering.run(is_first=True)
-    retention.round_of(shared, age)
+    retention.round_of(shared)
+    shared.look_for_room()
     threads = collector.begun(shared, once)
     if not once:
         watch(shared, recovering)
@@ -78,7 +78,8 @@ def serve(shared: collector.Shared, once: bool) -> None:
         thread.join()
     if once:
         recovering.run()
-    retention.noted(shared, clock.look().days)
+    shares.tell_all()
+    retention.look(shared)
 
 
 def watch(shared: collector.Shared, recovering: recovery.Recovery) -> None:
@@ -92,7 +93,11 @@ def watch(shared: collector.Shared, recovering: recovery.Recovery) -> None:
                 recovered = now
             if now - rounds >= ROUND_SECONDS:
                 rounds = now
-                retention.round_of(shared, clock.look())
+                retention.round_of(shared)
+            shares.tell_all()
+            recent.clean()
+            shared.look_for_room()
+            recent.clean()
         except (OSError, program.Failed) as error:
             report(3, f"the round failed: {error}")
         except BaseException:
@@ -101,34 +106,3 @@ def watch(shared: collector.Shared, recovering: recovery.Recovery) -> None:
         if not shared.stops:
             shared.wait(RECOVER_SECONDS)
     shared.stopping.set()
-
-
-def is_source(words: list[str]) -> bool:
-    """Whether a machine and a source are named, or nothing is."""
-    if not words:
-        return True
-    return len(words) == 2 and settings.is_machine(words[0]) and source.NAME.fullmatch(words[1]) is not None
-
-
-def forget(machine: str, name: str) -> int:
-    """Forgets the conflicts of a source, so that its upload is tried again; the status."""
-    if name not in source.names(machine):
-        return has_no_conflict(machine, name)
-    path = os.path.join("sources", machine, name)
-    with source.locked(machine):
-        try:
-            known = source.read(path)
-        except source.Damaged as error:
-            tell(f"collect-incoming: {error}")
-            return 3
-        if not known or not (known.conflicts or known.refused_files):
-            return has_no_conflict(machine, name)
-        known.conflicts, known.refused_files = {}, {}
-        source.write(path, known)
-    return 0
-
-
-def has_no_conflict(machine: str, name: str) -> int:
-    """Says that there is nothing to forget; the status."""
-    tell(f"collect-incoming: no conflict of {machine}@{name} is kept")
-    return 1

@@ -2,42 +2,42 @@
 
 It lies in sources/MACHINE/SOURCE, in lines, and is replaced whole:
 
-    source 1                        the version of this format
+    source 2                        the version of this format
     answer ack .. | no ..           the last answer
+    before POSITION                 an earlier version said that the entries before it are acknowledged
     run BEGIN END SEQUENCE NUMBER   entries BEGIN to END - 1 are acknowledged, the last has this key; `- -`: not known
     conflict POSITION IDENTITY      the entry at POSITION was refused with 60, and is as long as it is the same
-    file DIGEST                     a journal file that is acknowledged
+    file DIGEST DATABASE            a journal file that is acknowledged, and which database has it
     refused DIGEST PLACE            a journal file that was refused with 60
-    entries COUNT                   so many records of sources/MACHINE/SOURCE.entries count
+    stored RECORD DATABASE          the records from this one on are of entries that this database has
+    entries COUNT SUM               so many records of sources/MACHINE/SOURCE.entries count, which have this sum
     seen DAYS                       the age of the collector, in days, when it was answered last
+    sum SUM                         the sum of all lines before it
 
-A record of SOURCE.entries has an acknowledged entry's position and its identity. Records after COUNT are of a run that
-was stopped. Whoever changes a source's files has sources/MACHINE/lock.
+In place of a database stands `/past` for one whose days are over, and `/unknown` if an earlier version stored there.
+Runs and records are of the source's streams. What a journal file has is known by the digest of the file alone. Records
+after COUNT are of a run that was stopped. Whoever changes a source's files has sources/MACHINE/lock.
 """
-import contextlib
+from __future__ import annotations
+
 import os
-import re
-import struct
-from collections.abc import Iterator, Sequence
-from typing import NamedTuple
 
 from shared import files
+from shared.records import NamedTuple
 
-from .answer import CONFLICT, NOT_THE_SAME, Answer, Key, acked, read_answer
+from . import state
+from .answer import Answer, Key, NoAnswer, acked, is_source, read_answer
+from .state import Damaged
 
-FORMAT = "source 1"
-NAME = re.compile(r"[0-9a-f]{32}")
-# An entry's identity: what stands for its key, and what stands for its times and its fields.
-PART = 8
-IDENTITY = 2 * PART
-RECORD = struct.Struct(f"<Q{IDENTITY}s")
+FORMAT, OLD_FORMAT = "source 2", "source 1"
+# The digits of ids and identities, of a file's digest, and of a sum.
+ID_DIGITS, DIGEST_DIGITS, SUM_DIGITS = 32, 64, 8
 RUNS = 64
 CONFLICTS = 64
 FILES = 64
-
-
-class Damaged(Exception):
-    """The file of a source can't be read."""
+ENTRIES = ".entries"
+# What stands in place of a database whose days are over, and of one that isn't known.
+PAST, UNKNOWN = "/past", "/unknown"
 
 
 class Run(NamedTuple):
@@ -52,19 +52,18 @@ class Source:
 
     def __init__(self, answer: Answer | None = None, seen: float = 0.0) -> None:
         self.answer, self.seen = answer, seen
+        self.before = 0
         self.runs: list[Run] = []
         self.conflicts: dict[int, bytes] = {}
-        self.files: list[str] = []
+        self.files: dict[str, str] = {}
+        self.stored: list[tuple[int, str]] = []
         self.refused_files: dict[str, int] = {}
-        self.entries = 0
+        self.entries = self.sum = 0
+        self.is_old = False
 
     def run_at(self, position: int) -> Run | None:
         """The run that has this position, or ends before it."""
         return next((run for run in self.runs if run.begin <= position <= run.end), None)
-
-    def has(self, position: int) -> bool:
-        """Whether the entry at this position is acknowledged."""
-        return any(run.begin <= position < run.end for run in self.runs)
 
     def acknowledge(self, begin: int, end: int, last: Key | None) -> Run:
         """From now on these entries are acknowledged too. The run that they are in."""
@@ -97,19 +96,36 @@ class Source:
         return acked(source, run.begin, run.end - run.begin, new, left)
 
 
+# The file -------------------------------------------------------------------------------------------------------------
+
+
 def text(source: Source) -> bytes:
-    """The lines of a source's file."""
+    """What a source's file has."""
     lines = [FORMAT]
     if source.answer:
         lines.append(f"answer {source.answer.text}")
+    if source.before:
+        lines.append(f"before {source.before}")
     for run in source.runs:
         key = f"{run.last.sequence} {run.last.number}" if run.last else "- -"
         lines.append(f"run {run.begin} {run.end} {key}")
     lines += [f"conflict {position} {identity.hex()}" for position, identity in source.conflicts.items()]
-    lines += [f"file {digest}" for digest in source.files[-FILES:]]
+    lines += [f"file {digest} {name}" for digest, name in list(source.files.items())[-FILES:]]
     lines += [f"refused {digest} {place}" for digest, place in list(source.refused_files.items())[-FILES:]]
-    lines += [f"entries {source.entries}", f"seen {source.seen:.4f}"]
-    return ("\n".join(lines) + "\n").encode("ascii")
+    lines += [f"stored {record} {name}" for record, name in source.stored]
+    lines += [f"entries {source.entries} {source.sum:08x}", f"seen {source.seen:.4f}"]
+    return state.text_of(lines)
+
+
+def run_of(words: list[str]) -> Run:
+    """A run as its line has it."""
+    begin, end, sequence, number = words
+    last = None
+    if (sequence, number) != ("-", "-"):
+        last = Key(state.hexadecimal(sequence, ID_DIGITS), state.number(number))
+    if state.number(begin) >= state.number(end):
+        raise ValueError("a run without entries")
+    return Run(int(begin), int(end), last)
 
 
 def take_line(source: Source, line: str) -> None:
@@ -118,47 +134,54 @@ def take_line(source: Source, line: str) -> None:
     words = rest.split(" ")
     if name == "answer":
         source.answer = read_answer(rest)
+    elif name == "before":
+        source.before = state.number(rest)
     elif name == "run":
-        last = None if words[2] == "-" else Key(words[2], int(words[3]))
-        source.runs.append(Run(int(words[0]), int(words[1]), last))
+        source.runs.append(run_of(words))
     elif name == "conflict":
-        source.conflicts[int(words[0])] = bytes.fromhex(words[1])
+        source.conflicts[state.number(words[0])] = bytes.fromhex(state.hexadecimal(words[1], ID_DIGITS))
     elif name == "file":
-        source.files.append(rest)
+        digest, _, database = rest.partition(" ")
+        source.files[state.hexadecimal(digest, DIGEST_DIGITS)] = database or UNKNOWN
     elif name == "refused":
-        source.refused_files[words[0]] = int(words[1])
+        source.refused_files[state.hexadecimal(words[0], DIGEST_DIGITS)] = state.number(words[1])
+    elif name == "stored":
+        source.stored.append((state.number(words[0]), rest.partition(" ")[2]))
     elif name == "entries":
-        source.entries = int(rest)
+        source.entries = state.number(words[0])
+        source.sum = 0 if source.is_old else int(state.hexadecimal(words[1], SUM_DIGITS), 16)
     elif name == "seen":
-        source.seen = float(rest)
+        source.seen = state.decimal(rest)
     else:
-        raise ValueError(f"an unknown line: {line}")
+        raise ValueError(f"an unknown line: {line[:80]}")
 
 
 def read(path: str) -> Source | None:
     """What is known of a source; None if nothing is."""
-    try:
-        with open(path, encoding="ascii") as file:
-            lines = file.read().splitlines()
-    except FileNotFoundError:
+    lines = state.read_lines(path, unsummed=OLD_FORMAT)
+    if lines is None:
         return None
-    except (OSError, UnicodeDecodeError) as error:
-        raise Damaged(f"{path}: {error}") from error
     source = Source()
+    source.is_old = lines[:1] == [OLD_FORMAT]
     try:
-        if not lines or lines[0] != FORMAT:
+        if lines[:1] not in ([FORMAT], [OLD_FORMAT]):
             raise ValueError(f"doesn't begin with `{FORMAT}`")
         for line in lines[1:]:
             take_line(source, line)
-    except Exception as error:
+        # There is one text for each value.
+        if not source.is_old and text(source) != state.text_of(lines):
+            raise ValueError("a line isn't in its place")
+    except (ValueError, IndexError, NoAnswer) as error:
         raise Damaged(f"{path}: {error}") from error
     return source
 
 
-def look_at_records(path: str, source: Source) -> None:
-    """Fails if records are gone."""
-    if files.size(path + ".entries") < source.entries * RECORD.size:
-        raise Damaged(f"{path}.entries is shorter than {path} says")
+def put_aside(path: str) -> str:
+    """Nobody reads a source's files any more; where the first of them is now."""
+    aside = state.put_aside(path)
+    if os.path.lexists(path + ENTRIES):
+        state.put_aside(path + ENTRIES)
+    return aside
 
 
 def write(path: str, source: Source, is_synced: bool = True) -> None:
@@ -170,99 +193,22 @@ def write(path: str, source: Source, is_synced: bool = True) -> None:
 def make_folder(folder: str) -> None:
     """A machine's folder is there from now on."""
     if not os.path.isdir(folder):
+        if os.path.lexists(folder):
+            state.put_aside(folder)
         os.makedirs(folder, exist_ok=True)
         files.sync(os.path.dirname(folder))
 
 
-@contextlib.contextmanager
-def locked(machine: str) -> Iterator[None]:
+def locked(machine: str) -> files.locked:
     """Nobody else changes what is known of a machine's sources meanwhile."""
     folder = os.path.join("sources", machine)
     make_folder(folder)
-    with files.locked(os.path.join(folder, "lock")):
-        yield
+    lock = os.path.join(folder, "lock")
+    if os.path.lexists(lock) and not state.is_file(lock):
+        state.put_aside(lock)
+    return files.locked(lock)
 
 
 def names(machine: str) -> list[str]:
     """The sources of a machine of which something is known."""
-    return [name for name in files.names(os.path.join("sources", machine)) if NAME.fullmatch(name)]
-
-
-# Entries that are acknowledged ----------------------------------------------------------------------------------------
-
-
-class Known(NamedTuple):
-    """What the records say of an upload's entries: by their positions, and by the first parts of their identities."""
-    at: dict[int, bytes]
-    under: dict[bytes, bytes]
-
-
-def known_of(path: str, count: int, start: int, identities: Sequence[bytes]) -> Known:
-    """Looks an upload's entries up in the records."""
-    end, keys = start + len(identities), {identity[:PART] for identity in identities}
-    known = Known({}, {})
-    left = count * RECORD.size
-    if left == 0:
-        return known
-    with open(path + ".entries", "rb") as file:
-        while piece := file.read(min(left, RECORD.size << 12)):
-            left -= len(piece)
-            for position, identity in RECORD.iter_unpack(piece):
-                if start <= position < end:
-                    known.at[position] = identity
-                if identity[:PART] in keys:
-                    known.under[identity[:PART]] = identity
-    return known
-
-
-def add_records(path: str, count: int, added: Sequence[tuple[int, bytes]]) -> int:
-    """Puts records after those that count; how many there are then. They count once the source's file says so."""
-    file = os.open(path + ".entries", os.O_RDWR | os.O_CREAT | os.O_CLOEXEC, 0o600)
-    with open(file, "r+b") as records:
-        records.truncate(count * RECORD.size)
-        records.seek(0, os.SEEK_END)
-        for position, identity in added:
-            records.write(RECORD.pack(position, identity))
-        records.flush()
-        os.fsync(file)
-    return count + len(added)
-
-
-class Plan(NamedTuple):
-    """What becomes of an upload's entries: those before `begin` are acknowledged, those before `end` are stored, those
-    before `known` are acknowledged too, and what comes after waits for another upload. Or it is refused."""
-    begin: int = 0
-    end: int = 0
-    known: int = 0
-    code: int = 0
-    place: int = 0
-
-
-NEW, KNOWN = 0, 1
-
-
-def verdict(source: Source, known: Known, position: int, identity: bytes) -> int:
-    """Whether an entry is new or acknowledged; or the code that refuses it."""
-    if source.conflicts.get(position) == identity:
-        return CONFLICT
-    there = known.at.get(position)
-    if there is not None and there != identity:
-        return CONFLICT if there[:PART] == identity[:PART] else NOT_THE_SAME
-    same_key = known.under.get(identity[:PART])
-    if same_key is not None and same_key != identity:
-        return CONFLICT
-    return KNOWN if same_key is not None or source.has(position) else NEW
-
-
-def plan(source: Source, known: Known, start: int, identities: Sequence[bytes]) -> Plan:
-    """What becomes of an upload's entries."""
-    bounds: list[int] = []
-    for number, identity in enumerate(identities):
-        told = verdict(source, known, start + number, identity)
-        if told not in (NEW, KNOWN):
-            return Plan(code=told, place=number)
-        # What is acknowledged, what is new, what is acknowledged again, and what isn't looked at now take turns.
-        if told != (KNOWN if len(bounds) % 2 == 0 else NEW):
-            bounds.append(number)
-    begin, end, rest = [*bounds, *[len(identities)] * 3][:3]
-    return Plan(begin, end, rest)
+    return [name for name in files.names(os.path.join("sources", machine)) if is_source(name)]

@@ -1,14 +1,22 @@
 """Uploads that wait: incoming/NUMBER@MACHINE@SOURCE.upload, numbered in the order in which they came."""
+from __future__ import annotations
+
 import os
-import re
 import zlib
-from collections.abc import Callable, Iterable, Iterator
-from typing import NamedTuple
 
 from shared import files
+from shared.records import NamedTuple
 
-NAME = re.compile(r"(?P<number>\d{12})@(?P<machine>[^@]+)@(?P<source>[0-9a-f]{32})\.upload")
-ORDER = "order"
+from . import state
+from .answer import is_source
+from .settings import is_machine
+
+TYPE_CHECKING = False
+if TYPE_CHECKING:
+    from collections.abc import Callable, Iterable, Iterator
+
+ORDER, END = "order", ".upload"
+NUMBER_DIGITS = 12
 
 
 class Waiting(NamedTuple):
@@ -20,7 +28,7 @@ class Waiting(NamedTuple):
     @property
     def name(self) -> str:
         """The name of its file."""
-        return f"{self.number:012d}@{self.machine}@{self.source}.upload"
+        return f"{self.number:0{NUMBER_DIGITS}d}@{self.machine}@{self.source}{END}"
 
     @property
     def of(self) -> str:
@@ -28,10 +36,20 @@ class Waiting(NamedTuple):
         return f"{self.machine}@{self.source}"
 
 
+def read_name(name: str) -> Waiting | None:
+    """The upload whose file has this name, if it is one's."""
+    parts = name.removesuffix(END).split("@")
+    if not name.endswith(END) or len(parts) != 3 or not is_machine(parts[1]) or not is_source(parts[2]):
+        return None
+    number = parts[0]
+    is_number = len(number) == NUMBER_DIGITS and number.isascii() and number.isdigit()
+    return Waiting(int(number), parts[1], parts[2]) if is_number else None
+
+
 def waiting_in(folder: str) -> list[Waiting]:
-    """The uploads in a folder, the first that came first."""
-    found = (NAME.fullmatch(name) for name in files.names(folder))
-    return [Waiting(int(each["number"]), each["machine"], each["source"]) for each in found if each]
+    """The uploads in a folder, the first that came first. A pipe, a link or a folder is none."""
+    return [each for name in files.names(folder, END) if (each := read_name(name))
+            and state.is_file(os.path.join(folder, name))]
 
 
 def in_batches() -> Iterator[tuple[str, Waiting]]:
@@ -41,13 +59,12 @@ def in_batches() -> Iterator[tuple[str, Waiting]]:
             yield folder, each
 
 
-def turns(waiting: Iterable[Waiting], mine: Callable[[str], bool]) -> list[Waiting]:
-    """One upload of each machine, in the order in which they came."""
+def turns(waiting: Iterable[Waiting], mine: Callable[[Waiting], bool]) -> list[Waiting]:
+    """The first upload of each machine, in the order in which they came, as far as these are a collector's own."""
     first: dict[str, Waiting] = {}
     for each in waiting:
-        if mine(each.machine):
-            first.setdefault(each.machine, each)
-    return list(first.values())
+        first.setdefault(each.machine, each)
+    return list(filter(mine, first.values()))
 
 
 def collector_of(machine: str, collectors: int) -> int:
@@ -55,22 +72,41 @@ def collector_of(machine: str, collectors: int) -> int:
     return zlib.crc32(machine.encode()) % collectors
 
 
-def put(path: str, machine: str, source: str) -> None:
-    """Puts an upload with those that wait. It takes the place of an older one of its source, or the last one."""
+def put(path: str, machine: str, source: str) -> str:
+    """Puts an upload with those that wait; its name. It takes the place of an older one of its source, or the last
+    one."""
     with files.locked(ORDER) as order:
         waiting = waiting_in("incoming")
         older = [each for each in waiting if (each.machine, each.source) == (machine, source)]
         number = older[0].number if older else next_number(order, waiting)
-        os.replace(path, os.path.join("incoming", Waiting(number, machine, source).name))
+        name = Waiting(number, machine, source).name
+        os.replace(path, os.path.join("incoming", name))
         files.sync("incoming")
+        return name
+
+
+def waits(name: str) -> bool:
+    """Whether an upload of this name isn't answered yet."""
+    return any(os.path.exists(os.path.join(folder, name)) for folder in (
+        "incoming", *(os.path.join("batch", each) for each in files.names("batch"))))
 
 
 def next_number(order: int, waiting: list[Waiting]) -> int:
     """The number after the last one that was given."""
     given = os.pread(order, 32, 0).decode("ascii", errors="replace").strip()
-    number = 1 + max(int(given) if given.isdigit() else 0, max((each.number for each in waiting), default=0))
-    os.pwrite(order, f"{number:012d}\n".encode(), 0)
+    number = 1 + max(int(given) if given.isdecimal() else 0, max((each.number for each in waiting), default=0))
+    number = min(number, 10**NUMBER_DIGITS - 1)
+    os.pwrite(order, f"{number:0{NUMBER_DIGITS}d}\n".encode(), 0)
     return number
+
+
+def put_aside(path: str) -> str:
+    """An upload that isn't what was put there waits no more; where it is now."""
+    aside = state.put_aside(path)
+    kept = os.path.join("incoming", os.path.basename(aside))
+    if aside != kept:
+        files.move(aside, kept)
+    return kept
 
 
 def take(upload: Waiting, folder: str) -> bool:

@@ -8,10 +8,16 @@ import os
 from collections.abc import Callable
 from typing import NamedTuple
 
-from . import databases, entries, program, source
+from shared import files
+
+from . import aside, databases, entries, plan, program, records, sequences, source, spool
 from .answer import CONFLICT, NO_MEMORY, UNREAD, Answer, Key, acked, refused
+from .recent import recent
 from .report import report
 from .spool import Waiting
+
+# Codes of what isn't the header of an upload that is known here: `receive` lets none of them wait.
+BAD_HEADER = (1, 2, 3, 4)
 
 Ask = Callable[[str], Answer]
 Found = list[tuple[Key, bytes]]
@@ -23,9 +29,14 @@ class Outcome(enum.Enum):
     LATER = 2
 
 
+class Spoiled(Exception):
+    """An upload that waits isn't what was put there: nothing can be said of it to its machine."""
+
+
 class Step(NamedTuple):
     """An upload, what is known of its source, and what is asked for."""
     upload: Waiting
+    database: str
     path: str
     kept: str
     known: source.Source
@@ -38,7 +49,7 @@ def store(upload: Waiting, folder: str, age: float, ask: Ask) -> Outcome:
     path = os.path.join("batch", folder, upload.name)
     kept = os.path.join("sources", upload.machine, upload.source)
     with source.locked(upload.machine):
-        return keep(Step(upload, path, kept, read_source(kept), ask), age)
+        return keep(Step(upload, folder, path, kept, read_source(kept), ask), age)
 
 
 def keep(step: Step, age: float) -> Outcome:
@@ -46,7 +57,11 @@ def keep(step: Step, age: float) -> Outcome:
     upload, path = step.upload, step.path
     program.remove_parts(path)
     try:
-        answer = answer_to(step)
+        step, answer = answered(step)
+    except Spoiled as error:
+        kept_as = spool.put_aside(path)
+        report(3, f"{upload.of}: {error}: it is put aside as {kept_as}; its machine sends it again")
+        return Outcome.DONE
     except program.Failed as error:
         report(3, f"kept for later: {upload.of}: {error}")
         answer = None
@@ -54,31 +69,61 @@ def keep(step: Step, age: float) -> Outcome:
         return Outcome.LATER
     if not answer.is_ack:
         report(1, f"refused: {upload.of}: {answer.text}")
+    if answer.new:
+        aside.forget(upload.machine, upload.source)
     step.known.answer, step.known.seen = answer, age
     source.write(step.kept, step.known)
-    program.remove_parts(path)
-    os.unlink(path)
+    keep_recent(step, answer)
     return Outcome.DONE
+
+
+def keep_recent(step: Step, answer: Answer) -> None:
+    """What of an upload was stored, which is it or the part that was cut out of it, can be read before its database is
+    finished. All else of it goes."""
+    part = step.path + program.CUT
+    if answer.is_ack and answer.new:
+        recent.keep(part if os.path.exists(part) else step.path, step.database)
+    program.remove_parts(step.path)
+    files.remove(step.path)
 
 
 def read_source(kept: str) -> source.Source:
     """What is known of a source. A file that can't be read is put aside, and nothing is known."""
     try:
         known = source.read(kept) or source.Source()
-        source.look_at_records(kept, known)
+        records.look_at(kept, known)
+        if known.is_old:
+            records.take_up(kept, known)
         return known
     except source.Damaged as error:
-        report(3, f"{error}: it is put aside as {kept}.damaged; what it knew may be stored again")
-        os.replace(kept, kept + ".damaged")
-        return source.Source()
+        return forgotten(kept, error)
+
+
+def forgotten(kept: str, error: source.Damaged) -> source.Source:
+    """What is known of a source whose files aren't right, and are put aside: nothing."""
+    report(3, f"{error}: it is put aside as {source.put_aside(kept)}; what it knew may be stored again")
+    return source.Source()
+
+
+def answered(step: Step) -> tuple[Step, Answer | None]:
+    """The answer to an upload; records that aren't right are found out by the way."""
+    try:
+        return step, answer_to(step)
+    except source.Damaged as error:
+        step = step._replace(known=forgotten(step.kept, error))
+        return step, answer_to(step)
 
 
 def answer_to(step: Step) -> Answer | None:
     """The answer to an upload, which is stored first; None if that is to be tried later."""
     told = program.inspect(step.path)
-    kind, _, start = program.header(step.path)
+    if isinstance(told, program.Fault) and told.code in BAD_HEADER:
+        raise Spoiled(f"it is no upload any more (bad {told.code} {told.place})")
+    kind, name, start = program.header(step.path)
+    if name != step.upload.source:
+        raise Spoiled(f"it is one of the source {name}")
     if isinstance(told, program.Fault):
-        return answer_as_it_is(step, None)
+        return asked(step, step.path)
     if kind == program.JOURNAL_FILE:
         return answer_to_file(step, told)
     try:
@@ -96,14 +141,8 @@ def asked(step: Step, path: str) -> Answer | None:
     if answer.code in (UNREAD, NO_MEMORY):
         report(3, f"kept for later: {step.upload.of}: {answer.text}")
         return None
-    return answer
-
-
-def answer_as_it_is(step: Step, told: program.Upload | None) -> Answer | None:
-    """The answer to an upload that is handed in as it came."""
-    answer = asked(step, step.path)
-    if answer and answer.is_ack and told:
-        return acknowledged(step, told, answer, answer.start, answer.start + answer.count, told.last)
+    if answer.source != step.upload.source:
+        raise program.Ended(f"{step.path}: the answer is about another upload: {answer.text}")
     return answer
 
 
@@ -113,8 +152,8 @@ def acknowledged(step: Step, told: program.Upload, answer: Answer, begin: int, e
     known, name = step.known, step.upload.source
     if begin == end:
         return answer
-    if begin > 0 and not known.run_at(begin):
-        came = max((run.end for run in known.runs if run.end < begin), default=0)
+    if begin > known.before and not known.run_at(begin):
+        came = max((run.end for run in known.runs if run.end < begin), default=known.before)
         report(1, f"a gap: {step.upload.of} goes on at entry {begin}, and {came} came before")
     run = known.acknowledge(begin, end, last)
     if (run.begin, run.end) == (answer.start, answer.start + answer.count):
@@ -123,7 +162,8 @@ def acknowledged(step: Step, told: program.Upload, answer: Answer, begin: int, e
 
 
 def answer_to_file(step: Step, told: program.Upload) -> Answer | None:
-    """The answer to a journal file. It can't be cut, so one that changed is stored whole."""
+    """The answer to a journal file. It can't be cut, so one that changed is stored whole. Its positions say nothing of
+    another file or of a stream under the same id, so they aren't kept, and no answer is joined with theirs."""
     digest, known = databases.digest_of(step.path), step.known
     if digest in known.files:
         return acked(told.source, told.start, told.count, 0, 0)
@@ -131,9 +171,10 @@ def answer_to_file(step: Step, told: program.Upload) -> Answer | None:
         return refused(told.source, told.start, CONFLICT, known.refused_files[digest])
     if known.files:
         report(1, f"{step.upload.of}: the journal file isn't the one that came before; it is stored again")
-    answer = answer_as_it_is(step, told)
+    answer = asked(step, step.path)
     if answer and answer.is_ack:
-        known.files.append(digest)
+        known.files[digest] = step.database
+        sequences.add(step.upload.machine, {told.last.sequence} if told.last else ())
     if answer and answer.code == CONFLICT:
         known.refused_files[digest] = answer.place
     return answer
@@ -142,22 +183,24 @@ def answer_to_file(step: Step, told: program.Upload) -> Answer | None:
 def answer_to_stream(step: Step, told: program.Upload, start: int, found: Found) -> Answer | None:
     """The answer to a stream. What of it is acknowledged isn't stored again."""
     identities = [identity for _, identity in found]
-    known_of = source.known_of(step.kept, step.known.entries, start, identities)
-    plan = source.plan(step.known, known_of, start, identities)
-    if plan.code:
-        return refused(told.source, start, plan.code, plan.place)
+    known_of = records.known_of(step.kept, step.known, start, identities)
+    planned = plan.plan(step.known, known_of, start, identities)
+    if planned.code:
+        return refused(told.source, start, planned.code, planned.place)
     answer: Answer | None = acked(told.source, start, 0, 0, told.left)
-    if plan.begin < plan.end or not found:
-        answer = stored(step, told, plan, found)
+    if planned.begin < planned.end or not found:
+        answer = stored(step, told, planned, found)
         if answer is None or not answer.is_ack:
             return answer
-    if plan.known == 0:
+    if planned.known == 0:
         return joined_empty(step, answer)
-    new = [number for number in range(plan.known) if start + number not in known_of.at]
     step.known.conflicts = {at: each for at, each in step.known.conflicts.items()
-                            if not start <= at < start + plan.known}
-    keep_records(step, start, new, identities)
-    return acknowledged(step, told, answer, start, start + plan.known, found[plan.known - 1][0])
+                            if not start <= at < start + planned.known}
+    new = [(start + number, identities[number]) for number in range(planned.begin, planned.end)]
+    if new:
+        records.add(step.kept, step.known, new, step.database)
+        sequences.add(step.upload.machine, {key.sequence for key, _ in found[planned.begin:planned.end]})
+    return acknowledged(step, told, answer, start, start + planned.known, found[planned.known - 1][0])
 
 
 def joined_empty(step: Step, answer: Answer) -> Answer:
@@ -166,26 +209,19 @@ def joined_empty(step: Step, answer: Answer) -> Answer:
     return step.known.joined_answer(answer.source, run, 0, answer.left) if run else answer
 
 
-def keep_records(step: Step, start: int, new: list[int], identities: list[bytes]) -> None:
-    """Keeps what acknowledged entries are known again by."""
-    if new:
-        records = [(start + number, identities[number]) for number in new]
-        step.known.entries = source.add_records(step.kept, step.known.entries, records)
-
-
-def stored(step: Step, told: program.Upload, plan: source.Plan, found: Found) -> Answer | None:
+def stored(step: Step, told: program.Upload, planned: plan.Plan, found: Found) -> Answer | None:
     """Has the new entries of a stream stored. A conflict is kept, so that it stays one in every database."""
     path = step.path
-    if plan.begin > 0 or plan.end < told.count:
-        before = found[plan.begin - 1][0] if plan.begin else None
-        path = program.cut(step.path, told, plan.begin, before, plan.end - plan.begin)
+    if planned.begin > 0 or planned.end < told.count:
+        before = found[planned.begin - 1][0] if planned.begin else None
+        path = program.cut(step.path, told, planned.begin, before, planned.end - planned.begin)
     answer = asked(step, path)
     if answer is None:
         return None
-    if answer.is_ack and answer.count != plan.end - plan.begin:
+    if answer.is_ack and answer.count != planned.end - planned.begin:
         raise program.Ended(f"{step.path}: not as many entries as were handed in: {answer.text}")
     if answer.code == CONFLICT:
-        place = plan.begin + answer.place
+        place = planned.begin + answer.place
         if len(step.known.conflicts) >= source.CONFLICTS:
             del step.known.conflicts[min(step.known.conflicts)]
         step.known.conflicts[told.start + place] = found[place][1]

@@ -1,0 +1,146 @@
+"""What collect-incoming can be asked for, beside running."""
+import os
+import shutil
+import subprocess
+from collections.abc import Callable
+from typing import NamedTuple
+
+from shared import files
+
+from . import aside, backup, databases, kept, program, renaming, retention, service, settings, source
+from .answer import is_source
+from .report import tell
+from .settings import Settings, Wrong
+
+BUSY = 75
+
+
+class Task(NamedTuple):
+    """Something that can be asked for: the words that it needs, what does it, and whether no service may run beside
+    it."""
+    words: str
+    run: Callable[..., int]
+    is_alone: bool = False
+
+
+def main(words: list[str]) -> int:
+    """Does what the words ask for; the status."""
+    option = words.pop(0) if words and words[0] and words[0] in TASKS else ""
+    task = TASKS[option]
+    named = words[:len(task.words.split())]
+    words = words[len(named):]
+    try:
+        kinds = task.words.split()
+        are_right = len(named) == len(kinds) and all(RIGHT[kind](word) for kind, word in zip(kinds, named))
+        if not are_right or len(words) > 1 or any(word.startswith("-") for word in words):
+            raise Wrong(usage())
+        chosen = settings.read(os.path.abspath(words[0] if words else settings.DEFAULT_FILE))
+        if option == "--check":
+            return check(chosen)
+        named = [os.path.abspath(word) if kind == "FOLDER" else word for kind, word in zip(kinds, named)]
+        settings.enter(chosen)
+        return alone(task, named) if task.is_alone else task.run(chosen, *named)
+    except Wrong as error:
+        tell(f"collect-incoming: {error}")
+        return 2
+    except (OSError, program.Failed) as error:
+        tell(f"collect-incoming: {error}")
+        return 3
+
+
+def usage() -> str:
+    """How it is called."""
+    told = " | ".join(f"{option} {task.words}".strip() for option, task in TASKS.items() if option)
+    return f"usage: collect-incoming [{told}] [CONFIG]"
+
+
+def alone(task: Task, named: list[str]) -> int:
+    """Does what can't be done beside the service; the status."""
+    with files.locked_now("lock") as is_free:
+        if not is_free:
+            tell("collect-incoming: the service runs; stop it first: systemctl stop journal-collect-incoming")
+            return BUSY
+        return task.run(*named)
+
+
+def check(chosen: Settings) -> int:
+    """Whether the service could run with these settings; the status. Says nothing if it could."""
+    folder = chosen.folder
+    while not os.path.isdir(folder):
+        folder = os.path.dirname(folder)
+    disk = shutil.disk_usage(folder)
+    if chosen.free_bytes >= disk.total:
+        raise Wrong(f"FREE_BYTES is {chosen.free_bytes}, and the disk of {folder} has {disk.total} bytes: nothing "
+                    "would be received")
+    told = subprocess.run([program.path_of_program(), "--version"], capture_output=True, check=False)
+    if told.returncode != 0:
+        raise program.Failed(f"{program.path_of_program()} --version: status {told.returncode}")
+    return 0
+
+
+def forget(_: Settings, machine: str, name: str) -> int:
+    """Forgets the conflicts of a source, so that its upload is tried again; the status."""
+    if aside.forget(machine, name):
+        return 0
+    if name not in source.names(machine):
+        return has_no_conflict(machine, name)
+    path = os.path.join("sources", machine, name)
+    with source.locked(machine):
+        try:
+            known = source.read(path)
+        except source.Damaged as error:
+            tell(f"collect-incoming: {error}")
+            return 3
+        if not known or not (known.conflicts or known.refused_files):
+            return has_no_conflict(machine, name)
+        known.conflicts, known.refused_files = {}, {}
+        source.write(path, known)
+    return 0
+
+
+def has_no_conflict(machine: str, name: str) -> int:
+    """Says that there is nothing to forget; the status."""
+    tell(f"collect-incoming: no conflict of {machine}@{name} is kept")
+    return 1
+
+
+def passed(_: Settings, days: str) -> int:
+    """A person says that days went by that the collector doesn't know of; the status."""
+    return retention.passed(int(days))
+
+
+def moved(_: Settings, name: str) -> int:
+    """A person has moved a database away, or is about to; the status."""
+    kept.note_gone([name])
+    return 0
+
+
+def back_up(_: Settings, folder: str) -> int:
+    """Makes a backup; the status."""
+    if os.path.commonpath([folder, os.getcwd()]) == os.getcwd():
+        raise Wrong(f"{folder} is in the collector's folder")
+    return backup.make(folder)
+
+
+def is_number_of_days(word: str) -> bool:
+    """Whether it says how many days."""
+    return word.isascii() and word.isdecimal() and len(word) <= 6
+
+
+# Which words can be what.
+RIGHT: dict[str, Callable[[str], object]] = {
+    "MACHINE": settings.is_machine, "OLD": settings.is_machine, "NEW": settings.is_machine, "SOURCE": is_source,
+    "DAYS": is_number_of_days, "DATABASE": databases.NAME.fullmatch,
+    "FOLDER": lambda word: word and not word.startswith("-")
+}
+TASKS = {
+    "": Task("", service.run),
+    "--once": Task("", service.run_once),
+    "--check": Task("", check),
+    "--forget": Task("MACHINE SOURCE", forget),
+    "--rename": Task("OLD NEW", renaming.rename, is_alone=True),
+    "--passed": Task("DAYS", passed),
+    "--moved": Task("DATABASE", moved),
+    "--backup": Task("FOLDER", back_up),
+    "--restore": Task("FOLDER", backup.restore, is_alone=True),
+}

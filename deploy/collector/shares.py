@@ -1,0 +1,170 @@
+"""What each machine has used of the collector in the present day: shares/MACHINE.share, in lines, replaced whole.
+
+    share 1               the version of this format
+    day BOOT NUMBER       the day that this is about, counted from the machine's start
+    bytes BYTES           of its uploads that were stored, and what databases grew by for them
+    milliseconds COUNT    on processors
+    refused BOUND COUNT   how many calls and uploads met this bound, and weren't taken
+    told BOUND            that was told
+
+A file that isn't right, or of another day, says nothing. Losing one costs no more than that a machine may have its
+share of a day twice, as it also may if the collector's machine is started anew.
+"""
+from __future__ import annotations
+
+import os
+
+from shared import files
+
+from . import clock
+from .report import report, tell
+
+TYPE_CHECKING = False
+if TYPE_CHECKING:
+    from collections.abc import Callable
+
+    from .settings import Settings
+
+FOLDER, END, LOCK = "shares", ".share", "shares.lock"
+FORMAT = "share 1"
+LONGEST = 4096
+# What a machine may meet, and how that is told with its name.
+BOUNDS = {
+    "calls": "calls at a time (CALLS)",
+    "large": "uploads of so many bytes, entries or fields (UPLOAD_BYTES, UPLOAD_ENTRIES, UPLOAD_FIELDS)",
+    "files": "journal files (TAKE_JOURNAL_FILES)",
+    "cost": "uploads that cost too much (UPLOAD_CPU_SECONDS)",
+    "day": "what one machine may use in a day (DAY_BYTES, DAY_SECONDS)",
+    "room": "what is left of the disk: it has used more than that today",
+}
+
+
+class Share:
+    """What a machine has used on a day."""
+
+    def __init__(self, day: str) -> None:
+        self.day = day
+        self.bytes = self.milliseconds = 0
+        self.refused: dict[str, int] = {}
+        self.told: set[str] = set()
+
+    def text(self) -> bytes:
+        """The lines of its file."""
+        lines = [FORMAT, f"day {self.day}", f"bytes {self.bytes}", f"milliseconds {self.milliseconds}"]
+        lines += [f"refused {bound} {count}" for bound, count in self.refused.items()]
+        lines += [f"told {bound}" for bound in sorted(self.told)]
+        return ("\n".join(lines) + "\n").encode("ascii")
+
+    def take_line(self, line: str) -> None:
+        """Takes up a line of its file."""
+        word, *rest = line.split(" ")
+        if word == "refused" and len(rest) == 2 and rest[0] in BOUNDS:
+            self.refused[rest[0]] = number(rest[1])
+        elif word == "told" and len(rest) == 1 and rest[0] in BOUNDS:
+            self.told.add(rest[0])
+        elif word in ("bytes", "milliseconds") and len(rest) == 1:
+            setattr(self, word, number(rest[0]))
+        else:
+            raise ValueError(f"an unknown line: {line[:40]!r}")
+
+    def is_used_up(self, settings: Settings) -> bool:
+        """Whether the machine has had what one may have of a day."""
+        return self.bytes >= settings.day_bytes or self.milliseconds >= 1000 * settings.day_seconds
+
+
+def number(word: str) -> int:
+    """A number of a file; a ValueError if it isn't one."""
+    if not word.isascii() or not word.isdigit() or len(word) > 18:
+        raise ValueError(f"no number: {word[:40]!r}")
+    return int(word)
+
+
+def today() -> str:
+    """The present day, which no setting of a clock moves."""
+    present = clock.now()
+    return f"{present.boot} {int(present.running // clock.DAY)}"
+
+
+def of_text(text: str, day: str) -> Share:
+    """What a file says of a day; a ValueError if it isn't right."""
+    lines = text.split("\n")
+    if lines[0] != FORMAT or lines.pop() != "" or len(lines) < 2 or not lines[1].startswith("day "):
+        raise ValueError(f"it doesn't begin with `{FORMAT}` and a day")
+    share = Share(lines[1][4:])
+    for line in lines[2:]:
+        share.take_line(line)
+    return share if share.day == day else Share(day)
+
+
+def path_of(machine: str) -> str:
+    """Where it is kept what a machine has used."""
+    return os.path.join(FOLDER, machine + END)
+
+
+def beginning(path: str) -> bytes:
+    """The first bytes of a file; what isn't one is no reason to wait."""
+    file = os.open(path, os.O_RDONLY | os.O_NOFOLLOW | os.O_NONBLOCK | os.O_CLOEXEC)
+    try:
+        return os.read(file, LONGEST)
+    finally:
+        os.close(file)
+
+
+def read(machine: str) -> Share:
+    """What a machine has used today."""
+    day = today()
+    path = path_of(machine)
+    try:
+        return of_text(beginning(path).decode("ascii"), day)
+    except FileNotFoundError:
+        pass
+    except (OSError, ValueError) as error:
+        tell(f"{path}: {error}; it is begun anew")
+    return Share(day)
+
+
+def write(machine: str, share: Share) -> None:
+    """Keeps what a machine has used. The disk has it when it likes: little is lost with it."""
+    files.replace(path_of(machine), share.text(), is_synced=False)
+
+
+def use(machine: str, size: int, seconds: float) -> None:
+    """A machine has used so much more."""
+    def add(share: Share) -> None:
+        share.bytes += size
+        share.milliseconds += int(1000 * seconds)
+
+    change(machine, add)
+
+
+def refuse(machine: str, bound: str) -> None:
+    """Something of a machine wasn't taken, for it met a bound."""
+    def add(share: Share) -> None:
+        share.refused[bound] = share.refused.get(bound, 0) + 1
+
+    change(machine, add)
+
+
+def change(machine: str, how: Callable[[Share], None]) -> None:
+    """Changes what a machine has used today. On a full disk it isn't kept."""
+    try:
+        with files.locked(LOCK):
+            share = read(machine)
+            how(share)
+            write(machine, share)
+    except OSError as error:
+        tell(f"what {machine} uses can't be kept: {error}")
+
+
+def tell_all() -> None:
+    """Says which machines met which bounds, each once a day."""
+    for name in files.names(FOLDER, END):
+        machine = name.removesuffix(END)
+        with files.locked(LOCK):
+            share = read(machine)
+            untold = sorted(share.refused.keys() - share.told)
+            share.told |= set(untold)
+            if untold:
+                write(machine, share)
+        for bound in untold:
+            report(1, f"{machine} goes over {BOUNDS[bound]}")
