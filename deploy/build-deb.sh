@@ -17,13 +17,16 @@ mkdir -p "$tree/DEBIAN"
 # The units of a package are below /usr/lib, and the documents are compressed.
 env -u MAKEFLAGS -u MAKELEVEL make --silent -o "$program" install DESTDIR="$tree" PREFIX=/usr
 strip "$tree/usr/bin/journal-collect"
+# Modules are compiled by the Python of the machine that has the package.
+find "$tree" -name __pycache__ -prune -exec rm -r {} +
 documents=$tree/usr/share/doc/journal-collect
-gzip -9n "$tree/usr/share/man/man1/journal-collect.1" "$documents"/*.md
+gzip -9n "$tree"/usr/share/man/man*/* "$documents"/*.md
 install -m 644 deploy/debian/copyright "$documents"
 sed "s/@version@/$version/" deploy/debian/changelog | gzip -9n > "$documents/changelog.gz"
 
-install -m 755 deploy/debian/{postinst,prerm,postrm} "$tree/DEBIAN"
-printf '/etc/journal-collect/%s\n' machine.conf collector.conf journal-files.conf > "$tree/DEBIAN/conffiles"
+install -m 755 deploy/debian/{config,postinst,prerm,postrm} "$tree/DEBIAN"
+install -m 644 deploy/debian/{triggers,templates} "$tree/DEBIAN"
+printf '/etc/journal-collect/%s\n' {machine,collector,journal-files,forward}.conf > "$tree/DEBIAN/conffiles"
 (cd "$tree" && find usr -type f -exec md5sum {} +) > "$tree/DEBIAN/md5sums"
 size=$(du --summarize --block-size=1K --apparent-size "$tree" | cut -f 1)
 sed "s/@version@/$version/; s/@libc@/${libc#GLIBC_}/; s/@architecture@/$architecture/; s/@size@/$size/" \

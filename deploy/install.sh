@@ -8,19 +8,36 @@ root=$1
 prefix=$2
 library=$prefix/lib/journal-collect
 
-install -d "$root$library"/{collector,machine,reading,shared} "$root$prefix"/{bin,lib/systemd/system,lib/sysusers.d}
+install -d "$root$library"/{collector,forwarding,machine,reading,shared,watching}
+install -d "$root$prefix"/{bin,lib/systemd/{system,journald.conf.d},lib/sysusers.d}
 install -d "$root/etc/journal-collect"
-install -m 755 deploy/{send,serve,receive,answers,collect-incoming,journal-files,search} "$root$library"
+install -m 755 deploy/{send,serve,receive,answers,collect-incoming,journal-files,search,forward,status} "$root$library"
+install -m 644 deploy/{sshd,slice}.conf "$root$library"
 install -m 755 deploy/machine/fit_stream.py "$root$library/fit-stream"
-for part in collector machine reading shared; do
+for part in collector forwarding machine reading shared watching; do
     install -m 644 deploy/$part/*.py "$root$library/$part"
 done
+install -m 644 deploy/forwarding/*.{sql,json} "$root$library/forwarding"
 ln -sf ../lib/journal-collect/search "$root$prefix/bin/journal-collect-search"
-for unit in deploy/*.service deploy/*.timer; do
+ln -sf ../lib/journal-collect/status "$root$prefix/bin/journal-collect-status"
+ln -sf ../lib/journal-collect/forward "$root$prefix/bin/journal-collect-forward"
+for unit in deploy/*.service deploy/*.socket deploy/*.timer; do
     sed "s#@library@#$library#" "$unit" > "$root$prefix/lib/systemd/system/${unit##*/}"
     chmod 644 "$root$prefix/lib/systemd/system/${unit##*/}"
 done
+for page in docs/man/*.[1-8]; do
+    install -D -m 644 "$page" "$root$prefix/share/man/man${page##*.}/${page##*/}"
+done
+completions=$root$prefix/share/bash-completion/completions
+install -D -m 644 deploy/completions/journal-collect.bash "$completions/journal-collect"
+ln -sf journal-collect "$completions/journal-collect-search"
+ln -sf journal-collect "$completions/journal-collect-status"
+ln -sf journal-collect "$completions/journal-collect-forward"
+install -D -m 644 deploy/completions/_journal-collect "$root$prefix/share/zsh/vendor-completions/_journal-collect"
 install -m 644 deploy/journal-collect.sysusers "$root$prefix/lib/sysusers.d/journal-collect.conf"
-for conf in machine.conf collector.conf journal-files.conf; do
+install -m 644 deploy/journald.conf "$root$prefix/lib/systemd/journald.conf.d/journal-collect.conf"
+for conf in machine.conf collector.conf journal-files.conf forward.conf; do
     [[ -e $root/etc/journal-collect/$conf ]] || install -m 644 "deploy/$conf" "$root/etc/journal-collect"
 done
+# No run has to compile a module. Each is known by what its source has: if that is another one, the run compiles it.
+/usr/bin/python3 -m compileall -q -s "$root" -p / --invalidation-mode checked-hash "$root$library"

@@ -1,8 +1,12 @@
 """Files that are replaced whole, locks, and what is in a folder."""
-import contextlib
+from __future__ import annotations
+
 import fcntl
 import os
-from collections.abc import Iterator
+
+TYPE_CHECKING = False
+if TYPE_CHECKING:
+    from types import TracebackType
 
 Name = str | os.PathLike[str]
 
@@ -39,8 +43,10 @@ def replace(path: Name, data: bytes, is_synced: bool = True) -> None:
 
 def remove(path: Name) -> None:
     """Removes a file, if it is there."""
-    with contextlib.suppress(FileNotFoundError):
+    try:
         os.unlink(path)
+    except FileNotFoundError:
+        pass
 
 
 def put_all(file: int, data: bytes) -> None:
@@ -54,7 +60,7 @@ def names(folder: Name, end: str = "") -> list[str]:
     """The names in a folder that end so, in order; none if there is no such folder."""
     try:
         return sorted(name for name in os.listdir(folder) if name.endswith(end))
-    except FileNotFoundError:
+    except (FileNotFoundError, NotADirectoryError):
         return []
 
 
@@ -71,8 +77,10 @@ def bytes_in(folder: Name) -> int:
     total = 0
     for top, _, names in os.walk(folder):
         for name in names:
-            with contextlib.suppress(FileNotFoundError):
+            try:
                 total += os.lstat(os.path.join(top, name)).st_size
+            except FileNotFoundError:
+                pass
     return total
 
 
@@ -91,12 +99,29 @@ def lock_now(file: int) -> bool:
     return True
 
 
-@contextlib.contextmanager
-def locked(path: Name) -> Iterator[int]:
+class locked:
     """Waits for the lock of a file, which is made if it isn't there, and has it for a while."""
-    file = os.open(path, os.O_RDWR | os.O_CREAT | os.O_CLOEXEC, 0o600)
-    try:
-        fcntl.flock(file, fcntl.LOCK_EX)
-        yield file
-    finally:
-        os.close(file)
+
+    def __init__(self, path: Name) -> None:
+        self.path = path
+
+    def __enter__(self) -> int:
+        self.file = os.open(self.path, os.O_RDWR | os.O_CREAT | os.O_CLOEXEC, 0o600)
+        try:
+            fcntl.flock(self.file, fcntl.LOCK_EX)
+        except BaseException:
+            os.close(self.file)
+            raise
+        return self.file
+
+    def __exit__(self, kind: type[BaseException] | None, error: BaseException | None,
+                 trace: TracebackType | None) -> None:
+        os.close(self.file)
+
+
+class locked_now(locked):
+    """Has the lock of a file for a while, which is made if it isn't there, if nobody has it: whether it has."""
+
+    def __enter__(self) -> bool:  # type: ignore[override]
+        self.file = os.open(self.path, os.O_RDWR | os.O_CREAT | os.O_CLOEXEC, 0o600)
+        return lock_now(self.file)

@@ -2,14 +2,17 @@
 
 The settings of a program are a NamedTuple, which has each under its name in small letters, with its type and default.
 """
-import re
-from collections.abc import Iterator
-from typing import TypeVar
+from __future__ import annotations
 
-S = TypeVar("S", bound=tuple[object, ...])
-QUOTED = r"""(?:[^\s"'$`\\]|"[^"$`\\]*"|'[^']*')*"""
-ASSIGNMENT = re.compile(rf"\s*([A-Za-z_][A-Za-z0-9_]*)=({QUOTED})(?:\s+#.*|\s*)")
-NOTHING = re.compile(r"\s*(#.*)?")
+TYPE_CHECKING = False
+if TYPE_CHECKING:
+    from collections.abc import Iterator
+    from typing import TypeVar
+
+    S = TypeVar("S", bound=tuple[object, ...])
+
+# What a shell would expand.
+EXPANDED = frozenset("$`\\")
 
 
 class Wrong(ValueError):
@@ -29,12 +32,32 @@ def lines(path: str) -> list[str]:
 def assignments(path: str) -> Iterator[tuple[str, str]]:
     """The names and values that a file sets."""
     for number, line in enumerate(lines(path), 1):
-        match = ASSIGNMENT.fullmatch(line)
-        if match:
-            yield match[1], re.sub(r"\"([^\"]*)\"|'([^']*)'", r"\1\2", match[2])
-        elif not NOTHING.fullmatch(line):
-            raise Wrong(f"{path}: line {number} isn't NAME=VALUE: {line.strip()}; a value with spaces needs quotes, "
+        text = line.strip()
+        if not text or text.startswith("#"):
+            continue
+        name, equals, rest = text.partition("=")
+        value = value_of(rest)
+        if not equals or not name.isascii() or not name.isidentifier() or value is None:
+            raise Wrong(f"{path}: line {number} isn't NAME=VALUE: {text}; a value with spaces needs quotes, "
                         "and nothing in it is expanded")
+        yield name, value
+
+
+def value_of(text: str) -> str | None:
+    """The value that a text begins with, if nothing but a comment comes after it."""
+    value, at = "", 0
+    while at < len(text) and not text[at].isspace():
+        end, piece = at + 1, text[at]
+        if piece in ('"', "'"):
+            end = text.find(text[at], at + 1) + 1
+            piece = text[at + 1:end - 1]
+            if end == 0:
+                return None
+        if text[at] != "'" and not EXPANDED.isdisjoint(piece):
+            return None
+        value, at = value + piece, end
+    rest = text[at:].strip()
+    return value if not rest or rest.startswith("#") else None
 
 
 def read(path: str, kind: type[S]) -> S:
@@ -58,11 +81,17 @@ def converted(value: str, kind: type) -> object:
             raise ValueError("isn't yes or no")
         return value == "yes"
     if kind is int:
-        if not re.fullmatch(r"0|[1-9][0-9]{0,17}", value, re.ASCII):
+        if not is_digits(value, 18) or (value[0] == "0" and value != "0"):
             raise ValueError("isn't a number")
         return int(value)
     if kind is float:
-        if not re.fullmatch(r"[0-9]{1,9}(\.[0-9]{1,9})?", value, re.ASCII):
+        whole, point, part = value.partition(".")
+        if not is_digits(whole, 9) or (point and not is_digits(part, 9)):
             raise ValueError("isn't a number of seconds")
         return float(value)
     return value
+
+
+def is_digits(text: str, most: int) -> bool:
+    """Whether it is a decimal number of at most so many digits."""
+    return text.isascii() and text.isdigit() and len(text) <= most
