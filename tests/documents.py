@@ -2,8 +2,9 @@
 """Compares the documents with each other and with the sources: documents.py PROGRAM [FOLDER]
 
 One version, one toolchain, one table of codes, which the program prints too, a list of crates and of scripts that is
-whole, the number of edits, one table of the figures to plan with, tries that add up, the same claims in the README and
-on the page of proofs, links to headings that are there, and a README that stays short. Prints what differs.
+whole, the number of edits, one table of the figures to plan with, tries that add up, the functions that the README
+names for its claims on the page of proofs, links to headings that are there, and a README that stays short. Prints what
+differs.
 """
 import re
 import subprocess
@@ -147,20 +148,21 @@ def number_of(text: str) -> int:
     return int(text.replace(",", ""))
 
 
-def claims(path: str) -> list[str]:
-    """The lists of what is proved, what is tested and what isn't promised: their titles and lines."""
-    lists = text_of(path).partition("\n### Proved\n")[2].partition("\n## ")[0]
-    items = re.findall(r"^(?:### .*|- .*(?:\n  .*)*)", lists, re.MULTILINE)
-    return [" ".join(it.split()) for it in items]
+def claims() -> set[str]:
+    """The functions that the README's list of what is proved names for its claims."""
+    proved = text_of("README.md").partition("\n### Proved\n")[2].partition("\n### ")[0]
+    named = re.findall(r"\(((?:[^()`]|`[^`]+`)*)\)\s*(?=\n|$)", proved)
+    return {name for it in named for name in re.findall(r"`([\w:]+)`", it)}
 
 
 def told_claims() -> Iterator[str]:
-    """Claims that the README and the page of proofs don't both have."""
-    here, there = claims("README.md"), claims("docs/PROOFS.md")
-    if not here:
-        yield "README.md has no claims"
-    for it in sorted(set(here) ^ set(there)):
-        yield f"a claim isn't both in README.md and in docs/PROOFS.md: {it}"
+    """Functions that the README names for a claim, and that the page of proofs doesn't speak of."""
+    named = claims()
+    if not named:
+        yield "README.md names no function for its claims"
+    there = set(re.findall(r"\*\*`([\w:]+)`\*\*", text_of("docs/PROOFS.md")))
+    for it in sorted(named - there):
+        yield f"README.md names {it} for a claim, and docs/PROOFS.md doesn't have it"
 
 
 def headings(path: Path) -> set[str]:

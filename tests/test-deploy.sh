@@ -24,6 +24,19 @@ for line in UPLOADS=8x UPLOAD_ENTRIES=0 STREAM_BYTES=16M FOLDER_BYTES= UPLOAD_BY
     expect 2 "" "~send: *wrong.conf: ${line%%=*} is*" "$library/send" "$folder/wrong.conf"
 done
 expect 2 "" "~send: *names no COLLECTOR" "$library/send" /dev/null
+for line in UPLOADS UPLOAD_BYTES FOLDER_BYTES STREAM_BYTES; do
+    printf 'COLLECTOR=here\nFOLDER=%s\n%s=0\n' "$folder/machine" "$line" > "$folder/wrong.conf"
+    expect 2 "" "~send: *wrong.conf: $line is 0" "$library/send" "$folder/wrong.conf"
+done
+for line in KEY KNOWN_HOSTS FOLDER; do
+    printf 'COLLECTOR=here\n%s=some/where\n' "$line" > "$folder/wrong.conf"
+    expect 2 "" "~send: *wrong.conf: $line doesn't begin with a slash: some/where" "$library/send" "$folder/wrong.conf"
+done
+# settings that can't be together
+for line in STREAM_BYTES BACKLOG_BYTES; do
+    printf 'COLLECTOR=here\nFOLDER=%s\nFOLDER_BYTES=100\n%s=101\n' "$folder/machine" "$line" > "$folder/wrong.conf"
+    expect 2 "" "~send: *wrong.conf: $line=101 is over FOLDER_BYTES=100: *" "$library/send" "$folder/wrong.conf"
+done
 [[ ! -e $folder/machine ]] || differs "wrong settings made a folder"
 
 # whole schedules
@@ -49,7 +62,8 @@ fi
 if command -v shellcheck > "$folder/told"; then
     # shellcheck disable=SC2046
     expect 0 "" "" shellcheck --severity=warning --external-sources --source-path=. \
-        $(grep --directories=skip --files-with-matches '^#!/bin/bash' deploy/*) deploy/debian/{postinst,prerm,postrm}
+        $(grep --directories=skip --files-with-matches '^#!/bin/bash' deploy/*) \
+        deploy/debian/{config,postinst,prerm,postrm}
 else
     echo "there is no shellcheck: the scripts aren't checked"
 fi

@@ -38,17 +38,25 @@ stand_in systemctl << END
 #!/bin/sh
 echo "\$*" >> $folder/units
 case "\$*" in
-    *journal-collect-send.service) exec $library/send $root/etc/journal-collect/machine.conf ;;
-    *journal-collect-incoming.service) exec $library/collect-incoming --once $root/etc/journal-collect/collector.conf ;;
+    *journal-collect-send.service) exec $library/send $root/etc/journal-collect/machine.conf 2>> $folder/send ;;
+    *journal-collect-incoming.service)
+        exec $library/collect-incoming --once $root/etc/journal-collect/collector.conf 2>> $folder/service ;;
 esac
 END
+stand_in journal-collect-status << END
+#!/bin/sh
+exec $library/status --collector $root/etc/journal-collect/collector.conf "\$@"
+END
+stand_in apt-get <<< $'#!/bin/sh\necho "apt-get $*" >> '"$folder/units"
 stand_in ssh < tests/deploy/ssh
 stand_in systemd-sysusers <<< '#!/bin/sh'
 stand_in chown <<< '#!/bin/sh'
+stand_in id <<< $'#!/bin/sh\necho 990'
 stand_in hostname <<< $'#!/bin/sh\necho web'
 stand_in ssh-keyscan <<< $'#!/bin/sh\necho "$1 ssh-ed25519 AAAA"'
 stand_in ssh-keygen <<< $'#!/bin/sh\nfor file; do :; done\n: > "$file"\n: > "$file.pub"'
 stand_in runuser <<< $'#!/bin/sh\nshift 3\nexec "$@"'
+stand_in install <<< $'#!/bin/sh\nfor folder; do :; done\nmkdir -p "$folder"'
 stand_in mail <<< $'#!/bin/sh\necho "$2 $3" >> '"$folder/mails"$'\ncat >> '"$folder/mails"
 stand_in systemd-id128 <<< $'#!/bin/sh\ntr -d - < /proc/sys/kernel/random/uuid'
 
@@ -57,10 +65,10 @@ awk -v to="$folder/guide" '/^```sh$/ { n++; on = 1; next } /^```$/ { on = 0 } on
 awk -v to="$folder/page" \
     '/^\.Bd -literal/ { n++; on = 1; next } /^\.Ed$/ { on = 0 } on { gsub(/\\e/, "\\"); print > (to "-" n) }' \
     docs/journal-collect.1
-[[ $(find "$folder" -name 'guide-*' | wc -l) -eq 14 ]] || differs "a block of the guide isn't tried"
+[[ $(find "$folder" -name 'guide-*' | wc -l) -eq 17 ]] || differs "a block of the guide isn't tried"
 [[ $(find "$folder" -name 'page-*' | wc -l) -eq 7 ]] || differs "an example of the man page isn't tried"
 blocks() {
-    local moved='etc/journal-collect|etc/systemd/|usr/lib/journal-collect|var/lib/journal-|backup'
+    local moved='etc/(journal-collect|systemd/|cron|ssh/)|usr/lib/journal-collect|var/lib/journal-|backup'
     sed -E "s#(^|[^a-z/])/($moved)#\1$root/\2#g" "$folder/$1" | bash -e
 }
 # the journal: three sequences at one time
@@ -80,14 +88,18 @@ END
 mkdir "$folder/empty"
 cd "$folder/empty" || exit 1
 expect 0 "" "" blocks guide-1
+cmp "$library/sshd.conf" "$root/etc/ssh/sshd_config.d/journal-collect-user.conf" || differs "the settings of sshd"
+cmp "$library/slice.conf" "$root/etc/systemd/system/user-990.slice.d/journal-collect.conf" || differs "the slice"
 expect 0 "" "" blocks guide-2
 grep -q "^command=\"$library/serve web\",restrict ssh-ed25519 " "$root/var/lib/journal-collect/.ssh/authorized_keys" ||
     differs "the line of a key"
 expect 0 "" "" blocks guide-3
 grep -q '^logs.example.org ' "$root/etc/journal-collect/known_hosts" || differs "the collector's key"
 expect 0 "" "" blocks guide-4
-expect 0 "" "" "$library/collect-incoming" --once "$root/etc/journal-collect/collector.conf"
-expect 0 "~ok 300"$'\n'"aaaaaaaaaaaaaaaaaaaaaaaaaaaaaaaa 1 1700000000000000 0 a0"$'\n'"*" "" blocks guide-9
+expect 0 "send: sent 300 entries in 1 uploads, 0 acknowledged" "" cat "$folder/send"
+expect 0 "" "~*stored 300 entries of web in databases/*.db: its first"$'\n'"*" \
+    "$library/collect-incoming" --once "$root/etc/journal-collect/collector.conf"
+expect 0 "~ok 300"$'\n'"aaaaaaaaaaaaaaaaaaaaaaaaaaaaaaaa 1 1700000000000000 0 a0"$'\n'"*" "" blocks guide-10
 expect 0 "ok 300 0" "" journal-collect verify export "$HOME"/*.export
 
 # a fleet's keys: none, one with a wrong name and one that is cut off leave the file as it was
@@ -109,9 +121,9 @@ expect 0 "" "" blocks guide-5
 printf 'command="%s/serve %s",restrict ssh-ed25519 %s\n' "$library" mail "BBBB mail" "$library" web "AAAA web" |
     cmp - "$keys" || differs "the lines of a fleet's keys"
 expect 0 "2" "" blocks guide-6
-expect 0 "" "" blocks guide-7
+expect 0 "" "" blocks guide-8
 units=$root/etc/systemd/system
-for unit in send journal-files; do
+for unit in send journal-files incoming; do
     grep -qx 'OnFailure=journal-collect-failed@%n.service' "$units/journal-collect-$unit.service.d/failed.conf" ||
         differs "what journal-collect-$unit calls when it fails"
 done
@@ -133,46 +145,70 @@ touch -d '61 minutes ago' "$root/var/lib/journal-collect-failed/x.service"
 expect 0 "" "" sh "$folder/tells"
 [[ $(grep -c '^x.service failed' "$folder/mails") -eq 2 ]] || differs "a unit that failed an hour later isn't told"
 
-expect 0 "mail: nothing of it was ever stored" "" blocks guide-8
-: > "$root/var/lib/journal-collect/databases/x.db.refused"
-expect 0 "$root/var/lib/journal-collect/databases/x.db.refused"$'\n'"mail: nothing of it was ever stored" "" \
-    blocks guide-8
-rm "$root/var/lib/journal-collect/databases/x.db.refused"
+# what is looked at each hour, as if the collector's service ran, which has this lock
+mkdir -p "$root/etc/cron.hourly"
+exec 9>> "$root/var/lib/journal-collect/lock"
+flock 9
+expect 0 "look: mail: nothing of it was ever stored" "" blocks guide-9
+for name in x.db x.db.refused; do
+    : > "$root/var/lib/journal-collect/databases/$name"
+done
+expect 0 "~*look: x.db: it was set aside*" "" blocks guide-9
+rm "$root"/var/lib/journal-collect/databases/x.db*
+exec 9>&-
 
 expect 0 "" "" blocks guide-4
 [[ $(find "$root/var/lib" -name '*.upload') == "" ]] || differs "something is sent a second time"
 
 # a database of an earlier program
 gzip -dc "$here/tests/fixtures/tables-1/closed.db.gz" > "$root/var/lib/journal-collect/databases/2026-01-01T00.db"
-expect 0 "ok 6" "" blocks guide-11
-expect 0 "" "" blocks guide-11
-
-# a backup takes the place of a damaged database; a damaged backup doesn't
-databases=$root/var/lib/journal-collect/databases damaged=$root/var/lib/journal-collect/damaged
-mkdir "$root/backup"
-cp "$databases/2026-01-01T00.db" "$root/backup/2026-12-01T09-10.db"
-(cd "$root/backup" && sha256sum 2026-12-01T09-10.db > 2026-12-01T09-10.db.sha256)
-for name in .db .db-wal .db.refused -2.db; do
-    echo damaged > "$databases/2026-12-01T09-10$name"
-done
-cp -r "$root/backup" "$folder/whole"
-echo more >> "$root/backup/2026-12-01T09-10.db"
-expect 1 "~*FAILED" "~*" blocks guide-12
-[[ ! -e $damaged && -e $databases/2026-12-01T09-10.db.refused ]] || differs "a damaged backup was taken"
-cp "$folder/whole/2026-12-01T09-10.db" "$root/backup/"
 expect 0 "ok 6" "" blocks guide-12
-cmp "$root/backup/2026-12-01T09-10.db" "$databases/2026-12-01T09-10.db" || differs "the backup isn't in its place"
-(cd "$databases" && sha256sum --check --quiet 2026-12-01T09-10.db.sha256) || differs "the backup's digest"
-[[ ! -e $databases/2026-12-01T09-10.db.refused && -e $databases/2026-12-01T09-10-2.db ]] ||
-    differs "the mark, or a database of a longer name"
-[[ $(cat "$damaged"/*) == damaged$'\n'damaged$'\n'damaged ]] || differs "what was damaged isn't kept"
-rm "$databases/2026-12-01T09-10"*
+expect 0 "" "" blocks guide-12
+
+# a backup, with entries that come meanwhile; the disk is lost, and the backup is put back, also over what is there
+databases=$root/var/lib/journal-collect/databases
+grow() {
+    PYTHONPATH=$here/tests/deploy python3 -B - "$@" << 'END'
+import os, sys
+from journal import JournalFile
+first, last = map(int, sys.argv[1:])
+file = JournalFile(f"{os.environ['JOURNAL']}/{first}.journal", f"{first:032x}")
+for number in range(first, last + 1):
+    file.append(number, 1_700_001_000_000_000 + number * 1_000_000, number * 3_000_000, "4" * 32, f"later {number}")
+file.write()
+END
+    blocks guide-4
+    blocks guide-4
+    systemctl start journal-collect-incoming.service
+    blocks guide-4
+}
+expect 0 "" "" grow 1 50
+expect 0 "" "" blocks guide-13
+expect 0 "" "" grow 101 150
+rm -rf "$root/var/lib/journal-collect"/{databases,sources,kept,incoming,batch}
+expect 0 "" "~collect-incoming: put back as of *databases, and what was known of *sources" blocks guide-14
+stored() { (cd "$databases" && for each in *.db; do journal-collect show "$each"; done | grep -c "$1"); }
+expect 0 "50" "" stored ' later [0-9]*$'
+(cd "$databases" && sha256sum --check --quiet ./*.sha256) || differs "the backup's digests"
+damaged=$(basename "$(find "$databases" -name '*.db' | sort | head -n 1)")
+echo more >> "$databases/$damaged"
+expect 0 "" "~collect-incoming: put back as of *: 1 of *" blocks guide-14
+cmp "$root/backup/collector/databases/$damaged" "$databases/$damaged" || differs "a damaged database isn't mended"
+[[ -e $root/var/lib/journal-collect/damaged/$damaged ]] || differs "what was damaged isn't kept"
+
+rm "$JOURNAL"/{1,101}.journal
+
+# a machine gets another name
+expect 0 "" "" blocks guide-7
+grep -q 'serve www"' "$root/var/lib/journal-collect/.ssh/authorized_keys" || differs "the key of a renamed machine"
+[[ -d $root/var/lib/journal-collect/sources/www && ! -e $root/var/lib/journal-collect/sources/web ]] ||
+    differs "what is known of a renamed machine"
 
 # by hand, and journals for journalctl
-expect 0 "ok 300 0"$'\n'"resume 300" "" blocks guide-13
+expect 0 "ok 300 0"$'\n'"resume 300" "" blocks guide-16
 expect 0 "ok 300" "" journal-collect check logs.db
 if [[ -n $real_journalctl && -x /lib/systemd/systemd-journal-remote ]]; then
-    blocks guide-10 > "$folder/told" 2> "$folder/errors" ||
+    blocks guide-11 > "$folder/told" 2> "$folder/errors" ||
         differs "the journals for journalctl: $(cat "$folder/errors")"
     [[ $(sort "$folder/told" | uniq | wc -l) -eq 300 ]] ||
         differs "what --since shows: $(wc -l < "$folder/told") lines"
@@ -189,8 +225,13 @@ fi
 } > large
 mv large stream
 expect 1 "~bad 12 *" "" journal-collect verify export stream
-expect 0 "" "~left out: *" blocks guide-14
+expect 0 "" "~left out: *" blocks guide-17
 expect 0 "ok 300 0" "" journal-collect verify export stream
+
+# removal: what the package doesn't remove goes, and systemd hears of it
+expect 0 "" "" blocks guide-15
+[[ -z $(find "$root/etc" -name '*journal-collect-*') ]] || differs "left by a removal: $(find "$root/etc")"
+[[ $(tail -n 2 "$folder/units") == "apt-get -y purge journal-collect"$'\n'"daemon-reload" ]] || differs "the removal"
 
 # the man page
 mkdir "$folder/page" "$folder/page/incoming"

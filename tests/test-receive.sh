@@ -13,8 +13,6 @@ folder=$(mktemp -d)
 trap 'rm -rf "$folder"' EXIT
 deploy/install.sh "$folder/root" /usr || differs "the programs aren't installed"
 library=${PROGRAMS:-$folder/root/usr/lib/journal-collect}
-# each start of a program is cheaper so
-/usr/bin/python3 -m compileall -q "$folder/root/usr/lib/journal-collect"
 mkdir "$folder/bin"
 ln -s "${COLLECTING_PROGRAM:-$PROGRAM}" "$folder/bin/journal-collect"
 PATH=$folder/bin:$PATH
@@ -50,13 +48,13 @@ expect 1 "" "receive: an upload of web has over 2000 bytes" receive web <(cat "$
 expect 0 "" "" receive web "$folder/a"
 expect 0 "waits $id" "" answers web
 expect 0 "" "" receive web "$folder/b"
-expect 1 "" "receive: 2 uploads of web are waiting" receive web "$folder/c"
+expect 75 "" "receive: 2 uploads of web are waiting" receive web "$folder/c"
 expect 0 "" "" receive mail "$folder/d"
-expect 2 "" "serve: only upload and answers can be asked for" env SSH_ORIGINAL_COMMAND="upload; id" "$library/serve" web
-expect 2 "" "serve: only upload and answers can be asked for" env -u SSH_ORIGINAL_COMMAND "$library/serve" web
+expect 2 "" "~serve: only upload, answers*" env SSH_ORIGINAL_COMMAND="upload; id" "$library/serve" web
+expect 2 "" "~serve: only upload, answers*" env -u SSH_ORIGINAL_COMMAND "$library/serve" web
 
 # each machine gets the answers of its own uploads alone
-expect 0 "" "" collect
+expect 1 "" "~collect-incoming: web goes over uploads of so many bytes, *" collect
 b=${id//a/b} d=${id//a/d}
 # each answer, and the key of the last entry before the position
 a_said=$(printf '%s\n' "ack $id 0 2 2 0" "last $id 2 $sequence 102")
@@ -78,6 +76,23 @@ expect 0 "" "" receive web "$folder/whole"
 expect 0 "" "" collect
 [[ $(answers web) == *"ack $whole 0 2 "* ]] || differs "the answer to an upload that came again"
 
+# what was stored is said at a machine's first upload and when a database ends, and else nothing
+begin DATABASE_NAME=day
+stored=$(printf 'collect-incoming: stored %s\n' "2 entries of web in databases/day.db: its first" \
+    "2 entries of web in databases/day.db")
+service_once() { "$library/collect-incoming" --once "$conf"; }
+expect 0 "" "" receive web "$folder/a"
+expect 0 "" "$stored" service_once
+expect 0 "" "" receive web "$folder/a"
+expect 0 "" "" service_once
+SOURCE=${id//a/b} upload 0 5 5 > "$folder/five"
+SOURCE=${id//a/b} sequence=${sequence//2/3} upload 0 5 5 > "$folder/others"
+expect 0 "" "" receive web "$folder/five"
+expect 0 "" "" receive mail "$folder/others"
+expect 0 "" "$(printf 'collect-incoming: stored %s\n' "5 entries of mail in databases/day-2.db: its first" \
+    "10 entries of 2 machines in databases/day-2.db")" service_once
+expect 0 "" "" service_once
+
 # settings that can't be
 for line in KEEP_DAYS=-1 DATABASE_BYTES=1G DATABASE_NAME=../%H DATABASE_NAME= DATABASE_NAME=%c COLLECTORS=0 \
     POLL_SECONDS=x DELETE_OLDEST=maybe KEEP_DAY=3 FOLDER=here 'KEEP_DAYS=$(id)' 'KEEP_DAYS=1 2' "export KEEP_DAYS=1"; do
@@ -98,7 +113,6 @@ upload 0 5 10 > "$folder/early"
 upload 0 10 10 > "$folder/all"
 expect 0 "" "" receive web "$folder/all"
 expect 0 "" "" collect
-next_hour
 expect 0 "" "" receive web "$folder/early"
 expect 0 "" "" collect
 expect 0 "~ack $id 0 10 0 0*" "" answers web
@@ -108,7 +122,6 @@ expect 0 "" "" collect
 expect 0 "10 10" "" stored
 
 # what an upload has beyond what is acknowledged is stored, and no more of it; the answer joins all
-next_hour
 upload 4 10 20 > "$folder/beyond"
 expect 0 "" "" receive web "$folder/beyond"
 expect 0 "" "" collect
@@ -116,12 +129,10 @@ expect 0 "ack $id 0 14 4 0"$'\n'"last $id 14 $sequence 14" "" answers web
 expect 0 "14 14" "" stored
 
 # one that begins behind the end is stored, and told as a gap; what lies between closes it
-next_hour
 upload 16 2 20 > "$folder/behind"
 expect 0 "" "" receive web "$folder/behind"
 expect 1 "" "collect-incoming: a gap: web@$id goes on at entry 16, and 14 came before" collect
 expect 0 "ack $id 16 2 2 0"$'\n'"last $id 18 $sequence 18" "" answers web
-next_hour
 upload 10 10 20 > "$folder/between"
 expect 0 "" "" receive web "$folder/between"
 expect 0 "" "" collect
@@ -132,13 +143,11 @@ expect 0 "ack $id 0 20 2 0"$'\n'"last $id 20 $sequence 20" "" answers web
 expect 0 "20 20" "" stored
 
 # another entry under a stored key is 60 in the next database too, whatever it comes with
-next_hour
 TEXT=other upload 3 2 10 > "$folder/other"
 expect 0 "" "" receive web "$folder/other"
 expect 1 "" "~*no $id 3 60 0" collect
 expect 0 "no $id 3 60 0"$'\n'"last $id 20 $sequence 20" "" answers web
 for part in 1 2 3; do
-    next_hour
     expect 0 "" "" receive web "$folder/other"
     expect 1 "" "~*no $id 3 60 0" collect
 done
@@ -155,7 +164,6 @@ upload 0 5 5 > "$folder/second"
 expect 0 "" "" receive web "$folder/first"
 expect 0 "" "" receive mail "$folder/second"
 expect 1 "" "~*no $id 0 60 0" collect
-next_hour
 expect 0 "" "" receive mail "$folder/second"
 expect 1 "" "~*no $id 0 60 0" collect
 expect 0 "no $id 0 60 0" "" answers mail
@@ -184,7 +192,7 @@ expect 3 "" "~*put aside as sources/web/$id.damaged*" collect
 expect 0 "~ack $id 0 5 5 0*" "" answers web
 
 # a journal file that comes again; and one that is refused, for another source has its key with another content
-begin
+begin TAKE_JOURNAL_FILES=yes
 fixture=$folder/fixture
 python3 -B - "$fixture" "$id" << 'END'
 import sys
@@ -196,18 +204,16 @@ END
 for part in 1 2; do
     expect 0 "" "" receive web "$fixture"
     expect 0 "" "" collect
-    next_hour
 done
 expect 0 "~ack $id 0 1 0 0*" "" answers web
 expect 0 "1 1" "" stored
-begin
+begin TAKE_JOURNAL_FILES=yes
 journal-collect export "$(find "$folder/collector-$((number - 1))/databases" -name '*.db')" > "$folder/stream"
 sed -i 's/^MESSAGE=.*/MESSAGE=another/' "$folder/stream"
 journal-collect upload --source "${id//a/b}" --resume "$folder/none" export "$folder/stream" > "$folder/other"
 expect 0 "" "" receive mail "$folder/other"
 expect 0 "" "" receive web "$fixture"
 expect 1 "" "~*no $id 0 60 0" collect
-next_hour
 expect 0 "" "" receive web "$fixture"
 expect 1 "" "~*no $id 0 60 0" collect
 expect 0 "" "" "$library/collect-incoming" --forget web "$id" "$conf"
@@ -331,35 +337,10 @@ expect 0 "$(cat "$collector/databases/now.export")" "" journal-collect export "$
 expect 0 "10 10" "" stored
 [[ ! -e $collector/databases/now.export.new ]] || differs "what a kill left of an export"
 
-# Clocks -------------------------------------------------------------------------------------------------------------
+# What is deleted ----------------------------------------------------------------------------------------------------
 
 if [[ -n $clock ]]; then
     day=86400
-    begin KEEP_DAYS=3 DATABASE_NAME=day-%d
-    expect 0 "" "" receive web "$folder/early"
-    expect 0 "" "" collect_at "0 0"
-    # the clock is wrong for one start, and right again
-    expect 1 "" "~*the clock was set by 40.0 days: nothing is deleted now" collect_at "$((40 * day)) 0"
-    expect 0 "" "" collect_at "$((40 * day)) 60"
-    expect 1 "" "~*the clock was set by -40.0 days: *" collect_at "0 60"
-    expect 1 "" "~*the clock was set by *" collect_at "$((3600 - $(date +%s))) 0"
-    expect 0 "5 5" "" stored
-    expect 0 "~ack $id 0 5 5 0*" "" answers web
-    # a file that was restored with its old time, or written while the clock said 1970
-    for time in "1970-01-01 01:00" "5 years ago"; do
-        touch -d "$time" "$collector"/databases/*
-        collect_at "0 0" 2> "$folder/told"
-    done
-    # the machine is started again, with a clock that is 400 days ahead, and then right; a day at most counts for that
-    expect 1 "" "~*the clock was set by 400.0 days: *" collect_at "$((400 * day)) 0 1"
-    expect 1 "" "~*the clock was set by -400.0 days: *" collect_at "0 0 2"
-    for ((part = 1; part <= 3; part++)); do
-        expect 0 "" "" collect_at "$((part * 3 * day / 4)) 0 $((part + 2))"
-    done
-    expect 0 "5 5" "" stored
-    # when its days are over it goes, and that is told
-    expect 0 "" "~*deleted: databases/day-*.db, *" collect_at "$((5 * day)) $((3 * day)) 5"
-    [[ -z $(ls "$collector/databases") ]] || differs "a database stays for ever"
     # one that a run had left counts from when an upload was stored in it
     begin KEEP_DAYS=3 DATABASE_NAME=now
     expect 0 "" "" receive web "$folder/early"
@@ -381,10 +362,11 @@ if [[ -n $clock ]]; then
     late="$((8 * day)) $((8 * day))"
     expect 0 "" "~*deleted*" collect_at "$late"
     expect 0 "6 6" "" stored
-    # on a full disk the oldest go first, if that is wanted, but none of the last day; also if the age was lost
+    # on a full disk, which is told, the oldest go first, if that is wanted, but none of the last day
     sed -i 's/^KEEP_DAYS=.*/KEEP_DAYS=1000/' "$conf"
-    echo damaged > "$collector/age"
-    expect 0 "" "" collect_at "$late 0 900000"
+    full="the disk of $collector is full: 897024 bytes are free, and FREE_BYTES is 1000000; nothing is received"
+    full="collect-incoming: $full"
+    expect 1 "" "$full" collect_at "$late 0 900000"
     echo DELETE_OLDEST=yes >> "$conf"
     expect 0 "" "" collect_at "$late 0 2000000"
     expect 0 "6 6" "" stored
@@ -392,7 +374,7 @@ if [[ -n $clock ]]; then
         collect_at "$late 0 900000" 2> "$folder/told"
     done
     expect 0 "2 2" "" stored
-    expect 3 "" "~receive: only * bytes are free" at "0 0 0 900000" receive web "$folder/early"
+    expect 75 "" "~receive: only * bytes are free" at "0 0 0 900000" receive web "$folder/early"
     # the disk gets full while an upload comes
     mkfifo "$folder/coming"
     at "0 0 0 2000000" receive web "$folder/coming" 2> "$folder/errors" &
@@ -405,7 +387,7 @@ if [[ -n $clock ]]; then
     cat "$folder/early" >&7
     exec 7>&-
     wait "$receiving"
-    expect 0 "3: receive: only 897024 bytes are free" "" echo "$?: $(cat "$folder/errors")"
+    expect 0 "75: receive: only 897024 bytes are free" "" echo "$?: $(cat "$folder/errors")"
     [[ -z $(ls "$collector/incoming") ]] || differs "a part is left on a full disk"
 fi
 grep -qx After=time-sync.target "$folder/root/usr/lib/systemd/system/journal-collect-incoming.service" ||
@@ -435,7 +417,7 @@ for part in 1 2; do
     parts[part]=$!
 done
 wait_for parts_there 2
-expect 1 "" "receive: 2 connections of web are sending" receive web "$folder/early"
+expect 75 "" "receive: 2 connections of web are sending" receive web "$folder/early"
 expect 0 "" "" receive mail "$folder/early"
 { kill -KILL "${parts[1]}" && wait "${parts[1]}"; } 2> "$folder/told"
 expect 0 "" "" receive web "$folder/early"
@@ -446,13 +428,13 @@ expect 0 "" "" collect
 parts_there 0 || differs "a part is left"
 
 # many sources of one machine: more than a command line takes here
-begin
+begin SOURCES=5001
 mkdir -p "$collector/answers/web"
 for ((part = 0; part < 5000; part++)); do
     printf -v many '%032x' "$part"
     echo "ack $many 5 2 2 0" > "$collector/answers/web/$many.answer"
 done
-# which is also what an earlier version left: all before the end of an ack is acknowledged
+# which is also what an earlier version left: its answers are told again, and what comes again is stored again
 mkdir -p "$collector/incoming"
 cp "$folder/all" "$collector/incoming/web@$id.upload"
 expect 0 "" "" collect
@@ -461,7 +443,7 @@ expect 0 "" "" collect
 SOURCE=$(printf '%032x' 7) upload 3 7 10 > "$folder/late"
 expect 0 "" "" receive web "$folder/late"
 expect 0 "" "" collect
-[[ $(answers web) == *"ack $(printf '%032x' 7) 0 10 3 0"$'\n'"last $(printf '%032x' 7) 10 $sequence 10"* ]] ||
+[[ $(answers web) == *"ack $(printf '%032x' 7) 3 7 7 0"$'\n'"last $(printf '%032x' 7) 10 $sequence 10"* ]] ||
     differs "what an earlier version had acknowledged"
 
 # an upload that an earlier version was storing is finished in the same database

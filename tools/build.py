@@ -22,6 +22,8 @@ import kit
 
 # Processor seconds that a line of a crate's code takes to be proved, on the whole (docs/GATE.md).
 SECONDS_A_LINE = 0.11
+# The kind of work to which the toolchain gives the processors that nothing else waits for, as in `rt ci`.
+PROOF = "proof"
 # How often it says how far it is, in seconds.
 EVERY = 20
 
@@ -87,7 +89,7 @@ def _build_libraries(libraries: list[Any], missing: list[Any], progress: Progres
     rt = kit.rt()
     held = rt.rtlib.lock(libraries)
     try:
-        given = rt.in_lanes({(it.name, "library"): _task(it, missing, progress) for it in missing})
+        given = rt.in_lanes({(it.name, PROOF): _task(it, missing, progress) for it in missing})
     finally:
         for it in held:
             os.close(it)
@@ -96,7 +98,7 @@ def _build_libraries(libraries: list[Any], missing: list[Any], progress: Progres
 
 def _task(library: Any, missing: list[Any], progress: Progress) -> tuple[Any, ...]:
     """What a library waits for, its lines, the memory that it needs, and the call that builds it."""
-    waits = [(it.name, "library") for it in library.below() if it in missing]
+    waits = [(it.name, PROOF) for it in library.below() if it in missing]
 
     def build(given: Mapping[tuple[str, str], bool], jobs: int) -> bool:
         return all(given[it] for it in waits) and _built(library, jobs, progress)

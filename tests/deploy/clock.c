@@ -1,7 +1,8 @@
 /* Preloaded into a program, this sets its clock. The file CLOCK_FILE has two numbers of seconds: what is added to the
- * time of day, and what is added to the time since the machine was started. Without the file nothing is. Two more may
- * follow: how often the machine was started since, which changes the id of its start, and how many bytes its disks have
- * free. It is compiled without headers, so what it needs of the C library is declared here. */
+ * time of day, and what is added to the time for which the machine has run. Without the file nothing is. Three more may
+ * follow: how often the machine was started since, which changes the id of its start; how many bytes its disks have
+ * free; and for how many seconds it has slept, which the time since its start has in it. It is compiled without
+ * headers, so what it needs of the C library is declared here. */
 typedef __SIZE_TYPE__ size_t;
 typedef __PTRDIFF_TYPE__ ssize_t;
 
@@ -19,7 +20,7 @@ int strcmp(const char *left, const char *right);
 
 #define NEXT(name) dlsym((void *)-1L, name)
 
-enum { REALTIME = 0, REALTIME_COARSE = 5, BOOTTIME = 7, CLOSE_ON_EXEC = 02000000 };
+enum { REALTIME = 0, MONOTONIC_RAW = 4, REALTIME_COARSE = 5, BOOTTIME = 7, CLOSE_ON_EXEC = 02000000 };
 
 typedef int (*opening)(const char *, int, ...);
 
@@ -27,7 +28,7 @@ typedef int (*opening)(const char *, int, ...);
 static long added(int place)
 {
     const char *path = getenv("CLOCK_FILE");
-    char text[64];
+    char text[96];
     int file = path ? ((opening)NEXT("open"))(path, CLOSE_ON_EXEC) : -1;
     if (file < 0)
         return 0;
@@ -50,8 +51,10 @@ int clock_gettime(int clock, struct moment *moment)
     int told = ((int (*)(int, struct moment *))NEXT("clock_gettime"))(clock, moment);
     if (told == 0 && (clock == REALTIME || clock == REALTIME_COARSE))
         moment->seconds += added(0);
-    if (told == 0 && clock == BOOTTIME)
+    if (told == 0 && clock == MONOTONIC_RAW)
         moment->seconds += added(1);
+    if (told == 0 && clock == BOOTTIME)
+        moment->seconds += added(1) + added(4);
     return told;
 }
 

@@ -13,17 +13,18 @@ begin() {
 }
 
 receive() { "$library/receive" "$1" "$conf" < "$2"; }
-collect() { "$library/collect-incoming" --once "$conf"; }
+collect() { without_stored "$library/collect-incoming" --once "$conf"; }
 answers() { SSH_ORIGINAL_COMMAND=answers "$library/serve" "$1" "$conf"; }
 answered() { [[ $(answers "$1") == *"$2"* ]]; }
 
-# next_hour: what is stored from now on is in another database, also if the programs turn by the hour.
-next_hour() {
-    local database
-    for database in "$collector"/databases/*.db; do
-        [[ $database == */old-* ]] || mv "$database" "$collector/databases/old-$RANDOM$RANDOM.db"
-    done
-    rm -f "$collector"/databases/*.db-wal "$collector"/databases/*.sha256
+# without_stored COMMAND..: its lines on what was stored are in a file `stored`, and aren't told.
+without_stored() {
+    local got
+    "$@" 2> "$folder/errors"
+    got=$?
+    grep '^collect-incoming: stored ' "$folder/errors" > "$folder/stored"
+    grep -v '^collect-incoming: stored ' "$folder/errors" >&2
+    return $got
 }
 
 # Entries ------------------------------------------------------------------------------------------------------------
@@ -116,4 +117,4 @@ at() {
     CLOCK_FILE=$folder/clock LD_PRELOAD=$clock "${@:2}"
 }
 
-collect_at() { at "$1" "$library/collect-incoming" --once "$conf"; }
+collect_at() { without_stored at "$1" "$library/collect-incoming" --once "$conf"; }

@@ -34,7 +34,7 @@ def entries_of(text: bytes) -> Iterator[tuple[str, int, bytes]]:
                 value, text = text[8:8 + length], text[9 + length:]
             fields[name] = value
         text = text[1:]
-        yield fields[b"__SEQNUM_ID"].decode(), int(fields[b"__SEQNUM"]), fields[b"MESSAGE"]
+        yield fields[b"__SEQNUM_ID"].decode(), int(fields[b"__SEQNUM"]), fields.get(b"MESSAGE", b"")
 
 
 class Source:

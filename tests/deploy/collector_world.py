@@ -4,15 +4,18 @@ usage: python3 collector_world.py PROGRAMS [--rounds ROUNDS]
 
 Machines send uploads: new ones, old ones again, late ones after newer ones, ones behind a gap, ones that are cut, and
 ones of a machine that was set back to an earlier day. Databases turn in a second. Between and within runs of the
-collector the clock is set by a minute, by 40 days and to 1970, days go by, the machine is started again, databases get
-second names as a backup by hard links gives them; runs are killed, find a full disk, or are told to stop. Afterwards
-all is sent once more, and then each acknowledged entry is in exactly one database, no entry under a key of its source
-was acknowledged with another content, nothing waits, and no database was deleted before its days were over.
+collector the clock is set by a minute, by 12 h, by 40 days and to 1970, days go by, the machine is started again,
+databases get second names as a backup by hard links gives them; runs are killed, find a full disk, or are told to stop.
+Backups are taken, also while the collector runs; its disk is lost, a backup put back, and machines send again what they
+have. Machines get other names. Afterwards all is sent once more, and then each acknowledged entry is in exactly one
+database, no entry under a key of its source was acknowledged with another content, nothing waits, and no database was
+deleted before its days were over.
 """
 import argparse
 import collections
 import glob
 import os
+import shutil
 import signal
 import subprocess
 import sys
@@ -73,7 +76,8 @@ class World(Trial):
         self.stored = {}
         self.unfinished = {}
         self.counts = collections.Counter()
-        self.altered = []
+        # of each backup what the databases had that had been deleted by then
+        self.whole_backups = {}
 
     def source(self, machine: str) -> Source:
         return Source(self, machine, self.dice.randbytes(16).hex(), self.dice.choice((0, 1000)))
@@ -96,14 +100,15 @@ class World(Trial):
         self.go_by(self.dice.choice((60, DAY // 2, 3 * DAY)))
         self.running = 0
         self.starts += 1
-        self.set_clock(self.dice.choice((0, self.set_by, 40 * DAY, -int(time.time()) + 5000)))
+        self.set_clock(self.dice.choice((0, self.set_by, DAY // 2, 40 * DAY, -int(time.time()) + 5000)))
         self.counts["starts of the machine"] += 1
 
     def change_clock(self) -> None:
         dice = self.dice
         if dice.random() < 0.4:
             self.go_by(dice.choice((60, 3600, DAY // 2, 2 * DAY, 7 * DAY)))
-        self.set_clock(dice.choice((0, 0, self.set_by, 60, -60, 40 * DAY, -40 * DAY, -int(time.time()) + 5000)))
+        self.set_clock(dice.choice((0, 0, self.set_by, 60, -60, DAY // 2, 40 * DAY, -40 * DAY,
+                                    -int(time.time()) + 5000)))
 
     def call(self, program: str, words: list[str], **options: Any) -> subprocess.CompletedProcess[bytes]:
         environment = {**os.environ, "LD_PRELOAD": self.library, "CLOCK_FILE": self.clock}
@@ -173,7 +178,9 @@ class World(Trial):
             time.sleep(self.dice.random() * 1.5)
             if self.dice.random() < 0.5:
                 self.change_clock()
-            if kind == "turn":
+            if kind == "turn" and self.dice.random() < 0.4:
+                self.back_up_whole()
+            elif kind == "turn":
                 run.send_signal(signal.SIGHUP) if self.dice.random() < 0.9 else None
                 time.sleep(self.dice.random())
             children = self.children(run.pid) if kind == "kill all" else []
@@ -263,6 +270,46 @@ class World(Trial):
                 path = os.path.join(self.backups, f"{len(os.listdir(self.backups))}-{name}")
                 os.link(os.path.join(self.collector, "databases", name), path)
 
+    def back_up_whole(self) -> None:
+        """A backup by the collector itself, perhaps into the folder of an earlier one."""
+        if not os.path.isdir(self.collector):
+            return
+        folder = os.path.join(self.backups, f"whole-{self.dice.randrange(2)}")
+        told = self.call("collect-incoming", ["--backup", folder, self.conf])
+        self.expect(f"backup: {told.stderr}: status", told.returncode in (0, 1), True)
+        self.whole_backups[folder] = {name: self.stored[name] for name in self.deleted}
+        self.counts["whole backups"] += 1
+
+    def lose_the_disk(self) -> None:
+        """The collector's disk is lost, and a backup put back. Machines send again what they have."""
+        if not self.whole_backups:
+            return
+        folder = self.dice.choice(sorted(self.whole_backups))
+        shutil.rmtree(self.collector)
+        told = self.call("collect-incoming", ["--restore", folder, self.conf])
+        self.expect(f"restore: {told.stderr}: status", told.returncode in (0, 1), True)
+        self.stored = dict(self.whole_backups[folder])
+        self.deleted = set(self.stored)
+        self.unfinished = {}
+        known = self.there()
+        self.used = {name: since for name, since in self.used.items() if name in known}
+        self.look_at_deleted(self.there(), "")
+        for source in (source for sources in self.machines.values() for source in sources):
+            source.acked = 0
+        self.counts["restores"] += 1
+
+    def rename(self) -> None:
+        """A machine gets another name."""
+        old = self.dice.choice(list(self.machines))
+        new = f"machine-{self.counts['other names']}"
+        told = self.call("collect-incoming", ["--rename", old, new, self.conf])
+        self.expect(f"rename: {told.stderr}: status", told.returncode in (0, 1), True)
+        if told.returncode == 0:
+            self.machines[new] = self.machines.pop(old)
+            for source in self.machines[new]:
+                source.machine = new
+            self.counts["other names"] += 1
+
     def round(self) -> None:
         dice = self.dice
         self.change_machines()
@@ -272,6 +319,9 @@ class World(Trial):
             self.change_clock()
         if dice.random() < 0.2:
             self.back_up()
+        for change, share in ((self.back_up_whole, 0.1), (self.lose_the_disk, 0.1), (self.rename, 0.1)):
+            if dice.random() < share:
+                change()
         for _ in range(dice.choice((1, 1, 2))):
             self.collect(dice.choice(("once", "term", "turn", "kill", "kill all", "full")))
         self.take_answers()

@@ -10,6 +10,7 @@ from disturbed import Disturbance, Run
 if TYPE_CHECKING:
     from world import World
 
+HERE = os.path.dirname(os.path.abspath(__file__))
 MACHINES = ["web", "mail", "db-1", "a.example.org", "x"]
 # The bounds are small, so that streams and databases are changed often.
 MACHINE_CONF = """COLLECTOR=journal-collect@collector
@@ -19,7 +20,7 @@ UPLOAD_ENTRIES={entries}
 UPLOAD_BYTES={upload_bytes}
 UPLOADS=5
 RESEND_MINUTES=0
-FOLDER_BYTES={folder_bytes}
+ANSWER_SECONDS={answer_seconds}
 BACKLOG_BYTES=200000
 STEP_BYTES=3000
 BOOT_ID_FILE={boot}
@@ -54,9 +55,13 @@ class Deployment:
         self.names[name], self.boots[name] = known_as, os.path.join(self.world.folder(), "boot_id")
         self.boot(name)
         bounds = {"stream_bytes": dice.choice((2000, 6000)), "entries": dice.choice((10, 40)),
-                  "upload_bytes": dice.choice((3000, 10**6)), "boot": self.boots[name]}
-        self.confs[name] = [self.conf(MACHINE_CONF.format(folder=folder, folder_bytes=size, **bounds))
-                            for size in (10**9, 5000)]
+                  "upload_bytes": dice.choice((3000, 10**6)), "boot": self.boots[name],
+                  "answer_seconds": dice.choice((0, 0, 0, 1))}
+        whole = MACHINE_CONF.format(folder=folder, **bounds)
+        # a folder that is to have less than a stream, whose size is the default one
+        small = "".join(line for line in whole.splitlines(True)
+                        if not line.startswith(("STREAM_BYTES", "BACKLOG_BYTES")))
+        self.confs[name] = [self.conf(whole + "FOLDER_BYTES=1000000000\n"), self.conf(small + "FOLDER_BYTES=5000\n")]
 
     def boot(self, name: str) -> None:
         """The machine is started anew."""
@@ -69,10 +74,21 @@ class Deployment:
             file.write(text)
         return path
 
+    def something_was_sent(self) -> bool:
+        """Whether uploads wait to be collected."""
+        return bool(self.waiting())
+
     def waiting(self) -> list[str]:
         """Uploads at the collector, and parts of some that no connection writes to any more."""
         return [name for part in ("incoming", "batch")
                 for _, _, names in os.walk(os.path.join(self.collector, part)) for name in names]
+
+
+def stopped(program: str, disturbance: Disturbance) -> list[str]:
+    """What is put before a command of this program, if it is the one that is to be stopped."""
+    kind, value = disturbance
+    is_it = kind == "stop" and value[0] == program
+    return ["/usr/bin/python3", "-IBS", os.path.join(HERE, "stop_at.py")] if is_it else []
 
 
 class Programs(Deployment):
@@ -81,17 +97,21 @@ class Programs(Deployment):
     # How many commands each has, in a common run; and how many undisturbed rounds bring everything home.
     COUNT = {"send": 70, "receive": 25, "collect-incoming": 120}
     QUIET = 60
+    # How many connections a run has, as a rule.
+    CONNECTIONS = 1
 
     def send(self, name: str, disturbance: Disturbance) -> list[Run]:
         kind, value = disturbance
         conf = self.confs[name][kind == "cap"]
-        forced = f"{self.programs}/serve {self.names[name]} {self.collector_conf}"
-        environment = {**self.world.journal_of(name), "FORCED_COMMAND": forced}
-        return [Run(self.world, name, [f"{self.programs}/send", conf], environment, disturbance)]
+        forced = [*stopped("receive", disturbance), f"{self.programs}/serve", self.names[name], self.collector_conf]
+        environment = {**self.world.journal_of(name), "FORCED_COMMAND": " ".join(forced)}
+        command = [*stopped("send", disturbance), f"{self.programs}/send", conf]
+        return [Run(self.world, name, command, environment, disturbance)]
 
     def collect(self, disturbance: Disturbance) -> list[Run]:
         once = [] if disturbance[0] == "term" else ["--once"]
-        command = [f"{self.programs}/collect-incoming", *once, self.collector_conf]
+        command = [*stopped("collect-incoming", disturbance), f"{self.programs}/collect-incoming", *once,
+                   self.collector_conf]
         return [Run(self.world, "collector", command, {}, disturbance)]
 
     @staticmethod
@@ -126,6 +146,7 @@ class OldScripts(Deployment):
 
     COUNT = {"gather": 12, "send": 8, "receive": 1, "collect": 1}
     QUIET = 8
+    CONNECTIONS = 3
 
     def __init__(self, world: World, programs: str) -> None:
         super().__init__(world, programs)

@@ -36,8 +36,7 @@ class Run:
         environment = {**os.environ, "FAULT": "none:0:0", "CALLS": os.path.join(world.folder(), "calls"), **environment}
         self.environment = environment
         if kind == "stop":
-            environment.update(BASH_ENV=os.path.join(HERE, "stop_at.sh"), PYTHONPATH=os.path.join(HERE, "stop"),
-                               STOP_PROGRAM=value[0], STOP_AT=str(value[1]))
+            environment.update(BASH_ENV=os.path.join(HERE, "stop_at.sh"), STOP_PROGRAM=value[0], STOP_AT=str(value[1]))
         if kind == "fault":
             environment["FAULT"] = value
         # What it says goes to a pipe, as it goes to the journal: a full disk doesn't keep it from that.

@@ -6,14 +6,14 @@ line with status 1 says why not.
 """
 import os
 import shutil
+import subprocess
 import sys
 
 from journal import ONLINE, Journal
-from machine import Machine
+from machine import HERE, JOURNALCTL, PROGRAM, Machine
 from trial_rows import Row, Rows
 
 ROWS: Rows[Machine] = Rows()
-MIB = 1 << 20
 
 
 @ROWS.each
@@ -37,71 +37,6 @@ def gathered_is_removed(row: Row, machine: Machine) -> None:
     machine.journal.grow(2)
     row.expect("status", machine.send(), (0, ""))
     row.all_stored(machine)
-
-
-@ROWS.row
-def large_value(row: Row, machine: Machine) -> None:
-    """A value over the limits is left out and named, once; what is before and after it goes out."""
-    machine.journal.grow(2)
-    machine.journal.add("20971520*x", wrong="large")
-    machine.journal.grow(2)
-    status, said = machine.send()
-    row.expect("status", status, 1)
-    row.expect("it is named", "over a limit: __SEQNUM=3 " in said, True)
-    row.all_stored(machine)
-    machine.answers(machine.collect())
-    row.expect("the second run", machine.send(), (0, ""))
-
-
-@ROWS.once
-def many_large_values(row: Row, machine: Machine) -> None:
-    """Large values don't fill the folder."""
-    machine.settings["FOLDER_BYTES"] = 60 * MIB
-    for _ in range(3):
-        machine.journal.add(f"{40 * MIB}*x", wrong="large")
-    machine.journal.grow(5)
-    for _ in range(3):
-        machine.send()
-    row.all_stored(machine)
-
-
-@ROWS.row
-def many_fields(row: Row, machine: Machine) -> None:
-    """What any user can log beside large values: more fields than the limit, and fields that look like others."""
-    machine.journal.grow(1)
-    machine.journal.add("too many", "user-1000", wrong="fields")
-    for message in ("a\n__SEQNUM=1\n__SEQNUM_ID=" + "0" * 32 + "\n\n", "__CURSOR=s=1;i=9", "\n", "\0\x1b[2J\r", ""):
-        machine.journal.add(message, "user-1000")
-    machine.journal.write()
-    status, said = machine.send()
-    row.expect("status", (status, "over a limit: __SEQNUM=2 " in said), (1, True))
-    row.all_stored(machine)
-
-
-@ROWS.once
-def memory(row: Row, machine: Machine) -> None:
-    """A value of 300 MB is stepped over in bounded memory, in either spelling."""
-    machine.journal.add(f"{300 * MIB}*x", wrong="large")
-    machine.journal.add(f"{150 * MIB}*x\n", wrong="large")
-    machine.journal.grow(2)
-    status, said = machine.send(memory=200 * MIB)
-    row.expect(f"status: {said}", status, 1)
-    row.expect("both are named", said.count("over a limit"), 2)
-    row.all_stored(machine)
-
-
-@ROWS.once
-def large_is_kept(row: Row, machine: Machine) -> None:
-    """With LEAVE_OUT_LARGE=no the stream waits for somebody, and what is new goes to another one."""
-    machine.settings["LEAVE_OUT_LARGE"] = "no"
-    machine.journal.grow(2)
-    machine.journal.add("20971520*x", wrong="large")
-    machine.journal.write()
-    status, said = machine.send()
-    row.expect("status", (status, "no upload can be made of it" in said), (1, True))
-    machine.journal.grow(2)
-    machine.send()
-    row.expect("what is stored", len(machine.stored()), 2)
 
 
 @ROWS.each
@@ -378,17 +313,94 @@ def removed_beside_another(row: Row, machine: Machine) -> None:
     row.all_stored(machine)
 
 
-@ROWS.row
-def since(row: Row, machine: Machine) -> None:
-    """The first run begins at a time, and what comes later is gathered whatever its clock says."""
-    machine.journal.grow(5)
-    machine.settings["SINCE"] = f"@{machine.journal.realtime // 10**6 + 1}"
-    row.expect("status", machine.send()[0], 0)
-    row.expect("nothing is sent", machine.files(), [])
-    machine.journal.set_clock(-10**12)
+REMOVING = """if [ "$2" = --output=export ] && ls -l /proc/self/fd | grep -q "{file}\\$" && [ ! -e {done} ]; then
+    : > {done}; rm {file}
+fi
+exec"""
+
+
+@ROWS.each
+def removed_while_it_is_read(row: Row, machine: Machine) -> None:
+    """A file that journald removes once it is opened ends its own gathering: the other files are gathered, and the gap
+    is told once."""
+    machine.journal.kinds = ("system", "user-1000", "user-1001")
+    machine.journal.grow(30)
+    file = machine.journal.files[1]
+    machine.journal.rotate()
+    machine.journal.grow(30)
+    with open(f"{machine.base}/bin/journalctl", encoding="ascii") as script:
+        text = script.read()
+    machine.install("journalctl", text.replace("exec", REMOVING.format(file=file.path, done=f"{machine.base}/done")))
+    machine.journal.files.remove(file)
+    status, said = machine.send()
+    row.expect("the file is removed", os.path.exists(file.path), False)
+    row.expect(f"a gap: {said}", (status, said.count("a gap")), (1, 1))
+    row.all_stored(machine)
+    row.expect("the next run", machine.send(), (0, ""))
+
+
+@ROWS.once
+def small_folder(row: Row, machine: Machine) -> None:
+    """A folder that is to have less than a stream: the newest stream is closed when it fills it, and all goes out."""
+    machine.settings.update(FOLDER_BYTES=40_000)
+    for _ in range(120):
+        machine.journal.add("1000*x")
+    machine.journal.write()
+    for _ in range(9):
+        machine.send()
+        machine.answers(machine.collect())
+    row.all_stored(machine)
+    row.expect("status", machine.send(), (0, ""))
+    # not even what is known of the journal's files fits
+    machine.settings.update(FOLDER_BYTES=100)
+    for _ in range(3):
+        machine.journal.add("one more")
+        machine.journal.write()
+        for _ in range(3):
+            machine.send()
+            machine.answers(machine.collect())
+    row.all_stored(machine)
+
+
+@ROWS.once
+def another_user(row: Row, machine: Machine) -> None:
+    """Root runs `send` by hand: it does nothing, and names the command that does it right."""
+    if os.geteuid() != 0:
+        print("not root: nobody else's folder is tried")
+        return
     machine.journal.grow(3)
-    machine.send()
-    row.expect("what is stored", {entry[1] for entry in machine.stored()}, {6, 7, 8})
+    # another user may read nothing that lies beside the tests
+    shutil.copy(f"{HERE}/journalctl.py", machine.base)
+    machine.library = shutil.copytree(machine.library, f"{machine.base}/library")
+    os.remove(f"{machine.base}/bin/journal-collect")
+    shutil.copy(PROGRAM, f"{machine.base}/bin/journal-collect")
+    machine.install("journalctl", JOURNALCTL.format(python="/usr/bin/python3", here=machine.base))
+    os.remove(f"{machine.base}/bin/python3")
+    os.symlink("/usr/bin/python3", f"{machine.base}/bin/python3")
+    subprocess.run(["chmod", "-R", "a+rX", machine.base], check=True)
+    key = f"{machine.base}/key"
+    with open(key, "w", encoding="ascii"):
+        os.chown(key, 65534, 65534)
+    os.makedirs(f"{machine.base}/state")
+    os.chown(f"{machine.base}/state", 65534, 65534)
+    machine.folder = machine.settings["FOLDER"] = f"{machine.base}/state/machine"
+    machine.settings["KEY"] = key
+    os.chown(machine.uploads, 65534, 65534)
+    status, said = machine.send()
+    row.expect("before there is a folder", (status, f"{key} belongs to nobody; run it so: runuser -u nobody " in said,
+                                            os.path.exists(machine.folder)), (2, True, False))
+    command = said.partition("run it so: ")[2].strip()
+    as_nobody = {**machine.whole_environment(), "JOURNAL": machine.journal.path}
+    told = subprocess.run(["sh", "-c", command], env=as_nobody, capture_output=True, text=True, check=False)
+    row.expect("the command", (told.returncode, told.stderr.count("\n"), "sent 3 entries" in told.stderr), (0, 1, True))
+    row.expect("whose folder it is", os.stat(machine.folder).st_uid, 65534)
+    status, said = machine.send()
+    row.expect("with the folder", (status, f"{machine.folder} belongs to nobody" in said), (2, True))
+    row.all_stored(machine)
+    # what an earlier version left as root
+    os.chown(f"{machine.folder}/gathered", 0, 0)
+    told = subprocess.run(["sh", "-c", command], env=as_nobody, capture_output=True, text=True, check=False)
+    row.expect("what root left", (told.returncode, f"chown -R --reference={machine.folder}" in told.stderr), (2, True))
 
 
 @ROWS.once

@@ -4,8 +4,8 @@ begin new sequences.
 A file has the header that journald writes, and after it a line for each entry in place of journald's objects: its
 number, realtime and monotonic time, boot id, what is wrong with it, and its message with escapes. Wrong may be:
 `-` nothing; `field`, a damaged field, at which journalctl breaks off; `entry`, a damaged entry, which it passes over
-when it reads on, and beside which it finds nothing; `large`, a value over the limits; `fields`, more fields than the
-limit. A message `N*TEXT` is TEXT so many times.
+when it reads on, and beside which it finds nothing; `large`, a value over the limits; `beside`, such a value in another
+field; `fields`, more fields than the limit. A message `N*TEXT` is TEXT so many times.
 """
 from __future__ import annotations
 
@@ -141,7 +141,10 @@ class Journal:
         """An entry with something wrong, in a file that has no other one."""
         if any(entry[4] != "-" for entry in self.present["system"].entries):
             self.rotate()
-        self.add("17000000*x" if wrong == "large" else "never shown", "system", wrong)
+        entry = self.add("17000000*x" if wrong == "large" else "never shown", "system", wrong)
+        if wrong == "large":
+            # what is sent in its place
+            self.made.add((*entry[:3], 2_048 * "x"))
         self.write()
 
     def set_back(self, entries: int) -> None:
@@ -181,7 +184,7 @@ class Journal:
 
     def keys(self) -> set[Key]:
         """What a database has to have of each entry: its key, its time and its message."""
-        return {(*entry[:3], expanded(entry[6])) for entry in self.entries() if entry[5] == "-"}
+        return {(*entry[:3], expanded(entry[6])) for entry in self.entries() if entry[5] in ("-", "own")}
 
 
 def expanded(message: str) -> str:

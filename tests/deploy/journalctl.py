@@ -10,6 +10,8 @@ of the real one:
 - Before systemd 254 `--after-cursor` and `--cursor-file` pass over the next entry too if that of the cursor is gone,
   also if it is the last one: then nothing is shown, and the cursor moves to it.
 - At a damaged field it ends with 1, within the entry, and says `Invalid field.`
+- It opens no file that is removed, also if it is handed over open. Once it has it open it reads on.
+- `--since` takes `@SECONDS`, `today` and `-HOURSh`, by the clock of this machine or by NOW.
 - GROWS is a command that is run once it has looked at its first file, so that journals grow while it opens others.
 """
 from __future__ import annotations
@@ -17,11 +19,14 @@ from __future__ import annotations
 import glob
 import io
 import os
+import re
 import subprocess
 import sys
+import time
 from collections.abc import Callable, Iterator, Sequence
 
 HEADER = 272
+# It is systemd-analyze too, for `timestamp`.
 SYSTEMD = int(os.environ["SYSTEMD"])
 WORDS = [word.lstrip("-").partition("=") for word in sys.argv[1:]]
 OPTIONS = {name: value for name, _, value in WORDS}
@@ -63,6 +68,12 @@ class Entry:
             return
         if self.wrong == "fields":
             file.writelines(b"FIELD_%d=x\n" % number for number in range(5_000))
+        if self.wrong == "own":
+            file.write(b"_SYSTEMD_UNIT=journal-collect-send.service\n")
+        if self.wrong == "beside":
+            file.write(b"COREDUMP\n" + (20 << 20).to_bytes(8, "little"))
+            file.writelines(b"x" * (1 << 20) for _ in range(20))
+            file.write(b"\n")
         length = len(self.message) * self.times
         file.write(b"MESSAGE\n" + length.to_bytes(8, "little") if b"\n" in self.message else b"MESSAGE=")
         for first in range(0, self.times, 1 << 16):
@@ -114,6 +125,8 @@ def read_files() -> list[File]:
     for path in paths():
         if path.endswith(".new"):
             continue
+        if FILES and os.path.exists(path) and os.stat(path).st_nlink == 0:
+            refuse("Failed to open files: Identifier removed")
         try:
             files.append(File(path))
         except FileNotFoundError:
@@ -148,7 +161,7 @@ def shown_entries(files: Sequence[File]) -> tuple[list[Entry], list[Entry]]:
             cursor, after = file.read().strip(), True
     if cursor is not None and "=" not in cursor:
         refuse("Failed to seek to cursor: Invalid argument")
-    since = int(OPTIONS["since"].lstrip("@")) * 1_000_000 if "since" in OPTIONS else 0
+    since = int(seconds_of(OPTIONS["since"]) * 1_000_000) if "since" in OPTIONS else 0
     lists = []
     for file in files:
         begin = file.begin(cursor) if cursor else file.first(lambda entry: entry.realtime >= since)
@@ -160,13 +173,36 @@ def shown_entries(files: Sequence[File]) -> tuple[list[Entry], list[Entry]]:
     return entries, []
 
 
+def seconds_of(text: str) -> float | None:
+    """The time that a text says; nothing if it says none."""
+    now = float(os.environ.get("NOW") or time.time())
+    if re.fullmatch(r"@[0-9]+(\.[0-9]{1,6})?", text):
+        return float(text[1:])
+    if re.fullmatch("-[0-9]+h", text):
+        return now - int(text[1:-1]) * 3600
+    return now - now % 86400 if text == "today" else None
+
+
+def tell_time(text: str) -> int:
+    """What `systemd-analyze timestamp TEXT` says; its status."""
+    seconds = seconds_of(text)
+    if seconds is None:
+        print(f'Failed to parse "{text}": Invalid argument', file=sys.stderr)
+        return 1
+    day = time.strftime("%a %Y-%m-%d %H:%M:%S UTC", time.gmtime(seconds))
+    part = f"{seconds % 1:.6f}"[1:] if seconds % 1 else ""
+    print(f"  Original form: {text}\nNormalized form: {day}\n   UNIX seconds: @{int(seconds)}{part}\n"
+          "       From now: 2h 0min ago", flush=True)
+    return 0
+
+
 def check_options() -> None:
     given = [name for name in ("since", "cursor", "after-cursor") if name in OPTIONS]
     if SYSTEMD >= 257 and len(given) + ("cursor-file" in OPTIONS) > 1:
         refuse("Please specify only one of --since=, --cursor=, --cursor-file=, and --after-cursor=.")
     if len(given) > 1:
         refuse("Please specify only one of --since=, --cursor=, and --after-cursor=.")
-    if "since" in OPTIONS and not OPTIONS["since"].lstrip("@").isdecimal():
+    if "since" in OPTIONS and seconds_of(OPTIONS["since"]) is None:
         refuse(f"Failed to parse timestamp: {OPTIONS['since']}")
 
 
@@ -188,6 +224,8 @@ def write(entries: Sequence[Entry]) -> int:
 
 
 def main() -> int:
+    if sys.argv[1:3] == ["timestamp", "--"]:
+        return tell_time(sys.argv[3])
     check_options()
     files = read_files()
     if "header" in OPTIONS:

@@ -17,24 +17,54 @@ JOURNALCTL = """#!/bin/sh
 if [ "$1" = --version ]; then echo "systemd $SYSTEMD ($SYSTEMD.1)"; exit; fi
 exec {python} -IS {here}/journalctl.py "$@"
 """
+ANALYZE = "\n".join([JOURNALCTL.splitlines()[0], *JOURNALCTL.splitlines()[2:]]) + "\n"
 # What ssh runs on the collector: uploads are kept as RECEIVED/1 and so on. The link carries so many bytes of one as
-# CARRIES says; then it is cut, or stands if STANDS is set.
+# CARRIES says; then it is cut, or stands if STANDS is set. With OLD_COLLECTOR the collector knows no sessions. CALLS is
+# a file that has what was asked for. UPLOAD_SAYS is what `receive` says of an upload.
 SSH = """#!/usr/bin/env python3
 import os, sys, time
-folder, left = os.environ["RECEIVED"], int(os.environ.get("CARRIES", "1000000000"))
-if sys.argv[-1] == "answers":
-    sys.stdout.write(open(folder + "/answers").read())
-    sys.exit()
-data = b""
-while piece := os.read(0, min(left, 1 << 20)):
-    data, left = data + piece, left - len(piece)
-if not left:
-    time.sleep(3600 if os.environ.get("STANDS") else 0)
-    sys.exit(255)
-name = folder + "/" + str(len(os.listdir(folder)))
-open(name + ".part", "wb").write(data)
-os.rename(name + ".part", name)
-sys.exit(int(os.environ.get("UPLOAD_STATUS", "0")))
+folder, word, status = os.environ["RECEIVED"], sys.argv[-1], int(os.environ.get("UPLOAD_STATUS", "0"))
+said = os.environ.get("UPLOAD_SAYS", "receive: no\\n" if status else "")
+if "CALLS" in os.environ:
+    open(os.environ["CALLS"], "a").write(word + chr(10))
+
+def answers():
+    return open(folder + "/answers").read()
+
+def take(size):
+    data, left = b"", int(os.environ.get("CARRIES", "1000000000"))
+    while len(data) < size and left and (piece := os.read(0, min(left, size - len(data), 1 << 20))):
+        data, left = data + piece, left - len(piece)
+    if not left:
+        time.sleep(3600 if os.environ.get("STANDS") else 0)
+        sys.exit(255)
+    name = folder + "/" + str(len(os.listdir(folder)))
+    open(name + ".part", "wb").write(data)
+    os.rename(name + ".part", name)
+
+def line():
+    text = b""
+    while not text.endswith(b"\\n") and (piece := os.read(0, 1)):
+        text += piece
+    return text.decode().split()
+
+if word == "answers":
+    sys.stdout.write(answers())
+elif word == "upload":
+    take(1 << 60)
+    sys.stderr.write(said)
+    sys.exit(status)
+elif "OLD_COLLECTOR" in os.environ:
+    sys.exit(print("serve: only upload and answers can be asked for", file=sys.stderr) or 2)
+else:
+    print("session 1", answers() + "end", sep=chr(10), flush=True)
+    while words := line():
+        if words[0] == "answers":
+            print(answers() + "end", flush=True)
+            continue
+        print("send", flush=True)
+        take(int(words[1]))
+        print(f"refused {status} {said.strip()}" if status else "taken", flush=True)
 """
 
 
@@ -51,6 +81,7 @@ class Machine:
         self.boot("11111111-1111-1111-1111-111111111111")
         self.journal = Journal(random.Random(7), f"{self.base}/journal", kinds=("system",))
         self.install("journalctl", JOURNALCTL.format(python=sys.executable, here=HERE))
+        self.install("systemd-analyze", ANALYZE.format(python=sys.executable, here=HERE))
         self.install("ssh", SSH)
         os.symlink(PROGRAM, f"{self.base}/bin/journal-collect")
         os.symlink(sys.executable, f"{self.base}/bin/python3")
@@ -58,6 +89,8 @@ class Machine:
             "COLLECTOR": "here", "FOLDER": self.folder, "BOOT_ID_FILE": self.boot_file, "RESEND_MINUTES": 0
         }
         self.environment: dict[str, str] = {}
+        # What the last run said that it did.
+        self.did: list[str] = []
 
     def install(self, name: str, text: str) -> None:
         with open(f"{self.base}/bin/{name}", "w", encoding="ascii") as file:
@@ -72,14 +105,23 @@ class Machine:
         with open(f"{self.uploads}/answers", "w", encoding="ascii") as file:
             file.write(text)
 
-    def send(self, memory: int | None = None, file_bytes: int | None = None, **environment: str) -> tuple[int, str]:
-        """A run of `send`, perhaps with so much memory, or on a disk on which files can't grow further; its status, and
-        what it said."""
+    def write_settings(self) -> str:
+        """The file with the machine's settings."""
         conf = f"{self.base}/machine.conf"
         with open(conf, "w", encoding="ascii") as file:
             file.writelines(f"{name}='{value}'\n" for name, value in self.settings.items())
-        environment = {**os.environ, "PATH": f"{self.base}/bin:{os.environ['PATH']}", "SYSTEMD": str(self.systemd),
-                       "JOURNAL": self.journal.path, "RECEIVED": self.uploads, **self.environment, **environment}
+        return conf
+
+    def whole_environment(self, **environment: str) -> dict[str, str]:
+        return {**os.environ, "PATH": f"{self.base}/bin:{os.environ['PATH']}", "SYSTEMD": str(self.systemd),
+                "JOURNAL": self.journal.path, "RECEIVED": self.uploads, **self.environment, **environment}
+
+    def send(self, *words: str, memory: int | None = None, file_bytes: int | None = None, stop: int = 0,
+             seconds: int = 300, **environment: str) -> tuple[int, str]:
+        """A run of `send`, perhaps with so much memory, on a disk on which files can't grow further, or killed at a
+        step; its status, and what it said beside what it did."""
+        conf = self.write_settings()
+        environment = self.whole_environment(**environment)
 
         def limit() -> None:
             if memory:
@@ -88,9 +130,14 @@ class Machine:
                 signal.signal(signal.SIGXFSZ, signal.SIG_IGN)
                 resource.setrlimit(resource.RLIMIT_FSIZE, (file_bytes, file_bytes))
 
-        told = subprocess.run([f"{self.library}/send", conf], env=environment, stdin=subprocess.DEVNULL,
-                              capture_output=True, check=False, timeout=300, preexec_fn=limit)
-        return told.returncode, told.stderr.decode(errors="replace")
+        killed = ["/usr/bin/python3", "-IBS", f"{HERE}/stop_at.py"] if stop else []
+        environment["STOP_AT"] = str(stop)
+        command = [*killed, f"{self.library}/send", *words, conf]
+        told = subprocess.run(command, env=environment, stdin=subprocess.DEVNULL, capture_output=True, check=False,
+                              timeout=seconds, preexec_fn=limit)
+        lines = told.stderr.decode(errors="replace").splitlines(keepends=True)
+        self.did = [line.strip() for line in lines if line.startswith("send: sent ")]
+        return told.returncode, "".join(line for line in lines if not line.startswith("send: sent "))
 
     def files(self) -> list[str]:
         """The uploads that came, in their order."""
@@ -109,6 +156,12 @@ class Machine:
             self.collect()
         told = subprocess.run([PROGRAM, "export", f"{self.base}/db"], capture_output=True, check=False)
         return list(read(told.stdout))
+
+    def fields(self, number: int) -> dict[str, str]:
+        """The fields of the stored entry of this number, but for its key and its times."""
+        told = subprocess.run([PROGRAM, "export", f"{self.base}/db"], capture_output=True, check=False)
+        found = next(fields for fields in fields_of(told.stdout) if int(fields[b"__SEQNUM"]) == number)
+        return {name.decode(): value.decode() for name, value in found.items() if not name.startswith(b"__")}
 
     def entries_sent(self) -> Iterator[Key]:
         """Each entry of each upload that came."""
@@ -131,18 +184,26 @@ class Machine:
 
 def read(text: bytes) -> Iterator[Key]:
     """The key, the time and the message of each entry of an export."""
-    while text:
-        fields = {}
-        while not text.startswith(b"\n"):
-            line, _, text = text.partition(b"\n")
-            name, equals, value = line.partition(b"=")
-            if not equals:
-                length = int.from_bytes(text[:8], "little")
-                value, text = text[8:8 + length], text[9 + length:]
-            fields[name] = value
-        text = text[1:]
+    for fields in fields_of(text):
         yield (fields[b"__SEQNUM_ID"].decode(), int(fields[b"__SEQNUM"]), int(fields[b"__REALTIME_TIMESTAMP"]),
                fields.get(b"MESSAGE", b"").decode(errors="replace"))
+
+
+def fields_of(text: bytes) -> Iterator[dict[bytes, bytes]]:
+    """The fields of each entry of an export."""
+    at = 0
+    while at < len(text):
+        fields = {}
+        while text[at:at + 1] != b"\n":
+            end = text.index(b"\n", at)
+            name, equals, value = text[at:end].partition(b"=")
+            at = end + 1
+            if not equals:
+                length = int.from_bytes(text[at:at + 8], "little")
+                value, at = text[at + 8:at + 8 + length], at + 9 + length
+            fields[name] = value
+        at += 1
+        yield fields
 
 
 def body(name: str) -> bytes:

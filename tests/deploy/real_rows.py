@@ -12,6 +12,7 @@ import shutil
 import subprocess
 import sys
 
+from since_rows import as_version_2
 from machine import HERE, Machine
 from trial_rows import Row, Rows
 
@@ -28,6 +29,7 @@ class RealMachine(Machine):
     def __init__(self, library: str) -> None:
         super().__init__(library, 252)
         self.install("journalctl", JOURNALCTL.format(real=REAL))
+        os.remove(f"{self.base}/bin/systemd-analyze")
         shutil.rmtree(self.journal.path)
         os.mkdir(self.journal.path)
 
@@ -36,12 +38,12 @@ class RealMachine(Machine):
         with open(f"{self.journal.path}/{name}.journal", "wb") as file:
             file.write(data)
 
-    def shown(self) -> set[tuple[str, int]]:
+    def shown(self, *options: str) -> set[tuple[str, int]]:
         """What journalctl shows of each file, by itself: keys."""
         keys: set[tuple[bytes, bytes]] = set()
         for name in os.listdir(self.journal.path):
-            told = subprocess.run([REAL, "--quiet", "--output=export", f"--file={self.journal.path}/{name}"],
-                                  capture_output=True, check=False)
+            told = subprocess.run([REAL, "--quiet", "--output=export", f"--file={self.journal.path}/{name}",
+                                   *options], capture_output=True, check=False)
             keys |= set(re.findall(rb"^__CURSOR=s=([0-9a-f]+);i=([0-9a-f]+);", told.stdout, re.MULTILINE))
         return {(seqnum_id.decode(), int(number, 16)) for seqnum_id, number in keys}
 
@@ -118,6 +120,7 @@ def damaged_beside(row: Row, machine: RealMachine) -> None:
     with open(path, encoding="ascii") as file:
         text = file.read()
     with open(path, "w", encoding="ascii") as file:
+        text = as_version_2(text)
         file.write(re.sub(r" 6 6 (\w+) (s=\w+);i=6;\S*", rf" 2 2 \1 {second[1].decode()}", text))
     damaged = bytearray(data)
     damaged[entry_offsets(data)[2]] = 9
@@ -147,8 +150,39 @@ def wrong_since(row: Row, machine: RealMachine) -> None:
     machine.put("system", fixture(252, "regular"))
     machine.settings["SINCE"] = "whenever"
     status, said = machine.send()
-    row.expect("status", (status, "Failed to parse timestamp: whenever" in said), (3, True))
+    row.expect("status", (status, 'SINCE isn\'t a time: whenever: Failed to parse "whenever"' in said), (2, True))
     row.expect("what was sent", machine.files(), [])
+
+
+@ROWS.once
+def since_is_looked_up(row: Row, machine: RealMachine) -> None:
+    """What systemd says of a time is what journalctl takes for it."""
+    machine.put("system", fixture(252, "regular"))
+    for setting in ("today", "-2h", "1 week ago", "2023-11-14", "2023-11-14 22:13:22.5 UTC", "@1700000002.25"):
+        machine.settings["SINCE"] = setting
+        shutil.rmtree(machine.folder, ignore_errors=True)
+        for name in machine.files():
+            os.remove(name)
+        row.expect(f"{setting}: status", machine.send(), (0, ""))
+        sent = {entry[:2] for entry in machine.entries_sent()}
+        row.expect(f"{setting}: what is sent", sent, machine.shown(f"--since={setting}"))
+
+
+@ROWS.once
+def removed_while_it_is_read(row: Row, machine: RealMachine) -> None:
+    """journalctl opens no file that is removed: the others are gathered, and a gap is told once."""
+    machine.put("system", fixture(252, "regular"))
+    machine.put("other", fixture(254, "regular"))
+    path = f"{machine.journal.path}/system.journal"
+    machine.install("journalctl", JOURNALCTL.format(real=REAL).replace("    *--file=*", f"""    *--file=*)
+        if [ -e {path} ] && [ "$(readlink /proc/self/fd/"${{3##*/}}")" = {path} ]; then rm {path}; fi
+        exec {REAL} "$@" ;;
+    *--file=*""", 1))
+    status, said = machine.send()
+    row.expect(f"status: {said}", (status, said.count("a gap"), os.path.exists(path)), (1, 1, False))
+    row.expect("the others", machine.keys(), machine.shown())
+    row.expect("how many", len(machine.keys()), 6)
+    row.expect("the next run", machine.send()[0], 0)
 
 
 @ROWS.once
@@ -166,8 +200,9 @@ def large_value(row: Row, machine: RealMachine) -> None:
     subprocess.run([REMOTE, f"--output={machine.journal.path}/system.journal", f"{machine.base}/export"], check=True,
                    capture_output=True)
     status, said = machine.send()
-    row.expect("status", (status, "over a limit: __SEQNUM=2 " in said), (1, True))
-    row.expect("which are stored", sorted(number for _, number in machine.keys()), [1, 3])
+    row.expect("status", (status, "over a limit" in said, "__SEQNUM=2 " in said), (1, True, True))
+    row.expect("which are stored", sorted(number for _, number in machine.keys()), [1, 2, 3])
+    row.expect("the long message", machine.fields(2)["MESSAGE"], "x" * 2_048)
 
 
 @ROWS.once

@@ -38,6 +38,21 @@ def set_back(row: Row, machine: Machine) -> None:
     row.all_stored(machine)
 
 
+@ROWS.once
+def check(row: Row, machine: Machine) -> None:
+    """`--check` says nothing if the collector answers, names what is wrong, and makes nothing."""
+    machine.journal.grow(3)
+    row.expect("well", (machine.send("--check"), os.path.exists(machine.folder)), ((0, ""), False))
+    machine.settings["UPLOADS"] = "x"
+    status, said = machine.send("--check")
+    row.expect("settings", (status, "UPLOADS" in said), (2, True))
+    del machine.settings["UPLOADS"]
+    machine.install("ssh", "#!/bin/sh\necho 'ssh: connect to host here port 22: Connection refused' >&2\nexit 255\n")
+    status, said = machine.send("--check")
+    row.expect("connection", (status, "Connection refused" in said, "here doesn't answer" in said), (3, True, True))
+    row.expect("what is sent", (machine.files(), os.path.exists(machine.folder)), ([], False))
+
+
 @ROWS.row
 def set_back_within_a_boot(row: Row, machine: Machine) -> None:
     """The same numbers for other entries: what the collector has of the id didn't go out from here."""
@@ -60,6 +75,43 @@ def set_back_within_a_boot(row: Row, machine: Machine) -> None:
     machine.send()
     sent = {entry[1] for name in machine.files()[before:] for entry in read(body(name))}
     row.expect("what is sent again", sent, set(range(5, 14)))
+
+
+@ROWS.row
+def what_it_did(row: Row, machine: Machine) -> None:
+    """A run says what it did, and its line is an entry of the next one. Once nothing else is logged, the lines end."""
+    def minute() -> list[str]:
+        machine.answers(machine.collect() if machine.files() else "")
+        row.expect("status", machine.send(), (0, ""))
+        for line in machine.did:
+            machine.journal.add(line, wrong="own")
+        machine.journal.write()
+        return machine.did
+
+    machine.journal.grow(1100)
+    machine.settings["UPLOAD_ENTRIES"] = 1000
+    row.expect("the first run", minute(), ["send: sent 1000 entries in 1 uploads, 0 acknowledged"])
+    row.expect("the second", minute(), ["send: sent 101 entries in 1 uploads, 1000 acknowledged"])
+    row.expect("the third", minute(), ["send: sent 1 entries in 1 uploads, 101 acknowledged"])
+    row.expect("five idle minutes", [minute() for _ in range(5)], [[]] * 5)
+    sent = len(machine.files())
+    row.expect("an idle minute after them", (minute(), len(machine.files())), ([], sent))
+    machine.journal.grow(2)
+    row.expect("what comes then", minute(), ["send: sent 2 entries in 1 uploads, 0 acknowledged"])
+    _ = [minute() for _ in range(3)]
+    row.all_stored(machine)
+
+
+@ROWS.row
+def what_it_did_when_stopped(row: Row, machine: Machine) -> None:
+    """A run whose upload went out, and which was stopped before it said so: the next one says what was acknowledged."""
+    machine.journal.grow(3)
+    machine.send()
+    machine.answers(machine.collect())
+    row.expect("status", machine.send(), (0, ""))
+    row.expect("what it did", machine.did, ["send: sent 0 entries in 0 uploads, 3 acknowledged"])
+    machine.journal.grow(3)
+    row.expect("nothing went out", (machine.send(UPLOAD_STATUS="255")[0], machine.did), (3, []))
 
 
 @ROWS.row
@@ -196,6 +248,35 @@ def with_link(machine: Machine, size: int) -> None:
         file.write(f"{size}\n")
 
 
+TOO_LARGE = "receive: an upload of web has over 20000 bytes\n"
+NOT_FOR_ITS_SIZE = (
+    ("3", "receive: only 100 bytes are free\n", 3, "takes no upload now"),
+    ("75", "receive: only 100 bytes are free\n", 3, "takes no upload now"),
+    ("75", "receive: 4 uploads of web are waiting\n", 3, "takes no upload now"),
+    ("1", "receive: 4 connections of web are sending\n", 1, "didn't take the upload"),
+    ("1", "receive: that is no upload\n", 1, "didn't take the upload"),
+    ("2", "receive: collector.conf: FOLDER is no setting\n", 3, "takes no upload now"))
+
+
+@ROWS.row
+def not_for_its_size(row: Row, machine: Machine) -> None:
+    """The collector takes no upload, whatever its size: it is told, and uploads stay as large as they were."""
+    for _ in range(40):
+        machine.journal.add("1000*x")
+    machine.journal.write()
+    for status, text, wanted, words in NOT_FOR_ITS_SIZE:
+        told, said = machine.send(UPLOAD_STATUS=status, UPLOAD_SAYS=text)
+        row.expect(f"{status}: {text}", (told, text in said, words in said), (wanted, True, True))
+        row.expect("the file", os.path.exists(f"{machine.folder}/link"), False)
+    # one connection that is lost says nothing of the size either
+    machine.send(CARRIES="30000")
+    for name in machine.files():
+        os.remove(name)
+    row.expect("status", machine.send()[0], 0)
+    row.expect("one upload has all", machine.upload()[2], 40)
+    row.all_stored(machine)
+
+
 @ROWS.row
 def not_taken(row: Row, machine: Machine) -> None:
     """The collector doesn't take an upload, perhaps since it is too large for it. Smaller ones are tried."""
@@ -204,7 +285,7 @@ def not_taken(row: Row, machine: Machine) -> None:
     machine.journal.write()
     with_link(machine, 60_000)
     for _ in range(2):
-        status, said = machine.send(UPLOAD_STATUS="1")
+        status, said = machine.send(UPLOAD_STATUS="1", UPLOAD_SAYS=TOO_LARGE)
         row.expect("status", (status, "didn't take the upload" in said), (1, True))
     for name in machine.files():
         os.remove(name)

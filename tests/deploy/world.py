@@ -16,6 +16,7 @@ from __future__ import annotations
 import argparse
 import collections
 import os
+import re
 import shutil
 import signal
 import subprocess
@@ -32,6 +33,7 @@ from machine import read  # noqa: E402
 from stock import IS_HERE, stock  # noqa: E402
 from trial import PROGRAM, TABLES, Trial  # noqa: E402
 
+FORKED = re.compile(r"forked: ([0-9a-f]{32}) goes on as ([0-9a-f]{32}) from entry [0-9]+")
 BROKEN = ("unbound variable", "syntax error", "expected", "command not found", "Traceback", "integer")
 JOURNALCTL = """#!/bin/sh
 if [ "$1" = --version ]; then echo "systemd $SYSTEMD ($SYSTEMD.1)"; exit; fi
@@ -56,6 +58,8 @@ class World(Trial):
         self.last: dict[str, str] = {}
         self.said: collections.Counter[tuple[str, str]] = collections.Counter()
         self.gaps: set[str] = set()
+        # Which sequence goes on as which, as machines told it.
+        self.forks: dict[str, str] = {}
         self.snapshots: dict[str, tuple[str, Journal]] = {}
         self.doubled: set[Key] = set()
         self.kinds: collections.Counter[str] = collections.Counter()
@@ -93,8 +97,9 @@ class World(Trial):
             ("stop", (program, dice.randint(1, self.deployment.COUNT[program]))),
             ("stop", (program, dice.randint(1, self.deployment.COUNT[program]))),
             ("full", dice.choice((0, 100, dice.randrange(2000), dice.randrange(40000)))),
-            ("fault", ":".join((dice.choice(("refused", "cut", "half", "lost")), str(dice.randint(1, 3)),
-                                str(dice.choice((20, dice.randrange(3000)))))))])
+            ("fault", ":".join((dice.choice(("refused", "cut", "half", "lost")),
+                                str(dice.randint(1, self.deployment.CONNECTIONS)),
+                                str(dice.choice((20, dice.randrange(3000), dice.randrange(20000)))))))])
 
     def change_journals(self, under_way: bool = False) -> None:
         dice = self.dice
@@ -151,13 +156,18 @@ class World(Trial):
         made = self.journals[name].made
         if with_journal:
             self.journals[name] = journal.copy_to(os.path.join(self.folder(), "journal"))
-            self.journals[name].new_sequence()
-            self.deployment.boot(name)
+            self.go_on(name)
         # What only the machine's disk had is lost with it; what isn't gathered yet may be removed before it is.
         self.expected -= made - self.gathered_before(name)
         self.gaps.discard(name)
         self.doubled |= made
         self.restored += 1
+
+    def go_on(self, name: str) -> None:
+        """The machine is started: its journal begins a new sequence, or gives the numbers of this one again."""
+        self.dice.choice((self.journals[name].new_sequence, self.journals[name].reboot))()
+        self.journals[name].realtime += 10**13
+        self.deployment.boot(name)
 
     def gathered_before(self, name: str) -> set[Key]:
         """The entries of the journal that the machine's folder has a place after."""
@@ -171,7 +181,7 @@ class World(Trial):
         if os.path.exists(folder):
             shutil.copytree(folder, self.deployment.folders[twin])
         self.journals[twin] = journal.copy_to(os.path.join(self.folder(), "journal"))
-        self.journals[twin].new_sequence()
+        self.go_on(twin)
         self.systemd[twin] = self.systemd[name]
         self.doubled |= self.journals[twin].made
         self.restored += 1
@@ -191,6 +201,7 @@ class World(Trial):
             wanted = (0, 1, 3, 75, -signal.SIGKILL, *[-signal.SIGTERM] * (run.disturbance[0] == "term"))
             self.expect(f"{what}: {status}: status", status in wanted, True)
         self.said[run.name, "a gap"] += "a gap" in errors
+        self.forks.update((new, old) for old, new in FORKED.findall(errors))
         if run.name in self.journals and self.deployment.gathered(status, errors):
             # what was removed while the run went on need not have been gathered
             self.expected |= began & self.journals[run.name].keys()
@@ -254,12 +265,12 @@ class World(Trial):
         return run
 
     def quiet_round(self) -> bool:
-        """An undisturbed round; whether an upload was sent."""
-        calls = 0
+        """An undisturbed round; whether something was sent."""
         for name in self.journals:
-            calls += self.send_alone(name, ("none", None)).calls()
+            self.send_alone(name, ("none", None))
+        was_sent = self.deployment.something_was_sent()
         self.collect_alone(("none", None))
-        return calls > len(self.journals)
+        return was_sent
 
     # What has to hold
 
@@ -281,8 +292,14 @@ class World(Trial):
             if told.stderr == f"cannot open {database}\n".encode() and not (IS_HERE and stock(database, TABLES)):
                 continue  # a run was stopped while it made this one
             self.expect(f"{told.stderr}: a database that can't be exported", told.returncode, 0)
-            entries += list(read(told.stdout))
+            entries += [(self.own(key[0]), *key[1:]) for key in read(told.stdout)]
         return entries
+
+    def own(self, seqnum_id: str) -> str:
+        """The sequence that was forked, and perhaps was a fork itself."""
+        while seqnum_id in self.forks:
+            seqnum_id = self.forks[seqnum_id]
+        return seqnum_id
 
     def look(self) -> int:
         stored = self.stored()

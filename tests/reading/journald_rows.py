@@ -3,6 +3,7 @@
 that are gone or damaged. journald_rows.py LIBRARY FOLDER [ROW..]
 """
 import os
+import re
 import resource
 import shutil
 import subprocess
@@ -166,6 +167,71 @@ def two_entries_under_one_key(row: Row, collectors: Collectors) -> None:
     collector.exported(f"{DAY}T00-30", "a", 1, 2, TIME, "MESSAGE=other")
     row.ends(collector.make(), 0, "~made 1 *", "~*1 entries came a second time*1 entries have the number of another*")
     row.same("entries", collector.shows(DAY), entries("a", 1, 3) + ["other"] * 3)
+
+
+NEW_NAMES = [[f"F{entry}X{number}={entry}" for number in range(140)] for entry in range(100)]
+
+
+@ROWS.row
+def many_new_names(row: Row, collectors: Collectors) -> None:
+    """They fill no disk: what would need ever new files is in one of its machine, whole, and comes once."""
+    collector = collectors.new()
+    for name, last in ((f"{DAY}T00-00", 3), (f"{DAY}T00-10", 6)):
+        for number, names in enumerate(NEW_NAMES, 1):
+            collector.exported(name, "a", number, number, TIME, *names)
+        collector.exported(name, "a", 101, 103)
+        collector.exported(name, "b", last - 2, last)
+        row.ends(collector.make(), 0, "~made 1 databases, *", "~*" if last > 3 else
+                 f"journal-files: {name} to {name}: 99 entries are in overflow-{'a' * 32}, since their machine has so "
+                 f"many journal files of {DAY}")
+        row.same("entries", collector.shows(DAY), entries("a", 1, 103) + entries("b", 1, last))
+        row.same("files", len(collector.files(DAY)), 6)
+    row.same("what has a field of an entry in it", collector.shows(DAY, "JOURNAL_COLLECT_FIELD=F50X7=50"), ["a 51"])
+    row.same("what has it as it is", collector.shows(DAY, "F1X7=1"), ["a 2"])
+
+
+@ROWS.row
+def many_sequences(row: Row, collectors: Collectors) -> None:
+    """Those of one machine beyond a number are in its overflow file, and another machine's have files of their own; a
+    state that an earlier version left says nothing of machines."""
+    collector = collectors.new()
+    machine = "_MACHINE_ID=" + "1" * 32
+    for sequence in "0123456789":
+        collector.exported(f"{DAY}T00-00", sequence, 1, 2, TIME, machine, "_BOOT_ID=" + "2" * 32)
+    collector.exported(f"{DAY}T00-00", "a", 1, 2)
+    few = {"before": lambda: setattr(sys.modules["reading.overflow"], "MACHINE_SEQUENCES", 3)}
+    row.ends(collector.make(**few), 0, "~made 1 *", f"~*: 14 entries are in overflow-{'1' * 32}, since *")
+    names = [*(letter * 32 for letter in "012"), "a" * 32, "overflow-" + "1" * 32]
+    row.same("files", [path.stem for path in collector.files(DAY)], names)
+    state = collector.journals / f".state/days/{DAY}.json"
+    for word in ('"overflows":false', '"machine":"' + "a" * 32 + '"'):
+        row.same(f"{word} in the state", word in state.read_text(encoding="ascii"), True)
+    collector.exported(f"{DAY}T00-10", "a", 2, 4)
+    state.write_text(re.sub(',"overflows":false|"machine":"a+",', "", state.read_text(encoding="ascii")))
+    row.ends(collector.make(**few), 0, "~made 1 *", "~*1 entries came a second time")
+    row.same("entries", collector.shows(DAY), sorted(f"{each} {n}" for each in "0123456789" for n in (1, 2))
+             + entries("a", 1, 4))
+
+
+@ROWS.row
+def no_room_for_new_files(row: Row, collectors: Collectors) -> None:
+    """A step whose files the disk has no room for isn't begun; a file that is there takes more."""
+    collector = collectors.new(FREE_BYTES=str(20 << 20))
+    collector.exported(f"{DAY}T00-00", "a", 1, 3)
+
+    def room() -> None:
+        sys.modules["shared.files"].free_bytes = lambda *_: 20 << 20  # type: ignore[attr-defined]
+
+    row.ends(collector.make(before=room), 0, "~made 1 *")
+    collector.exported(f"{DAY}T00-10", "a", 4, 6)
+    row.ends(collector.make(before=room), 0, "~made 1 *")
+    for sequence in "bc":
+        collector.exported(f"{DAY}T00-20", sequence, 1, 3)
+    row.ends(collector.make(before=room), 3, "", "journal-files: the disk has too little room for the journal files "
+             "that are to be begun")
+    row.same("files", len(collector.files(DAY)), 1)
+    row.ends(collector.make(), 0, "~made 1 *")
+    row.same("entries", collector.shows(DAY), entries("a", 1, 6) + entries("b", 1, 3) + entries("c", 1, 3))
 
 
 @ROWS.row

@@ -22,11 +22,11 @@ class Done:
     errors: str
 
 
-def load(library: Path, module: str) -> Main:
+def load(library: Path, module: str, package: str = "reading") -> Main:
     """What a program of the installed library runs."""
     if str(library) not in sys.path:
         sys.path.insert(0, str(library))
-    main: Main = importlib.import_module(f"reading.{module}").main
+    main: Main = importlib.import_module(f"{package}.{module}").main
     return main
 
 

@@ -62,7 +62,7 @@ def compare_queries(search: Main, collector: Path, everything: list[str]) -> int
     """The search finds what journalctl does; `everything` is what that shows of all."""
     mistakes = 0
     for what, words in QUERIES.items():
-        done = call(search, "--folder", collector, "--output=json", *words)
+        done = call(search, "--folder", collector, "--all", "--output=json", *words)
         got = [comparable(line.encode()) for line in done.output.split("\n") if line]
         wanted = everything if what == EVERYTHING else shown_by_journalctl(
             f"--file={collector}/journals/*/*.journal", *journalctl_words(words))

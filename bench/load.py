@@ -1,0 +1,275 @@
+#!/usr/bin/env python3
+"""What machines that send each minute cost a collector, over real sshd and real keys.
+
+usage: python3 bench/load.py PROGRAM [--machines N] [--seconds S] [--every S] [--entries N,N..] [--collectors N]
+                             [--way session|calls] [--kex ALGORITHM]
+
+It installs deploy/ below a temporary folder and starts an sshd of its own on loopback, with a key for each machine, and
+the collector's service. Then each machine sends once a minute, so many entries each time, at a moment of its own. What
+sshd with all that it ran, and the service with its programs, took of the processors is divided by the runs; the
+machines' own side isn't counted. `calls` is the way of an earlier version: a connection for the answers and one for the
+upload. Run it as root, for sshd wants that.
+"""
+from __future__ import annotations
+
+import argparse
+import os
+import pwd
+import shutil
+import signal
+import subprocess
+import sys
+import tempfile
+import threading
+import time
+from dataclasses import dataclass, field
+from pathlib import Path
+
+ROOT = Path(__file__).resolve().parent.parent
+PORT = 22_422
+TICKS = os.sysconf("SC_CLK_TCK")
+FIELDS = b"".join(b"%s=%s\n" % pair for pair in (
+    (b"_HOSTNAME", b"machine"), (b"_MACHINE_ID", b"4" * 32), (b"_BOOT_ID", b"5" * 32), (b"_TRANSPORT", b"journal"),
+    (b"_UID", b"0"), (b"_GID", b"0"), (b"_PID", b"1234"), (b"_COMM", b"sshd"), (b"_EXE", b"/usr/sbin/sshd"),
+    (b"_CMDLINE", b"sshd: /usr/sbin/sshd -D [listener] 0 of 10-100 startups"), (b"_CAP_EFFECTIVE", b"1ffffffffff"),
+    (b"_SYSTEMD_CGROUP", b"/system.slice/ssh.service"), (b"_SYSTEMD_UNIT", b"ssh.service"),
+    (b"_SYSTEMD_SLICE", b"system.slice"), (b"_SYSTEMD_INVOCATION_ID", b"6" * 32), (b"PRIORITY", b"6"),
+    (b"SYSLOG_FACILITY", b"4"), (b"SYSLOG_IDENTIFIER", b"sshd"), (b"SYSLOG_PID", b"1234")))
+
+
+@dataclass
+class Figures:
+    """What the runs showed: the seconds of each until its answer was there, and what went wrong."""
+    runs: int = 0
+    seconds: list[float] = field(default_factory=list)
+    waits: list[float] = field(default_factory=list)
+    faults: list[str] = field(default_factory=list)
+    lock: threading.Lock = field(default_factory=threading.Lock)
+
+    def add(self, seconds: float, waited: float | None) -> None:
+        with self.lock:
+            self.runs += 1
+            self.seconds.append(seconds)
+            if waited is not None:
+                self.waits.append(waited)
+
+    def fail(self, text: str) -> None:
+        with self.lock:
+            self.faults.append(text)
+
+
+class Machine:
+    """A machine: its key, and the entries that it sends."""
+
+    def __init__(self, place: Place, number: int) -> None:
+        self.place, self.number, self.sent = place, number, 0
+        self.source = f"{number + 1:032x}"
+
+    def upload(self, entries: int) -> bytes:
+        now = time.time_ns() // 1000
+        body = b"".join(
+            b"__REALTIME_TIMESTAMP=%d\n__MONOTONIC_TIMESTAMP=%d\n__SEQNUM=%d\n__SEQNUM_ID=%s\n%sMESSAGE=Accepted "
+            b"publickey for alice from 192.0.2.%d port %d ssh2: ED25519 SHA256:%s\n\n" % (
+                now + each, now + each, self.sent + each + 1, self.source.encode(), FIELDS, each % 256, 1024 + each,
+                b"a" * 43) for each in range(entries))
+        head = b"JCUPLD02\1\1" + bytes(6) + bytes.fromhex(self.source) + self.sent.to_bytes(8, "little")
+        self.sent += entries
+        return head + entries.to_bytes(8, "little") + body
+
+    def ssh(self, word: str) -> subprocess.Popen[bytes]:
+        return subprocess.Popen([*self.place.ssh, "-i", str(self.place.key(self.number)), "collector", word],
+                                stdin=subprocess.PIPE, stdout=subprocess.PIPE, stderr=subprocess.PIPE, bufsize=0)
+
+    def by_calls(self, entries: int) -> float | None:
+        """A run as an earlier version made it."""
+        _, errors = (answers := self.ssh("answers")).communicate()
+        if answers.returncode:
+            raise OSError(errors.decode(errors="replace"))
+        if entries:
+            _, errors = (upload := self.ssh("upload")).communicate(self.upload(entries))
+            if upload.returncode:
+                raise OSError(errors.decode(errors="replace"))
+        return None
+
+    def by_session(self, entries: int) -> float | None:
+        """A run in one connection; how long its answer was waited for."""
+        with self.ssh("session") as ssh:
+            assert ssh.stdin and ssh.stdout and ssh.stderr
+            waited = None
+            lines = iter(ssh.stdout.readline, b"")
+            while next(lines, b"end\n") != b"end\n":
+                pass
+            if entries:
+                upload = self.upload(entries)
+                ssh.stdin.write(b"upload %d\n" % len(upload))
+                if next(lines, b"") == b"send\n":
+                    ssh.stdin.write(upload)
+                begin = time.monotonic()
+                if next(lines, b"") != b"taken\n":
+                    raise OSError(ssh.stderr.read().decode(errors="replace"))
+                ssh.stdin.write(b"answers 20\n")
+                told = [line for line in iter(lambda: next(lines, b"end\n"), b"end\n")]
+                waited = time.monotonic() - begin
+                if not any(line.startswith(b"ack ") for line in told):
+                    raise OSError("no answer came in 20 seconds")
+            ssh.stdin.close()
+            if ssh.wait():
+                raise OSError(ssh.stderr.read().decode(errors="replace"))
+            return waited
+
+
+class Place:
+    """The folder with everything, sshd and the service."""
+
+    def __init__(self, program: str, machines: int, collectors: int, kex: str) -> None:
+        self.folder = Path(tempfile.mkdtemp(prefix="load-", dir="/var/tmp"))
+        os.chmod(self.folder, 0o755)
+        self.kex = kex
+        subprocess.run([ROOT / "deploy/install.sh", self.folder / "root", "/usr"], check=True)
+        self.library = self.folder / "root/usr/lib/journal-collect"
+        (self.folder / "root/usr/bin").mkdir(exist_ok=True)
+        shutil.copy(program, self.folder / "root/usr/bin/journal-collect")
+        self.conf = self.folder / "collector.conf"
+        self.conf.write_text(f"FOLDER={self.folder}/collector\nCOLLECTORS={collectors}\nFREE_BYTES=0\n")
+        self.make_keys(machines)
+        self.make_sshd()
+        self.service = subprocess.Popen([self.library / "collect-incoming", self.conf],
+                                        stderr=open(self.folder / "service", "wb"))
+
+    def key(self, number: int) -> Path:
+        return self.folder / "keys" / str(number)
+
+    def make_keys(self, machines: int) -> None:
+        (self.folder / "keys").mkdir()
+        lines = []
+        for number in range(machines):
+            subprocess.run(["ssh-keygen", "-q", "-t", "ed25519", "-N", "", "-C", f"m{number}", "-f", self.key(number)],
+                           check=True)
+            public = self.key(number).with_suffix(".pub").read_text(encoding="ascii")
+            lines.append(f'command="{self.library}/serve m{number} {self.conf}",restrict {public}')
+        (self.folder / "authorized_keys").write_text("".join(lines), encoding="ascii")
+
+    def make_sshd(self) -> None:
+        host = self.folder / "host"
+        subprocess.run(["ssh-keygen", "-q", "-t", "ed25519", "-N", "", "-f", host], check=True)
+        public = host.with_suffix(".pub").read_text(encoding="ascii")
+        (self.folder / "known_hosts").write_text(f"[127.0.0.1]:{PORT} {public}", encoding="ascii")
+        os.makedirs("/run/sshd", exist_ok=True)
+        config = self.folder / "sshd_config"
+        config.write_text(f"Port {PORT}\nListenAddress 127.0.0.1\nHostKey {host}\nPidFile {self.folder}/pid\n"
+                          f"AuthorizedKeysFile {self.folder}/authorized_keys\nStrictModes no\nMaxStartups 200:30:400\n"
+                          "PermitRootLogin yes\nUsePAM no\nLogLevel ERROR\n", encoding="ascii")
+        self.sshd = subprocess.Popen(["/usr/sbin/sshd", "-D", "-f", config, "-E", self.folder / "sshd-log"])
+        user = pwd.getpwuid(os.getuid()).pw_name
+        self.ssh = ["ssh", "-F", "/dev/null", "-p", str(PORT), "-l", user, "-o", "HostName=127.0.0.1", "-o",
+                    "BatchMode=yes", "-o", "IdentitiesOnly=yes", "-o", f"UserKnownHostsFile={self.folder}/known_hosts",
+                    *(["-o", f"KexAlgorithms={self.kex}"] if self.kex else [])]
+        for _ in range(100):
+            if (self.folder / "pid").exists():
+                return
+            if self.sshd.poll() is not None:
+                break
+            time.sleep(0.1)
+        raise SystemExit("sshd didn't start: " + (self.folder / "sshd-log").read_text(errors="replace"))
+
+    def used(self) -> dict[str, float]:
+        """The processor seconds of sshd with what it ran, and of the service with its programs."""
+        return {"sshd": seconds_of(self.sshd.pid), "service": seconds_of(self.service.pid) + sum(
+            seconds_of(child) for child in children_of(self.service.pid))}
+
+    def end(self) -> None:
+        for process in (self.sshd, self.service):
+            process.send_signal(signal.SIGTERM)
+            process.wait()
+        shutil.rmtree(self.folder)
+
+
+def seconds_of(process: int) -> float:
+    """What a process and those that it waited for took."""
+    words = Path(f"/proc/{process}/stat").read_text(encoding="ascii").rpartition(")")[2].split()
+    return sum(map(int, words[11:15])) / TICKS
+
+
+def children_of(process: int) -> list[int]:
+    return [int(word) for path in Path(f"/proc/{process}/task").glob("*/children") for word in path.read_text().split()]
+
+
+def memory_of(process: int) -> int:
+    """Its own memory in kB, without what it shares."""
+    lines = Path(f"/proc/{process}/smaps_rollup").read_text(encoding="ascii").splitlines()
+    return sum(int(line.split()[1]) for line in lines if line.startswith("Private_"))
+
+
+def serve(machine: Machine, way: str, entries: int, begin: float, end: float, every: float, figures: Figures) -> None:
+    """What a machine does: runs from its own moment on."""
+    at = begin
+    while at < end:
+        time.sleep(max(0.0, at - time.monotonic()))
+        start = time.monotonic()
+        try:
+            waited = (machine.by_session if way == "session" else machine.by_calls)(entries)
+            figures.add(time.monotonic() - start, waited)
+        except OSError as error:
+            figures.fail(str(error))
+        at += every
+
+
+def busy() -> float:
+    """The seconds in which a processor was busy, over all."""
+    words = Path("/proc/stat").read_text(encoding="ascii").split("\n")[0].split()
+    return (sum(map(int, words[1:])) - int(words[4]) - int(words[5])) / TICKS
+
+
+def measure(place: Place, machines: list[Machine], way: str, entries: int, seconds: float, every: float) -> None:
+    figures, begin = Figures(), time.monotonic() + 1
+    before, was_busy = place.used(), busy()
+    threads = [threading.Thread(target=serve, args=(machine, way, entries, begin + every * number / len(machines),
+                                                    begin + seconds, every, figures))
+               for number, machine in enumerate(machines)]
+    for thread in threads:
+        thread.start()
+    for thread in threads:
+        thread.join()
+    time.sleep(3)
+    took = time.monotonic() - begin
+    used = {name: value - before[name] for name, value in place.used().items()}
+    share = (busy() - was_busy) / took / (os.cpu_count() or 1)
+    print(text_of(figures, way, entries, used, share), flush=True)
+
+
+def text_of(figures: Figures, way: str, entries: int, used: dict[str, float], share: float) -> str:
+    runs = max(figures.runs, 1)
+    each = {name: 1000 * value / runs for name, value in used.items()}
+    total = sum(each.values())
+    waits = sorted(figures.waits) or [0.0]
+    return (f"{way:8} {entries:4} entries: {figures.runs} runs; sshd with serve {each['sshd']:.1f} ms a run, service "
+            f"{each['service']:.1f} ms; {60_000 / total if total else 0:.0f} machines a processor; answers after "
+            f"{waits[len(waits) // 2]:.2f} s in the median, {waits[len(waits) * 99 // 100]:.2f} s 99 %; "
+            f"{len(figures.faults)} faults {sorted(set(figures.faults))[:2]}; the machine's processors were "
+            f"{100 * share:.0f} % busy")
+
+
+def main() -> None:
+    parser = argparse.ArgumentParser()
+    parser.add_argument("program")
+    parser.add_argument("--machines", type=int, default=60)
+    parser.add_argument("--seconds", type=float, default=60)
+    parser.add_argument("--every", type=float, default=60, help="the seconds between two runs of a machine")
+    parser.add_argument("--entries", default="0,20,100")
+    parser.add_argument("--collectors", type=int, default=1)
+    parser.add_argument("--way", action="append", choices=("session", "calls"))
+    parser.add_argument("--kex", default="")
+    asked = parser.parse_args()
+    place = Place(os.path.abspath(asked.program), asked.machines, asked.collectors, asked.kex)
+    try:
+        machines = [Machine(place, number) for number in range(asked.machines)]
+        for entries in map(int, asked.entries.split(",")):
+            for way in asked.way or ("calls", "session"):
+                measure(place, machines, way, entries, asked.seconds, asked.every)
+        print(f"memory of the service: {memory_of(place.service.pid)} kB")
+    finally:
+        place.end()
+
+
+if __name__ == "__main__":
+    sys.exit(main())

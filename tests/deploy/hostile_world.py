@@ -1,0 +1,283 @@
+"""A machine that was broken into beside healthy ones, over one collector: it does all that it can at once.
+
+usage: python3 hostile_world.py PROGRAMS [--machines MACHINES] [--uploads UPLOADS]
+
+The machine `evil` sends journal files whose entries share a value, streams of the shortest fields, and what is no
+upload; it loses connections half-way, reads no answer, makes ever new sources, and sends more than one machine may.
+Each healthy machine meanwhile sends uploads, one after the other, and waits for the answer to each. Between an upload
+and its answer its collector takes no more uploads of `evil` than its turns allow. Nothing is lost, and what `evil` did
+is told once, with its name, and nothing of any other machine.
+"""
+import argparse
+import collections
+import contextlib
+import os
+import random
+import signal
+import subprocess
+import sys
+import threading
+import time
+
+HERE = os.path.dirname(os.path.abspath(__file__))
+sys.path[:0] = [os.path.join(HERE, ".."), os.path.join(HERE, "..", "collect")]
+from collector_machines import PROGRAM, Source, entries_of  # noqa: E402
+from costly import dense_upload, shared_upload  # noqa: E402
+from trial import Trial  # noqa: E402
+
+EVIL = "evil"
+CONF = """FOLDER={folder}
+FREE_BYTES=0
+POLL_SECONDS=0.05
+TAKE_JOURNAL_FILES=yes
+UPLOAD_CPU_SECONDS=2
+UPLOAD_BYTES=20000000
+UPLOAD_FIELDS=1000000
+TURN_BYTES=100000
+IDLE_SECONDS=3
+CALLS=4
+SOURCES=20
+DAY_SECONDS=4
+"""
+# It takes each name of an upload that goes to a database, notes it, and becomes the program that stores it.
+NOTING = """#!/bin/bash
+if [[ $1 == collect ]]; then
+    exec {program} "$@" < <(while IFS= read -r name; do echo "$name" >> {notes}; echo "$name"; done)
+fi
+exec {program} "$@"
+"""
+# So many uploads of one machine may come before another's: the one that is under way, and one turn.
+TURNS = 2
+WAIT = 120
+BROKEN = ("Traceback", "Error:", "isn't read as the program reads it")
+
+
+class Collector(Trial):
+    """The collector, as its unit runs it."""
+
+    def __init__(self, programs: str) -> None:
+        super().__init__("hostile machine")
+        self.programs, path = programs, self.folder()
+        self.notes, self.place, self.conf = (os.path.join(path, name) for name in ("notes", "collector", "conf"))
+        with open(self.conf, "w", encoding="ascii") as file:
+            file.write(CONF.format(folder=self.place))
+        with open(os.path.join(path, "journal-collect"), "w", encoding="ascii") as file:
+            file.write(NOTING.format(program=PROGRAM, notes=self.notes))
+        os.chmod(file.name, 0o755)
+        with open(self.notes, "w", encoding="ascii"):
+            os.environ["PATH"] = f"{path}:{os.environ['PATH']}"
+        with open(os.path.join(path, "said"), "wb") as said:
+            self.said = said.name
+            self.service = subprocess.Popen([self.program("collect-incoming"), self.conf], stderr=said)
+        self.mutex = threading.Lock()
+
+    def __exit__(self, *_: object) -> None:
+        """Nothing runs on, whatever happened."""
+        self.service.kill()
+        self.service.wait()
+        super().__exit__()
+
+    def program(self, name: str) -> str:
+        return os.path.join(self.programs, name)
+
+    def receive(self, machine: str, data: bytes) -> int:
+        told = subprocess.run([self.program("receive"), machine, self.conf], input=data, stderr=subprocess.PIPE,
+                              check=False)
+        return told.returncode
+
+    def answers(self, machine: str) -> list[str]:
+        told = subprocess.run([self.program("answers"), machine, self.conf], capture_output=True, check=False)
+        return told.stdout.decode().splitlines()
+
+    def noted(self) -> list[str]:
+        with open(self.notes, encoding="ascii") as file:
+            return file.read().splitlines()
+
+    def stop(self) -> str:
+        """SIGTERM; what the service said."""
+        self.service.send_signal(signal.SIGTERM)
+        self.expect("SIGTERM", self.service.wait(WAIT), 0)
+        with open(self.said, encoding="utf-8") as file:
+            return file.read()
+
+    def stored(self) -> collections.Counter[tuple[str, int, bytes]]:
+        folder = os.path.join(self.place, "databases")
+        found: collections.Counter[tuple[str, int, bytes]] = collections.Counter()
+        for name in sorted(os.listdir(folder)):
+            if name.endswith(".db"):
+                told = subprocess.run([PROGRAM, "export", os.path.join(folder, name)], capture_output=True, check=False)
+                self.expect(f"{name}: {told.stderr}: export", told.returncode, 0)
+                found.update(entries_of(told.stdout))
+        return found
+
+
+class Evil:
+    """The machine that was broken into: each of its ways in a thread of its own, until it is told to stop."""
+
+    def __init__(self, world: Collector) -> None:
+        self.world, self.stopping = world, threading.Event()
+        self.dice = random.Random(world.seed)
+        self.open_calls: list[subprocess.Popen[bytes]] = []
+        self.counts: collections.Counter[str] = collections.Counter()
+        ways = (self.shared, self.dense, self.no_upload, self.lost, self.unread, self.sources)
+        self.threads = [threading.Thread(target=self.again, args=[way]) for way in ways]
+        for thread in self.threads:
+            thread.start()
+
+    def again(self, way: "collections.abc.Callable[[], None]") -> None:
+        while not self.stopping.is_set():
+            way()
+            self.counts[way.__name__] += 1
+            self.stopping.wait(0.1)
+
+    def stop(self) -> None:
+        self.stopping.set()
+        for thread in self.threads:
+            thread.join()
+        for call in self.open_calls:
+            call.kill()
+            call.wait()
+
+    def go_on_to_its_share(self) -> None:
+        """It goes on until it has had its share of the day."""
+        end, path = time.monotonic() + WAIT, os.path.join(self.world.place, "shares", f"{EVIL}.share")
+        while time.monotonic() < end:
+            with contextlib.suppress(FileNotFoundError), open(path, encoding="ascii") as file:
+                if "refused day" in file.read():
+                    return
+            time.sleep(0.2)
+
+    def source(self) -> bytes:
+        return self.dice.randbytes(16)
+
+    def shared(self) -> None:
+        self.world.receive(EVIL, shared_upload(self.source(), 300))
+
+    def dense(self) -> None:
+        self.world.receive(EVIL, dense_upload(self.source(), 500))
+
+    def no_upload(self) -> None:
+        self.world.receive(EVIL, self.dice.randbytes(500))
+        self.world.receive(EVIL, dense_upload(self.source(), 1) + b"x" * 20_000_000)
+
+    def lost(self) -> None:
+        """A connection that gives no further byte."""
+        call = self.call("receive", subprocess.PIPE)
+        try:
+            call.stdin.write(dense_upload(self.source(), 1)[:100])
+            call.stdin.flush()
+        except BrokenPipeError:
+            pass
+
+    def unread(self) -> None:
+        """Answers that nobody reads: many of them, for there are sources."""
+        self.call("answers", subprocess.DEVNULL)
+
+    def call(self, name: str, given: int) -> subprocess.Popen[bytes]:
+        if len(self.open_calls) > 40:
+            first = self.open_calls.pop(0)
+            first.kill()
+            first.wait()
+        call = subprocess.Popen([self.world.program(name), EVIL, self.world.conf], stdin=given,
+                                stdout=subprocess.PIPE, stderr=subprocess.DEVNULL)
+        self.open_calls.append(call)
+        return call
+
+    def sources(self) -> None:
+        """A source for each upload."""
+        self.world.receive(EVIL, dense_upload(self.source(), 1))
+
+
+class Healthy(threading.Thread):
+    """A healthy machine: it sends, and waits for the answer before it sends again."""
+
+    def __init__(self, world: Collector, name: str, uploads: int) -> None:
+        super().__init__()
+        self.world, self.machine, self.uploads = world, name, uploads
+        self.source = Source(world, name, world.dice.randbytes(16).hex(), 0)
+        self.most = 0
+
+    def run(self) -> None:
+        for number in range(self.uploads):
+            self.source.grow(5)
+            made = self.source.make(self.source.acked, 100)
+            with open(made[2], "rb") as file:
+                data = file.read()
+            begin = self.send(data)
+            if not self.answered(5 * (number + 1)):
+                return
+            self.count(begin)
+
+    def send(self, data: bytes) -> int:
+        """Sends it; how many uploads had been noted by then."""
+        status = self.world.receive(self.machine, data)
+        with self.world.mutex:
+            self.world.expect(f"{self.machine}: receive", status, 0)
+        return len(self.world.noted())
+
+    def answered(self, position: int) -> bool:
+        """Waits for the answer."""
+        end = time.monotonic() + WAIT
+        while self.source.acked < position and time.monotonic() < end:
+            time.sleep(0.1)
+            lines = self.world.answers(self.machine)
+            with self.world.mutex:
+                self.source.take(lines)
+        with self.world.mutex:
+            return self.world.expect(f"{self.machine}: acknowledged", self.source.acked, position)
+
+    def count(self, begin: int) -> None:
+        """How many uploads of evil its collector took before this one."""
+        noted = self.world.noted()
+        own = max(place for place, name in enumerate(noted) if f"@{self.machine}@" in name)
+        database = noted[own].split("/")[1]
+        before = [name for name in noted[begin:own] if f"@{EVIL}@" in name and name.split("/")[1] == database]
+        self.most = max(self.most, len(before))
+
+
+def look(world: Collector, machines: list[Healthy], said: str) -> None:
+    """Nothing is lost, and what evil did is told once, of evil alone."""
+    found = world.stored()
+    for machine in machines:
+        world.expect(f"{machine.machine}: uploads of evil before its own", machine.most <= TURNS, True)
+        counts = {entry: found[entry] for entry in machine.source.entries}
+        world.expect(f"{machine.machine}: entries that aren't stored once", {each for each in counts.items()
+                                                                           if each[1] != 1}, set())
+    lines = said.splitlines()
+    world.expect("a mistake", [line for line in lines if any(word in line for word in BROKEN)], [])
+    over = [line for line in lines if " goes over " in line]
+    world.expect("bounds that are told twice", len(over), len(set(over)))
+    for bound in ("CALLS", "UPLOAD_BYTES", "DAY_SECONDS"):
+        world.expect(f"{bound} is told", sum(bound in line for line in over), 1)
+    aside = [line for line in lines if "set aside: " in line]
+    world.expect("what was set aside is told", bool(aside) and len(aside) == len(set(aside)), True)
+    world.expect("lines about others", [line for line in lines if "machine-" in line
+                                                  and not line.startswith("collect-incoming: stored ")], [])
+
+
+def main() -> None:
+    parser = argparse.ArgumentParser()
+    parser.add_argument("programs")
+    parser.add_argument("--machines", type=int, default=4)
+    parser.add_argument("--uploads", type=int, default=4)
+    arguments = parser.parse_args()
+    with Collector(os.path.abspath(arguments.programs)) as world:
+        evil = Evil(world)
+        machines = [Healthy(world, f"machine-{number}", arguments.uploads) for number in range(arguments.machines)]
+        for machine in machines:
+            machine.start()
+        try:
+            for machine in machines:
+                machine.join()
+            evil.go_on_to_its_share()
+        finally:
+            evil.stop()
+        look(world, machines, world.stop())
+        most = max(machine.most for machine in machines)
+        world.finish(f"{len(machines)} machines, {arguments.uploads} uploads each",
+                     f"at most {most} uploads of evil before one of another machine",
+                     ", ".join(f"{count} times {way}" for way, count in sorted(evil.counts.items())))
+
+
+if __name__ == "__main__":
+    main()

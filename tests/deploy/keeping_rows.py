@@ -1,0 +1,214 @@
+"""Rows of how long the collector keeps what it has: days that are known to have gone by, databases that are missing,
+backups that are taken while it runs and put back, and machines that get another name.
+
+usage: python3 keeping_rows.py LIBRARY [ROW..]
+"""
+import glob
+import os
+import re
+import shutil
+import sys
+import time
+
+from collector_case import DAY, SOURCE, Case, entries, upload
+from trial_rows import Row, Rows
+
+ROWS: Rows = Rows()
+
+
+# Clocks ---------------------------------------------------------------------------------------------------------------
+
+
+@ROWS.once
+def clock_ahead_at_each_boot(row: Row, case: Case) -> None:
+    """The clock is 12 h ahead at each boot, and right a moment later: no day goes by in truth. (The rounds of clocks
+    have sixty boots.)"""
+    case.set(KEEP_DAYS=3)
+    case.store(upload(entries(1, 5)))
+    for _ in range(8):
+        case.later(wall=0.5, starts=1)
+        row.expect("ahead", case.collect(), (0, ""))
+        case.later(wall=-0.5)
+        row.expect("right", case.collect(), (0, ""))
+    row.expect("entries", case.numbers(), [1, 2, 3, 4, 5])
+
+
+@ROWS.once
+def clock_set_within_a_boot(row: Row, case: Case) -> None:
+    """Forward and back, by hours, years and to 1970: nothing goes, also not by the times of files."""
+    case.set(KEEP_DAYS=3)
+    case.store(upload(entries(1, 5)))
+    for wall in (0.9, 0.9, 0.9, 0.9, 40, -40, 4000, -4000, -20000, 20000):
+        case.later(wall=wall)
+        row.expect(f"set by {wall}", "deleted" in case.collect()[1], False)
+        for path in glob.glob(case.path("databases", "*")):
+            os.utime(path, (time.time() - 2000 * DAY, time.time() - 2000 * DAY))
+    row.expect("entries", case.numbers(), [1, 2, 3, 4, 5])
+
+
+@ROWS.once
+def sleep_and_off(row: Row, case: Case) -> None:
+    """What the machine slept for, or was off for, isn't known; a person says that it went by, and no more than that."""
+    case.set(KEEP_DAYS=3)
+    case.store(upload(entries(1, 5)))
+    case.later(slept=2)
+    status, said = case.collect()
+    row.expect("slept", (status, re.findall("--passed [0-9]+", said)), (1, ["--passed 2"]))
+    case.later(days=0, wall=2.5, starts=1)
+    status, said = case.collect()
+    row.expect("off", (status, re.findall("--passed [0-9]+", said)), (1, ["--passed 4"]))
+    row.expect("told once", case.collect(), (0, ""))
+    row.expect("entries", case.numbers(), [1, 2, 3, 4, 5])
+    status, said = case.collect("--passed", "6")
+    row.expect("too many", (status, "only 4.5 days went by that weren't counted" in said), (1, True))
+    row.expect("they went by", case.collect("--passed", "4"), (0, ""))
+    status, said = case.collect()
+    row.expect("deleted", (status, "deleted: databases/" in said, case.names()), (0, True, []))
+
+
+@ROWS.once
+def days_go_by(row: Row, case: Case) -> None:
+    """A database goes when it was closed for KEEP_DAYS, and not a minute before; over starts of the machine too."""
+    case.set(KEEP_DAYS=3)
+    case.store(upload(entries(1, 5)))
+    for days in (0.99, 0.99, 0.99):
+        case.later(days=days)
+        row.expect("not yet", case.collect(), (0, ""))
+        case.later(starts=1)
+        row.expect("a start", case.collect(), (0, ""))
+    case.later(days=0.02)
+    row.expect("not yet", case.collect(), (0, ""))
+    case.later(days=0.02)
+    row.expect("deleted", ("deleted" in case.collect()[1], case.names()), (True, []))
+
+
+@ROWS.once
+def older_note(row: Row, case: Case) -> None:
+    """A `kept` of an earlier day is put back: what it doesn't know counts from then on, and what it knows goes in its
+    time."""
+    case.set(KEEP_DAYS=3)
+    case.store(upload(entries(1, 5)))
+    shutil.copy(case.path("kept"), f"{case.base}/kept")
+    case.later(days=2.9)
+    case.store(upload(entries(6, 9), start=5))
+    shutil.copy(f"{case.base}/kept", case.path("kept"))
+    case.later(days=0.2)
+    row.expect("the first goes", ("deleted" in case.collect()[1], case.numbers()), (True, [6, 7, 8, 9]))
+    case.later(days=2.9)
+    row.expect("not yet", ("deleted" in case.collect()[1], case.numbers()), (False, [6, 7, 8, 9]))
+
+
+@ROWS.once
+def damaged_note(row: Row, case: Case) -> None:
+    """One changed byte of `kept` deletes nothing: it is put aside and told, and days count from then on."""
+    case.set(KEEP_DAYS=3)
+    case.store(upload(entries(1, 5)))
+    with open(case.path("kept"), encoding="ascii") as file:
+        text = file.read()
+    for old, new in (("age 0.", "age 9."), ("closed 0.", "closed -9."), ("kept 2", "kept 3"), (text, ""), ("age", "")):
+        with open(case.path("kept"), "w", encoding="ascii") as file:
+            file.write(text.replace(old, new, 1))
+        status, said = case.collect()
+        row.expect(f"{old[:9]}: told", (status, "put aside as kept.damaged" in said), (3, True))
+        row.expect("the next run", case.collect(), (0, ""))
+    row.expect("entries", case.numbers(), [1, 2, 3, 4, 5])
+
+
+@ROWS.once
+def notes_of_the_version_before(row: Row, case: Case) -> None:
+    """Its `age` and `kept` are taken up, and go on from there."""
+    case.set(KEEP_DAYS=3, DATABASE_NAME="of")
+    case.store(upload(entries(1, 5)))
+    for name, text in (("age", "12.500000 boot 5.000 1700000000.000\n"), ("kept", "kept 1\n11.000000 of\n")):
+        with open(case.path(name), "w", encoding="ascii") as file:
+            file.write(text)
+    row.expect("taken up", case.collect(), (0, ""))
+    row.expect("age", os.path.exists(case.path("age")), False)
+    case.later(days=1.4)
+    row.expect("not yet", case.collect(), (0, ""))
+    case.later(days=0.2)
+    row.expect("deleted", "deleted: databases/of.db, 3.1 days" in case.collect()[1], True)
+
+
+# Databases that are missing -------------------------------------------------------------------------------------------
+
+
+@ROWS.once
+def missing_database(row: Row, case: Case) -> None:
+    """It is told with its name, once, and what it had is stored when it comes again; the rest stays acknowledged."""
+    case.set(DATABASE_NAME="d")
+    case.store(upload(entries(1, 5)))
+    case.store(upload(entries(6, 9), start=5))
+    for path in glob.glob(case.path("databases", "d-2.*")):
+        os.unlink(path)
+    status, said = case.collect()
+    row.expect("told", (status, "databases/d-2.db is missing" in said, "web@" + SOURCE in said), (1, True, True))
+    row.expect("the answer", case.answers(), [])
+    row.expect("once", case.collect(), (0, ""))
+    case.store(upload(entries(1, 9)))
+    row.expect("it comes again", (case.answers()[0], case.numbers()), (f"ack {SOURCE} 0 9 4 0", list(range(1, 10))))
+
+
+@ROWS.once
+def deleted_and_moved_databases(row: Row, case: Case) -> None:
+    """Nobody misses what retention deleted, or what a person moved away and said so."""
+    case.set(DATABASE_NAME="d", KEEP_DAYS=3)
+    case.store(upload(entries(1, 5)))
+    case.later(days=3.1)
+    row.expect("deleted", "deleted: databases/d.db" in case.collect()[1], True)
+    row.expect("not missed", case.collect(), (0, ""))
+    case.store(upload(entries(6, 9), start=5))
+    row.expect("told", case.collect("--moved", "d"), (0, ""))
+    for path in glob.glob(case.path("databases", "d.*")):
+        os.rename(path, f"{case.base}/{os.path.basename(path)}")
+    row.expect("moved away", case.collect(), (0, ""))
+    case.store(upload(entries(1, 9)))
+    row.expect("still acknowledged", (case.answers()[0], case.numbers()), (f"ack {SOURCE} 0 9 0 0", []))
+
+
+@ROWS.once
+def database_with_less_than_was_stored(row: Row, case: Case) -> None:
+    """A copy of a database that was in use opens, and has less: that is noticed when it is taken up."""
+    case.set(DATABASE_NAME="d")
+    case.store(upload(entries(1, 5)))
+    shutil.copy(case.path("databases", "d.db"), f"{case.base}/d.db")
+    os.unlink(case.path("databases", "d.db.sha256"))
+    os.makedirs(case.path("batch", "d"), exist_ok=True)
+    case.receive(upload(entries(1, 9)))
+    name = os.listdir(case.path("incoming"))[0]
+    os.rename(case.path("incoming", name), case.path("batch", "d", name))
+    case.collect()
+    row.expect("before", case.answers()[0], f"ack {SOURCE} 0 9 4 0")
+    shutil.copy(f"{case.base}/d.db", case.path("databases", "d.db"))
+    os.unlink(case.path("databases", "d.db.sha256"))
+    status, said = case.collect()
+    row.expect("told", (status, "d.db has 5 entries, and 9 were stored in it" in said), (1, True))
+    case.store(upload(entries(1, 9)))
+    row.expect("it comes again", set(case.numbers()), set(range(1, 10)))
+
+
+@ROWS.once
+def one_entry_of_two_sources(row: Row, case: Case) -> None:
+    """A database that has one entry for two sources, and one that came twice, lacks none."""
+    case.set(DATABASE_NAME="d")
+    for name in ("1" * 32, "2" * 32):
+        case.receive(upload([*entries(1, 5), *entries(4, 5)], name=name))
+    row.expect("stored", (case.collect(), case.numbers()), ((0, ""), [1, 2, 3, 4, 5]))
+    os.unlink(case.path("databases", "d.db.sha256"))
+    row.expect("taken up", case.collect(), (0, ""))
+    row.expect("answers", len([line for line in case.answers() if line.startswith("ack")]), 2)
+
+
+def main() -> int:
+    folder = Case.build(sys.argv[1])
+    try:
+        if not Case.clock_library:
+            print("skipped: there is no rt, whose compiler builds what sets a clock")
+            return 0
+        return ROWS.run(sys.argv[2:], ["once"], Case)
+    finally:
+        shutil.rmtree(folder)
+
+
+if __name__ == "__main__":
+    sys.exit(main())

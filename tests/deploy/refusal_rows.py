@@ -1,0 +1,259 @@
+"""Rows of what becomes of entries that the collector refuses: usage: python3 refusal_rows.py LIBRARY [ROW..]
+
+The collector's programs are there. Each row is tried with all in one database, and with another one each time.
+"""
+import os
+import re
+import shutil
+import subprocess
+import sys
+
+from deployed import Deployed
+from machine import PROGRAM
+from trial_rows import Row, Rows
+
+ROWS: Rows[Deployed] = Rows()
+FORKED = re.compile(r"forked: ([0-9a-f]{32}) goes on as ([0-9a-f]{32}) from entry ([0-9]+)")
+
+
+def entry(seqnum_id: str, number: int, realtime: int, message: str, field: str = "") -> bytes:
+    return (f"__REALTIME_TIMESTAMP={realtime}\n__MONOTONIC_TIMESTAMP=1\n__SEQNUM={number}\n__SEQNUM_ID={seqnum_id}\n"
+            f"{field}MESSAGE={message}\n\n").encode()
+
+
+def upload_by_hand(machine: Deployed, name: str, source: str, text: bytes) -> None:
+    """Somebody else sends these entries."""
+    head = b"JCUPLD01\1" + bytes(7) + bytes.fromhex(source) + bytes(16)
+    words = machine.environment["FORCED_COMMAND"].split()
+    subprocess.run([words[0], name, words[2]], input=head + text, check=True, stderr=subprocess.DEVNULL,
+                   env={**machine.whole_environment(), "SSH_ORIGINAL_COMMAND": "upload"})
+    machine.store()
+
+
+def messages(machine: Deployed) -> "dict[tuple[int, str], list[str]]":
+    """The sequences under which each entry is stored, which is known by its time and its message."""
+    stored: dict[tuple[int, str], list[str]] = {}
+    for (seqnum_id, _, realtime, message), count in machine.entries().items():
+        stored.setdefault((realtime, message), []).extend([seqnum_id] * count)
+    return stored
+
+
+def each_once(row: Row, machine: Deployed, logged: set[tuple[int, str]]) -> None:
+    stored = messages(machine)
+    row.expect("entries that aren't stored", logged - set(stored), set())
+    row.expect("entries that are stored twice", {key for key in logged if len(stored.get(key, [])) > 1}, set())
+
+
+def logged_of(machine: Deployed) -> set[tuple[int, str]]:
+    return {key[2:] for key in machine.journal.keys()}
+
+
+@ROWS.once
+def taken_key(row: Row, machine: Deployed) -> None:
+    """Somebody has stored another entry under a key of this machine, in the same database: its sequence goes on under
+    another id from there on, which is told once, and nothing waits."""
+    machine.journal.grow(2)
+    machine.settle()
+    own = machine.journal.seqnum_id
+    upload_by_hand(machine, "other", "a" * 32, entry(own, 5, 1, "not this one"))
+    machine.journal.grow(20)
+    told = machine.settle()
+    machine.journal.grow(3)
+    told += machine.settle()
+    said = "".join(text for _, text in told)
+    forks = FORKED.findall(said)
+    row.expect("what is told", [(sequence, number) for sequence, _, number in forks], [(own, "5")])
+    row.expect("statuses", sorted(status for status, _ in told)[-2:], [0, 1])
+    each_once(row, machine, logged_of(machine))
+    stored = {key[:2] for key in machine.entries() if key[0] in (own, forks[0][1])}
+    row.expect("keys", stored, {(own, number) for number in (1, 2, 3, 4, 5)} | {
+        (forks[0][1], number) for number in range(5, 26)})
+
+
+@ROWS.once
+def taken_fork(row: Row, machine: Deployed) -> None:
+    """A key of a fork is taken, too: the fork is forked."""
+    own = machine.journal.seqnum_id
+    upload_by_hand(machine, "other", "a" * 32, entry(own, 2, 1, "not this one"))
+    machine.journal.grow(4)
+    forks = FORKED.findall("".join(text for _, text in machine.settle()))
+    upload_by_hand(machine, "other", "b" * 32, entry(forks[0][1], 6, 1, "nor this one"))
+    machine.journal.grow(4)
+    forks += FORKED.findall("".join(text for _, text in machine.settle()))
+    row.expect("forks", [(sequence, number) for sequence, _, number in forks], [(own, "2"), (forks[0][1], "6")])
+    each_once(row, machine, logged_of(machine))
+
+
+@ROWS.once
+def again(row: Row, machine: Deployed) -> None:
+    """What is sent again is refused, since somebody has stored another entry under one of its keys: that one is put
+    aside, and the sequence isn't forked."""
+    machine.one_database = False
+    machine.journal.grow(6)
+    machine.settle()
+    machine.one_database = True
+    own = machine.journal.seqnum_id
+    upload_by_hand(machine, "other", "a" * 32, entry(own, 3, 1, "not this one"))
+    status, said = machine.send("--again", "@0")
+    row.expect("status", (status, "again" in said), (0, True))
+    machine.store()
+    told = machine.settle()
+    said += "".join(text for _, text in told)
+    row.expect("what is told", (said.count("an entry was refused with 60"), FORKED.findall(said)), (1, []))
+    row.expect("the status in the end", told[-1][0], 0)
+    row.expect("a file", os.listdir(f"{machine.folder}/refused"), [f"{own}-3.export"])
+    stored = {message for _, message in messages(machine)}
+    row.expect("what isn't stored", {message for _, message in logged_of(machine)} - stored, set())
+
+
+@ROWS.each
+def set_back_five_times(row: Row, machine: Deployed) -> None:
+    """A machine is set back to a snapshot five times in a row; each time it logs more, which has numbers that others
+    had. Nothing is done by hand."""
+    machine.journal.grow(10)
+    machine.settle()
+    logged = logged_of(machine)
+    machine.snapshot("s")
+    for turn in range(5):
+        if turn:
+            machine.set_back("s")
+        machine.journal.realtime += 10**9 * (turn + 1)
+        for _ in range(2):
+            machine.journal.grow(4)
+            told = machine.settle()
+        logged |= logged_of(machine)
+        row.expect("the status in the end", told[-1][0], 0)
+    each_once(row, machine, logged)
+
+
+@ROWS.each
+def set_back_within_a_boot(row: Row, machine: Deployed) -> None:
+    """As above, but the machine goes on from its memory, so that it appends to the stream that it had."""
+    machine.journal.grow(10)
+    machine.settle()
+    logged = logged_of(machine)
+    machine.snapshot("s")
+    for turn in range(3):
+        if turn:
+            machine.set_back("s", reboots=False)
+        machine.journal.realtime += 10**9 * (turn + 1)
+        for count in (3, 5 + turn):
+            machine.journal.grow(count)
+            told = machine.settle()
+        logged |= logged_of(machine)
+        row.expect("the status in the end", told[-1][0], 0)
+    row.expect("entries that aren't stored", logged - set(messages(machine)), set())
+
+
+@ROWS.each
+def two_clones(row: Row, machine: Deployed) -> None:
+    """Two machines go on from one disk for a day, under one name, and each logs by itself."""
+    machine.journal.grow(10)
+    machine.settle()
+    logged = logged_of(machine)
+    machine.snapshot("s")
+    twin = Deployed(machine.library, machine.one_database, beside=machine)
+    twin.store = machine.store  # type: ignore[method-assign]
+    os.rename(f"{machine.base}/s", twin.folder)
+    twin.journal = machine.copy_of("s")
+    for number, each in enumerate((machine, twin)):
+        each.boot(f"0000000{number}-2222-2222-2222-222222222222")
+        each.journal.reboot()
+        each.journal.realtime += 10**9 * (number + 1)
+    for hour in range(8):
+        for each in (machine, twin):
+            each.journal.grow(1 + hour % 3)
+            each.send()
+        machine.store()
+    for each in (machine, twin, machine, twin):
+        told = each.settle()
+        row.expect("the status in the end", told[-1][0], 0)
+        logged |= logged_of(each)
+    each_once(row, machine, logged)
+    shutil.rmtree(twin.base)
+
+
+@ROWS.once
+def forked_while_it_is_killed(row: Row, machine: Deployed) -> None:
+    """The run that forks a sequence is killed at each moment: nothing is lost or stored twice, and the fork is told."""
+    own, number = machine.journal.seqnum_id, 0
+    for stop in range(30, 150, 10):
+        machine.journal.grow(3)
+        machine.settle()
+        number = machine.journal.seqnum
+        taken = entry(in_force(machine, own, number), number + 2, 1, f"{stop}")
+        upload_by_hand(machine, "other", f"{stop:032x}", taken)
+        machine.journal.grow(5)
+        machine.send()
+        machine.store()
+        _, said = machine.send(stop=stop)
+        told = machine.settle()
+        said += "".join(text for _, text in told)
+        row.expect(f"told after a kill at {stop}", len(FORKED.findall(said)) > 0, True)
+        row.expect(f"the status in the end, after a kill at {stop}", told[-1][0], 0)
+    each_once(row, machine, logged_of(machine))
+
+
+def in_force(machine: Deployed, sequence: str, number: int) -> str:
+    """The sequence that a number goes out in now, as `forks` says it."""
+    path = f"{machine.folder}/forks"
+    lines = open(path, encoding="ascii").read().splitlines()[1:] if os.path.exists(path) else []
+    for line in lines:
+        _, old, begin, new, _ = line.split()
+        if old == sequence and int(begin) <= number:
+            sequence = new
+    return sequence
+
+
+@ROWS.once
+def too_large_for_the_collector(row: Row, machine: Deployed) -> None:
+    """An entry is larger than the collector takes: it goes out without what makes it so, and nothing waits for it."""
+    shutil.rmtree(machine.base)
+    machine.__init__(machine.library, True, more="UPLOAD_BYTES=50000\n")  # type: ignore[misc]
+    machine.journal.grow(3)
+    machine.journal.add("200000*x")
+    machine.journal.grow(3)
+    told = machine.settle()
+    machine.journal.grow(3)
+    told += machine.settle()
+    said = "".join(text for _, text in told)
+    row.expect("it is told once", said.count("an entry is too large"), 1)
+    row.expect("the status in the end", told[-1], (0, ""))
+    stored = messages(machine)
+    row.expect("what isn't stored", {message for _, message in logged_of(machine) - set(stored)}, {"x" * 200_000})
+    row.expect("the large one", [len(message) for _, message in stored if message.startswith("xxx")], [2_048])
+
+
+@ROWS.once
+def damaged_stream(row: Row, machine: Deployed) -> None:
+    """A stream is damaged within an entry: what is before it goes out, and what can be followed after it; the rest is
+    kept for a person and told once."""
+    for fault, kept, lost in ((rb"__SEQNUM=5\n", b"__SEQNUM=0\n", {5}),
+                              (rb"\n__SEQNUM=5\n", b"\n=SEQNUM=5\n", {5, 6, 7})):
+        shutil.rmtree(machine.base)
+        machine.__init__(machine.library, True)  # type: ignore[misc]
+        for number in range(1, 8):
+            machine.journal.add(f"number {number}")
+        machine.journal.write()
+        machine.send(FAULT="refused:1:0")
+        path = f"{machine.folder}/streams/00000001/stream"
+        with open(path, "rb") as file:
+            text = file.read()
+        with open(path, "wb") as file:
+            file.write(re.sub(fault, kept, text))
+        told = machine.settle()
+        row.expect(f"{kept!r}: told", [status for status, _ in told][:1], [1])
+        row.expect(f"{kept!r}: in the end", told[-1], (0, ""))
+        row.expect(f"{kept!r}: a file", len(os.listdir(f"{machine.folder}/refused")), 1)
+        stored = {int(message.split()[1]) for _, message in messages(machine)}
+        row.expect(f"{kept!r}: what isn't stored", set(range(1, 8)) - stored, lost)
+
+
+def main() -> None:
+    library = os.path.abspath(sys.argv[1])
+    sys.exit(ROWS.run(sys.argv[2:], [True, False], lambda one_database: Deployed(library, one_database)))
+
+
+if __name__ == "__main__":
+    assert PROGRAM
+    main()

@@ -1,0 +1,23 @@
+"""stop_at.py PROGRAM WORD..: runs a program of deploy/, which is killed before the step of the number STOP_AT: a file
+that it opens, moves or removes, a lock that it takes, or a program that it starts."""
+import os
+import runpy
+import signal
+import sys
+
+STEPS = ("open", "os.rename", "os.remove", "os.mkdir", "os.rmdir", "os.truncate", "shutil.rmtree", "shutil.copyfile",
+         "subprocess.Popen", "os.posix_spawn", "os.chmod", "fcntl.flock")
+left = [int(os.environ["STOP_AT"])]
+
+
+def count(event: str, arguments: tuple[object, ...]) -> None:
+    # What is opened of Python itself isn't counted.
+    if event in STEPS and not (event == "open" and str(arguments[0]).endswith((".py", ".pyc", ".so"))):
+        left[0] -= 1
+        if left[0] == 0:
+            os.kill(os.getpid(), signal.SIGKILL)
+
+
+sys.argv = sys.argv[1:]
+sys.addaudithook(count)
+runpy.run_path(sys.argv[0], run_name="__main__")

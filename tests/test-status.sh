@@ -1,0 +1,18 @@
+#!/usr/bin/env bash
+# journal-collect-status, of machines and of the collector: what it says of known states, and that it holds over strange
+# ones and writes nothing.
+set -uo pipefail
+. "$(dirname "$0")/expect.sh"
+
+umask 022
+if [[ -d /dev/shm && -w /dev/shm ]]; then
+    export TMPDIR=/dev/shm
+fi
+folder=$(mktemp -d)
+trap 'rm -rf "$folder"' EXIT
+deploy/install.sh "$folder/root" /usr || differs "the programs aren't installed"
+library=$folder/root/usr/lib/journal-collect
+export PROGRAM
+python3 -B tests/deploy/status_rows.py "$library" || differs "tests/deploy/status_rows.py"
+python3 -B tests/deploy/status_fuzz.py "$library" --rounds "${ROUNDS-25}" || differs "tests/deploy/status_fuzz.py"
+finish
