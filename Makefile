@@ -4,8 +4,9 @@ PROGRAM := crates/jc_cli/out/jc_cli
 SOURCES := $(shell find crates/*/src crates/*/specs crates/*/proofs -type f) crates.txt
 PREFIX ?= /usr/local
 BIN := $(DESTDIR)$(PREFIX)/bin
-MAN := $(DESTDIR)$(PREFIX)/share/man/man1
-DOC := $(DESTDIR)$(PREFIX)/share/doc/journal-collect
+SHARE := $(DESTDIR)$(PREFIX)/share
+MAN := $(SHARE)/man/man1
+DOC := $(SHARE)/doc/journal-collect
 LIB := $(DESTDIR)$(PREFIX)/lib
 
 .DELETE_ON_ERROR:
@@ -25,21 +26,23 @@ check: ## prove the crates that changed, and what stands on them; with SINCE=REV
 lint: ## shell, Python and the layout of all texts; what isn't installed is told as skipped
 	@python3 -ESB tools/lint
 
-install: $(PROGRAM) ## journal-collect, its man page, its documents and deploy/, below PREFIX (/usr/local)
+install: $(PROGRAM) ## journal-collect, its man pages, its documents and deploy/, below PREFIX (/usr/local)
 	install -d "$(BIN)" "$(MAN)" "$(DOC)"
 	install -m 755 $(PROGRAM) "$(BIN)/journal-collect"
 	install -m 644 docs/journal-collect.1 "$(MAN)/journal-collect.1"
-	install -m 644 docs/GUIDE.md docs/FORMATS.md docs/FORWARDING.md docs/LIMITS.md docs/PERFORMANCE.md "$(DOC)/"
+	install -m 644 README.md docs/GUIDE.md docs/FORMATS.md docs/FORWARDING.md docs/LIMITS.md docs/PERFORMANCE.md "$(DOC)/"
 	@deploy/install.sh "$(DESTDIR)" "$(PREFIX)"
 
 deb: $(PROGRAM) ## a Debian package of all that is installed, in build/
 	@deploy/build-deb.sh build
 
 uninstall: ## what install put there, but for the configuration in /etc/journal-collect
-	rm -f "$(BIN)/journal-collect" "$(BIN)/journal-collect-search" "$(MAN)/journal-collect.1"
-	rm -f "$(LIB)/sysusers.d/journal-collect.conf"
+	rm -f "$(BIN)/journal-collect" "$(BIN)/journal-collect-"* "$(SHARE)"/man/man[158]/journal-collect*.[158]
+	rm -f "$(LIB)/sysusers.d/journal-collect.conf" "$(SHARE)/bash-completion/completions/journal-collect"*
+	rm -f "$(SHARE)/zsh/vendor-completions/_journal-collect"
+	rm -f "$(LIB)/systemd/journald.conf.d/journal-collect.conf"
 	rm -rf "$(DOC)" "$(LIB)/journal-collect"
-	rm -f $(patsubst deploy/%,"$(LIB)/systemd/system/%",$(wildcard deploy/*.service deploy/*.timer))
+	rm -f $(patsubst deploy/%,"$(LIB)/systemd/system/%",$(wildcard deploy/*.service deploy/*.socket deploy/*.timer))
 
 test: ## the gate: every proof from nothing, the edits, the tests, the scripts; the last line is `N passed, M failed`
 	@tests/run.sh
