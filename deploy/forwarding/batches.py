@@ -3,14 +3,14 @@ from collections.abc import Iterator
 from dataclasses import dataclass, field
 
 from forwarding.engine import Engine, Prepared, Refusal, Refused
-from reading.found import Found
+from forwarding.entry import Entry
 from reading.placing import Placing
 
 
 @dataclass
 class Batch:
     """Some entries up to the last one: those that go out, and those that can't."""
-    last: Found
+    last: Entry
     count: int = 0
     bytes: int = 0
     prepared: list[Prepared] = field(default_factory=list)
@@ -26,7 +26,7 @@ class Batches:
     most_bytes: int
     entry_bytes: int
 
-    def of(self, entries: Iterator[Found], placing: Placing) -> Iterator[Batch]:
+    def of(self, entries: Iterator[Entry], placing: Placing) -> Iterator[Batch]:
         """All entries, in their order."""
         batch = None
         for entry in entries:
@@ -38,7 +38,7 @@ class Batches:
         if batch:
             yield batch
 
-    def add(self, batch: Batch, entry: Found, placing: Placing) -> None:
+    def add(self, batch: Batch, entry: Entry, placing: Placing) -> None:
         batch.last, batch.count = entry, batch.count + 1
         try:
             prepared = self.engine.prepare(entry, placing)
@@ -50,4 +50,4 @@ class Batches:
             batch.prepared.append(prepared)
             batch.bytes += len(prepared.data)
         # They are read again if the engine refuses the entry.
-        entry.pairs = []
+        entry.names, entry.values = b"", ""

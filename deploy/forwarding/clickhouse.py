@@ -3,11 +3,11 @@ merged with the first one."""
 import re
 from urllib.parse import urlencode
 
-from forwarding.columns import COLUMNS, content, form_of, split
+from forwarding.columns import COLUMNS, content, form_of
 from forwarding.engine import Prepared, Refusal, Refused, Unavailable, Whole
+from forwarding.entry import Entry
 from forwarding.server import Answer, Server, look_at
-from forwarding.written import Form, Forms, Names, encoded
-from reading.found import Found
+from forwarding.written import Form, Forms, Names
 from reading.placing import Placing
 
 OWN = ("day", "realtime", "sequence", "number", "content", "monotonic", "names", "values")
@@ -23,23 +23,16 @@ OF_ROWS = {6, 26, 27, 38, 41, 69, 72, 117, 128, 130, 131, 190, 321, 349, 467, 46
 OF_TABLE = "Unknown field"
 
 
-def form(names: Names) -> Form:
+def form(names: Names, empty: set[int]) -> Form:
     def others(rest: list[str]) -> str:
         names, values = ",".join(f'"{name}"' for name in rest), ",".join('"%s"' for _ in rest)
         return f',"names":[{names}],"values":[{values}]'
 
     members = '{"day":"%s","realtime":%d,"sequence":"%s","number":%d,"content":%d,"monotonic":%d'
-    return form_of(names, members, others)
+    return form_of(names, empty, members, others)
 
 
 FORMS = Forms(form)
-
-
-def otherwise(entry: Found, own: tuple[object, ...]) -> str:
-    filled, others = split(entry)
-    members = dict(zip(("day", "realtime", "sequence", "number", "content", "monotonic"), (str(own[0]), *own[1:])))
-    names, values = [name for name, _ in others], [value for _, value in others]
-    return encoded({**members, **filled, "names": names, "values": values})
 
 
 class ClickHouse(Whole):
@@ -62,10 +55,9 @@ class ClickHouse(Whole):
             lacks = f"lacks {', '.join(missing)}" if has else "isn't there"
             raise Unavailable(f"the table {self.table} {lacks}: see journal-collect-forward --schema")
 
-    def prepare(self, entry: Found, placing: Placing) -> Prepared:
+    def prepare(self, entry: Entry, placing: Placing) -> Prepared:
         own = placing.day(entry.realtime), entry.realtime, entry.sequence, entry.number, content(entry), entry.monotonic
-        text = FORMS.write(entry, own, lambda: otherwise(entry, own))
-        return Prepared(entry, text.encode() + b"\n")
+        return Prepared(entry, FORMS.write(entry, own).encode() + b"\n")
 
     def post(self, prepared: list[Prepared]) -> list[Refusal]:
         answer = self.server.post(self.target, b"".join([one.data for one in prepared]), KIND)

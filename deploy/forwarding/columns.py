@@ -1,11 +1,10 @@
 """An entry as a row for engines with columns: known fields in columns of their own, and all others beside them."""
 from collections.abc import Callable
-from typing import Any
+from hashlib import blake2b
 
+from forwarding.entry import Entry
 from forwarding.values import as_text
-from forwarding.written import Form, Names, fixed
-from reading.export import digest_of
-from reading.found import Found
+from forwarding.written import Form, Names, fixed, form
 
 COLUMNS = {
     b"_BOOT_ID": "boot", b"_MACHINE_ID": "machine", b"_HOSTNAME": "host", b"_SYSTEMD_UNIT": "unit",
@@ -23,28 +22,24 @@ COLUMNS = {
     b"_SYSTEMD_OWNER_UID": "owner_uid"}
 
 
-def content(entry: Found) -> int:
+def content(entry: Entry) -> int:
     """What tells apart two entries that differ under one key: 64 bits of a digest of all else."""
-    return int.from_bytes(digest_of(entry.realtime, entry.monotonic, entry.pairs)[:8], "big")
+    head = b"%d %d %d\n" % (entry.realtime, entry.monotonic, entry.count)
+    digest = blake2b(head + entry.values.encode() + b"\n" + entry.names, digest_size=8).digest()
+    return int.from_bytes(digest, "big")
 
 
-def split(entry: Found) -> tuple[dict[str, Any], list[tuple[str, str]]]:
-    """The columns that the entry fills, and the pairs that have none. An empty column stands for no field, so an empty
-    value is among the other pairs, and so are further values of a field."""
-    filled: dict[str, Any] = {}
-    others: list[tuple[str, str]] = []
-    for name, value in entry.pairs:
+def form_of(names: Names, empty: set[int], own: str, others: Callable[[list[str]], str]) -> Form:
+    """The form of a row: its own members, the columns, and what `others` makes of the names that have none. An empty
+    column stands for no field, so an empty value is among the others, and so are further values of a field."""
+    columns: dict[str, int] = {}
+    rest: list[int] = []
+    for place, name in enumerate(names):
         column = COLUMNS.get(name)
-        if column is None or not value or column in filled:
-            others.append((as_text(name), as_text(value)))
+        if column is None or place in empty or column in columns:
+            rest.append(place)
         else:
-            filled[column] = as_text(value)
-    return filled, others
-
-
-def form_of(names: Names, own: str, others: Callable[[list[str]], str]) -> Form:
-    """The form of a row: its own members, the columns, and what `others` makes of the names that have none."""
-    columns = [place for place, name in enumerate(names) if name in COLUMNS]
-    rest = [place for place, name in enumerate(names) if name not in COLUMNS]
-    filled = "".join(f',"{COLUMNS[names[place]]}":"%s"' for place in columns)
-    return Form(own + filled + others([fixed(as_text(names[place])) for place in rest]) + "}", columns + rest)
+            columns[column] = place
+    filled = "".join(f',"{column}":"%s"' for column in columns)
+    return form(own + filled + others([fixed(as_text(names[place])) for place in rest]) + "}",
+                [*columns.values(), *rest])

@@ -4,11 +4,11 @@ import json
 from datetime import datetime, timedelta, timezone
 from typing import Any
 
-from forwarding.columns import content, form_of, split
+from forwarding.columns import content, form_of
 from forwarding.engine import Prepared, Refusal, Unavailable, Whole
+from forwarding.entry import Entry
 from forwarding.server import Server, look_at
-from forwarding.written import Form, Forms, Names, encoded
-from reading.found import Found
+from forwarding.written import Form, Forms, Names
 from reading.placing import Placing
 
 KIND = "application/x-ndjson"
@@ -22,22 +22,16 @@ def moment(microseconds: int) -> str:
     return (EPOCH + timedelta(microseconds=microseconds)).strftime("%Y-%m-%dT%H:%M:%S.%fZ")
 
 
-def form(names: Names) -> Form:
+def form(names: Names, empty: set[int]) -> Form:
     def others(rest: list[str]) -> str:
         fields = ",".join(f'"{name}=%s"' for name in rest)
         return f',"fields":[{fields}]'
 
     members = '{"@timestamp":"%s","realtime":%d,"sequence":"%s","number":%d,"monotonic":%d'
-    return form_of(names, members, others)
+    return form_of(names, empty, members, others)
 
 
 FORMS = Forms(form)
-
-
-def otherwise(entry: Found, own: tuple[object, ...]) -> str:
-    filled, others = split(entry)
-    members = dict(zip(("@timestamp", "realtime", "sequence", "number", "monotonic"), own))
-    return encoded({**members, **filled, "fields": [f"{name}={value}" for name, value in others]})
 
 
 class Elasticsearch(Whole):
@@ -46,12 +40,11 @@ class Elasticsearch(Whole):
     def __init__(self, server: Server, index: str) -> None:
         self.server, self.index = server, index
 
-    def prepare(self, entry: Found, placing: Placing) -> Prepared:
+    def prepare(self, entry: Entry, placing: Placing) -> Prepared:
         day, key = placing.day(entry.realtime), f"{entry.sequence}-{entry.number}-{content(entry):016x}"
         action = f'{{"create":{{"_index":"{self.index}-{day:%Y.%m.%d}","_id":"{key}"}}}}'
         own = moment(placing.time(entry.realtime)), entry.realtime, entry.sequence, entry.number, entry.monotonic
-        document = FORMS.write(entry, own, lambda: otherwise(entry, own))
-        return Prepared(entry, f"{action}\n{document}\n".encode())
+        return Prepared(entry, f"{action}\n{FORMS.write(entry, own)}\n".encode())
 
     def post(self, prepared: list[Prepared]) -> list[Refusal]:
         """Each entry has an answer of its own, unless all of them are too much."""

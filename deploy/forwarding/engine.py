@@ -2,8 +2,8 @@
 from dataclasses import dataclass
 from typing import Protocol
 
+from forwarding.entry import Entry
 from reading.databases import Database
-from reading.found import Found
 from reading.placing import Placing
 
 
@@ -23,7 +23,7 @@ class Refused(Exception):
 @dataclass(slots=True)
 class Prepared:
     """An entry as an engine takes it: its bytes, and for engines that keep streams its labels and its time."""
-    entry: Found
+    entry: Entry
     data: bytes
     labels: tuple[str, str] = ("", "")
     time: int = 0
@@ -32,7 +32,7 @@ class Prepared:
 @dataclass
 class Refusal:
     """An entry that the engine doesn't take, and why."""
-    entry: Found
+    entry: Entry
     reason: str
 
 
@@ -47,7 +47,7 @@ class Engine(Protocol):
     def begin(self, database: Database) -> None:
         """Entries of this database follow."""
 
-    def prepare(self, entry: Found, placing: Placing) -> Prepared:
+    def prepare(self, entry: Entry, placing: Placing) -> Prepared:
         """An entry as the engine takes it; Refused if that can't be."""
 
     def send(self, prepared: list[Prepared]) -> list[Refusal]:

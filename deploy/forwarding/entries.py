@@ -1,20 +1,14 @@
 """The entries of a database, in the order of their keys."""
-from collections.abc import Callable, Iterator
-from itertools import islice
-from typing import Any
+from collections.abc import Callable, Generator, Iterator
 
+from forwarding.entry import Entry, of_joined, of_pairs
 from forwarding.place import Within
 from reading.failure import BadDatabase
 from reading.found import Found
-from reading.tables import Pair, Tables
+from reading.tables import Id, Joined, Tables
 
-# So many entries are asked for at once, each with the number of its fields; then all of these, one after the other.
+# So many entries are asked for at once.
 TOGETHER = 1000
-COUNT = "(SELECT count(*) FROM field WHERE field.seqid = record.seqid AND field.seqnum = record.seqnum)"
-RECORDS = ("SELECT seqid, seqnum, realtime, monotonic, {} FROM record WHERE (seqid, seqnum) > (?, ?)"
-           " ORDER BY seqid, seqnum LIMIT ?")
-FIELDS = ("SELECT name, value FROM field WHERE (seqid, seqnum) > (?, ?) AND (seqid, seqnum) <= (?, ?)"
-          " ORDER BY seqid, seqnum, pos")
 
 
 class Entries:
@@ -23,45 +17,49 @@ class Entries:
     def __init__(self, tables: Tables, tell: Callable[[BadDatabase], None]) -> None:
         self.tables, self.tell = tables, tell
 
-    def after(self, within: Within) -> Iterator[Found]:
+    def after(self, within: Within) -> Iterator[Entry]:
         """The entries behind the part that is forwarded."""
-        key: tuple[bytes, int] = (bytes.fromhex(within.sequence), within.number)
-        while records := self.records(key):
-            last = records[-1][0], records[-1][1]
-            yield from self.with_fields(records, key, last)
-            key = last
+        last: Id | None = bytes.fromhex(within.sequence), within.number
+        while last:
+            last = yield from self.some(last)
 
-    def records(self, after: tuple[bytes, int]) -> list[Any]:
-        """The next ones. If their fields can't be counted, each has none, and they are read one by one."""
+    def some(self, after: Id) -> Generator[Entry, None, Id | None]:
+        """The next entries, and the key of the last one, if there are any. Those that can't be read together are read
+        one by one."""
+        last = None
         try:
-            return self.tables.fetch(RECORDS.format(COUNT), [*after, TOGETHER])
+            for row in self.tables.joined(after, TOGETHER):
+                entry = of_joined(row) or self.of_row(row)
+                last = row[0], row[1]
+                yield entry
         except BadDatabase:
-            return self.tables.fetch(RECORDS.format("NULL"), [*after, TOGETHER])
+            last = yield from self.one_by_one(last or after)
+        return last
 
-    def with_fields(self, records: list[Any], after: tuple[bytes, int], last: tuple[bytes, int]) -> Iterator[Found]:
-        """These entries. If their fields can't be read together, those that are left are read one by one."""
-        done = 0
-        try:
-            rows = self.tables.rows(FIELDS, [*after, *last])
-            for sequence, number, realtime, monotonic, count in records:
-                pairs = list(islice(rows, count)) if count is not None else self.pairs(realtime, sequence, number)
-                done += 1
-                yield Found(realtime, monotonic, sequence.hex(), number, pairs)
-        except BadDatabase:
-            yield from self.one_by_one(records[done:])
+    def of_row(self, row: Joined) -> Entry:
+        """An entry whose values are read again, one by one."""
+        return self.of_record((row[0], row[1], row[2], row[3]))
 
-    def one_by_one(self, records: list[Any]) -> Iterator[Found]:
-        for sequence, number, realtime, monotonic, _ in records:
+    def one_by_one(self, after: Id) -> Generator[Entry, None, Id | None]:
+        last = None
+        for record in self.tables.records(after, TOGETHER):
+            last = record[0], record[1]
             try:
-                pairs = self.pairs(realtime, sequence, number)
+                entry = self.of_record(record)
             except BadDatabase as bad:
                 self.tell(bad)
             else:
-                yield Found(realtime, monotonic, sequence.hex(), number, pairs)
+                yield entry
+        return last
 
-    def pairs(self, realtime: int, sequence: bytes, number: int) -> list[Pair]:
-        return self.tables.pairs((realtime, sequence, number))
+    def of_record(self, record: tuple[bytes, int, int, int]) -> Entry:
+        sequence, number, realtime, _ = record
+        pairs = self.tables.pairs((realtime, sequence, number))
+        if any(b"=" in name for name, _ in pairs):
+            raise BadDatabase(self.tables.name, "a name of a field has `=` in it", True)
+        return of_pairs(record, pairs)
 
-    def fill(self, entry: Found) -> None:
-        """Reads the fields of an entry again, which weren't kept."""
-        entry.pairs = self.pairs(entry.realtime, bytes.fromhex(entry.sequence), entry.number)
+    def found(self, entry: Entry) -> Found:
+        """An entry with its fields as they are stored, which weren't kept."""
+        key = entry.realtime, bytes.fromhex(entry.sequence), entry.number
+        return Found(entry.realtime, entry.monotonic, entry.sequence, entry.number, self.tables.pairs(key))

@@ -172,9 +172,7 @@ class Forwarder:
             raise Stopping
 
     def put_aside(self, refusals: list[Refusal], database: Database, entries: Entries) -> None:
-        for refusal in refusals:
-            entries.fill(refusal.entry)
-        self.aside.put(refusals, database)
+        self.aside.put([(entries.found(refusal.entry), refusal.reason) for refusal in refusals], database)
         first = refusals[0]
         self.report.tell(f"{len(refusals)} entries of {database.name} aren't taken, and are put aside in "
                          f"{self.aside.path}; the first is {first.entry.sequence} {first.entry.number}: {first.reason}",

@@ -3,9 +3,9 @@ import os
 from pathlib import Path
 
 from forwarding.engine import Prepared, Refusal, Unavailable
+from forwarding.entry import Entry
 from forwarding.lines import as_line
 from reading.databases import Database
-from reading.found import Found
 from reading.placing import Placing
 from shared import files
 
@@ -32,7 +32,7 @@ class JsonLines:
         files.remove(self.part)
         self.written = 0
 
-    def prepare(self, entry: Found, _placing: Placing) -> Prepared:
+    def prepare(self, entry: Entry, _placing: Placing) -> Prepared:
         return Prepared(entry, as_line(entry))
 
     def send(self, prepared: list[Prepared]) -> list[Refusal]:

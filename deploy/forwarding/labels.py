@@ -1,8 +1,8 @@
 """The labels of an entry, by which an engine keeps streams: its machine and its unit. There are few of each."""
+import json
 import re
 
-from forwarding.values import as_text
-from reading.found import Found
+from forwarding.entry import Entry, names_of
 
 LONGEST = 128
 NONE = "none"
@@ -16,11 +16,15 @@ def unit_label(unit: str) -> str:
     return NUMBER.sub("", INSTANCE.sub("@", unit))[:LONGEST]
 
 
-def labels(entry: Found) -> tuple[str, str]:
+def text_of(value: str) -> str:
+    """A text that JSON writes so between quotes."""
+    text: str = json.loads(f'"{value}"') if "\\" in value else value
+    return text
+
+
+def labels(entry: Entry) -> tuple[str, str]:
     """The machine and the unit."""
-    first: dict[bytes, bytes] = {}
-    for name, value in entry.pairs:
-        if name in (b"_HOSTNAME", b"_SYSTEMD_UNIT"):
-            first.setdefault(name, value)
-    machine = as_text(first.get(b"_HOSTNAME", b""))[:LONGEST]
-    return machine or NONE, unit_label(as_text(first.get(b"_SYSTEMD_UNIT", b""))) or NONE
+    names, values = names_of(entry.names), entry.values.split("\n")
+    machine, unit = (text_of(values[names.index(name)]) if name in names else ""
+                     for name in (b"_HOSTNAME", b"_SYSTEMD_UNIT"))
+    return machine[:LONGEST] or NONE, unit_label(unit) or NONE

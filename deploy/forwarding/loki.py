@@ -3,11 +3,11 @@ same time."""
 from collections import defaultdict
 
 from forwarding.engine import Prepared, Refusal, Whole
+from forwarding.entry import Entry
 from forwarding.labels import labels
 from forwarding.lines import as_line
 from forwarding.server import Server, look_at
 from forwarding.written import encoded
-from reading.found import Found
 from reading.placing import Placing
 
 KIND = "application/json"
@@ -20,7 +20,7 @@ class Loki(Whole):
     def __init__(self, server: Server) -> None:
         self.server = server
 
-    def prepare(self, entry: Found, placing: Placing) -> Prepared:
+    def prepare(self, entry: Entry, placing: Placing) -> Prepared:
         """Its time is in nanoseconds."""
         line = as_line(entry)[:-1]
         return Prepared(entry, line, labels(entry), placing.time(entry.realtime) * 1000)

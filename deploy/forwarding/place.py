@@ -4,10 +4,10 @@ from dataclasses import asdict, dataclass, field
 from pathlib import Path
 from typing import Any
 
+from forwarding.entry import Entry
 from reading import json_files
 from reading.databases import Database
 from reading.failure import Failure
-from reading.found import Found
 from reading.taken import Taken
 
 
@@ -23,7 +23,7 @@ class Within:
     def is_of(self, database: Database) -> bool:
         return (self.database, self.digest) == (database.name, database.digest)
 
-    def reach(self, entry: Found, count: int) -> None:
+    def reach(self, entry: Entry, count: int) -> None:
         """The entry is forwarded, and those before it: so many more."""
         self.sequence, self.number, self.entries = entry.sequence, entry.number, self.entries + count
 

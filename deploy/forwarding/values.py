@@ -20,13 +20,3 @@ def as_text(value: bytes) -> str:
     # of them would take a minute for a large value.
     escaped = text.replace("\\", BACKSLASH).encode("utf-8", errors="backslashreplace")
     return MARK + escaped.replace(b"\\udc", b"\\x").replace(b"\\ud800", b"\\\\").decode("utf-8")
-
-
-def texts_of(values: tuple[bytes, ...]) -> list[str]:
-    """Values as texts."""
-    if MARKED not in b"".join(values):
-        try:
-            return list(map(bytes.decode, values))
-        except UnicodeDecodeError:
-            pass
-    return list(map(as_text, values))

@@ -4,10 +4,10 @@ from urllib.parse import urlencode
 
 from forwarding.elasticsearch import moment
 from forwarding.engine import Prepared, Refusal, Refused, Whole
+from forwarding.entry import Entry, names_of
 from forwarding.labels import labels
 from forwarding.lines import as_line
 from forwarding.server import Server, look_at
-from reading.found import Found
 from reading.placing import Placing
 
 KIND = "application/stream+json"
@@ -24,9 +24,9 @@ class VictoriaLogs(Whole):
     def __init__(self, server: Server) -> None:
         self.server = server
 
-    def prepare(self, entry: Found, placing: Placing) -> Prepared:
+    def prepare(self, entry: Entry, placing: Placing) -> Prepared:
         machine, unit = labels(entry)
-        fields = len({name for name, _ in entry.pairs}) + OWN
+        fields = len(set(names_of(entry.names))) + OWN
         if fields > MOST_FIELDS:
             raise Refused(f"it has {fields} fields, and VictoriaLogs takes {MOST_FIELDS}")
         time = moment(placing.time(entry.realtime))

@@ -1,21 +1,18 @@
 """Entries as objects of JSON. Few entries differ in the names of their fields, so for each list of names it is found
 once how such an entry is written: a text with a place for each value."""
 import json
-from collections.abc import Callable
+from collections.abc import Callable, Sequence
 from dataclasses import dataclass
-from json.encoder import encode_basestring
+from operator import itemgetter
 
-from forwarding.values import texts_of
-from reading.found import Found
+from forwarding.entry import Entry, inner, names_of
 
-MOST_FORMS = 4096
+MOST_FORMS = 1024
+# The forms of longer names aren't kept: machines choose names.
+LONGEST_NAMES = 4096
 Names = tuple[bytes, ...]
+Values = Sequence[str]
 encoded = json.JSONEncoder(ensure_ascii=False, separators=(",", ":")).encode
-
-
-def inner(text: str) -> str:
-    """A text as it stands between quotes."""
-    return encode_basestring(text)[1:-1]
 
 
 def fixed(text: str) -> str:
@@ -25,33 +22,38 @@ def fixed(text: str) -> str:
 
 @dataclass(frozen=True)
 class Form:
-    """How entries of some names are written: a text with places, and which values are put there, in their order. The
+    """How entries of some names are written: a text with places, and what puts their values in order for these. The
     places of what isn't a field come first."""
     text: str
-    values: list[int]
+    pick: Callable[[list[str]], Values]
+
+
+def form(text: str, places: list[int]) -> Form:
+    """One that takes values in this order."""
+    return Form(text, list if places == list(range(len(places))) else itemgetter(*places))
 
 
 class Forms:
-    """The forms of an engine. `form` makes one for names, each of which is there once and has a value that isn't empty;
-    `otherwise` writes any other entry."""
+    """The forms of an engine. `make` makes one of names, and of which of them have an empty value."""
 
-    def __init__(self, form: Callable[[Names], Form]) -> None:
-        self.form = form
-        self.known: dict[Names, Form | None] = {}
+    def __init__(self, make: Callable[[Names, set[int]], Form]) -> None:
+        self.make = make
+        self.known: dict[bytes, Form] = {}
 
-    def write(self, entry: Found, own: tuple[object, ...], otherwise: Callable[[], str]) -> str:
+    def write(self, entry: Entry, own: tuple[object, ...]) -> str:
         """The object of an entry."""
-        if not entry.pairs:
-            return otherwise()
-        names, values = zip(*entry.pairs)
-        form = self.known[names] if names in self.known else self.learn(names)
-        if form is None or b"" in values:
-            return otherwise()
-        texts = [encode_basestring(text)[1:-1] for text in texts_of(values)]
-        return form.text % (*own, *[texts[place] for place in form.values])
+        values = entry.values.split("\n") if entry.count else []
+        if "" in values:
+            empty = {place for place, value in enumerate(values) if not value}
+            found = self.make(names_of(entry.names), empty)
+        else:
+            found = self.known.get(entry.names) or self.learn(entry.names)
+        return found.text % (*own, *found.pick(values))
 
-    def learn(self, names: Names) -> Form | None:
-        if len(self.known) >= MOST_FORMS:
-            self.known.clear()
-        self.known[names] = self.form(names) if len(set(names)) == len(names) else None
-        return self.known[names]
+    def learn(self, names: bytes) -> Form:
+        made = self.make(names_of(names), set())
+        if len(names) <= LONGEST_NAMES:
+            if len(self.known) >= MOST_FORMS:
+                self.known.clear()
+            self.known[names] = made
+        return made

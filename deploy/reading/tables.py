@@ -20,6 +20,12 @@ MOST_HELD = 200_000
 Key = tuple[int, bytes, int]
 Id = tuple[bytes, int]
 Pair = tuple[bytes, bytes]
+# An entry in one row: its key and times, how many fields it has, their names with `=` between them, which is in no
+# name, and their values with U+001F between them, which may be in one.
+Joined = tuple[bytes, int, int, int, int, bytes | None, bytes | None]
+JOINED = ("SELECT seqid, seqnum, realtime, monotonic, count(name), CAST(group_concat(name, '=') AS BLOB),"
+          " CAST(group_concat(value, char(31)) AS BLOB) FROM record LEFT JOIN field USING (seqid, seqnum)"
+          " WHERE (seqid, seqnum) > (?, ?) GROUP BY seqid, seqnum ORDER BY seqid, seqnum LIMIT ?")
 
 
 def connect(path: Path) -> sqlite3.Connection:
@@ -147,6 +153,16 @@ class Tables:
 
     def pairs(self, key: Key) -> list[Pair]:
         return self.fetch("SELECT name, value FROM field WHERE seqid = ? AND seqnum = ? ORDER BY pos", key[1:])
+
+    def joined(self, after: Id, most: int) -> Iterator[Joined]:
+        """The entries behind a key, in the order of keys, at most so many. The fields of each are in their order: the
+        index by which they are found has it."""
+        return self.rows(JOINED, [*after, most])
+
+    def records(self, after: Id, most: int) -> list[tuple[bytes, int, int, int]]:
+        """Keys and times of the same entries."""
+        return self.fetch("SELECT seqid, seqnum, realtime, monotonic FROM record WHERE (seqid, seqnum) > (?, ?)"
+                          " ORDER BY seqid, seqnum LIMIT ?", [*after, most])
 
     def values(self, key: Key, names: tuple[bytes, ...]) -> tuple[bytes | None, ...]:
         """The first value of each of these fields."""
