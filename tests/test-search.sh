@@ -22,7 +22,7 @@ rows() {
     rm -rf "${folder:?}/$1"
 }
 
-for name in search_rows span_rows showing_rows machine_rows guide_rows; do
+for name in search_rows span_rows boot_rows layout_rows showing_rows machine_rows guide_rows; do
     rows $name
 done
 if python3 -B tests/reading/systemd_is_there.py; then

@@ -1,30 +1,35 @@
 """Boots: which a call asks for, and their table. Each machine counts its own: 0 is its last one, 1 its first one.
 
-A boot's machine is told by _MACHINE_ID. Of one machine only as many databases are read, the newest first, as its boots
-need.
+A boot's machine is told by _MACHINE_ID. Boots are counted over all databases, whatever time is asked for; only as many
+are read, the newest first, as the boots that are asked for need.
 """
 import re
-from collections.abc import Callable, Iterator
+from collections.abc import Callable, Iterable
 from dataclasses import dataclass
 from typing import NamedTuple
 
 from reading.failure import Failure
+from reading.machines import Chosen
 from reading.printing import Style, full_moment
-from reading.spans import Span
 
 DESCRIPTOR = re.compile(r"([0-9a-fA-F]{32}|[0-9a-fA-F-]{36})?([+-]?\d+)?")
 HEAD = f"IDX {'BOOT ID':<32} {'FIRST ENTRY':<27} LAST ENTRY\n"
-# Databases that are read before it is looked whether that is enough.
-TOGETHER = 16
 
 
 class Part(NamedTuple):
-    """What one source has of a boot."""
+    """What some databases have of a boot: the sequence that has its entries, its machine and that one's name, and the
+    times of the first and last entry."""
+    sequence: bytes
     boot: bytes
-    first: int
-    last: int
     machine: bytes
     host: bytes
+    first: int
+    last: int
+
+    @property
+    def boot_of(self) -> tuple[bytes, ...]:
+        """Which boot it is, of which sequence."""
+        return self[:4]
 
 
 @dataclass
@@ -37,8 +42,6 @@ class Boot:
 
 
 Machines = dict[bytes, dict[bytes, Boot]]
-# Reads the boots of these sources, of each a list.
-Read = Callable[[list[int]], Iterator[list[Part]]]
 
 
 @dataclass(frozen=True)
@@ -69,20 +72,15 @@ def add(machines: Machines, parts: list[Part]) -> None:
         boot.first, boot.last = min(boot.first, part.first), max(boot.last, part.last)
 
 
-def read(spans: list[tuple[int, Span]], of: Read, look: Callable[[int, int], None], enough: Callable[[Machines, int],
-         bool]) -> Machines:
-    """The boots of sources that have these spans, the newest sources first, until there are enough."""
-    lasts: dict[int, int] = {}
-    for source, span in spans:
-        lasts[source] = max(lasts.get(source, 0), span.last)
-    order = sorted(lasts, key=lambda source: -lasts[source])
+def read(found: Iterable[tuple[int, list[Part]]], chosen: Chosen | None,
+         enough: Callable[[Machines, int], bool]) -> Machines:
+    """The boots of the machines that are asked for, until there are enough. Each of `found` has a time by which all
+    that is in it and in the ones behind it ends."""
     machines: Machines = {}
-    for at in range(0, len(order), TOGETHER):
-        if enough(machines, lasts[order[at]]):
+    for last, parts in found:
+        if enough(machines, last):
             break
-        for parts in of(order[at:at + TOGETHER]):
-            add(machines, parts)
-        look(min(at + TOGETHER, len(order)), len(order))
+        add(machines, [part for part in parts if chosen is None or chosen.has(part.sequence, part.host)])
     return machines
 
 
@@ -90,10 +88,15 @@ def in_order(boots: dict[bytes, Boot]) -> list[Boot]:
     return sorted(boots.values(), key=lambda boot: (boot.first, boot.last))
 
 
-def has_enough(wish: Wanted, of_one_machine: bool) -> Callable[[Machines, int], bool]:
-    """Whether the boots that were found are the ones that are asked for, if all others end before a time."""
+def has_enough(wish: Wanted | None, since: int, of_one_machine: bool) -> Callable[[Machines, int], bool]:
+    """Whether the boots that were found are the ones that are asked for, if all others end by a time; or the ones of
+    which something may be shown."""
     def enough(machines: Machines, before: int) -> bool:
-        if not of_one_machine or not wish.from_end or len(machines) != 1:
+        if wish is None or not wish.from_end:
+            return False
+        if not wish.offset and before < since:
+            return True
+        if not of_one_machine or len(machines) != 1:
             return False
         lasts = sorted((boot.last for boots in machines.values() for boot in boots.values()), reverse=True)
         return len(lasts) > -wish.offset and lasts[-wish.offset] > before
@@ -101,7 +104,8 @@ def has_enough(wish: Wanted, of_one_machine: bool) -> Callable[[Machines, int], 
 
 
 def chosen(machines: Machines, wish: Wanted) -> list[bytes]:
-    """The ids of the boots that are asked for: one of each machine that has it."""
+    """The ids of the boots that are asked for: one of each machine that has it. There may be no last one, if entries of
+    a time alone are asked for."""
     found = []
     for boots in machines.values():
         order = in_order(boots)
@@ -112,7 +116,7 @@ def chosen(machines: Machines, wish: Wanted) -> list[bytes]:
             wish.offset - 1 if wish.offset > 0 else len(ids) - 1 + wish.offset)
         if 0 <= at < len(ids):
             found.append(ids[at])
-    if not found:
+    if not found and (wish.id or wish.offset):
         said = wish.id.decode() + (f"{wish.offset:+}" if wish.offset or not wish.id else "")
         raise Failure(f"there is no boot {said} in what was collected; --list-boots shows those that are", 1)
     return found

@@ -66,10 +66,10 @@ def natural(name: str) -> list[tuple[int, str]]:
 
 class Mark(NamedTuple):
     """The digest beside a database: the database's name and folder, and what says whether the digest's file was
-    replaced since it was read."""
+    replaced since it was read: its inode and the time of its last change."""
     name: str
     folder: Path
-    identity: tuple[int, int]
+    identity: str
 
     @property
     def database(self) -> Path:
@@ -96,13 +96,14 @@ def listing(folder: Path) -> Listing:
     marks: list[Mark] = []
     with os.scandir(folder) as entries:
         for entry in entries:
-            if entry.name.endswith(".db") and entry.is_file(follow_symlinks=False):
-                found.add(entry.name[:-3])
-            elif entry.name.endswith(".db.sha256"):
+            name = entry.name
+            if name.endswith(".db.sha256"):
                 status = entry.stat(follow_symlinks=False)
-                marks.append(Mark(entry.name[:-10], folder, (status.st_ino, status.st_ctime_ns)))
-            elif entry.name.endswith(".db.refused"):
-                refused.add(entry.name[:-11])
+                marks.append(Mark(name[:-10], folder, f"{status.st_ino} {status.st_ctime_ns}"))
+            elif name.endswith(".db") and entry.is_file(follow_symlinks=False):
+                found.add(name[:-3])
+            elif name.endswith(".db.refused"):
+                refused.add(name[:-11])
     left = found - {mark.name for mark in marks}
     return Listing([mark for mark in marks if mark.name in found], left & refused, left - refused)
 

@@ -9,6 +9,7 @@ from collections.abc import Callable, Iterator
 from dataclasses import dataclass, replace
 from itertools import groupby, islice
 
+from reading.conditions import Need
 from reading.failure import BadDatabase
 from reading.found import Found
 from reading.reader import MOST_KEYS, Place, Reader, Values
@@ -58,6 +59,12 @@ class Finder:
         """The processes that search know the conditions as they are now."""
         self.workers = Workers(self.reader.work,
                                processors() if sum(span.count for _, span in self.spans) > FEW else 1)
+
+    def only(self, need: Need) -> None:
+        """Only what one of these ways holds for is found from now on."""
+        before = self.reader.conditions
+        self.reader.conditions = replace(before, needs=[*before.needs, need])
+        self.begin()
 
     @property
     def numbers(self) -> list[int]:

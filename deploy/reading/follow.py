@@ -149,8 +149,7 @@ class Follower:
     def show(self, name: str, connect: Callable[[], sqlite3.Connection], shown: set[Key]) -> Iterator[bytes]:
         """The entries of some tables beside those that were shown."""
         try:
-            (count, first, last), = tables.Tables(name, connect()).fetch(
-                "SELECT count(*), min(realtime), max(realtime) FROM record")
+            count, first, last = tables.Tables(name, connect()).extent()
         except BadDatabase as bad:
             self.tell(bad)
             return
@@ -193,7 +192,7 @@ def run(search: Search, finder: Finder, found: Sources) -> int:
                  "count-by", "histogram"):
         if words.has(name):
             raise wrong(f"--follow shows what comes, so --{name} can't stand beside it")
-    search.choose_boots(finder)
+    search.choose_boots(finder, found)
 
     def make(some: list[Source]) -> Reader:
         # A machine that was started anew has a sequence that isn't known yet.

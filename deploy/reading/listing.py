@@ -1,18 +1,24 @@
 """What a search prints in place of entries: fields, values, boots, machines, counts."""
+import contextlib
 import json
 from collections.abc import Iterator
+from pathlib import Path
 from typing import Any
 
-from reading import boots, counting, query, times
+from reading import boots, boots_kept, counting, query, times
 from reading.boots import Machines, Part, Wanted
 from reading.failure import BadDatabase
 from reading.finding import Finder
 from reading.machines import Owners
 from reading.options import Words, wrong
 from reading.printing import Style, full_moment
+from reading.sources import Sources
+from reading.tables import Tables
 from reading.text import blob, for_people
 
 HOUR = "1h"
+# No entry is later.
+LAST = (1 << 63) - 1
 
 
 def results(finder: Finder, tasks: list[tuple[Any, ...]]) -> Iterator[Any]:
@@ -43,19 +49,18 @@ def shown(people: bool, texts: set[bytes]) -> Iterator[bytes]:
         yield ((for_people(text) or blob(text)).encode() if people else text) + b"\n"
 
 
-def boots_of(finder: Finder, wish: Wanted | None, of_one_machine: bool) -> Machines:
+def boots_of(finder: Finder, found: Sources, folder: Path, wish: Wanted | None, of_one_machine: bool) -> Machines:
     """The boots of the machines that are asked for; not all, if a boot near the end is wished for."""
-    def read(numbers: list[int]) -> Iterator[list[Part]]:
-        return (found for found in finder.workers.map(("boots", number) for number in numbers)
-                if not told_bad(finder, found))
-    enough = boots.has_enough(wish, of_one_machine) if wish else lambda _machines, _before: False
-    return boots.read(finder.spans, read, finder.look, enough)
+    def read() -> Iterator[tuple[int, list[Part]]]:
+        for source in found.others:
+            try:
+                with contextlib.closing(Tables(source.name, source.connect())) as tables:
+                    yield LAST, boots_kept.parts_of(tables)
+            except BadDatabase as bad:
+                finder.tell(bad)
+        yield from boots_kept.Boots(folder, found.lines, finder.tell, finder.look).parts()
 
-
-def told_bad(finder: Finder, result: Any) -> bool:
-    if isinstance(result, BadDatabase):
-        finder.tell(result)
-    return isinstance(result, BadDatabase)
+    return boots.read(read(), finder.reader.conditions.machines, boots.has_enough(wish, finder.since, of_one_machine))
 
 
 def counts(finder: Finder, words: Words, style: Style, most: int | None) -> Iterator[bytes]:

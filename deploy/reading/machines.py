@@ -27,6 +27,10 @@ class Chosen:
     mine: frozenset[bytes]
     others: frozenset[bytes]
 
+    def has(self, sequence: bytes, host: bytes) -> bool:
+        """Whether an entry of this sequence, of a machine that calls itself so, is one of theirs."""
+        return sequence in self.mine or (sequence not in self.others and host in self.names)
+
     def split(self, sequences: Iterable[bytes]) -> tuple[list[bytes], list[bytes]]:
         """Of some sequences those of these machines, and those that belong to none that is known."""
         all_of_them = list(sequences)

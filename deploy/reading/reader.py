@@ -4,7 +4,6 @@ from dataclasses import dataclass
 from typing import Any
 
 from reading import bytes_in
-from reading.boots import Part
 from reading.conditions import Conditions
 from reading.failure import BadDatabase
 from reading.found import Form, Found
@@ -19,7 +18,6 @@ LARGE = 1 << 20
 # Where an entry is: its time, its sequence, its number, and the number of its source.
 Place = tuple[int, bytes, int, int]
 Values = tuple[bytes | None, ...]
-
 
 
 @dataclass
@@ -72,16 +70,6 @@ class Reader:
             if size > TOGETHER_BYTES:
                 break
         return made
-
-    def boots(self, number: int) -> list[Part]:
-        """The boots of the machines that are asked for, of which a source has something."""
-        tables, chosen = self.open.get(number), self.conditions.machines
-        found: list[Part] = []
-        for boot, sequence, first, last, one in tables.boots():
-            machine, host = tables.values((first, sequence, one), (b"_MACHINE_ID", b"_HOSTNAME"))
-            if chosen is None or sequence in chosen.mine or (sequence not in chosen.others and host in chosen.names):
-                found.append(Part(boot, first, last, machine or sequence, host or b"-"))
-        return found
 
     def names(self, number: int, first: int, last: int) -> set[bytes]:
         """The names of the fields of a source's entries."""

@@ -12,7 +12,7 @@ from collections.abc import Container, Iterable, Iterator
 from dataclasses import dataclass
 from pathlib import Path
 
-from reading import export
+from reading import export, layouts
 from reading.export import Entry
 from shared import files
 
@@ -20,15 +20,6 @@ FOLDER = "recent"
 NAME = re.compile(r"([0-9]{20})-([0-9]{20})-([0-9]+)\.upload")
 HEAD = 48
 STREAM = 1
-TABLES = """
-CREATE TABLE journal(one INTEGER PRIMARY KEY, version INTEGER NOT NULL) STRICT;
-INSERT INTO journal VALUES(1, 2);
-CREATE TABLE record(seqid BLOB NOT NULL, seqnum INTEGER NOT NULL, realtime INTEGER NOT NULL,
-  monotonic INTEGER NOT NULL, PRIMARY KEY(seqid, seqnum)) STRICT;
-CREATE TABLE field(seqid BLOB NOT NULL, seqnum INTEGER NOT NULL, pos INTEGER NOT NULL, name BLOB NOT NULL,
-  value BLOB NOT NULL, PRIMARY KEY(seqid, seqnum, pos)) STRICT;
-CREATE INDEX times ON record(realtime);
-"""
 
 
 @dataclass(frozen=True)
@@ -104,7 +95,7 @@ def of_bytes(data: bytes) -> sqlite3.Connection:
 def empty() -> sqlite3.Connection:
     """Tables without an entry."""
     connection = sqlite3.connect(":memory:")
-    connection.executescript(TABLES)
+    connection.executescript(layouts.IN_MEMORY)
     return connection
 
 
@@ -112,11 +103,9 @@ def put(connection: sqlite3.Connection, found: Iterable[Entry]) -> None:
     """Puts entries into the tables that aren't there."""
     for entry in found:
         key = bytes.fromhex(entry.sequence), entry.number
-        done = connection.execute("INSERT OR IGNORE INTO record VALUES(?, ?, ?, ?)",
-                                  [*key, entry.realtime, entry.monotonic])
+        done = connection.execute(layouts.PUT_RECORD, [*key, entry.realtime, entry.monotonic])
         if done.rowcount:
-            connection.executemany("INSERT INTO field VALUES(?, ?, ?, ?, ?)",
-                                   ((*key, at, *pair) for at, pair in enumerate(pairs_of(entry))))
+            connection.executemany(layouts.PUT_FIELD, ((*key, at, *pair) for at, pair in enumerate(pairs_of(entry))))
 
 
 def pairs_of(entry: Entry) -> list[tuple[bytes, bytes]]:

@@ -4,7 +4,6 @@ import signal
 import sys
 import time
 from collections.abc import Iterator
-from dataclasses import replace
 from itertools import islice
 from pathlib import Path
 
@@ -16,9 +15,11 @@ from reading.machines import Owners
 from reading.options import Words, wrong
 from reading.printing import Style
 from reading.reader import Place, Reader
+from reading.sources import Sources
 from reading.terminal import Output, wants_colours
 
 LINES, LINES_OF_PAGER = 10, 1000
+NO_BOOT = b"-"
 
 
 class Search:
@@ -40,13 +41,14 @@ class Search:
             self.bad.add(bad.name)
             self.tell(f"{bad}; it is passed over", NEEDS_A_LOOK)
 
-    def sources(self, conditions: Conditions) -> sources.Sources:
+    def sources(self, conditions: Conditions) -> Sources:
         """What to look at."""
         files = self.words.all("database")
         if files:
             return sources.of_files([Path(file) for file in files], self.tell_bad)
         found = sources.of_folder(self.folder, self.tell_bad, lambda number, of: self.output.look(
-            number, of, "databases that weren't looked at before"), conditions.since, conditions.until)
+            number, of, "databases that weren't looked at before"), conditions.since, conditions.until,
+            any(map(self.words.has, ("boot", "dmesg", "list-boots"))))
         if found.unfinished and not self.words.has("quiet"):
             self.tell(f"{found.unfinished} databases aren't finished, and aren't looked at")
         return found
@@ -88,14 +90,15 @@ class Search:
         finder = Finder(reader, self.tell_bad, lambda number, of: self.output.look(number, of, "parts of databases"))
         if self.words.has("follow"):
             return follow.run(self, finder, found)
-        for piece in self.pieces(finder, owners, most, style):
+        for piece in self.pieces(finder, found, owners, most, style):
             self.output.write(piece)
         if not self.output.has_written and not self.words.has("quiet"):
             self.say_nothing(len(finder.numbers), found.total)
         self.output.close()
         return self.status
 
-    def pieces(self, finder: Finder, owners: Owners, most: int | None, style: Style) -> Iterator[bytes]:
+    def pieces(self, finder: Finder, where: Sources, owners: Owners, most: int | None,
+               style: Style) -> Iterator[bytes]:
         """What is printed."""
         words = self.words
         if words.has("fields"):
@@ -105,24 +108,22 @@ class Search:
         if words.has("list-machines"):
             return listing.machine_lines(finder, owners, style, (words.last("output") or "").startswith("json"))
         if words.has("list-boots"):
-            found = listing.boots_of(finder, None, False)
+            found = listing.boots_of(finder, where, self.folder, None, False)
             return iter([boots.table(found, style, words.has("quiet")).encode()])
-        self.choose_boots(finder)
+        self.choose_boots(finder, where)
         if words.has("count-by") or words.has("histogram"):
             return listing.counts(finder, words, style, most)
         return finder.show(self.places(finder, most))
 
-    def choose_boots(self, finder: Finder) -> None:
+    def choose_boots(self, finder: Finder, where: Sources) -> None:
         """Only entries of the boots that are asked for; --dmesg asks for the last ones."""
         said = self.words.last("boot")
         wish = boots.wanted("0" if said is None else said) if said is not None or self.words.has("dmesg") else None
         if wish is None:
             return
         ids = [wish.id] if wish.id and not wish.offset else boots.chosen(
-            listing.boots_of(finder, wish, len(set(self.words.all("machine"))) == 1), wish)
-        before = finder.reader.conditions
-        finder.reader.conditions = replace(before, needs=[*before.needs, [[Test(b"_BOOT_ID", tuple(ids))]]])
-        finder.begin()
+            listing.boots_of(finder, where, self.folder, wish, len(set(self.words.all("machine"))) == 1), wish)
+        finder.only([[Test(b"_BOOT_ID", tuple(ids) or (NO_BOOT,))]])
 
     def places(self, finder: Finder, most: int | None) -> Iterator[Place]:
         """The entries in the order in which they are shown. With --grep a number of them begins at the end."""

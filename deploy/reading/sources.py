@@ -9,10 +9,11 @@ from pathlib import Path
 from reading import databases, recent, spans, tables
 from reading.failure import BadDatabase, Failure
 from reading.recent import Upload
-from reading.spans import Spans
+from reading.spans import Line, Spans
 from reading.tables import Tables
 
 MOST_OPEN = 64
+LAST = (1 << 63) - 1
 Tell = Callable[[BadDatabase], None]
 Told = Callable[[int, int], None]
 
@@ -34,12 +35,19 @@ def of_database(name: str, path: Path, known: Spans) -> Source:
 @dataclass
 class Sources:
     """What has something of a time; how many sources there are in all, how many databases aren't finished and have
-    nothing that could be read, the names of the finished ones, and the uploads that were stored in others."""
+    nothing that could be read, the names of the finished ones, what is known of those that can be read, and the uploads
+    that were stored in others."""
     sources: list[Source]
     total: int = 0
     unfinished: int = 0
     finished: set[str] = field(default_factory=set)
+    lines: dict[str, Line] = field(default_factory=dict)
     uploads: list[Upload] = field(default_factory=list)
+
+    @property
+    def others(self) -> list[Source]:
+        """Those that aren't finished databases of the folder."""
+        return [source for source in self.sources if source.name not in self.lines]
 
 
 def of_uploads(uploads: list[Upload], finished: set[str], since: int, until: int) -> list[Source]:
@@ -53,9 +61,10 @@ def of_uploads(uploads: list[Upload], finished: set[str], since: int, until: int
     return found
 
 
-def of_folder(folder: Path, tell: Tell, told: Told, since: int = 0, until: int = (1 << 63) - 1) -> Sources:
-    """All that a collector's folder has, and of what isn't in finished databases that which may be of a time. `tell`
-    hears of databases that can't be read, `told` how many were opened that weren't known."""
+def of_folder(folder: Path, tell: Tell, told: Told, since: int = 0, until: int = LAST,
+              every_upload: bool = False) -> Sources:
+    """All that a collector's folder has that may be of a time; of what isn't in finished databases, if that is asked
+    for, everything. `tell` hears of databases that can't be read, `told` how many were opened that weren't known."""
     below = folder / "databases"
     if not below.is_dir():
         raise Failure(f"{below} isn't there, or can't be read")
@@ -66,12 +75,11 @@ def of_folder(folder: Path, tell: Tell, told: Told, since: int = 0, until: int =
     for name in sorted(listing.aside, key=databases.natural):
         tell(BadDatabase(name, "it was set aside", True))
     known = spans.of_marks(folder / spans.NAME, listing.marks, tell, told)
-    near = [mark for mark in listing.marks if any(
-        span.first <= until and span.last >= since for span in known.get(mark.name, ()))]
-    found = [of_database(mark.name, mark.database, known[mark.name]) for mark in sorted(near)]
-    others = of_uploads(uploads, finished, since, until)
+    near = sorted(name for name, line in known.items() if line.is_of(since, until))
+    found = [of_database(name, below / f"{name}.db", known[name].spans) for name in near]
+    others = of_uploads(uploads, finished, *((0, LAST) if every_upload else (since, until)))
     unread = listing.unfinished - {upload.database for upload in uploads}
-    return Sources(found + others, len(known) + len(others), len(unread), finished, uploads)
+    return Sources(found + others, len(known) + len(others), len(unread), finished, known, uploads)
 
 
 def of_files(paths: list[Path], tell: Tell) -> Sources:

@@ -1,6 +1,6 @@
 """When the entries of each finished database were written: FOLDER/spans, a line for each of them.
 
-    spans 1
+    spans 2
     DIGEST INODE CTIME NAME COUNT:FIRST:LAST ..
     end DIGEST-OF-THE-LINES
 
@@ -10,23 +10,22 @@ times without an entry lie has a span for each part. The file is a cache: nobody
 it, it is made anew.
 """
 import contextlib
-import fcntl
-import hashlib
 import heapq
-import os
+import re
 from collections.abc import Callable, Iterator
 from pathlib import Path
 from typing import NamedTuple
 from urllib.parse import quote, unquote
 
-from reading import databases
+from reading import databases, kept
 from reading.databases import Mark
 from reading.failure import BadDatabase
 from reading.tables import Tables, connect
 from reading.workers import Workers, processors
 
-HEAD = "spans 1"
+HEAD = "spans 2"
 NAME = "spans"
+LINE = re.compile(r"^(\w+) (\d+ \d+) (\S+) ([\d: ]*)$", re.MULTILINE)
 # Entries that are further apart are in spans of their own, but only so many.
 GAP, MOST_SPANS = 3_600_000_000, 8
 # Below so many databases other processes cost more than they bring.
@@ -44,10 +43,19 @@ Spans = tuple[Span, ...]
 
 
 class Line(NamedTuple):
-    """What is known of one database."""
+    """What is known of one database. There are very many lines, so what one says stays a text until it is needed."""
     digest: str
-    identity: tuple[int, int]
-    spans: Spans
+    identity: str
+    text: str
+
+    @property
+    def spans(self) -> Spans:
+        return tuple(map(span_of, self.text.split()))
+
+    def is_of(self, since: int, until: int) -> bool:
+        """Whether there may be entries between two times."""
+        return any(int(first) <= until and int(last) >= since
+                   for _, first, last in (span.split(":") for span in self.text.split()))
 
 
 def spans_of(times: Iterator[int]) -> Spans:
@@ -78,21 +86,13 @@ def look(path: Path) -> Spans | BadDatabase:
 
 
 def known(file: Path) -> dict[str, Line]:
-    """What the file says, by the databases' names; nothing if it isn't whole."""
-    try:
-        text = file.read_text(encoding="ascii")
-    except (OSError, UnicodeDecodeError):
-        return {}
-    lines, _, end = text.rpartition("end ")
-    if end != hashlib.sha256(lines.encode("ascii")).hexdigest() + "\n":
-        return {}
-    head, *rest = lines.splitlines()
-    return dict(map(line_of, rest)) if head == HEAD else {}
+    """What the file says, by the databases' names."""
+    return {unquote(name) if "%" in name else name: Line(digest, identity, spans)
+            for digest, identity, name, spans in LINE.findall(kept.read(file, HEAD))}
 
 
-def line_of(text: str) -> tuple[str, Line]:
-    digest, inode, ctime, name, *spans = text.split(" ")
-    return unquote(name) if "%" in name else name, Line(digest, (int(inode), int(ctime)), tuple(map(span_of, spans)))
+def text_of(spans: Spans) -> str:
+    return " ".join(f"{span.count}:{span.first}:{span.last}" for span in spans)
 
 
 def span_of(text: str) -> Span:
@@ -100,54 +100,28 @@ def span_of(text: str) -> Span:
     return Span(int(count), int(first), int(last))
 
 
-def text_of(lines: dict[str, Line]) -> bytes:
-    texts = [HEAD]
-    for name, line in sorted(lines.items()):
-        spans = [f"{span.count}:{span.first}:{span.last}" for span in line.spans]
-        texts.append(" ".join([line.digest, *map(str, line.identity), quote(name, safe=""), *spans]))
-    text = "".join(line + "\n" for line in texts).encode("ascii")
-    return text + f"end {hashlib.sha256(text).hexdigest()}\n".encode("ascii")
-
-
-def keep(file: Path, lines: dict[str, Line]) -> None:
-    """Replaces the file, if this process may write there and no other one does at the moment."""
-    with contextlib.suppress(OSError):
-        folder = os.open(file.parent, os.O_RDONLY | os.O_DIRECTORY)
-        try:
-            fcntl.flock(folder, fcntl.LOCK_EX | fcntl.LOCK_NB)
-            write(file, lines)
-        finally:
-            os.close(folder)
-
-
-def write(file: Path, lines: dict[str, Line]) -> None:
-    """It belongs to whom the folder belongs, whoever searches."""
-    new = file.with_name(file.name + ".new")
-    new.unlink(missing_ok=True)
-    with open(os.open(new, os.O_WRONLY | os.O_CREAT | os.O_EXCL | os.O_NOFOLLOW, 0o600), "wb") as opened:
-        opened.write(text_of(lines))
-        owner = os.stat(file.parent)
-        if os.geteuid() == 0:
-            os.fchown(opened.fileno(), owner.st_uid, owner.st_gid)
-    os.replace(new, file)
+def texts_of(lines: dict[str, Line]) -> list[str]:
+    """The lines of the file."""
+    return [f"{line.digest} {line.identity} {quote(name, safe='')} {line.text}" for name, line in sorted(lines.items())]
 
 
 def of_marks(file: Path, marks: list[Mark], tell: Callable[[BadDatabase], None],
-             told: Callable[[int, int], None]) -> dict[str, Spans]:
-    """The spans of all databases that can be read. What isn't known is read from them, and kept."""
+             told: Callable[[int, int], None]) -> dict[str, Line]:
+    """What is known of all databases that can be read. What isn't known is read from them, and kept."""
     before = known(file)
     lines: dict[str, Line] = {}
     unknown: list[tuple[Mark, str]] = []
     for mark in marks:
-        line = before.get(mark.name)
+        name = mark.name
+        line = before.get(name)
         if line and line.identity == mark.identity:
-            lines[mark.name] = line
+            lines[name] = line
             continue
         digest = databases.digest(mark.path)
         if digest is None:
-            tell(BadDatabase(mark.name, "its .sha256 can't be read", True))
+            tell(BadDatabase(name, "its .sha256 can't be read", True))
         elif line and line.digest == digest:
-            lines[mark.name] = Line(digest, mark.identity, line.spans)
+            lines[name] = Line(digest, mark.identity, line.text)
         else:
             unknown.append((mark, digest))
     paths = [mark.database for mark, _ in unknown]
@@ -157,7 +131,7 @@ def of_marks(file: Path, marks: list[Mark], tell: Callable[[BadDatabase], None],
         if isinstance(spans, BadDatabase):
             tell(spans)
         else:
-            lines[mark.name] = Line(digest, mark.identity, spans)
+            lines[mark.name] = Line(digest, mark.identity, text_of(spans))
     if lines != before:
-        keep(file, lines)
-    return {name: line.spans for name, line in lines.items()}
+        kept.keep(file, HEAD, texts_of(lines))
+    return lines

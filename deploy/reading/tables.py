@@ -9,6 +9,7 @@ from urllib.parse import quote
 
 from reading.conditions import Conditions
 from reading.failure import BadDatabase
+from reading.layouts import KEY, LAYOUTS
 from shared import files
 
 # One entry is looked up in the time in which some of them are read.
@@ -18,7 +19,8 @@ LOG_WITH_A_PAGE = 56
 # More of what is found of one source isn't held.
 MOST_HELD = 200_000
 Key = tuple[int, bytes, int]
-Id = tuple[bytes, int]
+# What its tables know an entry by.
+Id = tuple[Any, ...]
 Pair = tuple[bytes, bytes]
 # An entry in one row: its key and times, how many fields it has, their names with `=` between them, which is in no
 # name, and their values with U+001F between them, which may be in one.
@@ -56,7 +58,7 @@ class Tables:
 
     def __init__(self, name: str, connection: sqlite3.Connection) -> None:
         self.name, self.connection = name, connection
-        self.check()
+        self.layout = LAYOUTS[self.version()]
 
     def rows(self, query: str, values: Iterable[object]) -> Iterator[Any]:
         """The rows of a query, one after the other."""
@@ -69,12 +71,18 @@ class Tables:
         """All rows of a query."""
         return list(self.rows(query, values))
 
-    def check(self) -> None:
+    def version(self) -> int:
         versions = self.fetch("SELECT version FROM journal")
         if versions == [(1,)]:
             raise BadDatabase(self.name, "its tables are of version 1: see `journal-collect migrate`", True)
-        if versions != [(2,)]:
-            raise BadDatabase(self.name, "it has no journal of version 2", True)
+        if len(versions) != 1 or versions[0][0] not in LAYOUTS:
+            raise BadDatabase(self.name, "it has no journal of a version that is known", True)
+        return int(versions[0][0])
+
+    def extent(self) -> tuple[int, int, int]:
+        """How many entries there are, and the times between which they are."""
+        (count, first, last), = self.fetch("SELECT count(*), min(realtime), max(realtime) FROM record")
+        return count, first or 0, last or 0
 
     def times(self) -> Iterator[int]:
         """The times of all entries, in order."""
@@ -83,8 +91,9 @@ class Tables:
     def sequences(self) -> list[bytes]:
         """The ids of all sequences."""
         return [sequence for sequence, in self.fetch(
-            "WITH RECURSIVE next(id) AS (SELECT min(seqid) FROM record UNION ALL SELECT (SELECT min(seqid) FROM record "
-            "WHERE seqid > id) FROM next WHERE id IS NOT NULL) SELECT id FROM next WHERE id IS NOT NULL")]
+            "WITH RECURSIVE sequence(one) AS (SELECT min(seqid) FROM record UNION ALL SELECT (SELECT min(seqid) FROM "
+            "record WHERE seqid > one) FROM sequence WHERE one IS NOT NULL) SELECT one FROM sequence WHERE one IS NOT "
+            "NULL")]
 
     def keys(self, since: int, until: int, conditions: Conditions, most: int) -> list[Key]:
         """The times and keys of entries in a span that fit, at most so many (-1: all), in no order."""
@@ -105,11 +114,11 @@ class Tables:
         (total,), = self.fetch("SELECT count(*) FROM record")
         (count,), = self.fetch(f"SELECT count(*) FROM record WHERE {among.text}", among.values)
         if count * FEW < total:
-            found = self.each(self.rows(f"SELECT seqid, seqnum FROM record WHERE {among.text}", among.values),
-                              conditions)
+            found = self.each(self.rows(f"SELECT {self.layout.id_of_record} FROM record WHERE {among.text}",
+                                        among.values), conditions)
         else:
             found = self.all(conditions, total // FEW)
-        query = f"SELECT realtime, seqid, seqnum FROM record WHERE seqid = ? AND seqnum = ? AND {among.text}"
+        query = f"SELECT realtime, seqid, seqnum FROM {self.layout.record} AND {among.text}"
         times = (key for id_of in found for key in self.rows(query, [*id_of, *among.values]))
         return list(itertools.islice(times, None if most < 0 else most))
 
@@ -117,8 +126,8 @@ class Tables:
         """Those of some entries that fit. Each is looked up."""
         self.prepare(conditions)
         row, where, values, more = conditions.sql
-        query = f"SELECT {row} FROM field WHERE ({where}) AND seqid = ? AND seqnum = ?"
-        return (key for key in keys if conditions.holds(conditions.mask(self.rows(query, [*values, *more, *key]))))
+        query = f"SELECT {row} FROM {self.layout.fields_of_id} AND ({where})"
+        return (key for key in keys if conditions.holds(conditions.mask(self.rows(query, [*values, *key, *more]))))
 
     def all(self, conditions: Conditions, few: int) -> Iterator[Id]:
         """All entries that fit. All fields are read for the first tests; if few entries fit these, and there is more to
@@ -136,9 +145,10 @@ class Tables:
         together, as they were stored."""
         self.prepare(conditions)
         row, where, values, more = conditions.sql
-        rows = self.rows(f"SELECT seqid, seqnum, {row} FROM field WHERE {where} ORDER BY rowid", [*values, *more])
-        for key, some in itertools.groupby(rows, key=lambda row: row[:2]):
-            yield key, conditions.mask(row[2:] for row in some)
+        rows = self.rows(f"SELECT {row}, {self.layout.id_of_field} FROM field WHERE {where} ORDER BY rowid",
+                         [*values, *more])
+        for key, some in itertools.groupby(rows, key=lambda row: row[3:]):
+            yield key, conditions.mask(row[:3] for row in some)
 
     def prepare(self, conditions: Conditions) -> None:
         """SQL asks for patterns and expressions by their numbers."""
@@ -146,13 +156,14 @@ class Tables:
         self.connection.create_function("fits", 2, lambda number, value: patterns[number - 1].fits(value))
 
     def monotonic(self, key: Key) -> int:
-        rows = self.fetch("SELECT monotonic FROM record WHERE seqid = ? AND seqnum = ?", key[1:])
+        rows = self.fetch(f"SELECT monotonic FROM record WHERE {KEY}", key[1:])
         if not rows:
             raise BadDatabase(self.name, "its index and its rows differ", True)
         return rows[0][0]
 
     def pairs(self, key: Key) -> list[Pair]:
-        return self.fetch("SELECT name, value FROM field WHERE seqid = ? AND seqnum = ? ORDER BY pos", key[1:])
+        return self.fetch(f"SELECT name, value FROM {self.layout.fields_of_key} ORDER BY {self.layout.position}",
+                          key[1:])
 
     def joined(self, after: Id, most: int) -> Iterator[Joined]:
         """The entries behind a key, in the order of keys, at most so many. The fields of each are in their order: the
@@ -167,15 +178,15 @@ class Tables:
     def values(self, key: Key, names: tuple[bytes, ...]) -> tuple[bytes | None, ...]:
         """The first value of each of these fields."""
         wanted = ", ".join("?" * len(names))
-        rows = self.fetch(f"SELECT name, value FROM field WHERE seqid = ? AND seqnum = ? AND name IN ({wanted}) "
-                          "ORDER BY pos DESC", [*key[1:], *names])
+        rows = self.fetch(f"SELECT name, value FROM {self.layout.fields_of_key} AND name IN ({wanted}) "
+                          f"ORDER BY {self.layout.position} DESC", [*key[1:], *names])
         found: dict[bytes, bytes] = dict(rows)
         return tuple(map(found.get, names))
 
     def boots(self) -> list[tuple[bytes, bytes, int, int, int]]:
         """Each boot of each sequence, with the times of its first and last entry, and the number of one."""
-        return self.fetch("SELECT value, seqid, min(realtime), max(realtime), seqnum FROM field JOIN record USING "
-                          "(seqid, seqnum) WHERE name = ? GROUP BY value, seqid", [b"_BOOT_ID"])
+        return self.fetch("SELECT value, seqid, min(realtime), max(realtime), seqnum FROM "
+                          f"{self.layout.joined} WHERE name = ? GROUP BY value, seqid", [b"_BOOT_ID"])
 
     def lasts(self) -> list[tuple[bytes, int, int]]:
         """Of each sequence the time of its last entry, and the number of that."""
@@ -184,19 +195,18 @@ class Tables:
     def names(self, since: int, until: int) -> list[bytes]:
         """The names of the fields of entries in a span."""
         return [name for name, in self.fetch(
-            "SELECT DISTINCT name FROM field JOIN record USING (seqid, seqnum) WHERE realtime BETWEEN ? AND ?",
-            [since, until])]
+            f"SELECT DISTINCT name FROM {self.layout.joined} WHERE realtime BETWEEN ? AND ?", [since, until])]
 
     def all_values(self, key: Key, name: bytes) -> list[bytes]:
         """All values of a field of an entry."""
-        return [value for value, in self.fetch("SELECT value FROM field WHERE seqid = ? AND seqnum = ? AND name = ?",
+        return [value for value, in self.fetch(f"SELECT value FROM {self.layout.fields_of_key} AND name = ?",
                                                [*key[1:], name])]
 
     def values_between(self, since: int, until: int, name: bytes) -> list[bytes]:
         """The values of a field in a span."""
         return [value for value, in self.fetch(
-            "SELECT DISTINCT value FROM field JOIN record USING (seqid, seqnum) WHERE name = ? AND realtime BETWEEN ? "
-            "AND ?", [name, since, until])]
+            f"SELECT DISTINCT value FROM {self.layout.joined} WHERE name = ? AND realtime BETWEEN ? AND ?",
+            [name, since, until])]
 
     def close(self) -> None:
         self.connection.close()

@@ -1,6 +1,9 @@
 """Collected databases for the rows of search."""
 import os
+import sqlite3
+from collections.abc import Callable
 from pathlib import Path
+from unittest import mock
 
 from collected import finish, run
 from programs import Done, call, load
@@ -71,3 +74,21 @@ class Searched:
         done = self.find("--output=export", *words, zone=zone)
         found = [line[8:] for line in done.output.split("\n") if line[:8] == "MESSAGE="]
         return found + done.errors.splitlines() + [f"status {done.status}"] * (done.status != 0)
+
+
+def opened(searched: Searched, *words: str) -> tuple[list[str], list[str]]:
+    """What is found, and the names of the databases that were opened for it."""
+    from reading import tables  # pylint: disable=import-outside-toplevel,import-error
+    log = searched.folder / "opened"
+    log.write_text("", encoding="utf-8")
+    connect: Callable[[Path], sqlite3.Connection] = tables.connect
+
+    def logged(path: Path) -> sqlite3.Connection:
+        with log.open("a", encoding="utf-8") as file:
+            file.write(repr(path.stem) + "\n")
+        return connect(path)
+
+    with mock.patch.object(tables, "connect", logged), mock.patch("reading.spans.connect", logged), \
+            mock.patch("reading.boots_kept.connect", logged):
+        found = searched.messages(*words)
+    return found, sorted(set(log.read_text(encoding="utf-8").splitlines()))

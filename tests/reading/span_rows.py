@@ -6,15 +6,13 @@ import itertools
 import os
 import random
 import shutil
-import sqlite3
 import sys
-from collections.abc import Callable
 from pathlib import Path
 from unittest import mock
 
 from collected import finish
 from rows import Row, Rows
-from searched import FIRST, SECOND, THIRD, TIME, Searched, binary, entry
+from searched import FIRST, SECOND, THIRD, TIME, Searched, binary, entry, opened
 
 HOUR = 3_600_000_000
 NAMES = ("a", "b c\n%", "2025-12-01T12-20")
@@ -38,23 +36,6 @@ class Place:
 
 
 ROWS: Rows[Place] = Rows()
-
-
-def opened(searched: Searched, *words: str) -> tuple[list[str], list[str]]:
-    """What is found, and the names of the databases that were opened for it."""
-    from reading import tables  # pylint: disable=import-outside-toplevel,import-error
-    log = searched.folder / "opened"
-    log.write_text("", encoding="utf-8")
-    connect: Callable[[Path], sqlite3.Connection] = tables.connect
-
-    def logged(path: Path) -> sqlite3.Connection:
-        with log.open("a", encoding="utf-8") as file:
-            file.write(repr(path.stem) + "\n")
-        return connect(path)
-
-    with mock.patch.object(tables, "connect", logged), mock.patch("reading.spans.connect", logged):
-        found = searched.messages(*words)
-    return found, sorted(set(log.read_text(encoding="utf-8").splitlines()))
 
 
 @ROWS.row
@@ -116,8 +97,8 @@ def where_nothing_can_be_kept(row: Row, place: Place) -> None:
     spans.mkdir()
     row.same("a folder", len(searched.messages()), 9)
     spans.rmdir()
-    from reading import spans as module  # pylint: disable=import-outside-toplevel,import-error
-    with mock.patch.object(module.fcntl, "flock", side_effect=BlockingIOError):
+    from reading import kept  # pylint: disable=import-outside-toplevel,import-error
+    with mock.patch.object(kept.fcntl, "flock", side_effect=BlockingIOError):
         row.same("another search", len(searched.messages()), 9)
     row.same("nothing is kept", spans.exists(), False)
 

@@ -1,0 +1,43 @@
+"""What the tables of a journal are like: all SQL that depends on their version is made of these texts. Another version
+is one more `Layout` in LAYOUTS.
+
+What all versions have: `journal(one, version)`, `record` with seqid, seqnum, realtime and monotonic of each entry, and
+`field` with name and value of each field, in the order in which entries were stored.
+"""
+from dataclasses import dataclass
+
+
+@dataclass(frozen=True)
+class Layout:
+    """The tables of one version. An entry has an id in them: some columns, with which SQL is quickest."""
+    # The id, as columns of `record` and as an expression over rows of `field`.
+    id_of_record: str
+    id_of_field: str
+    # The row of an entry with this id.
+    record: str
+    # The rows of the fields of the entry with this id, and of that with this seqid and seqnum; their order.
+    fields_of_id: str
+    fields_of_key: str
+    position: str
+    # Each row of `field` beside that of its entry.
+    joined: str
+
+
+KEY = "seqid = ? AND seqnum = ?"
+SECOND = Layout(
+    id_of_record="seqid, seqnum", id_of_field="seqid, seqnum", record=f"record WHERE {KEY}",
+    fields_of_id=f"field WHERE {KEY}", fields_of_key=f"field WHERE {KEY}", position="pos",
+    joined="field JOIN record USING (seqid, seqnum)")
+LAYOUTS = {2: SECOND}
+# Tables of version 2, which can be asked for times quickly.
+IN_MEMORY = """
+CREATE TABLE journal(one INTEGER PRIMARY KEY, version INTEGER NOT NULL) STRICT;
+INSERT INTO journal VALUES(1, 2);
+CREATE TABLE record(seqid BLOB NOT NULL, seqnum INTEGER NOT NULL, realtime INTEGER NOT NULL,
+  monotonic INTEGER NOT NULL, PRIMARY KEY(seqid, seqnum)) STRICT;
+CREATE TABLE field(seqid BLOB NOT NULL, seqnum INTEGER NOT NULL, pos INTEGER NOT NULL, name BLOB NOT NULL,
+  value BLOB NOT NULL, PRIMARY KEY(seqid, seqnum, pos)) STRICT;
+CREATE INDEX times ON record(realtime);
+"""
+# Puts an entry there, if it isn't there, and a field of it.
+PUT_RECORD, PUT_FIELD = "INSERT OR IGNORE INTO record VALUES(?, ?, ?, ?)", "INSERT INTO field VALUES(?, ?, ?, ?, ?)"
