@@ -1,63 +1,103 @@
 #!/usr/bin/env python3
 """How long it takes from an entry on a machine to its line on the collector.
 
-usage: python3 bench/freshness.py PROGRAM [--markers N] [--every S] [--follow | --timer S] [--wait S]
+usage: python3 bench/freshness.py PROGRAM [--markers N] [--every S] [--follow] [--wait S] [--stand-ins]
 
-It installs deploy/ below a temporary folder, and runs a machine, a collector and `search --follow` there, over the
-tests' stand-in for ssh. The machine's journal is that of this computer, to which `logger` writes the markers, if
-journald runs here, and else the tests' stand-in for it. With --follow `send --follow` stays; otherwise `send` runs S
-seconds after it has ended (--timer, 70 by default, as the timer does on average). Each marker is an entry with the time
-at which it was written.
+It installs deploy/ below a temporary folder, and runs a machine, a collector and `search --follow` there. The machine's
+journal is that of a journald of its own, in a namespace, and the machine reaches the collector by an sshd of its own
+with a key: that needs root, systemd's journald and sshd. With --stand-ins both are the tests' stand-ins. With --follow
+`send --follow` stays, and otherwise `send` runs as the package's timer has it: between 60 and 80 s after it has ended.
+Each marker is an entry with the time at which it was written.
 """
 from __future__ import annotations
 
 import argparse
+import contextlib
 import os
 import random
 import re
+import shutil
+import socket
 import subprocess
 import sys
 import threading
 import time
+from collections.abc import Callable, Iterator
 from pathlib import Path
+from typing import Any
+
+from sshd import Sshd
 
 ROOT = Path(__file__).resolve().parent.parent
-DEPLOY = ROOT / "tests/deploy"
+JOURNALD = "/lib/systemd/systemd-journald"
 MARKER = re.compile(r"freshness (\d+) at (\d+\.\d+)")
+SSH = """#!/bin/sh
+exec /usr/bin/ssh -F /dev/null -p {port} "$@"
+"""
+Write = Callable[[str], object]
 
 
-def journald_runs() -> bool:
-    return Path("/run/systemd/journal/socket").exists() and subprocess.run(
-        ["logger", "freshness begins"], check=False).returncode == 0
+@contextlib.contextmanager
+def journald(namespace: str) -> Iterator[Write]:
+    """A journald of its own; what writes an entry to it."""
+    address = f"/run/systemd/journal.{namespace}/socket"
+    with subprocess.Popen([JOURNALD, namespace], stderr=subprocess.DEVNULL) as process, \
+            socket.socket(socket.AF_UNIX, socket.SOCK_DGRAM) as to:
+        try:
+            while not os.path.exists(address):
+                time.sleep(0.1)
+            yield lambda text: to.sendto(f"MESSAGE={text}\nPRIORITY=6\nSYSLOG_IDENTIFIER=bench\n".encode(), address)
+        finally:
+            process.terminate()
+            process.wait()
+            machine = Path("/etc/machine-id").read_text(encoding="ascii").strip()
+            for path in (os.path.dirname(address), f"/var/log/journal/{machine}.{namespace}",
+                         f"/run/log/journal/{machine}.{namespace}"):
+                shutil.rmtree(path, ignore_errors=True)
 
 
-class Markers:
-    """Writes markers, each as one entry."""
+@contextlib.contextmanager
+def real(both: Any, library: str) -> Iterator[Write]:
+    """The machine has a journald, and reaches the collector by ssh."""
+    folder, namespace = Path(both.machine.base), f"freshness{os.getpid()}"
+    os.chmod(folder, 0o755)
+    for name in ("journalctl", "systemd-analyze"):
+        os.unlink(folder / "bin" / name)
+    sshd = Sshd(folder, [f"{library}/serve web {both.collector.conf}"])
+    both.machine.install("ssh", SSH.format(port=sshd.port))
+    both.machine.settings |= {
+        "COLLECTOR": f"{sshd.user}@127.0.0.1", "KEY": str(sshd.key(0)), "KNOWN_HOSTS": str(sshd.known_hosts),
+        "NAMESPACE": namespace, "BOOT_ID_FILE": "/proc/sys/kernel/random/boot_id"}
+    try:
+        with journald(namespace) as write:
+            yield write
+    finally:
+        sshd.end()
 
-    def __init__(self, machine: object) -> None:
-        self.machine = machine if not journald_runs() else None
 
-    def write(self, number: int) -> None:
-        text = f"freshness {number} at {time.time():.3f}"
-        if self.machine is None:
-            subprocess.run(["logger", text], check=True)
-        else:
-            journal = self.machine.journal  # type: ignore[attr-defined]
-            journal.add(text)
-            journal.write()
+@contextlib.contextmanager
+def stand_ins(both: Any, _library: str) -> Iterator[Write]:
+    """The machine has the tests' journal, and the collector's command is run at once."""
+    journal = both.machine.journal
+
+    def write(text: str) -> None:
+        journal.add(text)
+        journal.write()
+
+    yield write
 
 
-def send_again(both: object, seconds: float, stopping: threading.Event) -> None:
-    """Runs `send` so long after it has ended."""
-    while not stopping.wait(seconds):
-        status, said = both.send()  # type: ignore[attr-defined]
+def send_again(both: Any, stopping: threading.Event) -> None:
+    """Runs `send` as the timer does."""
+    while not stopping.wait(60 + 20 * random.random()):
+        status, said = both.send()
         if status:
             print(f"a run of send ended with {status}: {said}", file=sys.stderr)
 
 
-def watch(lines: object, seen: dict[int, float]) -> None:
+def watch(lines: Any, seen: dict[int, float]) -> None:
     """Notes how old each marker is when its line comes."""
-    for line in lines:  # type: ignore[attr-defined]
+    for line in lines:
         match = MARKER.search(line)
         if match:
             seen.setdefault(int(match[1]), time.time() - float(match[2]))
@@ -68,12 +108,10 @@ def measure(asked: argparse.Namespace, library: str) -> dict[int, float]:
     from running import Collector
     seen: dict[int, float] = {}
     stopping = threading.Event()
-    with Collector(library, POLL_SECONDS=2) as collector, Both(library, collector) as both:
+    journal = stand_ins if asked.stand_ins else real
+    with Collector(library, POLL_SECONDS=2) as collector, Both(library, collector) as both, \
+            journal(both, library) as write:
         both.machine.settings |= {"RESEND_MINUTES": 10, "ANSWER_SECONDS": 5}
-        markers = Markers(both.machine)
-        if markers.machine is None:
-            os.unlink(f"{both.machine.base}/bin/journalctl")
-            both.machine.settings["SINCE"] = "now"
         collector.start()
         command = [f"{library}/search", "--folder", collector.folder, "--follow", "--output=cat"]
         with subprocess.Popen(command, stdout=subprocess.PIPE, text=True, env=collector.environment) as follower:
@@ -81,37 +119,50 @@ def measure(asked: argparse.Namespace, library: str) -> dict[int, float]:
             if asked.follow:
                 both.follow(FOLLOW_SECONDS=3)
             else:
-                threading.Thread(target=send_again, args=(both, asked.timer, stopping), daemon=True).start()
+                threading.Thread(target=send_again, args=(both, stopping), daemon=True).start()
             for number in range(asked.markers):
                 time.sleep(random.expovariate(1 / asked.every))
-                markers.write(number)
+                write(f"freshness {number} at {time.time():.3f}")
             end = time.monotonic() + asked.wait
             while len(seen) < asked.markers and time.monotonic() < end:
                 time.sleep(0.5)
             stopping.set()
             follower.terminate()
+            both.end_following()
+            if len(seen) < asked.markers:
+                print(f"the machine said: {both.said() if asked.follow else ''}\nthe collector: {collector.errors()}",
+                      file=sys.stderr)
     return seen
+
+
+def busy() -> tuple[float, float]:
+    """The seconds in which processors were busy, and all seconds."""
+    words = list(map(int, Path("/proc/stat").read_text(encoding="ascii").split("\n")[0].split()[1:]))
+    return sum(words) - words[3] - words[4], sum(words)
 
 
 def main() -> None:
     parser = argparse.ArgumentParser()
     parser.add_argument("program")
-    parser.add_argument("--markers", type=int, default=100)
-    parser.add_argument("--every", type=float, default=3.0)
+    parser.add_argument("--markers", type=int, default=300)
+    parser.add_argument("--every", type=float, default=2.0)
     parser.add_argument("--follow", action="store_true")
-    parser.add_argument("--timer", type=float, default=70.0)
     parser.add_argument("--wait", type=float, default=180.0)
+    parser.add_argument("--stand-ins", action="store_true")
     asked = parser.parse_args()
     os.environ["PROGRAM"] = os.path.abspath(asked.program)
-    sys.path.insert(0, str(DEPLOY))
+    sys.path.insert(0, str(ROOT / "tests/deploy"))
     folder = Path("/var/tmp") / f"freshness-{os.getpid()}"
     subprocess.run([ROOT / "deploy/install.sh", folder, "/usr"], check=True)
+    shutil.copy(asked.program, folder / "usr/bin/journal-collect")
+    before = busy()
     ages = sorted(measure(asked, f"{folder}/usr/lib/journal-collect").values())
-    subprocess.run(["rm", "-r", folder], check=True)
+    share = [after - was for after, was in zip(busy(), before)]
+    shutil.rmtree(folder)
     if ages:
         print(f"{len(ages)} of {asked.markers} markers; median {ages[len(ages) // 2]:.1f} s, "
-              f"95 % {ages[len(ages) * 95 // 100]:.1f} s, at most {ages[-1]:.1f} s; load {os.getloadavg()[0]:.0f}, "
-              f"{os.cpu_count()} processors")
+              f"95 % {ages[len(ages) * 95 // 100]:.1f} s, at most {ages[-1]:.1f} s; the {os.cpu_count()} processors "
+              f"were {100 * share[0] / share[1]:.0f} % busy, load {os.getloadavg()[0]:.0f}")
     if len(ages) < asked.markers:
         raise SystemExit(f"{asked.markers - len(ages)} markers weren't seen")
 

@@ -14,7 +14,6 @@ from __future__ import annotations
 
 import argparse
 import os
-import pwd
 import shutil
 import signal
 import subprocess
@@ -25,8 +24,9 @@ import time
 from dataclasses import dataclass, field
 from pathlib import Path
 
+from sshd import Sshd
+
 ROOT = Path(__file__).resolve().parent.parent
-PORT = 22_422
 TICKS = os.sysconf("SC_CLK_TCK")
 FIELDS = b"".join(b"%s=%s\n" % pair for pair in (
     (b"_HOSTNAME", b"machine"), (b"_MACHINE_ID", b"4" * 32), (b"_BOOT_ID", b"5" * 32), (b"_TRANSPORT", b"journal"),
@@ -77,7 +77,7 @@ class Machine:
         return head + entries.to_bytes(8, "little") + body
 
     def ssh(self, word: str) -> subprocess.Popen[bytes]:
-        return subprocess.Popen([*self.place.ssh, "-i", str(self.place.key(self.number)), "collector", word],
+        return subprocess.Popen([*self.place.ssh, "-i", str(self.place.sshd.key(self.number)), "collector", word],
                                 stdin=subprocess.PIPE, stdout=subprocess.PIPE, stderr=subprocess.PIPE, bufsize=0)
 
     def by_calls(self, entries: int) -> float | None:
@@ -124,63 +124,30 @@ class Place:
     def __init__(self, program: str, machines: int, collectors: int, kex: str) -> None:
         self.folder = Path(tempfile.mkdtemp(prefix="load-", dir="/var/tmp"))
         os.chmod(self.folder, 0o755)
-        self.kex = kex
         subprocess.run([ROOT / "deploy/install.sh", self.folder / "root", "/usr"], check=True)
         self.library = self.folder / "root/usr/lib/journal-collect"
         (self.folder / "root/usr/bin").mkdir(exist_ok=True)
         shutil.copy(program, self.folder / "root/usr/bin/journal-collect")
         self.conf = self.folder / "collector.conf"
         self.conf.write_text(f"FOLDER={self.folder}/collector\nCOLLECTORS={collectors}\nFREE_BYTES=0\n")
-        self.make_keys(machines)
-        self.make_sshd()
+        commands = [f"{self.library}/serve m{number} {self.conf}" for number in range(machines)]
+        self.sshd = Sshd(self.folder, commands)
+        self.ssh = ["ssh", "-F", "/dev/null", "-p", str(self.sshd.port), "-l", self.sshd.user, "-o",
+                    "HostName=127.0.0.1", "-o", "BatchMode=yes", "-o", "IdentitiesOnly=yes", "-o",
+                    f"UserKnownHostsFile={self.sshd.known_hosts}",
+                    *(["-o", f"KexAlgorithms={kex}"] if kex else [])]
         self.service = subprocess.Popen([self.library / "collect-incoming", self.conf],
                                         stderr=open(self.folder / "service", "wb"))
 
-    def key(self, number: int) -> Path:
-        return self.folder / "keys" / str(number)
-
-    def make_keys(self, machines: int) -> None:
-        (self.folder / "keys").mkdir()
-        lines = []
-        for number in range(machines):
-            subprocess.run(["ssh-keygen", "-q", "-t", "ed25519", "-N", "", "-C", f"m{number}", "-f", self.key(number)],
-                           check=True)
-            public = self.key(number).with_suffix(".pub").read_text(encoding="ascii")
-            lines.append(f'command="{self.library}/serve m{number} {self.conf}",restrict {public}')
-        (self.folder / "authorized_keys").write_text("".join(lines), encoding="ascii")
-
-    def make_sshd(self) -> None:
-        host = self.folder / "host"
-        subprocess.run(["ssh-keygen", "-q", "-t", "ed25519", "-N", "", "-f", host], check=True)
-        public = host.with_suffix(".pub").read_text(encoding="ascii")
-        (self.folder / "known_hosts").write_text(f"[127.0.0.1]:{PORT} {public}", encoding="ascii")
-        os.makedirs("/run/sshd", exist_ok=True)
-        config = self.folder / "sshd_config"
-        config.write_text(f"Port {PORT}\nListenAddress 127.0.0.1\nHostKey {host}\nPidFile {self.folder}/pid\n"
-                          f"AuthorizedKeysFile {self.folder}/authorized_keys\nStrictModes no\nMaxStartups 200:30:400\n"
-                          "PermitRootLogin yes\nUsePAM no\nLogLevel ERROR\n", encoding="ascii")
-        self.sshd = subprocess.Popen(["/usr/sbin/sshd", "-D", "-f", config, "-E", self.folder / "sshd-log"])
-        user = pwd.getpwuid(os.getuid()).pw_name
-        self.ssh = ["ssh", "-F", "/dev/null", "-p", str(PORT), "-l", user, "-o", "HostName=127.0.0.1", "-o",
-                    "BatchMode=yes", "-o", "IdentitiesOnly=yes", "-o", f"UserKnownHostsFile={self.folder}/known_hosts",
-                    *(["-o", f"KexAlgorithms={self.kex}"] if self.kex else [])]
-        for _ in range(100):
-            if (self.folder / "pid").exists():
-                return
-            if self.sshd.poll() is not None:
-                break
-            time.sleep(0.1)
-        raise SystemExit("sshd didn't start: " + (self.folder / "sshd-log").read_text(errors="replace"))
-
     def used(self) -> dict[str, float]:
         """The processor seconds of sshd with what it ran, and of the service with its programs."""
-        return {"sshd": seconds_of(self.sshd.pid), "service": seconds_of(self.service.pid) + sum(
+        return {"sshd": seconds_of(self.sshd.process.pid), "service": seconds_of(self.service.pid) + sum(
             seconds_of(child) for child in children_of(self.service.pid))}
 
     def end(self) -> None:
-        for process in (self.sshd, self.service):
-            process.send_signal(signal.SIGTERM)
-            process.wait()
+        self.sshd.end()
+        self.service.send_signal(signal.SIGTERM)
+        self.service.wait()
         shutil.rmtree(self.folder)
 
 

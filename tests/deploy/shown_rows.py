@@ -61,7 +61,14 @@ class Follower:
             return file.read()
 
     def shows(self, wanted: list[int]) -> None:
-        wait_for(lambda: sorted(self.shown()) == wanted, 60)
+        try:
+            wait_for(lambda: sorted(self.shown()) == wanted, 300)
+        except TimeoutError as error:
+            shown = self.shown()
+            less, more = sorted(set(wanted) - set(shown)), sorted(set(shown) - set(wanted))
+            twice = sorted({number for number in shown if shown.count(number) > 1})
+            raise TimeoutError(f"{len(shown)} entries are shown, not {len(wanted)}; missing: {less[:30]}; too many: "
+                               f"{more[:30]}; twice: {twice[:30]}; {self.said()}") from error
 
     def end(self, by: signal.Signals = signal.SIGTERM) -> int:
         self.process.send_signal(by)
@@ -226,7 +233,7 @@ def service_is_killed(row: Row, library: str) -> None:
                 sent[machine] = acknowledged(collector, machine)
             collector.stop(signal.SIGKILL)
         collector.start()
-        wait_for(lambda: "waits " not in collector.answers("web") + collector.answers("mail"), 60)
+        wait_for(lambda: "waits " not in collector.answers("web") + collector.answers("mail"), 300)
         wanted = sorted([*range(1, acknowledged(collector, "web") + 1),
                          *range(1_000_001, 1_000_001 + acknowledged(collector, "mail"))])
         follower.shows(wanted)

@@ -1,6 +1,7 @@
 #!/usr/bin/env python3
 """Calls in journalctl's words: what the search gives of two machines' entries in three databases, against what the
-installed journalctl gives over these machines' own journal files. calls_rows.py LIBRARY FOLDER [ROW..]
+installed journalctl gives over these machines' own journal files, and over those that are made of the databases.
+calls_rows.py LIBRARY FOLDER [ROW..]
 """
 import json
 import re
@@ -8,8 +9,8 @@ import sys
 from json.decoder import scanstring
 from pathlib import Path
 
-from called import HOSTS, START, YEAR, boot_of, moment, text_of
-from collected import Machine, collect, run
+from called import BOOTS, ENTRIES, HOSTS, START, YEAR, boot_of, moment, text_of
+from collected import Machine, collect, config, run
 from programs import call, load
 from rows import Row, Rows
 
@@ -39,6 +40,7 @@ CALLS: list[list[str]] = [
     ["-m", "-l", "-q", "-t", "sudo"],
     ["-qrn5", "-perr"]]
 # For journalctl 252, -k is of the last boot whatever else is said, and an identifier has an end.
+MADE = "the journal files that were made"
 AS_JOURNALCTL = {("-b", "all", "-k"): ["_TRANSPORT=kernel"], ("-t", "i" * 300): ["SYSLOG_IDENTIFIER=" + "i" * 300]}
 
 
@@ -47,9 +49,13 @@ class Place:
 
     def __init__(self, library: Path, folder: Path) -> None:
         machines = [Machine(folder, host, text=text_of(host)) for host in HOSTS]
-        collect(folder, machines, [70, 60, 100])
+        collect(folder, machines, [70, 60, 100], f"{YEAR}-01-01T14-0")
         self.collector, self.main = folder / "collector", load(library, "searching")
         self.files = {machine.host: f"--file={machine.journal}" for machine in machines}
+        done = call(load(library, "making"), config(folder))
+        if f"{2 * BOOTS * ENTRIES} entries" not in done.output:
+            raise SystemExit(f"journal files: status {done.status}: {done.output} {done.errors}")
+        self.files[MADE] = f"--file={self.collector}/journals/*/*.journal"
         self.version = int(run("journalctl", "--version").split()[1])
 
     def search(self, words: list[str], zone: str = "UTC") -> bytes:
@@ -93,15 +99,21 @@ def comparable(form: str, told: bytes) -> object:
 
 @ROWS.row
 def calls(row: Row, place: Place) -> None:
-    """Each in three forms, byte for byte, in two time zones."""
+    """Each in three forms, byte for byte, in two time zones: over all machines, and over one of them."""
     shown = 0
     for number, words in enumerate(CALLS):
-        zone = ZONES[number % 2]
+        zone, host = ZONES[number % 2], HOSTS[number // 2 % 2]
+        asked = AS_JOURNALCTL.get(tuple(words), words)
         for form in FORMS:
-            asked = AS_JOURNALCTL.get(tuple(words), words)
+            said = f"{' '.join(words)[:80]} as {form}"
             wanted = comparable(form, place.told([*asked, "-o", form], zone))
             got = comparable(form, place.search([*words, f"--output={form}"], zone))
-            row.same(f"{' '.join(words)[:80]} as {form}", difference(got, wanted), None)
+            row.same(said, difference(got, wanted), None)
+            made = comparable(form, place.told([*asked, "-o", form], zone, (MADE,)))
+            row.same(f"{said}, journal files", difference(got, made), None)
+            own = comparable(form, place.told([*asked, "-o", form], zone, (host,)))
+            got = comparable(form, place.search(["-M", host, *words, f"--output={form}"], zone))
+            row.same(f"{said}, of {host}", difference(got, own), None)
             shown += len(wanted) > 0  # type: ignore[arg-type]
     row.same("calls that show something", shown > 2 * len(CALLS), True)
 

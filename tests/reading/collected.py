@@ -72,9 +72,9 @@ class Machine:
         run("journal-collect", "ack", "--source", self.id, "--resume", self.resume, "export", self.stream, data=answers)
 
 
-def collect(folder: Path, machines: list[Machine], limits: list[int]) -> None:
+def collect(folder: Path, machines: list[Machine], limits: list[int], begun: str = "2025-12-01T23-5") -> None:
     """Uploads of all machines over three databases, each finished; the second one's of the first machine is in the
-    third, too."""
+    third, too. They are named after these minutes."""
     databases = folder / "collector/databases"
     databases.mkdir(parents=True)
     again = b""
@@ -89,7 +89,7 @@ def collect(folder: Path, machines: list[Machine], limits: list[int]) -> None:
         if number == 2:
             (folder / "again.upload").write_bytes(again)
             uploads.append(folder / "again.upload")
-        database = databases / f"2025-12-01T23-5{number}.db"
+        database = databases / f"{begun}{number}.db"
         answers = run("journal-collect", "collect", database, *uploads)
         for machine in machines:
             machine.take(answers)
