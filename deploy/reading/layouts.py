@@ -19,16 +19,24 @@ class Layout:
     fields_of_id: str
     fields_of_key: str
     position: str
-    # Each row of `field` beside that of its entry.
+    # Each row of `field` beside that of its entry; each of `record` beside those of its fields, or alone.
     joined: str
+    with_fields: str
 
 
 KEY = "seqid = ? AND seqnum = ?"
 SECOND = Layout(
     id_of_record="seqid, seqnum", id_of_field="seqid, seqnum", record=f"record WHERE {KEY}",
     fields_of_id=f"field WHERE {KEY}", fields_of_key=f"field WHERE {KEY}", position="pos",
-    joined="field JOIN record USING (seqid, seqnum)")
-LAYOUTS = {2: SECOND}
+    joined="field JOIN record USING (seqid, seqnum)", with_fields="record LEFT JOIN field USING (seqid, seqnum)")
+# The fields of a record are numbered from 8192 times its id on.
+NUMBERS = "field.id BETWEEN 8192 * record.id AND 8192 * record.id + 8191"
+THIRD = Layout(
+    id_of_record="id", id_of_field="id / 8192", record="record WHERE id = ?",
+    fields_of_id=f"record JOIN field ON {NUMBERS} WHERE record.id = ?",
+    fields_of_key=f"record JOIN field ON {NUMBERS} WHERE {KEY}", position="field.id",
+    joined="field JOIN record ON record.id = field.id / 8192", with_fields=f"record LEFT JOIN field ON {NUMBERS}")
+LAYOUTS = {2: SECOND, 3: THIRD}
 # Tables of version 2, which can be asked for times quickly.
 IN_MEMORY = """
 CREATE TABLE journal(one INTEGER PRIMARY KEY, version INTEGER NOT NULL) STRICT;

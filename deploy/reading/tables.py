@@ -26,7 +26,7 @@ Pair = tuple[bytes, bytes]
 # name, and their values with U+001F between them, which may be in one.
 Joined = tuple[bytes, int, int, int, int, bytes | None, bytes | None]
 JOINED = ("SELECT seqid, seqnum, realtime, monotonic, count(name), CAST(group_concat(name, '=') AS BLOB),"
-          " CAST(group_concat(value, char(31)) AS BLOB) FROM record LEFT JOIN field USING (seqid, seqnum)"
+          " CAST(group_concat(value, char(31)) AS BLOB) FROM {}"
           " WHERE (seqid, seqnum) > (?, ?) GROUP BY seqid, seqnum ORDER BY seqid, seqnum LIMIT ?")
 
 
@@ -168,7 +168,7 @@ class Tables:
     def joined(self, after: Id, most: int) -> Iterator[Joined]:
         """The entries behind a key, in the order of keys, at most so many. The fields of each are in their order: the
         index by which they are found has it."""
-        return self.rows(JOINED, [*after, most])
+        return self.rows(JOINED.format(self.layout.with_fields), [*after, most])
 
     def records(self, after: Id, most: int) -> list[tuple[bytes, int, int, int]]:
         """Keys and times of the same entries."""

@@ -1,5 +1,5 @@
 #!/usr/bin/env python3
-"""Rows of another layout of the tables: a version that is described in one place is searched as the others are.
+"""Rows of the layouts of the tables: databases whose fields are found by number are searched as the others are.
 layout_rows.py LIBRARY FOLDER
 """
 import itertools
@@ -24,10 +24,6 @@ COPY = """
 INSERT INTO record SELECT rowid, seqid, seqnum, realtime, monotonic FROM old.record;
 INSERT INTO field SELECT 8192 * r.rowid + pos, name, value FROM old.field JOIN old.record AS r USING (seqid, seqnum);
 """
-FIELDS = "record JOIN field ON field.id BETWEEN 8192 * record.id AND 8192 * record.id + 8191"
-TEXTS = {"id_of_record": "id", "id_of_field": "id / 8192", "record": "record WHERE id = ?",
-         "fields_of_id": f"{FIELDS} WHERE record.id = ?", "fields_of_key": f"{FIELDS} WHERE seqid = ? AND seqnum = ?",
-         "position": "field.id", "joined": "field JOIN record ON record.id = field.id / 8192"}
 CALLS = [[], ["-r"], ["-n2"], ["-u", "ssh"], ["-u", "ssh*"], ["--word=alice"], ["-g", "^a"], ["PRIORITY=4"],
          ["PRIORITY=4", "_HOSTNAME=web", "--since=@1764590403"], ["--until=@1764590402"], ["-M", "web"],
          ["-N"], ["-F", "_HOSTNAME"], ["-F", "_HOSTNAME", "PRIORITY=4"], ["--count-by=_SYSTEMD_UNIT"],
@@ -54,12 +50,11 @@ ROWS: Rows[Place] = Rows()
 
 @ROWS.row
 def searched_alike(row: Row, place: Place) -> None:
-    from reading import layouts, tables  # pylint: disable=import-outside-toplevel,import-error
-    both = {**layouts.LAYOUTS, 3: layouts.Layout(**TEXTS)}
+    from reading import tables  # pylint: disable=import-outside-toplevel,import-error
     for words, form, few in itertools.product(CALLS, ("short", "export"), (1, 20, 1000)):
         words = [*words, "--output", form]
         wanted = place.two.find(*words)
-        with mock.patch.dict(tables.LAYOUTS, both), mock.patch.object(tables, "FEW", few):
+        with mock.patch.object(tables, "FEW", few):
             row.same(" ".join(words), place.other.find(*words), wanted)
     row.same("something is shown", len(place.two.messages()) > 9, True)
 
@@ -67,6 +62,11 @@ def searched_alike(row: Row, place: Place) -> None:
 @ROWS.row
 def not_known(row: Row, place: Place) -> None:
     (place.other.folder / "spans").unlink(missing_ok=True)
+    for path in place.other.databases.glob("*.db"):
+        with sqlite3.connect(path) as connection:
+            connection.execute("UPDATE journal SET version = 9")
+        connection.close()
+        finish(path)
     done = place.other.find()
     row.same("a version that isn't known", (done.status, done.output, done.errors.count("of a version that is known")),
              (1, "", 4))
