@@ -3,7 +3,7 @@
 
 Databases of 17,600 entries of 24 fields are made in bench/out. Each engine is the real one, if it is installed, or one
 that takes all and answers at once, so that only the forwarder is measured. With ClickHouse it also times the queries of
-docs/FORWARDING.md.
+docs/GUIDE.md.
 """
 from __future__ import annotations
 
@@ -121,15 +121,16 @@ def measure(folder: Path, entries: int, engine: str) -> None:
 
 
 def ask(server: ClickHouse, entries: int) -> None:
-    """What the server took for them, and the queries of the page."""
+    """What the server took for them, and the queries of the guide."""
     assert server.process
     ticks = sum(map(int, Path(f"/proc/{server.process.pid}/stat").read_text().split()[13:15]))
     print(f"    the server: {ticks / os.sysconf('SC_CLK_TCK') / entries * 1e6:.0f} us of a processor each")
     server.query("OPTIMIZE TABLE journal FINAL")
     size = server.query("SELECT sum(bytes_on_disk) FROM system.parts WHERE active AND table = 'journal'")
     print(f"    on its disk: {int(size) / entries:.0f} bytes each")
-    page = (TOP / "docs/FORWARDING.md").read_text(encoding="utf-8")
-    for text in re.findall(r"^SELECT [^;]*;$", page, re.MULTILINE):
+    page = (TOP / "docs/GUIDE.md").read_text(encoding="utf-8")
+    statements = "".join(re.findall(r"^```sql\n(.*?)^```$", page, re.MULTILINE | re.DOTALL))
+    for text in re.findall(r"^SELECT [^;]*;$", statements, re.MULTILINE):
         times = []
         for _ in range(5):
             start = time.monotonic()

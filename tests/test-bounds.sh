@@ -312,7 +312,7 @@ python3 -B tests/deploy/hostile_world.py "$library" --machines "${HEALTHY-4}" ||
 
 # what systemd's own judge says of them, in tenths: at most so many
 if command -v systemd-analyze > "$folder/told"; then
-    for unit in incoming:5 journal-files:5 send:15; do
+    for unit in incoming:5 journal-files:5 send:15 forward:15; do
         expect 0 "~*" "" systemd-analyze security --offline=true --no-pager --threshold="${unit#*:}" \
             "$folder/root/usr/lib/systemd/system/journal-collect-${unit%:*}.service"
     done

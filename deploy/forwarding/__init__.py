@@ -1,1 +1,1 @@
-"""What brings the entries of finished databases to an engine: journal-collect-forward."""
+"""What brings what was collected to an engine: journal-collect-forward."""

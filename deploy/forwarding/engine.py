@@ -40,6 +40,8 @@ class Engine(Protocol):
     """One that entries are brought to. What is sent twice counts once, where it can."""
     # A database goes whole: one that was begun is begun anew after a stop.
     takes_databases_whole: bool
+    # What comes again counts once.
+    counts_once: bool
 
     def look(self) -> None:
         """Whether it is there, and ready to take entries; Unavailable if not."""
@@ -62,7 +64,7 @@ class Engine(Protocol):
 
 class Whole:
     """An engine that may refuse a batch for one entry of it, which is found by halves then."""
-    takes_databases_whole = False
+    takes_databases_whole, counts_once = False, True
 
     def look(self) -> None:
         """Nothing shows beforehand whether it takes entries."""

@@ -10,13 +10,16 @@ from forwarding.aside import Aside
 from forwarding.batches import Batches
 from forwarding.engine import Engine, Prepared, Refusal, Unavailable
 from forwarding.entries import Entries
-from forwarding.place import Place
+from forwarding.place import Place, Within
+from forwarding.recent import Recent
 from forwarding.report import Report
 from forwarding.settings import Settings
 from forwarding.sources import Listed
+from reading import recent
 from reading.databases import Database
 from reading.failure import FAILED, NEEDS_A_LOOK, BadDatabase, Failure
 from reading.placing import Placing
+from reading.recent import Upload
 from reading.tables import Tables, connect
 
 LONGEST_WAIT = 60.0
@@ -40,7 +43,7 @@ class Forwarder:
         self.engine, self.report = engine, report
         self.aside = Aside(place.folder / "aside.json", place)
         self.batches = Batches(engine, chosen.batch_entries, chosen.batch_bytes, engines.most_bytes(chosen))
-        self.listed = Listed([], [], 0)
+        self.listed, self.recent = Listed([], [], 0), Recent(folder)
         self.once, self.stopping = False, False
         self.told: set[str] = set()
 
@@ -57,10 +60,12 @@ class Forwarder:
             self.take_stock()
             self.insist(self.engine.look)
             self.round()
+            self.go_ahead()
             while not once:
                 self.sleep(self.chosen.poll_seconds)
                 if sources.changed(self.folder) != self.listed.changed or self.place.databases.waited:
                     self.round()
+                self.go_ahead()
         except Stopping:
             pass
 
@@ -70,6 +75,28 @@ class Forwarder:
         waiting = [database for database in self.listed.found if self.place.databases.waits(database)]
         for number, database in enumerate(waiting, 1):
             self.forward(database, len(waiting) - number)
+
+    def go_ahead(self) -> None:
+        """Forwards what will be in a database, if it counts once though it may come again then."""
+        if self.engine.counts_once:
+            for upload in self.recent.waiting({database.name for database in self.listed.found}):
+                self.forward_upload(upload)
+
+    def forward_upload(self, upload: Upload) -> None:
+        database = Database(upload.database, self.folder / "databases" / f"{upload.database}.db", "")
+        tables = Tables(upload.database, recent.connect([upload]))
+        try:
+            entries = Entries(tables, lambda _: None).after(Within(upload.database, ""))
+            for batch in self.batches.of(entries, Placing(database, self.chosen.days_before)):
+                brought = [one.entry for one in batch.prepared]
+                refused = [refusal.entry for refusal in self.bring(batch.prepared)]
+                self.recent.add(upload.database, brought, refused)
+                self.report.count(batch.count, upload.database, 0)
+                if self.stopping:
+                    raise Stopping
+        finally:
+            tables.close()
+        self.recent.seen.add(upload.path)
 
     def take_stock(self) -> None:
         """What is there now, and what went before it was forwarded."""
@@ -110,20 +137,22 @@ class Forwarder:
             self.place.finish(database, self.listed.found, bool(bad))
             self.engine.keep({one.name for one in self.listed.found})
 
-    def forward_entries(self, database: Database, entries: Entries, left: int) -> None:
+    def forward_entries(self, database: Database, entries: Entries, databases_left: int) -> None:
         if self.engine.takes_databases_whole:
             self.place.within = None
         within = self.place.begin(database)
         self.insist(lambda: self.engine.begin(database))
         placing = Placing(database, self.chosen.days_before)
-        for batch in self.batches.of(entries.after(within), placing):
+        went = self.recent.went(database.name)
+        left = (entry for entry in entries.after(within) if (entry.sequence, entry.number) not in went)
+        for batch in self.batches.of(left, placing):
             refusals = batch.refusals + self.bring(batch.prepared)
             if refusals:
                 self.put_aside(refusals, database, entries)
             within.reach(batch.last, batch.count)
             if not self.engine.takes_databases_whole:
                 self.place.write()
-            self.report.count(batch.count, database.name, left)
+            self.report.count(batch.count, database.name, databases_left)
             if self.stopping:
                 raise Stopping
         self.insist(lambda: self.engine.end(database))

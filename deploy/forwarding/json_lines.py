@@ -12,7 +12,7 @@ from shared import files
 
 class JsonLines:
     """The files of a folder."""
-    takes_databases_whole = True
+    takes_databases_whole, counts_once = True, False
 
     def __init__(self, folder: Path, free_bytes: int) -> None:
         self.folder, self.free_bytes = folder, free_bytes

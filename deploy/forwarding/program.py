@@ -1,4 +1,4 @@
-"""Brings the entries of finished databases to an engine: journal-collect-forward [OPTIONS] [CONFIG]"""
+"""Brings what was collected to an engine: journal-collect-forward [OPTIONS] [CONFIG]"""
 import argparse
 import os
 import sys
@@ -23,7 +23,7 @@ ALL = "all"
 
 def arguments() -> argparse.Namespace:
     parser = argparse.ArgumentParser(
-        prog="journal-collect-forward", description="Brings the entries of finished databases to an engine.",
+        prog="journal-collect-forward", description="Brings what was collected to an engine.",
         epilog=STATUSES, formatter_class=argparse.RawDescriptionHelpFormatter, allow_abbrev=False)
     parser.add_argument("--once", action="store_true", help="end when nothing waits any more")
     parser.add_argument("--status", action="store_true", help="say how far behind it is, and do nothing")

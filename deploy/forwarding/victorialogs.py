@@ -20,6 +20,7 @@ OWN = 7
 
 class VictoriaLogs(Whole):
     """One server."""
+    counts_once = False
 
     def __init__(self, server: Server) -> None:
         self.server = server

@@ -1,8 +1,10 @@
 #!/usr/bin/env python3
 """Rows of journal-collect-forward over the real ClickHouse: entries of three machines over ten databases, kills of the
-forwarder and of the server, a full disk, and what FORWARDING.md says to ask. FORWARD_ENTRIES, FORWARD_KILLS and
-SERVER_KILLS in the environment make it more. clickhouse_rows.py LIBRARY FOLDER [ROW..]
+forwarder and of the server, a full disk, and what the guide says to ask. FORWARD_ENTRIES, FORWARD_KILLS and
+SERVER_KILLS in the environment make it more, and FORWARD_EXPORT names a file with real entries, as `journalctl
+--output=export` prints them. clickhouse_rows.py LIBRARY FOLDER [ROW..]
 """
+import contextlib
 import os
 import random
 import re
@@ -10,11 +12,12 @@ import signal
 import subprocess
 import sys
 import time
-from collections.abc import Callable
+from collections.abc import Callable, Iterator
 from pathlib import Path
 
 import compared
 import made
+import real
 from clickhouse import ClickHouse, free_port, is_installed
 from collected import ROOT
 from columns import of_row
@@ -27,7 +30,8 @@ ROWS: Rows[Collectors] = Rows()
 ENTRIES = int(os.environ.get("FORWARD_ENTRIES", "900"))
 FORWARD_KILLS = int(os.environ.get("FORWARD_KILLS", "12"))
 SERVER_KILLS = int(os.environ.get("SERVER_KILLS", "2"))
-PAGE = (ROOT / "docs/FORWARDING.md").read_text(encoding="utf-8")
+REAL = os.environ.get("FORWARD_EXPORT", "")
+PAGE = (ROOT / "docs/GUIDE.md").read_text(encoding="utf-8")
 ONE = "2025-12-01T12-00"
 # The documented way to have each entry once.
 ONCE = "LIMIT 1 BY sequence, number, content"
@@ -73,24 +77,47 @@ def no_table(row: Row, collectors: Collectors) -> None:
 
 @ROWS.row
 def kills(row: Row, collectors: Collectors) -> None:
-    """Of the forwarder and of the server, at many moments: every entry is there, once by the documented query, and
-    equal to what the search shows."""
-    with Target(collectors, BATCH_ENTRIES=str(max(ENTRIES // 30, 20))) as target:
+    """The server's disk becomes full; then the forwarder is killed and the server, at many moments. Every entry is
+    there, once by the documented query, and equal to what the search shows."""
+    known = real.entries(Path(REAL)) if REAL else None
+    with small_disk(collectors.folder / "small") as disk, Target(
+            collectors, disk, BATCH_ENTRIES=str(max(ENTRIES // 30, 20))) as target:
         target.make_table()
-        target.collector.fill(ENTRIES // 3, 10, seed=21)
-        at_steps(row, target.collector)
-        at_times(target)
+        target.collector.fill(-(-ENTRIES // 3), 10, 21, known)
+        if disk:
+            row.ends(target.collector.run(), 3, "", "~forward: *No space left on device*nothing is taken: *")
+            subprocess.run(["mount", "-o", "remount,size=4g", disk], check=True)
+        steps = at_steps(row, target.collector)
+        times = at_times(row, target)
         row.ends(target.collector.run(), 0, "", "~*")
         found, wanted = target.entries(), target.collector.searched()
-        row.same("how many entries", len(found), len(wanted))
+        row.same("how many entries", (len(found), len(wanted) >= ENTRIES), (len(wanted), True))
         row.same("entries", found == wanted, True)
         row.same("put aside", (target.collector.state / "aside.json").exists(), False)
+        copies = target.server.query("SELECT count() FROM journal").strip()
         target.server.query("OPTIMIZE TABLE journal FINAL")
         merged = int(target.server.query("SELECT count() FROM journal FINAL"))
         row.same("after merges", merged, len(wanted))
+        print(f"{len(wanted)} entries, after {len(known or [])} real ones; killed {steps} times at steps, {times} at "
+              f"times, the server {SERVER_KILLS}; {copies} rows, {merged} after merges; a full disk: {bool(disk)}")
 
 
-def at_steps(row: Row, collector: Collector) -> None:
+@contextlib.contextmanager
+def small_disk(folder: Path) -> Iterator[Path | None]:
+    """A disk of 1 MB. Only root can make one."""
+    folder.mkdir()
+    if os.geteuid() != 0 or subprocess.run(["mount", "-t", "tmpfs", "-o", "size=1m", "tmpfs", folder],
+                                           capture_output=True, check=False).returncode != 0:
+        print("skipped: no disk can be mounted, so ClickHouse's never becomes full")
+        yield None
+        return
+    try:
+        yield folder
+    finally:
+        subprocess.run(["umount", "--lazy", folder], check=True)
+
+
+def at_steps(row: Row, collector: Collector) -> int:
     """Kills just before steps that change a file, and between a batch and its place. What is through begins anew."""
     ended: list[int] = [-signal.SIGKILL]
     for number in range(1, FORWARD_KILLS + 1):
@@ -98,25 +125,31 @@ def at_steps(row: Row, collector: Collector) -> None:
             quick()()
             killed_before(number)()
         ended.append(collector.run(*["--again=all"][ended[-1] != 0:], before=begin).status)
-    row.same("kills at steps", ended.count(-signal.SIGKILL) > FORWARD_KILLS * 2 // 3, True)
+    killed = ended.count(-signal.SIGKILL) - 1
+    row.same("kills at steps", killed > FORWARD_KILLS * 2 // 3, True)
+    return killed
 
 
-def at_times(target: Target) -> None:
-    """Kills of both at times that nothing chooses."""
-    chance = random.Random(22)
+def at_times(row: Row, target: Target) -> int:
+    """Kills of both at times that nothing chooses, within the time that a run takes."""
+    chance, killed = random.Random(22), 0
+    command = [target.collector.forwarder, "--once", target.collector.config]
+    start = time.monotonic()
+    again = subprocess.run([*command, "--again=all"], stderr=subprocess.DEVNULL, check=False).returncode == 0
+    longest = time.monotonic() - start
     for number in range(max(FORWARD_KILLS, SERVER_KILLS)):
-        forwarder = subprocess.Popen([target.collector.forwarder, "--once", target.collector.config],
-                                     stderr=subprocess.DEVNULL)
+        forwarder = subprocess.Popen([*command, *["--again=all"] * again], stderr=subprocess.DEVNULL)
+        time.sleep(chance.uniform(0, longest))
         if number < SERVER_KILLS:
-            time.sleep(chance.uniform(0.2, 1))
             target.server.kill()
             target.server.start()
-        else:
-            time.sleep(chance.uniform(0.15, 0.6))
-        if forwarder.poll() == 0:
-            target.collector.run("--again=all")
+            time.sleep(chance.uniform(0, longest))
+        again = forwarder.poll() == 0
+        killed += forwarder.poll() is None
         forwarder.kill()
         forwarder.wait()
+    row.same("kills at times", killed > FORWARD_KILLS // 2, True)
+    return killed
 
 
 @ROWS.row
@@ -158,29 +191,8 @@ def wrong_password(row: Row, collectors: Collectors) -> None:
 
 
 @ROWS.row
-def full_disk(row: Row, collectors: Collectors) -> None:
-    """Of the server: it waits, and goes on when there is room. Only root can make such a disk."""
-    data = collectors.folder / "small"
-    data.mkdir()
-    if os.geteuid() != 0 or subprocess.run(["mount", "-t", "tmpfs", "-o", "size=1m", "tmpfs", data],
-                                           capture_output=True, check=False).returncode != 0:
-        print("skipped: no disk can be mounted, so ClickHouse's never becomes full")
-        return
-    try:
-        with Target(collectors, data, BATCH_ENTRIES="100") as target:
-            target.make_table()
-            target.collector.fill(900, 3, seed=25)
-            row.ends(target.collector.run(), 3, "", "~forward: *No space left on device*nothing is taken: *")
-            subprocess.run(["mount", "-o", "remount,size=99m", data], check=True)
-            row.ends(target.collector.run(), 0, "", "~*")
-            row.same("entries", target.entries() == target.collector.searched(), True)
-    finally:
-        subprocess.run(["umount", "--lazy", data], check=True)
-
-
-@ROWS.row
 def documented_queries(row: Row, collectors: Collectors) -> None:
-    """Each of FORWARDING.md that is marked as SQL, as it stands there, and what the views show."""
+    """Each of the guide that is marked as SQL, as it stands there, and what the views show."""
     noon = made.START + 365 * 86_400_000_000  # 2026-12-01 12:00:00 UTC, the time in the page
     with Target(collectors) as target:
         target.make_table()

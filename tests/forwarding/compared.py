@@ -21,8 +21,8 @@ def searched(search: Main, folder: object) -> list[Entry]:
 
 def of_made(one: made.Entry) -> Entry:
     """An entry as it was made."""
-    return one.sequence, one.number, one.realtime, one.monotonic, tuple(
-        (name.decode(errors="backslashreplace"), value) for name, value in one.pairs)
+    return one.sequence, one.number, one.realtime, one.monotonic, tuple(sorted(
+        (name.decode(errors="backslashreplace"), value) for name, value in one.pairs))
 
 
 def of_search(shown: dict[str, Any]) -> Entry:
@@ -56,6 +56,18 @@ def bytes_of(text: str) -> bytes:
     if not value.startswith(b"bytes:"):
         return value
     return ESCAPE.sub(lambda match: bytes([int(match[1], 16)]) if match[1] else b"\\", value[6:])
+
+
+def text_of(value: bytes) -> str:
+    """The text that stands for bytes, byte by byte."""
+    try:
+        text = value.decode()
+        if not text.startswith("bytes:"):
+            return text
+    except UnicodeDecodeError:
+        pass
+    escaped = "".join(chr(byte) if byte < 128 else f"\\x{byte:02x}" for byte in value.replace(b"\\", b"\\\\"))
+    return f"bytes:{escaped}"
 
 
 def name_of(text: str) -> str:

@@ -2,6 +2,7 @@
 """Rows of journal-collect-forward over stand-ins for Elasticsearch, Loki and VictoriaLogs: what they get, what they
 refuse, how they fail, kills, and what proves who they are. engines_rows.py LIBRARY FOLDER [ROW..]
 """
+import hashlib
 import json
 import os
 import pty
@@ -78,6 +79,85 @@ def all_entries(row: Row, collectors: Collectors) -> None:
             row.same(f"{kind}: what isn't of the form", target.server.wrong, [])
             row.same(f"{kind}: status", target.collector.status()[1:], ["forwarded 5 newest 2025-12-01T12-40",
                                                                        "waiting 0 bytes 0"])
+
+
+@ROWS.row
+def odd_fields(row: Row, collectors: Collectors) -> None:
+    """Several values, empty ones, bytes, and names that engines don't take: in the form that FORMATS says."""
+    one = made.entry("a" * 32, 7, made.START, (b"MESSAGE", b""), (b"MESSAGE", b"two"), (b"MESSAGE", b"three"),
+                     (b"BYTES", b"\xff\\"), (b"a.b", b"bytes:"), (b"_id", b"\x1f\n"), (b"%s \"\xfe", b"100%"))
+    with Target(collectors, "elasticsearch") as target:
+        target.collector.put(ONE, [one])
+        row.ends(target.collector.run(), 0)
+        ((index, key), document), = target.engine.documents.items()
+        row.same("what is in a column", (document["message"], "host" in document), ("three", False))
+        row.same("what is beside them", sorted(document["fields"]), sorted([
+            "MESSAGE=", "MESSAGE=two", "BYTES=bytes:\\xff\\\\", "a.b=bytes:bytes:", "_id=\x1f\n",
+            "bytes:%s \"\\xfe=100%"]))
+        values = [json.dumps(compared.text_of(value), ensure_ascii=False)[1:-1] for _, value in one.pairs]
+        digest = b"%d 7000 7\n%s\n%s" % (made.START, "\n".join(values).encode(), b"=".join(
+            name for name, _ in one.pairs))
+        row.same("the id", (index, key), ("journal-2025.12.01", f"{'a' * 32}-7-" + hashlib.blake2b(
+            digest, digest_size=8).hexdigest()))
+    with Target(collectors, "loki") as target:
+        target.collector.put(ONE, [one])
+        row.ends(target.collector.run(), 0)
+        (_, _, line), = target.engine.lines
+        row.same("the line", json.loads(line), {
+            "__REALTIME_TIMESTAMP": str(made.START), "__MONOTONIC_TIMESTAMP": "7000", "__SEQNUM": "7",
+            "__SEQNUM_ID": "a" * 32, "MESSAGE": ["", "three", "two"], "BYTES": "bytes:\\xff\\\\",
+            "a.b": "bytes:bytes:", "_id": "\x1f\n", "bytes:%s \"\\xfe": "100%"})
+
+
+@ROWS.row
+def before_its_database(row: Row, collectors: Collectors) -> None:
+    """What is stored goes out before its database is finished, whole entries alone, and once, also over runs. Where it
+    would count twice it waits."""
+    some = made.entries_of(60, 27)["web"]
+    for kind in KINDS:
+        with Target(collectors, kind, BATCH_ENTRIES="20") as target:
+            collector, numbers = target.collector, count(1)
+            collector.store(ONE, next(numbers), some[:30], made.exported(some[30])[:-9])
+            row.ends(collector.run(), 0)
+            waits = kind == "victorialogs"
+            row.same(f"{kind}: before", target.entries(), sorted(map(compared.of_made, some[:0 if waits else 30])))
+            collector.store("a name without a day", next(numbers), [made.entry("d" * 32, 1, made.START)])
+            collector.store(ONE, next(numbers), some[25:])
+            row.ends(collector.run(), 0)
+            collector.put(ONE, some)
+            row.ends(collector.run(), 0)
+            row.same(f"{kind}: each once", target.entries(), collector.searched()[:-1])
+
+
+@ROWS.row
+def not_again(row: Row, collectors: Collectors) -> None:
+    """A run that brought something before its database was finished doesn't bring it again, but for what was refused,
+    which is put aside once."""
+    lines: list[int] = []
+    some = made.entries_of(40, 28)["web"]
+    some[20] = made.entry(some[20].sequence, 21, made.START, (b"MESSAGE", b"refuse"))
+
+    def fault(number: int, request: Request, take: Callable[[], Reply]) -> Reply:
+        lines.append(request.body.count(b"\n") // 2)
+        if number == 1:
+            collector.put(ONE, [*some, made.entry("e" * 32, 1, made.START)])
+        elif number == 2:
+            os.kill(int(child.read_text()), signal.SIGTERM)
+        return take()
+
+    with Target(collectors, "elasticsearch", fault) as target:
+        collector, target.engine.refuses = target.collector, "refuse"
+        child = collector.own / "child"
+        collector.store(ONE, 1, some)
+
+        def begin() -> None:
+            child.write_text(str(os.getpid()), encoding="ascii")
+            quick()()
+
+        row.ends(call(collector.forward, collector.config, before=begin), 1, "", "~forward: 1 entries of *")
+        row.same("entries in requests", lines, [40, 2])
+        row.same("aside", [one["entry"]["MESSAGE"] for one in target.aside()], ["refuse"])
+        row.same("entries", len(target.entries()), 40)
 
 
 @ROWS.row

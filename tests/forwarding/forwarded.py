@@ -59,9 +59,14 @@ class Collector:
     def put(self, name: str, entries: list[made.Entry]) -> Path:
         return made.database(self.databases / f"{name}.db", entries)
 
-    def fill(self, entries: int, databases: int, seed: int) -> None:
+    def store(self, database: str, number: int, entries: list[made.Entry], end: bytes = b"") -> Path:
+        """An upload that was stored in a database that isn't finished."""
+        first, last = entries[0].realtime, entries[-1].realtime
+        return made.upload(self.folder / f"recent/{database}/{first:020d}-{last:020d}-{number}.upload", entries, end)
+
+    def fill(self, entries: int, databases: int, seed: int, known: list[made.Pairs] | None = None) -> None:
         """So many entries of each machine over so many databases."""
-        for name, some in made.spread(made.entries_of(entries, seed), databases):
+        for name, some in made.spread(made.entries_of(entries, seed, known), databases):
             self.put(name, some)
 
     def run(self, *words: str, **how: object) -> Done:

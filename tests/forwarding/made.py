@@ -88,11 +88,19 @@ def large() -> list[Entry]:
                   (b"BYTES", bytes(range(256)) * 2000))]
 
 
-def entries_of(count: int, seed: int) -> dict[str, list[Entry]]:
-    """So many entries of each machine; each seventh is odd."""
+def entries_of(count: int, seed: int, known: list[Pairs] | None = None) -> dict[str, list[Entry]]:
+    """So many entries of each machine; each seventh is odd. The others have these fields, one after the other, if any
+    are known."""
     chance = random.Random(seed)
-    return {machine: [(odd if number % 7 == 0 else usual)(machine, number, chance) for number in range(1, count + 1)]
-            for machine in MACHINES}
+
+    def one(machine: str, number: int) -> Entry:
+        if number % 7 == 0:
+            return odd(machine, number, chance)
+        if not known:
+            return usual(machine, number, chance)
+        return entry(sequence_of(machine), number, START + number * 137_000, *known[number % len(known)])
+
+    return {machine: [one(machine, number) for number in range(1, count + 1)] for machine in MACHINES}
 
 
 def database(path: Path, entries: list[Entry]) -> Path:
@@ -109,6 +117,20 @@ def database(path: Path, entries: list[Entry]) -> Path:
     connection.close()
     finish(path)
     return path
+
+
+def upload(path: Path, entries: list[Entry], end: bytes = b"") -> Path:
+    """An upload of an export stream with these entries, and with bytes of an unfinished one."""
+    path.parent.mkdir(parents=True, exist_ok=True)
+    path.write_bytes(b"JCUPLD01" + bytes([1]) + bytes(39) + b"".join(map(exported, entries)) + end)
+    return path
+
+
+def exported(one: Entry) -> bytes:
+    """An entry as an export stream has it, each field in the spelling that takes any bytes."""
+    fields = b"".join(name + b"\n" + len(value).to_bytes(8, "little") + value + b"\n" for name, value in one.pairs)
+    return b"__REALTIME_TIMESTAMP=%d\n__MONOTONIC_TIMESTAMP=%d\n__SEQNUM=%d\n__SEQNUM_ID=%s\n%s\n" % (
+        one.realtime, one.monotonic, one.number, one.sequence.encode(), fields)
 
 
 def spread(machines: dict[str, list[Entry]], databases: int) -> Iterator[tuple[str, list[Entry]]]:
