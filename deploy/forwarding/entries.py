@@ -1,5 +1,5 @@
 """The entries of a database, in the order of their keys."""
-from collections.abc import Callable, Generator, Iterator
+from collections.abc import Callable, Generator
 
 from forwarding.entry import Entry, of_joined, of_pairs
 from forwarding.place import Within
@@ -17,7 +17,7 @@ class Entries:
     def __init__(self, tables: Tables, tell: Callable[[BadDatabase], None]) -> None:
         self.tables, self.tell = tables, tell
 
-    def after(self, within: Within) -> Iterator[Entry]:
+    def after(self, within: Within) -> Generator[Entry, None, None]:
         """The entries behind the part that is forwarded."""
         last: Id | None = bytes.fromhex(within.sequence), within.number
         while last:

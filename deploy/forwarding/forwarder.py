@@ -2,6 +2,7 @@
 import signal
 import time
 from collections.abc import Callable
+from contextlib import closing
 from pathlib import Path
 from typing import Any, TypeVar
 
@@ -84,18 +85,16 @@ class Forwarder:
 
     def forward_upload(self, upload: Upload) -> None:
         database = Database(upload.database, self.folder / "databases" / f"{upload.database}.db", "")
-        tables = Tables(upload.database, recent.connect([upload]))
-        try:
-            entries = Entries(tables, lambda _: None).after(Within(upload.database, ""))
-            for batch in self.batches.of(entries, Placing(database, self.chosen.days_before)):
+        placing = Placing(database, self.chosen.days_before)
+        with closing(Tables(upload.database, recent.connect([upload]))) as tables, closing(
+                Entries(tables, lambda _: None).after(Within(upload.database, ""))) as entries:
+            for batch in self.batches.of(entries, placing):
                 brought = [one.entry for one in batch.prepared]
                 refused = [refusal.entry for refusal in self.bring(batch.prepared)]
                 self.recent.add(upload.database, brought, refused)
                 self.report.count(batch.count, upload.database, 0)
                 if self.stopping:
                     raise Stopping
-        finally:
-            tables.close()
         self.recent.seen.add(upload.path)
 
     def take_stock(self) -> None:
@@ -144,17 +143,19 @@ class Forwarder:
         self.insist(lambda: self.engine.begin(database))
         placing = Placing(database, self.chosen.days_before)
         went = self.recent.went(database.name)
-        left = (entry for entry in entries.after(within) if (entry.sequence, entry.number) not in went)
-        for batch in self.batches.of(left, placing):
-            refusals = batch.refusals + self.bring(batch.prepared)
-            if refusals:
-                self.put_aside(refusals, database, entries)
-            within.reach(batch.last, batch.count)
-            if not self.engine.takes_databases_whole:
-                self.place.write()
-            self.report.count(batch.count, database.name, databases_left)
-            if self.stopping:
-                raise Stopping
+        # What reads is closed before what it reads, also when the run is told to stop.
+        with closing(entries.after(within)) as found:
+            left = (entry for entry in found if (entry.sequence, entry.number) not in went)
+            for batch in self.batches.of(left, placing):
+                refusals = batch.refusals + self.bring(batch.prepared)
+                if refusals:
+                    self.put_aside(refusals, database, entries)
+                within.reach(batch.last, batch.count)
+                if not self.engine.takes_databases_whole:
+                    self.place.write()
+                self.report.count(batch.count, database.name, databases_left)
+                if self.stopping:
+                    raise Stopping
         self.insist(lambda: self.engine.end(database))
 
     def bring(self, prepared: list[Prepared], most_cuts: int = CUTS) -> list[Refusal]:
