@@ -88,7 +88,7 @@ def kills(row: Row, collectors: Collectors) -> None:
             row.ends(target.collector.run(), 3, "", "~forward: *No space left on device*nothing is taken: *")
             subprocess.run(["mount", "-o", "remount,size=4g", disk], check=True)
         steps = at_steps(row, target.collector)
-        times = at_times(row, target)
+        times = at_times(row, target, FORWARD_KILLS - steps)
         row.ends(target.collector.run(), 0, "", "~*")
         found, wanted = target.entries(), target.collector.searched()
         row.same("how many entries", (len(found), len(wanted) >= ENTRIES), (len(wanted), True))
@@ -118,27 +118,25 @@ def small_disk(folder: Path) -> Iterator[Path | None]:
 
 
 def at_steps(row: Row, collector: Collector) -> int:
-    """Kills just before steps that change a file, and between a batch and its place. What is through begins anew."""
+    """Kills just before steps that change a file, and between a batch and its place: half of all. What is through
+    begins anew."""
     ended: list[int] = [-signal.SIGKILL]
-    for number in range(1, FORWARD_KILLS + 1):
+    for number in range(1, FORWARD_KILLS // 2 + 1):
         def begin() -> None:
             quick()()
             killed_before(number)()
         ended.append(collector.run(*["--again=all"][ended[-1] != 0:], before=begin).status)
     killed = ended.count(-signal.SIGKILL) - 1
-    row.same("kills at steps", killed > FORWARD_KILLS * 2 // 3, True)
+    row.same("kills at steps", killed > FORWARD_KILLS // 3, True)
     return killed
 
 
-def at_times(row: Row, target: Target) -> int:
+def at_times(row: Row, target: Target, wanted: int) -> int:
     """Kills of both at times that nothing chooses, within the time that a run takes."""
-    chance, killed = random.Random(22), 0
-    command = [target.collector.forwarder, "--once", target.collector.config]
-    start = time.monotonic()
-    again = subprocess.run([*command, "--again=all"], stderr=subprocess.DEVNULL, check=False).returncode == 0
-    longest = time.monotonic() - start
-    for number in range(max(FORWARD_KILLS, SERVER_KILLS)):
-        forwarder = subprocess.Popen([*command, *["--again=all"] * again], stderr=subprocess.DEVNULL)
+    chance, killed, longest, again = random.Random(22), 0, 1.0, True
+    for number in range(4 * wanted):
+        forwarder = subprocess.Popen([target.collector.forwarder, "--once", *["--again=all"] * again,
+                                      target.collector.config], stderr=subprocess.DEVNULL)
         time.sleep(chance.uniform(0, longest))
         if number < SERVER_KILLS:
             target.server.kill()
@@ -146,9 +144,12 @@ def at_times(row: Row, target: Target) -> int:
             time.sleep(chance.uniform(0, longest))
         again = forwarder.poll() == 0
         killed += forwarder.poll() is None
+        longest *= 0.8 if again else 1.1
         forwarder.kill()
         forwarder.wait()
-    row.same("kills at times", killed > FORWARD_KILLS // 2, True)
+        if killed >= wanted and number >= SERVER_KILLS:
+            break
+    row.same("kills at times", killed >= wanted, True)
     return killed
 
 
