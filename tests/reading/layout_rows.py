@@ -60,6 +60,17 @@ def searched_alike(row: Row, place: Place) -> None:
 
 
 @ROWS.row
+def whole_alike(row: Row, place: Place) -> None:
+    """Whole entries, as they are forwarded."""
+    from reading import tables  # pylint: disable=import-outside-toplevel,import-error
+    found = [[list(tables.Tables(path.stem, tables.connect(path)).joined((bytes.fromhex(after), 0), 5))
+              for path in sorted(one.databases.glob("*.db")) for after in ("", "80" * 16)]
+             for one in (place.two, place.other)]
+    row.same("entries", found[0], found[1])
+    row.same("there are some", sum(map(len, found[0])) > 9, True)
+
+
+@ROWS.row
 def not_known(row: Row, place: Place) -> None:
     (place.other.folder / "spans").unlink(missing_ok=True)
     for path in place.other.databases.glob("*.db"):
