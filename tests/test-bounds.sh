@@ -106,7 +106,7 @@ if command -v sshd > "$folder/told" && getent passwd sshd > "$folder/told"; then
     expect 0 "1 3 20 " "" alive journal-collect
     expect 0 "0 3 10 " "" alive somebody
 else
-    echo "skipped: sshd isn't installed, so sshd.conf isn't tried"
+    echo "skipped: there is no sshd, or no user sshd, so sshd.conf isn't tried"
 fi
 
 # Sources ------------------------------------------------------------------------------------------------------------
@@ -310,9 +310,26 @@ python3 -B tests/deploy/hostile_world.py "$library" --machines "${HEALTHY-4}" ||
 
 # Units --------------------------------------------------------------------------------------------------------------
 
+# each has bounds; and one of these programs isn't begun again with wrong settings
+for unit in "$folder/root/usr/lib/systemd/system"/*.service; do
+    settings="MemoryMax= TasksMax= RemoveIPC=yes PrivateMounts=yes DevicePolicy=closed"
+    if grep -q '^ExecStart=/usr/lib/journal-collect/' "$unit"; then
+        settings+=" SystemCallFilter=~@privileged"
+        if grep -q '^Restart=' "$unit"; then
+            settings+=" RestartPreventExitStatus=2"
+        fi
+    fi
+    for setting in $settings; do
+        grep -q "^$setting" "$unit" || differs "${unit##*/}: no $setting"
+    done
+done
+# more files of a journal than any user can make in a minute
+for setting in SystemMaxFiles RuntimeMaxFiles; do
+    grep -qx $setting=10000 "$folder/root/usr/lib/systemd/journald.conf.d"/*.conf || differs "journald: no $setting"
+done
 # what systemd's own judge says of them, in tenths: at most so many
 if command -v systemd-analyze > "$folder/told"; then
-    for unit in incoming:5 journal-files:5 send:15 forward:15; do
+    for unit in incoming:5 journal-files:5 send:15 follow:15 forward:15 browse:15; do
         expect 0 "~*" "" systemd-analyze security --offline=true --no-pager --threshold="${unit#*:}" \
             "$folder/root/usr/lib/systemd/system/journal-collect-${unit%:*}.service"
     done

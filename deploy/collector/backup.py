@@ -219,5 +219,5 @@ def move_away(name: str) -> None:
             os.makedirs("damaged", exist_ok=True)
             to = os.path.join("damaged", os.path.basename(path))
             if os.path.lexists(to):
-                state.put_aside(to)
+                files.put_aside(to)
             files.move(path, to)

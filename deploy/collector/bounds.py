@@ -6,6 +6,8 @@ import os
 import resource
 import select
 
+from shared import files
+
 from .report import tell
 
 # The status of what isn't done now, though nothing is wrong with it: as EX_TEMPFAIL of sysexits.h.
@@ -20,7 +22,7 @@ SESSION_SECONDS, SESSION_CPU_SECONDS = 86400, 3600
 
 def take_place(machine: str, places: int) -> bool:
     """Takes one of a machine's places for as long as this process is there, however it ends. Whether one is free."""
-    file = os.open(os.path.join(FOLDER, machine), os.O_RDWR | os.O_CREAT | os.O_CLOEXEC, 0o600)
+    file = files.open_lock(os.path.join(FOLDER, machine))
     for place in range(places):
         try:
             fcntl.lockf(file, fcntl.LOCK_EX | fcntl.LOCK_NB, 1, place)

@@ -84,7 +84,7 @@ def read() -> Kept:
         return parsed(lines)
     except (Damaged, ValueError, IndexError) as error:
         why = str(error) if isinstance(error, Damaged) else f"{PATH}: {error}"
-        report(3, f"{why}: it is put aside as {state.put_aside(PATH)}; when databases were in use isn't known any "
+        report(3, f"{why}: it is put aside as {files.put_aside(PATH)}; when databases were in use isn't known any "
                "more, and their days begin now")
         return of_earlier_version([])
 

@@ -1,13 +1,18 @@
 """Takes up what a run left that was stopped, or whose database failed: the uploads of a database are finished in it,
 and then the database is."""
 import os
+import time
 
-from . import collector, databases, missing, program, spool, storing
+from shared import files
+
+from . import collector, costs, databases, missing, program, spool, storing
 from .collecting import Collecting
 from .report import report
 
 # A database that fails so often is set aside.
 TRIES = 3
+# Those that were set aside are looked at again after so many seconds.
+REFUSED_SECONDS = 600.0
 
 
 class Recovery:
@@ -16,11 +21,17 @@ class Recovery:
     def __init__(self, shared: collector.Shared) -> None:
         self.shared = shared
         self.tries: dict[str, int] = {}
+        self.looked_at_refused: float | None = None
+        # Databases that were set aside, and were begun again since.
+        self.begun_again: set[str] = set()
+        self.is_short = False
 
-    def run(self, is_first: bool = False) -> None:
-        """Takes up all that no collector uses; the first time also what was refused."""
-        if is_first:
-            try_refused(self.shared)
+    def run(self) -> None:
+        """Takes up all that no collector uses; at first, and now and then, also what was refused."""
+        now = time.monotonic()
+        if self.looked_at_refused is None or now - self.looked_at_refused >= REFUSED_SECONDS:
+            self.looked_at_refused = now
+            self.try_refused()
         for name in collector.left_over(self.shared):
             if self.shared.stops:
                 return
@@ -43,6 +54,8 @@ class Recovery:
             return
         if not uploads and not databases.log_has_pages(name):
             self.finish(name)
+            return
+        if not self.has_room(name):
             return
         databases.unlink_others(name)
         self.shared.note(name)
@@ -67,6 +80,13 @@ class Recovery:
             self.finish(name)
         else:
             self.failed(name, f"status {process.status}: {process.errors or ended}", process.errors.startswith("bad "))
+
+    def has_room(self, name: str) -> bool:
+        """Whether the disk has room to open a database. Without it the attempt would say nothing of the database."""
+        was_short, self.is_short = self.is_short, costs.room(self.shared.settings) < costs.LEAST_ROOM
+        if self.is_short and not was_short:
+            report(3, f"only {files.free_bytes()} bytes are free: {databases.path_of(name)} isn't finished yet")
+        return not self.is_short
 
     def store(self, upload: spool.Waiting, name: str, process: Collecting) -> None:
         """Has one upload stored, of a machine that nobody else is at work for."""
@@ -105,16 +125,25 @@ class Recovery:
             spool.give_back(name, upload)
         databases.release(name)
 
+    def try_refused(self) -> None:
+        """Databases that were refused are tried again: what kept them closed may be gone, as a full disk is."""
+        for name in databases.all_names():
+            if self.shared.stops:
+                return
+            if not databases.is_refused(name) or not program.is_sound(databases.path_of(name)):
+                continue
+            try:
+                self.begin_again(name)
+            except OSError as error:
+                report(3, f"{databases.path_of(name)} can't be finished: {error}")
 
-def try_refused(shared: collector.Shared) -> None:
-    """Databases that were refused are tried again when the collector is begun: what kept them closed may be gone."""
-    for name in databases.all_names():
-        if shared.stops:
-            return
-        if not databases.is_refused(name) or not program.is_sound(databases.path_of(name)):
-            continue
-        report(0, f"{databases.path_of(name)} can be opened again")
-        try:
+    def begin_again(self, name: str) -> None:
+        """One that was refused is finished; or it is taken up once more, if its log has something that it hasn't."""
+        if databases.log_has_pages(name):
+            if name in self.begun_again:
+                return
+            self.begun_again.add(name)
+            files.remove(databases.path_of(name) + databases.REFUSED)
+        else:
             databases.finish(name)
-        except OSError as error:
-            report(3, f"{databases.path_of(name)} can't be finished: {error}")
+        report(0, f"{databases.path_of(name)} can be opened again")

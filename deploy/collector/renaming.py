@@ -42,7 +42,7 @@ def finish() -> None:
         if not settings.is_machine(old) or not settings.is_machine(new):
             raise ValueError
     except (state.Damaged, ValueError, IndexError):
-        report(3, f"{UNDER_WAY} isn't as it was written: it is put aside as {state.put_aside(UNDER_WAY)}")
+        report(3, f"{UNDER_WAY} isn't as it was written: it is put aside as {files.put_aside(UNDER_WAY)}")
         return
     move_sources(os.path.join("sources", old), os.path.join("sources", new))
     with files.locked(spool.ORDER):

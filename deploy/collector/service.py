@@ -26,7 +26,7 @@ def run_once(chosen: settings.Settings) -> int:
 
 def begin(chosen: settings.Settings, once: bool) -> int:
     """Begins the service, and ends with it; the status."""
-    lock = os.open("lock", os.O_RDWR | os.O_CREAT | os.O_CLOEXEC, 0o600)
+    lock = files.open_lock("lock")
     if not files.lock_now(lock):
         tell("collect-incoming: another run is under way")
         return BUSY
@@ -68,7 +68,7 @@ def serve(shared: collector.Shared, once: bool) -> None:
     recent.clean()
     recovering = recovery.Recovery(shared)
     if once:
-        recovering.run(is_first=True)
+        recovering.run()
     retention.round_of(shared)
     shared.look_for_room()
     threads = collector.begun(shared, once)
@@ -89,7 +89,7 @@ def watch(shared: collector.Shared, recovering: recovery.Recovery) -> None:
         now = time.monotonic()
         try:
             if recovered is None or now - recovered >= RECOVER_SECONDS:
-                recovering.run(is_first=recovered is None)
+                recovering.run()
                 recovered = now
             if now - rounds >= ROUND_SECONDS:
                 rounds = now

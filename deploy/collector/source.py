@@ -178,9 +178,9 @@ def read(path: str) -> Source | None:
 
 def put_aside(path: str) -> str:
     """Nobody reads a source's files any more; where the first of them is now."""
-    aside = state.put_aside(path)
+    aside = files.put_aside(path)
     if os.path.lexists(path + ENTRIES):
-        state.put_aside(path + ENTRIES)
+        files.put_aside(path + ENTRIES)
     return aside
 
 
@@ -194,7 +194,7 @@ def make_folder(folder: str) -> None:
     """A machine's folder is there from now on."""
     if not os.path.isdir(folder):
         if os.path.lexists(folder):
-            state.put_aside(folder)
+            files.put_aside(folder)
         os.makedirs(folder, exist_ok=True)
         files.sync(os.path.dirname(folder))
 
@@ -203,10 +203,7 @@ def locked(machine: str) -> files.locked:
     """Nobody else changes what is known of a machine's sources meanwhile."""
     folder = os.path.join("sources", machine)
     make_folder(folder)
-    lock = os.path.join(folder, "lock")
-    if os.path.lexists(lock) and not state.is_file(lock):
-        state.put_aside(lock)
-    return files.locked(lock)
+    return files.locked(os.path.join(folder, "lock"))
 
 
 def names(machine: str) -> list[str]:

@@ -102,7 +102,7 @@ def next_number(order: int, waiting: list[Waiting]) -> int:
 
 def put_aside(path: str) -> str:
     """An upload that isn't what was put there waits no more; where it is now."""
-    aside = state.put_aside(path)
+    aside = files.put_aside(path)
     kept = os.path.join("incoming", os.path.basename(aside))
     if aside != kept:
         files.move(aside, kept)

@@ -10,8 +10,6 @@ import os
 import stat
 import zlib
 
-from shared import files
-
 from .answer import HEXADECIMAL
 
 TYPE_CHECKING = False
@@ -110,16 +108,6 @@ def hexadecimal(word: str, length: int) -> str:
     if len(word) != length or not HEXADECIMAL.issuperset(word):
         raise ValueError(f"not {length} digits: {word[:80]}")
     return word
-
-
-def put_aside(path: str) -> str:
-    """Gives a file that isn't right another name, which is answered: nobody reads it from now on."""
-    aside, count = f"{path}.damaged", 1
-    while os.path.lexists(aside):
-        count += 1
-        aside = f"{path}.damaged-{count}"
-    files.move(path, aside)
-    return aside
 
 
 def is_file(path: str) -> bool:

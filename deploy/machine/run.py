@@ -84,7 +84,7 @@ def enter_folder(settings: Settings, report: Report) -> int:
     os.chmod(settings.folder, 0o700)
     os.chdir(settings.folder)
     look_for_strangers(settings)
-    lock = os.open("lock", os.O_RDWR | os.O_CREAT, 0o600)
+    lock = files.open_lock("lock")
     if not files.lock_now(lock):
         report.say(BUSY, "another run is under way")
         raise Stop

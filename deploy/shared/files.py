@@ -1,14 +1,18 @@
 """Files that are replaced whole, locks, and what is in a folder."""
 from __future__ import annotations
 
+import errno
 import fcntl
 import os
+import stat
 
 TYPE_CHECKING = False
 if TYPE_CHECKING:
     from types import TracebackType
 
 Name = str | os.PathLike[str]
+# What a link, a folder or a pipe without a reader says to whoever would open a file.
+NO_LOCK = (errno.ELOOP, errno.EISDIR, errno.ENXIO)
 
 
 def sync(path: Name) -> None:
@@ -90,6 +94,32 @@ def free_bytes(folder: Name = ".") -> int:
     return told.f_bavail * told.f_frsize
 
 
+def open_lock(path: Name) -> int:
+    """Opens the file of a lock, which is made if it isn't there. What else has its name, as a link or a folder, has
+    another one from then on."""
+    while True:
+        try:
+            file = os.open(path, os.O_RDWR | os.O_CREAT | os.O_NOFOLLOW | os.O_NONBLOCK | os.O_CLOEXEC, 0o600)
+        except OSError as error:
+            if error.errno not in NO_LOCK:
+                raise
+        else:
+            if stat.S_ISREG(os.fstat(file).st_mode):
+                return file
+            os.close(file)
+        put_aside(path)
+
+
+def put_aside(path: Name) -> str:
+    """Gives a file that isn't right another name, which is answered: nobody reads it from now on."""
+    aside, count = f"{os.fspath(path)}.damaged", 1
+    while os.path.lexists(aside):
+        count += 1
+        aside = f"{os.fspath(path)}.damaged-{count}"
+    move(path, aside)
+    return aside
+
+
 def lock_now(file: int) -> bool:
     """Takes the lock of an open file, if nobody has it."""
     try:
@@ -106,7 +136,7 @@ class locked:
         self.path = path
 
     def __enter__(self) -> int:
-        self.file = os.open(self.path, os.O_RDWR | os.O_CREAT | os.O_CLOEXEC, 0o600)
+        self.file = open_lock(self.path)
         try:
             fcntl.flock(self.file, fcntl.LOCK_EX)
         except BaseException:
@@ -123,5 +153,5 @@ class locked_now(locked):
     """Has the lock of a file for a while, which is made if it isn't there, if nobody has it: whether it has."""
 
     def __enter__(self) -> bool:  # type: ignore[override]
-        self.file = os.open(self.path, os.O_RDWR | os.O_CREAT | os.O_CLOEXEC, 0o600)
+        self.file = open_lock(self.path)
         return lock_now(self.file)

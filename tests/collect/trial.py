@@ -68,9 +68,9 @@ def as_output(lines: Iterable[str]) -> bytes:
 class Trial:
     """One script's trials, in a folder of their own, with the random choices of a seed that is printed."""
 
-    def __init__(self, name: str) -> None:
+    def __init__(self, name: str, seed: int | None = None) -> None:
         self.name = name
-        self.seed = int(os.environ.get("SEED", time.time_ns() % 10**9))
+        self.seed = first_seed() if seed is None else seed
         self.dice = random.Random(self.seed)
         self.mistakes = 0
         self.base = tempfile.mkdtemp()
@@ -141,9 +141,17 @@ class Trial:
         self.expect(f"{what}: export", told, "one of the journals that may be there")
         return None
 
+    def tell(self, *counts: str) -> None:
+        print(f"{self.name}: {', '.join(counts)}; SEED={self.seed}", flush=True)
+
     def finish(self, *counts: str) -> None:
-        print(f"{self.name}: {', '.join(counts)}; SEED={self.seed}")
+        self.tell(*counts)
         sys.exit(self.mistakes > 0)
+
+
+def first_seed() -> int:
+    """SEED, or another one each time."""
+    return int(os.environ.get("SEED", time.time_ns() % 10**9))
 
 
 def short(value: object) -> str:

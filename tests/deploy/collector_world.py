@@ -1,7 +1,8 @@
 """The collector's programs over stand-ins for machines, in rounds of random events.
 
-usage: python3 collector_world.py PROGRAMS [--rounds ROUNDS]
+usage: python3 collector_world.py PROGRAMS [--rounds ROUNDS] [--real EACH]
 
+There are forty rounds to a world, and then another one. Programs run in forked processes, but for one round of EACH.
 Machines send uploads: new ones, old ones again, late ones after newer ones, ones behind a gap, ones that are cut, and
 ones of a machine that was set back to an earlier day. Databases turn in a second. Between and within runs of the
 collector the clock is set by a minute, by 12 h, by 40 days and to 1970, days go by, the machine is started again,
@@ -25,10 +26,11 @@ from typing import Any
 
 HERE = os.path.dirname(os.path.abspath(__file__))
 sys.path[:0] = [os.path.join(HERE, ".."), os.path.join(HERE, "..", "collect")]
+import forked  # noqa: E402
 import preload  # noqa: E402
 from collector_machines import PROGRAM, Source, entries_of  # noqa: E402
 from disturbed import full  # noqa: E402
-from trial import Trial  # noqa: E402
+from trial import Trial, first_seed  # noqa: E402
 
 DAY = 86400
 KEEP_DAYS = 3
@@ -45,22 +47,23 @@ COLLECTORS={collectors}
 EXPORTS={exports}
 """
 BROKEN = ("Traceback", "Error:", "isn't read as the program reads it")
+# How many rounds a world has.
+ROUNDS = 40
 
 
 class World(Trial):
     """Machines, a collector, its clock, and how much time has gone by in truth."""
 
-    def __init__(self, programs: str) -> None:
-        super().__init__("collector")
-        self.programs = programs
-        folder = self.bin = self.folder()
+    def __init__(self, programs: str, seed: int, clock_library: str) -> None:
+        super().__init__("collector", seed)
+        self.programs, self.library = programs, clock_library
+        self.path, folder = os.environ["PATH"], self.folder()
         os.symlink(os.environ.get("COLLECTING_PROGRAM", PROGRAM), os.path.join(folder, "journal-collect"))
-        os.environ["PATH"] = f"{folder}:{os.environ['PATH']}"
+        os.environ["PATH"] = f"{folder}:{self.path}"
         self.collector = os.path.join(self.folder(), "collector")
         self.backups = self.folder()
         self.conf = os.path.join(self.folder(), "conf")
         self.clock = os.path.join(self.folder(), "clock")
-        self.library = preload.built(os.path.join(HERE, "clock.c"), self.folder())
         self.collectors = self.dice.choice((1, 1, 2, 3))
         with open(self.conf, "w", encoding="ascii") as file:
             file.write(CONF.format(folder=self.collector, size=self.dice.choice((60000, 150000)), keep=KEEP_DAYS,
@@ -78,6 +81,10 @@ class World(Trial):
         self.counts = collections.Counter()
         # of each backup what the databases had that had been deleted by then
         self.whole_backups = {}
+
+    def __exit__(self, *error: object) -> None:
+        os.environ["PATH"] = self.path
+        super().__exit__(*error)
 
     def source(self, machine: str) -> Source:
         return Source(self, machine, self.dice.randbytes(16).hex(), self.dice.choice((0, 1000)))
@@ -175,7 +182,7 @@ class World(Trial):
         size = self.dice.choice((0, 2000, 30000, 60000)) if kind == "full" else None
         run = self.begin(["--once"] if kind in ("once", "full") else [], size)
         if kind in ("kill", "kill all", "term", "turn"):
-            time.sleep(self.dice.random() * 1.5)
+            time.sleep(self.dice.random() * self.dice.choice((0.05, 0.2, 1.5) if forked.is_on else (1.5,)))
             if self.dice.random() < 0.5:
                 self.change_clock()
             if kind == "turn" and self.dice.random() < 0.4:
@@ -391,20 +398,34 @@ class World(Trial):
         return sum(map(len, found.values()))
 
 
+def run(world: World, rounds: int, real: int) -> int:
+    """Has a world's rounds; how many mistakes there were."""
+    for number in range(rounds):
+        forked.is_on = number % real > 0
+        world.round()
+    world.set_clock(0)
+    world.calm()
+    entries = world.look()
+    world.tell(f"{rounds} rounds of {len(world.machines)} machines", f"{entries} entries",
+               f"{len(world.there())} databases, {len(world.deleted)} deleted in time",
+               ", ".join(f"{count} {kind}" for kind, count in sorted(world.counts.items())))
+    return world.mistakes
+
+
 def main() -> None:
     parser = argparse.ArgumentParser()
     parser.add_argument("programs")
     parser.add_argument("--rounds", type=int, default=40)
+    parser.add_argument("--real", type=int, default=10)
     arguments = parser.parse_args()
-    with World(os.path.abspath(arguments.programs)) as world:
-        for _ in range(arguments.rounds):
-            world.round()
-        world.set_clock(0)
-        world.calm()
-        entries = world.look()
-        world.finish(f"{arguments.rounds} rounds of {len(world.machines)} machines", f"{entries} entries",
-                     f"{len(world.there())} databases, {len(world.deleted)} deleted in time",
-                     ", ".join(f"{count} {kind}" for kind, count in sorted(world.counts.items())))
+    programs, seed, mistakes = os.path.abspath(arguments.programs), first_seed(), 0
+    library = preload.begin_again_with(os.path.join(HERE, "clock.c"))
+    forked.install(programs, {})
+    for first in range(0, arguments.rounds, ROUNDS):
+        with World(programs, seed + first // ROUNDS, library) as world:
+            mistakes += run(world, min(ROUNDS, arguments.rounds - first), arguments.real)
+    shutil.rmtree(os.path.dirname(library))
+    sys.exit(mistakes > 0)
 
 
 if __name__ == "__main__":

@@ -7,8 +7,9 @@ import signal
 import subprocess
 import time
 
+from exported import read
 from journal import Journal
-from machine import HERE, PROGRAM, Machine, read
+from machine import HERE, PROGRAM, Machine
 
 CONF = """FOLDER={folder}
 DATABASE_NAME=%Y-%m-%dT%H-%M-%S

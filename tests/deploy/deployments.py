@@ -28,6 +28,7 @@ BOOT_ID_FILE={boot}
 COLLECTOR_CONF = """FOLDER={folder}
 DATABASE_NAME=%H-%M-%S
 DATABASE_BYTES=60000
+KEEP_DAYS=3
 UPLOADS_WAITING=6
 FREE_BYTES=0
 POLL_SECONDS=0.05
@@ -100,19 +101,19 @@ class Programs(Deployment):
     # How many connections a run has, as a rule.
     CONNECTIONS = 1
 
-    def send(self, name: str, disturbance: Disturbance) -> list[Run]:
-        kind, value = disturbance
+    def send(self, name: str, disturbance: Disturbance, *words: str) -> list[Run]:
+        kind, _ = disturbance
         conf = self.confs[name][kind == "cap"]
         forced = [*stopped("receive", disturbance), f"{self.programs}/serve", self.names[name], self.collector_conf]
         environment = {**self.world.journal_of(name), "FORCED_COMMAND": " ".join(forced)}
-        command = [*stopped("send", disturbance), f"{self.programs}/send", conf]
+        command = [*stopped("send", disturbance), f"{self.programs}/send", *words, conf]
         return [Run(self.world, name, command, environment, disturbance)]
 
     def collect(self, disturbance: Disturbance) -> list[Run]:
         once = [] if disturbance[0] == "term" else ["--once"]
         command = [*stopped("collect-incoming", disturbance), f"{self.programs}/collect-incoming", *once,
                    self.collector_conf]
-        return [Run(self.world, "collector", command, {}, disturbance)]
+        return [Run(self.world, "collector", command, self.world.events.environment(), disturbance)]
 
     @staticmethod
     def gathered(status: int, errors: str) -> bool:
@@ -138,7 +139,7 @@ class Programs(Deployment):
 
     def streams(self, name: str) -> list[str]:
         folder = os.path.join(self.folders[name], "streams")
-        return [os.path.join(folder, each) for each in sorted(os.listdir(folder))]
+        return [os.path.join(folder, each) for each in sorted(os.listdir(folder))] if os.path.isdir(folder) else []
 
 
 class OldScripts(Deployment):
@@ -157,7 +158,7 @@ class OldScripts(Deployment):
             with open(os.path.join(self.folders[name], "id"), "w", encoding="ascii") as file:
                 file.write(world.dice.randbytes(16).hex() + "\n")
 
-    def send(self, name: str, disturbance: Disturbance) -> list[Run]:
+    def send(self, name: str, disturbance: Disturbance, *_: str) -> list[Run]:
         environment = {**self.world.journal_of(name), "STATE": self.folders[name], "COLLECTOR": self.collector,
                        "FORCED_COMMAND": f"{self.programs}/receive {name}"}
         return [Run(self.world, name, [f"{self.programs}/{program}"], environment, disturbance)

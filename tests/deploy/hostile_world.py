@@ -1,12 +1,13 @@
 """A machine that was broken into beside healthy ones, over one collector: it does all that it can at once.
 
-usage: python3 hostile_world.py PROGRAMS [--machines MACHINES] [--uploads UPLOADS]
+usage: python3 hostile_world.py PROGRAMS [--machines MACHINES] [--uploads UPLOADS] [--seconds SECONDS]
 
 The machine `evil` sends journal files whose entries share a value, streams of the shortest fields, and what is no
 upload; it loses connections half-way, reads no answer, makes ever new sources, and sends more than one machine may.
 Each healthy machine meanwhile sends uploads, one after the other, and waits for the answer to each. Between an upload
 and its answer its collector takes no more uploads of `evil` than its turns allow. Nothing is lost, and what `evil` did
-is told once, with its name, and nothing of any other machine.
+is told once, with its name, and nothing of any other machine. How long the answers take, and took before `evil` began,
+is printed; with --seconds none may take so many seconds longer than the slowest one before.
 """
 import argparse
 import collections
@@ -196,17 +197,28 @@ class Healthy(threading.Thread):
         self.world, self.machine, self.uploads = world, name, uploads
         self.source = Source(world, name, world.dice.randbytes(16).hex(), 0)
         self.most = 0
+        # how long each answer took, without evil beside it and with it
+        self.alone: list[float] = []
+        self.beside: list[float] = []
 
     def run(self) -> None:
-        for number in range(self.uploads):
-            self.source.grow(5)
-            made = self.source.make(self.source.acked, 100)
-            with open(made[2], "rb") as file:
-                data = file.read()
-            begin = self.send(data)
-            if not self.answered(5 * (number + 1)):
+        for _ in range(self.uploads):
+            begin = self.send_one(self.beside)
+            if begin is None:
                 return
             self.count(begin)
+
+    def send_one(self, took: list[float]) -> "int | None":
+        """Sends an upload, and waits for its answer: how many had been noted before, if it came."""
+        self.source.grow(5)
+        made, since = self.source.make(self.source.acked, 100), time.monotonic()
+        with open(made[2], "rb") as file:
+            data = file.read()
+        begin = self.send(data)
+        if not self.answered(len(self.source.entries)):
+            return None
+        took.append(time.monotonic() - since)
+        return begin
 
     def send(self, data: bytes) -> int:
         """Sends it; how many uploads had been noted by then."""
@@ -255,15 +267,36 @@ def look(world: Collector, machines: list[Healthy], said: str) -> None:
                                                   and not line.startswith("collect-incoming: stored ")], [])
 
 
+def begin_alone(machines: list[Healthy]) -> None:
+    """Each sends two uploads, all at once, before there is evil."""
+    threads = [threading.Thread(target=lambda each=machine: [each.send_one(each.alone) for _ in range(2)])
+               for machine in machines]
+    for thread in threads:
+        thread.start()
+    for thread in threads:
+        thread.join()
+
+
+def look_at_times(world: Collector, machines: list[Healthy], seconds: float) -> str:
+    """How much longer an answer takes than the slowest did without evil; what is printed of it."""
+    alone, beside = (sorted(took for each in machines for took in getattr(each, kind)) for kind in ("alone", "beside"))
+    if seconds:
+        world.expect("answers that take longer", [took for took in beside if took > alone[-1] + seconds], [])
+    return (f"answers took {alone[len(alone) // 2]:.1f} s, {alone[-1]:.1f} s at most; beside evil "
+            f"{beside[len(beside) // 2]:.1f} s, {beside[-1]:.1f} s at most")
+
+
 def main() -> None:
     parser = argparse.ArgumentParser()
     parser.add_argument("programs")
     parser.add_argument("--machines", type=int, default=4)
     parser.add_argument("--uploads", type=int, default=4)
+    parser.add_argument("--seconds", type=float, default=0)
     arguments = parser.parse_args()
     with Collector(os.path.abspath(arguments.programs)) as world:
-        evil = Evil(world)
         machines = [Healthy(world, f"machine-{number}", arguments.uploads) for number in range(arguments.machines)]
+        begin_alone(machines)
+        evil = Evil(world)
         for machine in machines:
             machine.start()
         try:
@@ -274,7 +307,8 @@ def main() -> None:
             evil.stop()
         look(world, machines, world.stop())
         most = max(machine.most for machine in machines)
-        world.finish(f"{len(machines)} machines, {arguments.uploads} uploads each",
+        times = look_at_times(world, machines, arguments.seconds)
+        world.finish(f"{len(machines)} machines, {arguments.uploads} uploads each", times,
                      f"at most {most} uploads of evil before one of another machine",
                      ", ".join(f"{count} times {way}" for way, count in sorted(evil.counts.items())))
 

@@ -35,15 +35,19 @@ def clock_ahead_at_each_boot(row: Row, case: Case) -> None:
 
 @ROWS.once
 def clock_set_within_a_boot(row: Row, case: Case) -> None:
-    """Forward and back, by hours, years and to 1970: nothing goes, also not by the times of files."""
+    """Forward and back, by hours, years and to 1970: nothing goes, also not by the times of files. Nothing is taken back
+    either: what the machine ran for meanwhile counts, and all of that."""
     case.set(KEEP_DAYS=3)
     case.store(upload(entries(1, 5)))
-    for wall in (0.9, 0.9, 0.9, 0.9, 40, -40, 4000, -4000, -20000, 20000):
-        case.later(wall=wall)
+    sets = (0.9, 0.9, 0.9, 0.9, 40, -40, 4000, -4000, -20000, 20000)
+    for wall in sets:
+        case.later(days=2.9 / len(sets), wall=wall)
         row.expect(f"set by {wall}", "deleted" in case.collect()[1], False)
         for path in glob.glob(case.path("databases", "*")):
             os.utime(path, (time.time() - 2000 * DAY, time.time() - 2000 * DAY))
     row.expect("entries", case.numbers(), [1, 2, 3, 4, 5])
+    case.later(days=0.2, wall=-20000)
+    row.expect("its days are over", ("deleted" in case.collect()[1], case.names()), (True, []))
 
 
 @ROWS.once

@@ -2,9 +2,11 @@
 
 The collector's programs are there. Each row is tried with all in one database, and with another one each time.
 """
+import itertools
 import os
 import re
 import shutil
+import signal
 import subprocess
 import sys
 
@@ -13,6 +15,10 @@ from machine import PROGRAM
 from trial_rows import Row, Rows
 
 ROWS: Rows[Deployed] = Rows()
+# The run that forks is killed before each step of so many; with 1 before each.
+STEP = int(os.environ.get("STEP", "16"))
+# How often both clones send.
+HOURS = int(os.environ.get("HOURS", "8"))
 FORKED = re.compile(r"forked: ([0-9a-f]{32}) goes on as ([0-9a-f]{32}) from entry ([0-9]+)")
 
 
@@ -128,26 +134,36 @@ def set_back_five_times(row: Row, machine: Deployed) -> None:
 
 @ROWS.each
 def set_back_within_a_boot(row: Row, machine: Deployed) -> None:
-    """As above, but the machine goes on from its memory, so that it appends to the stream that it had."""
+    """As above, but the machine goes on from its memory, so that it appends to the stream that it had. What of that may
+    be stored twice is told; each entry is stored under its own key or its fork's."""
     machine.journal.grow(10)
     machine.settle()
-    logged = logged_of(machine)
+    logged, said = logged_of(machine), ""
     machine.snapshot("s")
-    for turn in range(3):
+    for turn in range(5):
         if turn:
             machine.set_back("s", reboots=False)
         machine.journal.realtime += 10**9 * (turn + 1)
+        before = logged_of(machine)
         for count in (3, 5 + turn):
             machine.journal.grow(count)
             told = machine.settle()
+            said += "".join(text for _, text in told)
         logged |= logged_of(machine)
         row.expect("the status in the end", told[-1][0], 0)
-    row.expect("entries that aren't stored", logged - set(messages(machine)), set())
+        row.expect("a set-back that isn't told", not turn or "set back" in said or "forked" in said, True)
+    stored = messages(machine)
+    row.expect("entries that aren't stored", logged - set(stored), set())
+    forks = {new for _, new, _ in FORKED.findall(said)} | {machine.journal.seqnum_id}
+    row.expect("under other ids", {each for ids in stored.values() for each in ids} - forks, set())
+    twice = {key for key, ids in stored.items() if len(ids) > 1}
+    row.expect("stored twice without a word", twice if "may be stored twice" not in said else set(), set())
+    row.expect("stored twice, though not of what went out again", twice & before, set())
 
 
 @ROWS.each
 def two_clones(row: Row, machine: Deployed) -> None:
-    """Two machines go on from one disk for a day, under one name, and each logs by itself."""
+    """Two machines go on from one disk, under one name, and each logs by itself. HOURS=24 is a day of them."""
     machine.journal.grow(10)
     machine.settle()
     logged = logged_of(machine)
@@ -160,7 +176,7 @@ def two_clones(row: Row, machine: Deployed) -> None:
         each.boot(f"0000000{number}-2222-2222-2222-222222222222")
         each.journal.reboot()
         each.journal.realtime += 10**9 * (number + 1)
-    for hour in range(8):
+    for hour in range(HOURS):
         for each in (machine, twin):
             each.journal.grow(1 + hour % 3)
             each.send()
@@ -175,9 +191,10 @@ def two_clones(row: Row, machine: Deployed) -> None:
 
 @ROWS.once
 def forked_while_it_is_killed(row: Row, machine: Deployed) -> None:
-    """The run that forks a sequence is killed at each moment: nothing is lost or stored twice, and the fork is told."""
+    """The run that forks a sequence is killed at each moment, from its first step to its end: nothing is lost or stored
+    twice, and the fork is told."""
     own, number = machine.journal.seqnum_id, 0
-    for stop in range(30, 150, 10):
+    for stop in itertools.count(1, STEP):
         machine.journal.grow(3)
         machine.settle()
         number = machine.journal.seqnum
@@ -186,11 +203,14 @@ def forked_while_it_is_killed(row: Row, machine: Deployed) -> None:
         machine.journal.grow(5)
         machine.send()
         machine.store()
-        _, said = machine.send(stop=stop)
+        ended, said = machine.send(stop=stop)
         told = machine.settle()
         said += "".join(text for _, text in told)
         row.expect(f"told after a kill at {stop}", len(FORKED.findall(said)) > 0, True)
         row.expect(f"the status in the end, after a kill at {stop}", told[-1][0], 0)
+        if ended != -signal.SIGKILL:
+            break
+    row.expect("kills", stop > 60, True)
     each_once(row, machine, logged_of(machine))
 
 

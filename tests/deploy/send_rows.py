@@ -7,8 +7,9 @@ import subprocess
 import sys
 import time
 
+from exported import body, read
 from journal import Journal
-from machine import Machine, body, read
+from machine import Machine
 from trial_rows import Row, Rows
 
 ROWS: Rows[Machine] = Rows()

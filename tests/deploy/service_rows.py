@@ -115,6 +115,32 @@ def full_disk_is_told(row: Row, case: Case) -> None:
 
 
 @ROWS.once
+def locks_that_are_no_files(row: Row, case: Case) -> None:
+    """A link, a folder or a pipe lies in the place of a lock: no link is followed, and the next run goes on."""
+    case.store(upload(entries(1, 2)))
+    case.collect("--backup", f"{case.base}/backup")
+    victim = f"{case.base}/victim"
+    with open(victim, "w", encoding="ascii") as file:
+        file.write("a text that is somebody else's\n")
+    locks = [os.path.join(top, name) for top, _, names in os.walk(case.folder) for name in names
+             if name == "lock" or name.endswith(".lock") or os.path.basename(top) == "calls"]
+    row.expect("locks", {os.path.relpath(path, case.folder) for path in locks} >= {"lock", "sources/web/lock"}, True)
+    count = 2
+    for path in locks:
+        for kind in ("a link", "a folder", "a pipe"):
+            os.unlink(path)
+            {"a link": lambda: os.symlink(victim, path), "a folder": lambda: os.mkdir(path),
+             "a pipe": lambda: os.mkfifo(path)}[kind]()
+            told = case.store(upload(entries(count + 1, count + 2), start=count))
+            count += 2
+            what = f"{kind} as {os.path.relpath(path, case.folder)}"
+            row.expect(f"{what}: stored", (told, case.answers()[0].split()[:4]),
+                       ((0, ""), ["ack", SOURCE, "0", str(count)]))
+            case.collect("--backup", f"{case.base}/backup")
+    row.expect("what the links name", open(victim, encoding="ascii").read(), "a text that is somebody else's\n")
+
+
+@ROWS.once
 def stop_while_an_upload_is_stored(row: Row, case: Case) -> None:
     """It ends behind that upload, which is answered, and the others wait."""
     slow = f"{case.base}/bin/journal-collect"
@@ -157,36 +183,76 @@ def stop_while_what_was_left_is_taken_up(row: Row, case: Case) -> None:
     row.expect("databases", (case.names(), len(case.stored())), (["d"], 40))
 
 
-@ROWS.once
-def full_disk_counts_as_a_try(row: Row, case: Case) -> None:
-    """A database that fails again and again is set aside, however full the disk is."""
-    if not case.clock_library:
-        return
+def left_with_an_upload(case: Case) -> None:
+    """A database that a run left, whose entries are acknowledged, with an upload that it was storing."""
     case.set(DATABASE_NAME="d")
     case.store(upload(entries(1, 2)))
-    case.free = 1 << 20
     os.unlink(case.path("databases", "d.db.sha256"))
     os.makedirs(case.path("batch", "d"))
     case.receive(upload(entries(1, 4)))
     name = os.listdir(case.path("incoming"))[0]
     os.rename(case.path("incoming", name), case.path("batch", "d", name))
-    shutil.move(case.path("databases", "d.db"), f"{case.base}/d.db")
-    os.link(f"{case.base}/d.db", case.path("databases", "d.db"))
+
+
+def break_program(case: Case) -> None:
+    """The program can store nothing, as on a full disk."""
     broken = f"{case.base}/bin/journal-collect"
     os.unlink(broken)
     with open(broken, "w", encoding="ascii") as file:
         file.write('#!/bin/sh\n[ "$1" = collect ] && { echo "store failed" >&2; exit 3; }\n'
                    f'exec {os.environ["PROGRAM"]} "$@"\n')
     os.chmod(broken, 0o755)
-    sys.path.insert(0, case.library)
-    said = ""
-    service = subprocess.Popen([sys.executable, "-BS", "-c", "import sys; sys.path.insert(0, sys.argv[1]); "
-                                "from collector import service, incoming; service.RECOVER_SECONDS = 0.1; "
-                                "sys.exit(incoming.main([sys.argv[2]]))", case.library, case.conf],
-                               env=case.environment(), stderr=subprocess.PIPE)
+
+
+def begin_hurried(case: Case) -> subprocess.Popen[bytes]:
+    """The service, which does in tenths of a second what it does each minute, and in a second what each ten minutes."""
+    text = ("import sys; sys.path.insert(0, sys.argv[1]); from collector import incoming, recovery, service; "
+            "service.RECOVER_SECONDS, recovery.REFUSED_SECONDS = 0.1, 1.0; sys.exit(incoming.main([sys.argv[2]]))")
+    return subprocess.Popen([sys.executable, "-BS", "-c", text, case.library, case.conf], env=case.environment(),
+                            stderr=subprocess.PIPE)
+
+
+@ROWS.once
+def full_disk_counts_as_a_try(row: Row, case: Case) -> None:
+    """A database that fails again and again is set aside, however full the disk is; what it had stays known. Once it
+    can be opened it isn't set aside any more, and no start of the service is needed for that."""
+    if not case.clock_library:
+        return
+    left_with_an_upload(case)
+    case.free = 1 << 20
+    # the program opens no database that has a second name
+    shutil.move(case.path("databases", "d.db"), f"{case.base}/d.db")
+    os.link(f"{case.base}/d.db", case.path("databases", "d.db"))
+    break_program(case)
+    service = begin_hurried(case)
     wait_for(row, lambda: os.path.exists(case.path("databases", "d.db.refused")))
+    os.unlink(f"{case.base}/bin/journal-collect")
+    os.symlink(os.environ["PROGRAM"], f"{case.base}/bin/journal-collect")
+    wait_for(row, lambda: os.path.exists(case.path("databases", "d.db.sha256")))
+    wait_for(row, lambda: case.answers()[0].startswith(f"ack {SOURCE} 0 4 "))
     said = stop(row, service)
-    row.expect("told", said.count("d.db failed, and is tried again"), 2)
+    row.expect("told", (said.count("d.db failed, and is tried again"), said.count("d.db can be opened again")), (2, 1))
+    row.expect("what is set aside", os.path.exists(case.path("databases", "d.db.refused")), False)
+    row.expect("entries", case.numbers(), [1, 2, 3, 4])
+
+
+@ROWS.once
+def no_room_is_no_try(row: Row, case: Case) -> None:
+    """A disk that has no room for anything says nothing of a database: none is opened, which is told once."""
+    if not case.clock_library:
+        return
+    left_with_an_upload(case)
+    case.free = 100_000
+    break_program(case)
+    service = begin_hurried(case)
+    time.sleep(2)
+    row.expect("set aside", os.path.exists(case.path("databases", "d.db.refused")), False)
+    said = stop(row, service)
+    row.expect("told", (said.count("databases/d.db isn't finished yet"), said.count("is tried again")), (1, 0))
+    case.free = 0
+    os.unlink(f"{case.base}/bin/journal-collect")
+    os.symlink(os.environ["PROGRAM"], f"{case.base}/bin/journal-collect")
+    row.expect("with room", (case.collect(), case.numbers()), ((0, ""), [1, 2, 3, 4]))
 
 
 def main() -> int:

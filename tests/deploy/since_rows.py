@@ -6,7 +6,8 @@ import os
 import shutil
 import sys
 
-from machine import Machine, body, read
+from exported import body, read
+from machine import Machine
 from trial_rows import Row, Rows
 
 ROWS: Rows[Machine] = Rows()

@@ -7,17 +7,24 @@ import sys
 
 STEPS = ("open", "os.rename", "os.remove", "os.mkdir", "os.rmdir", "os.truncate", "shutil.rmtree", "shutil.copyfile",
          "subprocess.Popen", "os.posix_spawn", "os.chmod", "fcntl.flock")
-left = [int(os.environ["STOP_AT"])]
+# How many steps are left to this process. If it isn't to be killed there are none.
+left = [0]
 
 
 def count(event: str, arguments: tuple[object, ...]) -> None:
     # What is opened of Python itself isn't counted.
-    if event in STEPS and not (event == "open" and str(arguments[0]).endswith((".py", ".pyc", ".so"))):
+    if left[0] and event in STEPS and not (event == "open" and str(arguments[0]).endswith((".py", ".pyc", ".so"))):
         left[0] -= 1
         if left[0] == 0:
             os.kill(os.getpid(), signal.SIGKILL)
 
 
-sys.argv = sys.argv[1:]
-sys.addaudithook(count)
-runpy.run_path(sys.argv[0], run_name="__main__")
+def main() -> None:
+    left[0] = int(os.environ["STOP_AT"])
+    sys.argv = sys.argv[1:]
+    sys.addaudithook(count)
+    runpy.run_path(sys.argv[0], run_name="__main__")
+
+
+if __name__ == "__main__":
+    main()

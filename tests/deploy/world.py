@@ -1,15 +1,17 @@
 """Machines and a collector over stand-ins for journalctl and ssh, in rounds of random events.
 
-usage: python3 world.py PROGRAMS [--old] [--rounds ROUNDS]
+usage: python3 world.py PROGRAMS [--old] [--rounds ROUNDS] [--real EACH]
 
-In each round journals grow and lose entries, begin new sequences, have their clocks set, and get entries that are too
-large or damaged; some machines send and the collector collects, at the same time. Some of these runs are stopped by
-SIGKILL, at a random moment or before one of their commands; find a full disk; lose their connection; or are started
-twice. If the collector compares keys, machines are also set back to snapshots and cloned. Afterwards some undisturbed
-rounds follow. Then each entry that a journal still had when a gathering ran to its end is in the databases, once unless
-its machine was set back or cloned; what journald removed of a file that was seen before was told as a gap; each machine
-has its newest stream alone, with nothing to send; the collector has nothing that waits; and no file was ever one that
-others may read.
+There are a hundred rounds to a world, and then another one. Programs in Python run in forked processes, but for one
+round of EACH, in which they are begun as they are installed. In each round journals grow and lose entries, begin new
+sequences, have their clocks set, and get entries that are too large or damaged; some machines send and the collector
+collects, at the same time. Some of these runs are stopped by SIGKILL, at a random moment or before one of their
+commands; find a full disk; lose their connection; or are started twice. If the collector compares keys, machines are
+also set back to snapshots and cloned, and collector_events.py has what becomes of the collector. Afterwards some
+undisturbed rounds follow. Then each entry that a journal still had when a gathering ran to its end is in the databases,
+once unless its machine was set back or cloned; what journald removed of a file that was seen before was told as a gap;
+each machine has its newest stream alone, with nothing to send; the collector has nothing that waits; and no file was
+ever one that others may read.
 """
 from __future__ import annotations
 
@@ -22,16 +24,19 @@ import signal
 import subprocess
 import sys
 import time
-from collections.abc import Sequence
+from collections.abc import Iterator, Sequence
 
 HERE = os.path.dirname(os.path.abspath(__file__))
-sys.path.insert(0, os.path.join(HERE, "..", "collect"))
+sys.path[:0] = [os.path.join(HERE, ".."), os.path.join(HERE, "..", "collect")]
+import forked  # noqa: E402
+import preload  # noqa: E402
+from collector_events import CollectorEvents  # noqa: E402
 from deployments import MACHINES, OldScripts, Programs  # noqa: E402
 from disturbed import Disturbance, Run  # noqa: E402
+from exported import read  # noqa: E402
 from journal import Journal, Key  # noqa: E402
-from machine import read  # noqa: E402
 from stock import IS_HERE, stock  # noqa: E402
-from trial import PROGRAM, TABLES, Trial  # noqa: E402
+from trial import PROGRAM, TABLES, Trial, first_seed  # noqa: E402
 
 FORKED = re.compile(r"forked: ([0-9a-f]{32}) goes on as ([0-9a-f]{32}) from entry [0-9]+")
 BROKEN = ("unbound variable", "syntax error", "expected", "command not found", "Traceback", "integer")
@@ -39,18 +44,20 @@ JOURNALCTL = """#!/bin/sh
 if [ "$1" = --version ]; then echo "systemd $SYSTEMD ($SYSTEMD.1)"; exit; fi
 exec {python} -IS {here}/journalctl.py "$@"
 """
+# How many rounds a world has: what machines and the collector have grows.
+ROUNDS = 100
 
 
 class World(Trial):
-    def __init__(self, old: bool, programs: str) -> None:
-        super().__init__("old scripts" if old else "deployment")
-        self.bin = self.folder()
+    def __init__(self, old: bool, programs: str, seed: int, clock_library: str) -> None:
+        super().__init__("old scripts" if old else "deployment", seed)
+        self.path, self.bin = os.environ["PATH"], self.folder()
         self.install("journalctl", JOURNALCTL.format(python=sys.executable, here=HERE))
         self.install("ssh", self.text_of("ssh"))
         self.install("systemd-id128", "#!/bin/sh\ntr -d - < /proc/sys/kernel/random/uuid\n")
         os.symlink(PROGRAM, os.path.join(self.bin, "journal-collect"))
         os.symlink(sys.executable, os.path.join(self.bin, "python3"))
-        os.environ["PATH"] = f"{self.bin}:{os.environ['PATH']}"
+        os.environ["PATH"] = f"{self.bin}:{self.path}"
         self.journals = {name: Journal(self.dice, os.path.join(self.folder(), "journal")) for name in MACHINES}
         # The old scripts can't take an older systemd.
         self.systemd = {**dict.fromkeys(MACHINES, "254"), **({} if old else {"mail": "252", "db-1": "257"})}
@@ -65,6 +72,11 @@ class World(Trial):
         self.kinds: collections.Counter[str] = collections.Counter()
         self.runs = self.killed = self.restored = 0
         self.deployment = (OldScripts if old else Programs)(self, programs)
+        self.events = CollectorEvents(self, clock_library)
+
+    def __exit__(self, *error: object) -> None:
+        os.environ["PATH"] = self.path
+        super().__exit__(*error)
 
     def expect(self, what: str, got: object, wanted: object) -> bool:
         is_so = super().expect(what, got, wanted)
@@ -91,9 +103,10 @@ class World(Trial):
         """What happens to a run: mostly something, chosen at random."""
         dice = self.dice
         program = dice.choice(programs)
+        # a run in a forked process is shorter
+        soon = dice.random() * dice.choice((0.03, 0.1, 0.3) if forked.is_on else (0.3,))
         return dice.choice([
-            ("none", None), ("none", None), ("cap", None),
-            ("kill", (True, dice.random() * 0.3)), ("kill", (False, dice.random() * 0.3)),
+            ("none", None), ("none", None), ("cap", None), ("kill", (True, soon)), ("kill", (False, soon)),
             ("stop", (program, dice.randint(1, self.deployment.COUNT[program]))),
             ("stop", (program, dice.randint(1, self.deployment.COUNT[program]))),
             ("full", dice.choice((0, 100, dice.randrange(2000), dice.randrange(40000)))),
@@ -202,6 +215,8 @@ class World(Trial):
             self.expect(f"{what}: {status}: status", status in wanted, True)
         self.said[run.name, "a gap"] += "a gap" in errors
         self.forks.update((new, old) for old, new in FORKED.findall(errors))
+        if run.name == "collector":
+            self.events.look(errors)
         if run.name in self.journals and self.deployment.gathered(status, errors):
             # what was removed while the run went on need not have been gathered
             self.expected |= began & self.journals[run.name].keys()
@@ -209,8 +224,10 @@ class World(Trial):
     def round(self) -> None:
         dice = self.dice
         self.change_journals()
-        if self.deployment.compares() and dice.random() < 0.15:
-            self.change_machines()
+        if self.deployment.compares():
+            if dice.random() < 0.15:
+                self.change_machines()
+            self.events.happen()
         runs = []
         for name in dice.sample([*self.journals], dice.choice((1, 1, 1, 2))):
             for _ in range(dice.choice((1, 1, 1, 1, 2))):
@@ -252,10 +269,10 @@ class World(Trial):
                     ends[program] = number
         return ends
 
-    def send_alone(self, name: str, disturbance: Disturbance) -> Run:
+    def send_alone(self, name: str, disturbance: Disturbance, *words: str) -> Run:
         """A machine's run while nothing else goes on; the last one that was started."""
         began = self.begin_gathering(name)
-        for run in self.deployment.send(name, disturbance):
+        for run in self.deployment.send(name, disturbance, *words):
             self.end(run, began)
         return run
 
@@ -292,8 +309,12 @@ class World(Trial):
             if told.stderr == f"cannot open {database}\n".encode() and not (IS_HERE and stock(database, TABLES)):
                 continue  # a run was stopped while it made this one
             self.expect(f"{told.stderr}: a database that can't be exported", told.returncode, 0)
-            entries += [(self.own(key[0]), *key[1:]) for key in read(told.stdout)]
+            entries += self.entries_of(told.stdout)
         return entries
+
+    def entries_of(self, text: bytes) -> Iterator[Key]:
+        """The entries of an export, under their own keys also if they are of a fork."""
+        return ((self.own(key[0]), *key[1:]) for key in read(text))
 
     def own(self, seqnum_id: str) -> str:
         """The sequence that was forked, and perhaps was a fork itself."""
@@ -337,24 +358,41 @@ class World(Trial):
         self.look_at_modes()
 
 
+def run(world: World, rounds: int, real: int, is_first: bool) -> int:
+    """Has a world's rounds; how many mistakes there were."""
+    for number in range(rounds):
+        forked.is_on = bool(forked.codes) and number % real > 0
+        world.round()
+    commands = world.stop_at_each_command(MACHINES[0]) if is_first and world.deployment.compares() else {}
+    world.calm()
+    entries = world.look()
+    if world.mistakes:
+        print("mistakes:", dict(world.kinds), "what the last runs said:", world.last, file=sys.stderr)
+    counts = {**world.events.counts, "machines with gaps": len(world.gaps), "set back or cloned": world.restored,
+              "runs": world.runs, "of them killed": world.killed, "entries": entries}
+    world.tell(f"{rounds} rounds of {len(MACHINES)} machines", *(f"{count} {what}" for what, count in counts.items()),
+               *(f"stopped before {number} of its commands: {name}" for name, number in commands.items()))
+    return world.mistakes
+
+
 def main() -> None:
     parser = argparse.ArgumentParser()
     parser.add_argument("programs")
     parser.add_argument("--old", action="store_true")
     parser.add_argument("--rounds", type=int, default=300)
+    parser.add_argument("--real", type=int, default=10)
     arguments = parser.parse_args()
-    with World(arguments.old, os.path.abspath(arguments.programs)) as world:
-        for _ in range(arguments.rounds):
-            world.round()
-        commands = "" if arguments.old else world.stop_at_each_command(MACHINES[0])
-        world.calm()
-        entries = world.look()
-        if world.mistakes:
-            print("mistakes:", dict(world.kinds), "what the last runs said:", world.last, file=sys.stderr)
-        world.finish(f"{arguments.rounds} rounds of {len(MACHINES)} machines", f"{world.runs} runs",
-                     f"{world.killed} killed", f"before each of their commands {commands}",
-                     f"{len(world.gaps)} machines with gaps", f"{world.restored} set back or cloned",
-                     f"{entries} entries")
+    programs, seed, mistakes = os.path.abspath(arguments.programs), first_seed(), 0
+    library = "" if arguments.old else preload.begin_again_with(os.path.join(HERE, "clock.c"))
+    if not arguments.old:
+        sources = {"journalctl": "journalctl.py", "systemd-analyze": "journalctl.py", "ssh": "ssh"}
+        forked.install(programs, {name: os.path.join(HERE, source) for name, source in sources.items()})
+    for first in range(0, arguments.rounds, ROUNDS):
+        with World(arguments.old, programs, seed + first // ROUNDS, library) as world:
+            mistakes += run(world, min(ROUNDS, arguments.rounds - first), arguments.real, first == 0)
+    if library:
+        shutil.rmtree(os.path.dirname(library))
+    sys.exit(mistakes > 0)
 
 
 if __name__ == "__main__":
