@@ -6,7 +6,7 @@ import shutil
 import signal
 import subprocess
 
-from machine import Machine
+from one_machine import Machine
 from running import Collector
 
 HERE = os.path.dirname(os.path.abspath(__file__))

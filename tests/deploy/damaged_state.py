@@ -3,7 +3,7 @@
 Each file of the machine's folder is edited by turns: bytes are changed, lines are lost, doubled or swapped, the file is
 cut, emptied, made long, or replaced by a pipe or a folder. The next runs end with a status of their own, without a
 traceback and in time, and everything that the journal has is in an upload, or was in one before. STATE_EDITS is how
-many edits are tried.
+many edits are tried, SEED chooses them. The runs of one edit in twenty are begun as they are installed.
 """
 import os
 import random
@@ -11,10 +11,12 @@ import shutil
 import subprocess
 import sys
 
+import forked
 from journal import Key
-from machine import Machine
+from one_machine import HERE, Machine
 
 COUNT = int(os.environ.get("STATE_EDITS", "60"))
+SEED = int(os.environ.get("SEED", "5"))
 FILES = ("gathered", "link", "unread", "forks", "large", "lock", "streams/{}/id", "streams/{}/resume",
          "streams/{}/sent", "streams/{}/stream", "streams/{}/cut", "streams/{}/again")
 WORDS = (b"", b"-1", b"9" * 5_000, b"..", b"0" * 32, b"\xff", b"1e9", b"5")
@@ -107,9 +109,12 @@ def look(machine: Machine, what: str, wanted: set[Key]) -> str:
 
 
 def main() -> None:
-    library, dice, mistakes = os.path.abspath(sys.argv[1]), random.Random(5), 0
+    library, dice, mistakes = os.path.abspath(sys.argv[1]), random.Random(SEED), 0
     first = prepared(library)
+    forked.install(library, {"journalctl": f"{HERE}/journalctl.py", "systemd-analyze": f"{HERE}/journalctl.py",
+                             "ssh": f"{first.base}/bin/ssh"})
     for number in range(COUNT):
+        forked.is_on = number % 20 > 0
         machine = Machine(library, 254)
         machine.settings.update(STREAM_BYTES=3_000, RESEND_MINUTES=0)
         for name in ("machine", "journal", "uploads"):
@@ -124,7 +129,7 @@ def main() -> None:
             print(wrong[:1500], file=sys.stderr)
         shutil.rmtree(machine.base)
     shutil.rmtree(first.base)
-    print(f"{COUNT} edits, {mistakes} mistakes")
+    print(f"a machine's state: {COUNT} edits, {mistakes} mistakes; SEED={SEED}")
     sys.exit(mistakes > 0)
 
 

@@ -9,7 +9,7 @@ import time
 
 from exported import read
 from journal import Journal
-from machine import HERE, PROGRAM, Machine
+from one_machine import HERE, PROGRAM, Machine
 
 CONF = """FOLDER={folder}
 DATABASE_NAME=%Y-%m-%dT%H-%M-%S

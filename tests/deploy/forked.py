@@ -109,8 +109,8 @@ def run(words: Sequence[str], environment: Mapping[str, str], keeps: Container[i
             close(file)
     put_environment(environment)
     take_name(words[0])
-    for name, number, mode in (("stdin", 0, "r"), ("stdout", 1, "w"), ("stderr", 2, "w")):
-        setattr(sys, name, open(number, mode, encoding="utf-8", errors="surrogateescape", closefd=False))
+    for name, number, mode, buffering in (("stdin", 0, "r", -1), ("stdout", 1, "w", -1), ("stderr", 2, "w", 1)):
+        setattr(sys, name, open(number, mode, buffering, "utf-8", "surrogateescape", closefd=False))
     status = 1
     try:
         call(list(words))

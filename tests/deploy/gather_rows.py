@@ -10,7 +10,7 @@ import subprocess
 import sys
 
 from journal import ONLINE, Journal
-from machine import HERE, JOURNALCTL, PROGRAM, Machine
+from one_machine import HERE, JOURNALCTL, PROGRAM, Machine
 from trial_rows import Row, Rows
 
 ROWS: Rows[Machine] = Rows()

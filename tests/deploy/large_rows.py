@@ -5,7 +5,7 @@ As in gather_rows: what makes an entry too large is left out of it, the entry is
 import os
 import sys
 
-from machine import Machine
+from one_machine import Machine
 from trial_rows import Row, Rows
 
 ROWS: Rows[Machine] = Rows()

@@ -13,7 +13,7 @@ import subprocess
 import sys
 
 from since_rows import as_version_2
-from machine import HERE, Machine
+from one_machine import HERE, Machine
 from trial_rows import Row, Rows
 
 FIXTURES = os.path.join(HERE, "..", "fixtures")

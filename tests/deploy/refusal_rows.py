@@ -11,7 +11,7 @@ import subprocess
 import sys
 
 from deployed import Deployed
-from machine import PROGRAM
+from one_machine import PROGRAM
 from trial_rows import Row, Rows
 
 ROWS: Rows[Deployed] = Rows()

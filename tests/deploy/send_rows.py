@@ -9,7 +9,7 @@ import time
 
 from exported import body, read
 from journal import Journal
-from machine import Machine
+from one_machine import Machine
 from trial_rows import Row, Rows
 
 ROWS: Rows[Machine] = Rows()

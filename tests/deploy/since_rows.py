@@ -7,7 +7,7 @@ import shutil
 import sys
 
 from exported import body, read
-from machine import Machine
+from one_machine import Machine
 from trial_rows import Row, Rows
 
 ROWS: Rows[Machine] = Rows()

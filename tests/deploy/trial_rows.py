@@ -5,7 +5,7 @@ import sys
 from collections.abc import Callable, Iterator, Sequence
 from typing import Generic, TypeVar
 
-from machine import Machine
+from one_machine import Machine
 
 Kind = TypeVar("Kind", bound=Machine)
 Variant = TypeVar("Variant")

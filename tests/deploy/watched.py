@@ -6,7 +6,7 @@ import subprocess
 from collections.abc import Iterator
 from typing import Any
 
-from machine import PROGRAM, Machine
+from one_machine import PROGRAM, Machine
 
 SOURCE = "a0a1a2a3a4a5a6a7a8a9aaabacadaeaf"
 SYSTEMCTL = """#!/bin/sh
