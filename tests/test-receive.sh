@@ -474,6 +474,7 @@ expect 0 "5 5" "" stored
 # stops before calls that change files, and random rounds
 if [[ -n $clock ]]; then
     python3 -B tests/deploy/collector_stops.py "$library" --step "${STEP-4}" || differs "stops at calls"
-    python3 -B tests/deploy/collector_world.py "$library" --rounds "${ROUNDS-10}" || differs "the random rounds"
+    python3 -B tests/deploy/collector_world.py "$library" --rounds "${ROUNDS-50}" --real "${REAL-10}" ||
+        differs "the random rounds"
 fi
 finish
