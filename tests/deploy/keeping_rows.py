@@ -35,8 +35,8 @@ def clock_ahead_at_each_boot(row: Row, case: Case) -> None:
 
 @ROWS.once
 def clock_set_within_a_boot(row: Row, case: Case) -> None:
-    """Forward and back, by hours, years and to 1970: nothing goes, also not by the times of files. Nothing is taken back
-    either: what the machine ran for meanwhile counts, and all of that."""
+    """Forward and back, by hours, years and to 1970: nothing goes, also not by the times of files. Nothing is taken
+    back either: what the machine ran for meanwhile counts, and all of that."""
     case.set(KEEP_DAYS=3)
     case.store(upload(entries(1, 5)))
     sets = (0.9, 0.9, 0.9, 0.9, 40, -40, 4000, -4000, -20000, 20000)
