@@ -94,8 +94,8 @@ expect 0 "" "" receive web "$folder/five"
 parts_there 0 || differs "a part of a lost connection is left"
 exec 7>&-
 
-# sshd asks after a connection of this user that is silent
-if command -v sshd > "$folder/told" && getent passwd sshd > "$folder/told"; then
+# sshd asks after a connection of this user that is silent; its folder is made when the machine starts it
+if command -v sshd > "$folder/told" && getent passwd sshd > "$folder/told" && [[ -d /run/sshd ]]; then
     ssh-keygen -q -t ed25519 -N '' -f "$folder/host_key"
     { echo "HostKey $folder/host_key" && cat "$library/sshd.conf"; } > "$folder/sshd_config"
     for user in journal-collect somebody; do
@@ -106,7 +106,7 @@ if command -v sshd > "$folder/told" && getent passwd sshd > "$folder/told"; then
     expect 0 "1 3 20 " "" alive journal-collect
     expect 0 "0 3 10 " "" alive somebody
 else
-    echo "skipped: there is no sshd, or no user sshd, so sshd.conf isn't tried"
+    echo "skipped: there is no sshd, no user sshd or no /run/sshd, so sshd.conf isn't tried"
 fi
 
 # Sources ------------------------------------------------------------------------------------------------------------
