@@ -54,6 +54,10 @@ class Pattern:
     def texts(self) -> tuple[bytes, ...]:
         return tuple(word for word in self.words if len(word) >= TELLING)[:1]
 
+    def holds(self, value: bytes) -> bool:
+        """Whether a value fits."""
+        return all(word in value for word in self.words) and (not (self.glob or self.expression) or self.fits(value))
+
     def fits(self, value: bytes) -> bool:
         """What SQL asks of a value."""
         return fits_one(value, self.glob) if self.expression is None else self.expression.search(value) is not None
@@ -127,6 +131,17 @@ class Conditions:
         for number, name, value in rows:
             mask |= of_values.get((name, value), 0) | (of_patterns.get((number, name), 0) if number else 0)
         return mask
+
+    def hold_for(self, pairs: Iterable[tuple[bytes, bytes]]) -> bool:
+        """Whether an entry with these fields is shown."""
+        mask, of_values = 0, self.bits_of_values
+        for pair in pairs:
+            mask |= of_values.get(pair, 0)
+            for number, pattern in enumerate(self.patterns, 1):
+                bit = self.bits_of_patterns.get((number, pair[0]), 0)
+                if bit and pattern.holds(pair[1]):
+                    mask |= bit
+        return self.holds(mask)
 
     def holds(self, mask: int) -> bool:
         """Whether an entry is shown for which these tests hold."""

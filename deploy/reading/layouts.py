@@ -29,7 +29,8 @@ SECOND = Layout(
     id_of_record="seqid, seqnum", id_of_field="seqid, seqnum", record=f"record WHERE {KEY}",
     fields_of_id=f"field WHERE {KEY}", fields_of_key=f"field WHERE {KEY}", position="pos",
     joined="field JOIN record USING (seqid, seqnum)", with_fields="record LEFT JOIN field USING (seqid, seqnum)")
-# The fields of a record are numbered from 8192 times its id on.
+# The fields of a record are numbered from 8192 times its id on: an entry has 4,096 at most.
+FIELDS_OF_ONE = 8192
 NUMBERS = "field.id BETWEEN 8192 * record.id AND 8192 * record.id + 8191"
 THIRD = Layout(
     id_of_record="id", id_of_field="id / 8192", record="record WHERE id = ?",
@@ -37,15 +38,15 @@ THIRD = Layout(
     fields_of_key=f"record JOIN field ON {NUMBERS} WHERE {KEY}", position="field.id",
     joined="field JOIN record ON record.id = field.id / 8192", with_fields=f"record LEFT JOIN field ON {NUMBERS}")
 LAYOUTS = {2: SECOND, 3: THIRD}
-# Tables of version 2, which can be asked for times quickly.
+# Tables of the version into which rows are put fastest; they can be asked for times quickly.
 IN_MEMORY = """
 CREATE TABLE journal(one INTEGER PRIMARY KEY, version INTEGER NOT NULL) STRICT;
-INSERT INTO journal VALUES(1, 2);
-CREATE TABLE record(seqid BLOB NOT NULL, seqnum INTEGER NOT NULL, realtime INTEGER NOT NULL,
-  monotonic INTEGER NOT NULL, PRIMARY KEY(seqid, seqnum)) STRICT;
-CREATE TABLE field(seqid BLOB NOT NULL, seqnum INTEGER NOT NULL, pos INTEGER NOT NULL, name BLOB NOT NULL,
-  value BLOB NOT NULL, PRIMARY KEY(seqid, seqnum, pos)) STRICT;
+INSERT INTO journal VALUES(1, 3);
+CREATE TABLE record(id INTEGER PRIMARY KEY, seqid BLOB NOT NULL, seqnum INTEGER NOT NULL, realtime INTEGER NOT NULL,
+  monotonic INTEGER NOT NULL, UNIQUE(seqid, seqnum)) STRICT;
+CREATE TABLE field(id INTEGER PRIMARY KEY, name BLOB NOT NULL, value BLOB NOT NULL) STRICT;
 CREATE INDEX times ON record(realtime);
 """
 # Puts an entry there, if it isn't there, and a field of it.
-PUT_RECORD, PUT_FIELD = "INSERT OR IGNORE INTO record VALUES(?, ?, ?, ?)", "INSERT INTO field VALUES(?, ?, ?, ?, ?)"
+PUT_RECORD = "INSERT OR IGNORE INTO record(seqid, seqnum, realtime, monotonic) VALUES(?, ?, ?, ?)"
+PUT_FIELD = "INSERT INTO field VALUES(?, ?, ?)"

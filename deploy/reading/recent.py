@@ -4,6 +4,7 @@ They are put into the tables of a database in memory, so all that can be asked o
 collector removes them some time after their database is finished: whoever lists them first, and the finished databases
 after that, misses nothing.
 """
+import io
 import re
 import sqlite3
 import subprocess
@@ -14,6 +15,7 @@ from pathlib import Path
 
 from reading import export, layouts
 from reading.export import Entry
+from reading.sieve import Pairs, Sieve
 from shared import files
 
 FOLDER = "recent"
@@ -53,17 +55,50 @@ def by_database(found: Iterable[Upload], finished: Container[str], since: int, u
     return chosen
 
 
-def entries(upload: Upload) -> Iterator[Entry]:
-    """The entries of an upload; none if it is there no more. An unfinished last one isn't stored, so it isn't given."""
+def entries(upload: Upload, sieve: Sieve | None = None) -> Iterator[Entry]:
+    """The entries of an upload; none if it is there no more, or a sieve lets nothing of it through. An unfinished last
+    one isn't stored, so it isn't given."""
     try:
-        with upload.path.open("rb") as file:
-            head = file.read(HEAD)
-            if head[8:9] != bytes([STREAM]):
-                yield from entries_of_file(upload)
-                return
-            yield from export.entries(file)
-    except (FileNotFoundError, export.Malformed):
+        data = upload.path.read_bytes()
+        if data[8:9] != bytes([STREAM]):
+            yield from entries_of_file(upload)
+        elif sieve is None or sieve.takes_upload(data):
+            yield from entries_of_stream(data)
+    except (OSError, export.Malformed):
         return
+
+
+def entries_of_stream(data: bytes) -> Iterator[Entry]:
+    """The entries of a stream behind the head of an upload. Most have a line for each field, and are read at once."""
+    at, stream = HEAD, io.BytesIO(data)
+    while at < len(data):
+        end = data.find(b"\n\n", at)
+        lines = data[at:end].split(b"\n") if end >= 0 else [b""]
+        if all(b"=" in line for line in lines):
+            yield entry_of_lines(lines)
+            at = end + 2
+            continue
+        stream.seek(at)
+        entry = next(export.entries(stream), None)
+        if entry is None:
+            return
+        yield entry
+        at = stream.tell()
+
+
+def entry_of_lines(lines: list[bytes]) -> Entry:
+    """An entry that has these lines."""
+    known: dict[bytes, bytes] = {}
+    names: list[bytes] = []
+    fields: list[bytes] = []
+    for line in lines:
+        name, _, value = line.partition(b"=")
+        if name[:2] == b"__":
+            known[name] = value + b"\n"
+        else:
+            names.append(name)
+            fields.append(line + b"\n")
+    return export.entry_of(known, names, fields, True)
 
 
 def entries_of_file(upload: Upload) -> Iterator[Entry]:
@@ -77,11 +112,11 @@ def entries_of_file(upload: Upload) -> Iterator[Entry]:
                 yield from export.entries(file)
 
 
-def connect(found: Iterable[Upload]) -> sqlite3.Connection:
-    """Tables of the entries of some uploads, each entry once."""
+def connect(found: Iterable[Upload], sieve: Sieve | None = None) -> sqlite3.Connection:
+    """Tables of the entries of some uploads, each entry once; of those alone that a sieve lets through."""
     connection = empty()
     for upload in found:
-        put(connection, entries(upload))
+        put(connection, entries(upload, sieve), sieve)
     return connection
 
 
@@ -99,15 +134,18 @@ def empty() -> sqlite3.Connection:
     return connection
 
 
-def put(connection: sqlite3.Connection, found: Iterable[Entry]) -> None:
+def put(connection: sqlite3.Connection, found: Iterable[Entry], sieve: Sieve | None = None) -> None:
     """Puts entries into the tables that aren't there."""
     for entry in found:
-        key = bytes.fromhex(entry.sequence), entry.number
-        done = connection.execute(layouts.PUT_RECORD, [*key, entry.realtime, entry.monotonic])
+        sequence, pairs = bytes.fromhex(entry.sequence), pairs_of(entry)
+        if sieve and not sieve.takes(sequence, entry.realtime, pairs):
+            continue
+        done = connection.execute(layouts.PUT_RECORD, [sequence, entry.number, entry.realtime, entry.monotonic])
         if done.rowcount:
-            connection.executemany(layouts.PUT_FIELD, ((*key, at, *pair) for at, pair in enumerate(pairs_of(entry))))
+            first = layouts.FIELDS_OF_ONE * (done.lastrowid or 0)
+            connection.executemany(layouts.PUT_FIELD, ((at, *pair) for at, pair in enumerate(pairs, first)))
 
 
-def pairs_of(entry: Entry) -> list[tuple[bytes, bytes]]:
+def pairs_of(entry: Entry) -> Pairs:
     """The pairs of an entry, in the order of the canonical text."""
     return sorted({(name, export.value_of(name, field)) for name, field in zip(entry.names, entry.fields)})

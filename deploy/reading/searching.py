@@ -47,11 +47,18 @@ class Search:
         if files:
             return sources.of_files([Path(file) for file in files], self.tell_bad)
         found = sources.of_folder(self.folder, self.tell_bad, lambda number, of: self.output.look(
-            number, of, "databases that weren't looked at before"), conditions.since, conditions.until,
-            any(map(self.words.has, ("boot", "dmesg", "list-boots"))))
+            number, of, "databases that weren't looked at before"), conditions, self.of_others(conditions))
         if found.unfinished and not self.words.has("quiet"):
             self.tell(f"{found.unfinished} databases aren't finished, and aren't looked at")
         return found
+
+    def of_others(self, conditions: Conditions) -> Conditions:
+        """What has to be known of what isn't in finished databases: boots are counted over everything, and fields and
+        machines are listed whatever else is asked for."""
+        if any(map(self.words.has, ("boot", "dmesg", "list-boots"))):
+            return Conditions()
+        is_listed = any(map(self.words.has, ("fields", "list-machines")))
+        return Conditions(conditions.since, conditions.until) if is_listed else conditions
 
     def form(self) -> str:
         """How entries are shown."""

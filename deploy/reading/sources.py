@@ -1,19 +1,25 @@
 """What a search reads: each finished database, and what was stored in others."""
 import sqlite3
 from collections import OrderedDict
-from collections.abc import Callable
+from collections.abc import Callable, Iterator
+from contextlib import closing
 from dataclasses import dataclass, field
 from functools import partial
 from pathlib import Path
 
 from reading import databases, recent, spans, tables
+from reading.conditions import Conditions
 from reading.failure import BadDatabase, Failure
 from reading.recent import Upload
+from reading.sieve import Sieve
 from reading.spans import Line, Spans
 from reading.tables import Tables
+from reading.workers import Workers, processors
+from shared import files
 
 MOST_OPEN = 64
-LAST = (1 << 63) - 1
+# So many bytes of uploads are read together.
+CHUNK_BYTES = 4 << 20
 Tell = Callable[[BadDatabase], None]
 Told = Callable[[int, int], None]
 
@@ -50,21 +56,39 @@ class Sources:
         return [source for source in self.sources if source.name not in self.lines]
 
 
-def of_uploads(uploads: list[Upload], finished: set[str], since: int, until: int) -> list[Source]:
-    """What was stored between two times and isn't in a finished database."""
-    found = []
-    for name, some in recent.by_database(uploads, finished, since, until).items():
-        connection = recent.connect(some)
-        known = spans.spans_of(Tables(name, connection).times())
-        found.append(Source(name, known, partial(recent.of_bytes, connection.serialize())))
-        connection.close()
-    return found
+def of_uploads(uploads: list[Upload], finished: set[str], conditions: Conditions) -> list[Source]:
+    """What was stored that fits and isn't in a finished database. Much of it is read by several processes."""
+    tasks = [(name, chunk, Sieve(conditions)) for name, some in recent.by_database(
+        uploads, finished, conditions.since, conditions.until).items() for chunk in chunks(some)]
+    workers = Workers(tables_of, processors() if len(tasks) > 1 else 1)
+    return [Source(task[0], known, partial(recent.of_bytes, data)) for task, (known, data) in zip(
+        tasks, workers.map(tasks))]
 
 
-def of_folder(folder: Path, tell: Tell, told: Told, since: int = 0, until: int = LAST,
-              every_upload: bool = False) -> Sources:
-    """All that a collector's folder has that may be of a time; of what isn't in finished databases, if that is asked
-    for, everything. `tell` hears of databases that can't be read, `told` how many were opened that weren't known."""
+def chunks(uploads: list[Upload]) -> Iterator[list[Upload]]:
+    """Uploads that one process reads at a time."""
+    chunk: list[Upload] = []
+    size = 0
+    for upload in uploads:
+        chunk.append(upload)
+        size += files.size(upload.path)
+        if size >= CHUNK_BYTES:
+            yield chunk
+            chunk, size = [], 0
+    if chunk:
+        yield chunk
+
+
+def tables_of(name: str, uploads: list[Upload], sieve: Sieve) -> tuple[Spans, bytes]:
+    """Tables of some uploads, as bytes, and when their entries were written."""
+    with closing(recent.connect(uploads, sieve)) as connection:
+        return spans.spans_of(Tables(name, connection).times()), connection.serialize()
+
+
+def of_folder(folder: Path, tell: Tell, told: Told, conditions: Conditions, of_others: Conditions) -> Sources:
+    """The finished databases of a collector's folder that may have something of the time that is asked for, and what of
+    others fits some conditions. `tell` hears of databases that can't be read, `told` how many were opened that weren't
+    known."""
     below = folder / "databases"
     if not below.is_dir():
         raise Failure(f"{below} isn't there, or can't be read")
@@ -75,9 +99,9 @@ def of_folder(folder: Path, tell: Tell, told: Told, since: int = 0, until: int =
     for name in sorted(listing.aside, key=databases.natural):
         tell(BadDatabase(name, "it was set aside", True))
     known = spans.of_marks(folder / spans.NAME, listing.marks, tell, told)
-    near = sorted(name for name, line in known.items() if line.is_of(since, until))
+    near = sorted(name for name, line in known.items() if line.is_of(conditions.since, conditions.until))
     found = [of_database(name, below / f"{name}.db", known[name].spans) for name in near]
-    others = of_uploads(uploads, finished, *((0, LAST) if every_upload else (since, until)))
+    others = of_uploads(uploads, finished, of_others)
     unread = listing.unfinished - {upload.database for upload in uploads}
     return Sources(found + others, len(known) + len(others), len(unread), finished, known, uploads)
 

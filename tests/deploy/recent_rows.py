@@ -17,7 +17,8 @@ from collected import ROOT  # noqa: E402
 
 LIBRARY = os.path.abspath(sys.argv[1])
 sys.path.insert(0, LIBRARY)
-from reading import recent  # noqa: E402
+from reading import recent, tables  # noqa: E402
+from reading.conditions import Conditions  # noqa: E402
 
 ROWS: Rows[str] = Rows()
 
@@ -176,7 +177,7 @@ def spellings(row: Row, library: str) -> None:
 
 
 @ROWS.row
-def tables(row: Row, library: str) -> None:
+def in_tables(row: Row, library: str) -> None:
     """The tables in memory have what the finished database has."""
     with Collector(library) as collector:
         collector.start()
@@ -184,10 +185,10 @@ def tables(row: Row, library: str) -> None:
         collector.store(collector.upload(41, 1, start=40))
         memory = recent.connect(recent.uploads(Path(collector.folder)))
         collector.finish()
-        disk = recent.sqlite3.connect(f"file:{collector.finished()[0]}?mode=ro&immutable=1", uri=True)
-        for table in ("journal", "record", "field"):
-            query = f"SELECT * FROM {table} ORDER BY 1, 2, 3" if table != "journal" else "SELECT * FROM journal"
-            row.same(table, memory.execute(query).fetchall(), disk.execute(query).fetchall())
+        both = [tables.Tables("memory", memory), tables.Tables("disk", tables.connect(Path(collector.finished()[0])))]
+        keys = [sorted(each.keys(0, 2**63 - 1, Conditions(), -1)) for each in both]
+        row.same("keys", (len(keys[0]), keys[0]), (41, keys[1]))
+        row.same("times and fields", *([(each.monotonic(key), each.pairs(key)) for key in keys[1]] for each in both))
 
 
 @ROWS.row
