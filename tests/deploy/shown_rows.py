@@ -63,12 +63,13 @@ class Follower:
     def shows(self, wanted: list[int]) -> None:
         try:
             wait_for(lambda: sorted(self.shown()) == wanted, 300)
-        except TimeoutError as error:
+        except TimeoutError:
             shown = self.shown()
             less, more = sorted(set(wanted) - set(shown)), sorted(set(shown) - set(wanted))
             twice = sorted({number for number in shown if shown.count(number) > 1})
-            raise TimeoutError(f"{len(shown)} entries are shown, not {len(wanted)}; missing: {less[:30]}; too many: "
-                               f"{more[:30]}; twice: {twice[:30]}; {self.said()}") from error
+            print(f"{len(shown)} entries are shown, not {len(wanted)}; missing: {less[:30]}; too many: {more[:30]}; "
+                  f"twice: {twice[:30]}; {self.said()}", file=sys.stderr)
+            raise
 
     def end(self, by: signal.Signals = signal.SIGTERM) -> int:
         self.process.send_signal(by)
@@ -216,7 +217,7 @@ def chosen(row: Row, library: str) -> None:
 def service_is_killed(row: Row, library: str) -> None:
     """The service is killed again and again beside a follower: each acknowledged entry is shown, and none twice."""
     dice = random.Random(int(os.environ.get("SEED", "1")))
-    with Collector(library, DATABASE_SECONDS=2, COLLECTORS=2) as collector, Follower(collector) as follower:
+    with Collector(library, DATABASE_SECONDS=2, COLLECTORS=2) as collector, begun(collector) as follower:
         sent = {"web": 0, "mail": 0}
         for _ in range(int(os.environ.get("KILLS", "5"))):
             collector.start()
@@ -239,6 +240,14 @@ def service_is_killed(row: Row, library: str) -> None:
         follower.shows(wanted)
         time.sleep(3)
         row.same("each once", sorted(follower.shown()), wanted)
+
+
+def begun(collector: Collector) -> Follower:
+    """A follower that shows everything, of a service that has run before."""
+    collector.start()
+    wait_for(lambda: os.path.isdir(f"{collector.folder}/databases"), 300)
+    collector.stop()
+    return Follower(collector, "--lines=all")
 
 
 def acknowledged(collector: Collector, machine: str) -> int:
