@@ -29,9 +29,16 @@ CONFIG = """<?xml version="1.0"?>
     <keep_alive_timeout>3</keep_alive_timeout>
     <timezone>UTC</timezone>
     <remote_servers><own>{shards}</own></remote_servers>
+    {more}
 </yandex>
 """
-SHARD = "<shard><replica><host>127.0.0.1</host><port>{}</port></replica></shard>"
+SHARD = "<shard><internal_replication>true</internal_replication>{}</shard>"
+REPLICA = "<replica><host>127.0.0.1</host><port>{}</port></replica>"
+# What a replica has to know: where ZooKeeper is, and which one it is itself.
+REPLICATED = """<interserver_http_port>{interserver}</interserver_http_port>
+    <interserver_http_host>127.0.0.1</interserver_http_host>
+    <zookeeper><node><host>127.0.0.1</host><port>{zookeeper}</port></node></zookeeper>
+    <macros><shard>{shard}</shard><replica>{replica}</replica></macros>"""
 USERS = """<?xml version="1.0"?>
 <yandex>
     <profiles><default><max_memory_usage>2000000000</max_memory_usage></default></profiles>
@@ -58,16 +65,17 @@ class Refusal(Exception):
 
 
 class ClickHouse:
-    """One server. It can be killed and started again; its data may be in another folder."""
+    """One server. It can be killed and started again; its data may be in another folder. It may be one of a cluster:
+    of each shard the ports of its replicas."""
 
-    def __init__(self, folder: Path, data: Path | None = None, shards: list[int] | None = None,
-                 tcp: int | None = None) -> None:
+    def __init__(self, folder: Path, data: Path | None = None, shards: list[list[int]] | None = None,
+                 tcp: int | None = None, more: str = "") -> None:
         self.folder, self.http, self.tcp = folder, free_port(), tcp or free_port()
         (folder / "user_files").mkdir(parents=True)
-        known = "".join(SHARD.format(port) for port in shards or [self.tcp])
+        known = "".join(SHARD.format("".join(map(REPLICA.format, ports))) for ports in shards or [[self.tcp]])
         self.config = folder / "config.xml"
         self.config.write_text(CONFIG.format(folder=folder, data=data or folder / "data", http=self.http, tcp=self.tcp,
-                                             shards=known), encoding="utf-8")
+                                             shards=known, more=more), encoding="utf-8")
         (folder / "users.xml").write_text(USERS, encoding="utf-8")
         self.process: subprocess.Popen[bytes] | None = None
 

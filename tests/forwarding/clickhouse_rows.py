@@ -15,6 +15,7 @@ import time
 from collections.abc import Callable, Iterator
 from pathlib import Path
 
+import clickhouse
 import compared
 import made
 import real
@@ -25,6 +26,7 @@ from compared import Entry
 from forwarded import Collector, Collectors, quick
 from programs import call, killed_before
 from rows import Row, Rows
+from zookeeper import ZooKeeper
 
 ROWS: Rows[Collectors] = Rows()
 ENTRIES = int(os.environ.get("FORWARD_ENTRIES", "900"))
@@ -33,6 +35,7 @@ SERVER_KILLS = int(os.environ.get("SERVER_KILLS", "2"))
 REAL = os.environ.get("FORWARD_EXPORT", "")
 PAGE = (ROOT / "docs/GUIDE.md").read_text(encoding="utf-8")
 ONE = "2025-12-01T12-00"
+REPLICATED = "ENGINE = ReplicatedReplacingMergeTree('/clickhouse/tables/{shard}/journal_here', '{replica}')"
 # The documented way to have each entry once.
 ONCE = "LIMIT 1 BY sequence, number, content"
 
@@ -228,7 +231,7 @@ def two_servers(row: Row, collectors: Collectors) -> None:
     is down, all waits."""
     ports = [free_port(), free_port()]
     collector = collectors.new(ENGINE="clickhouse", BATCH_ENTRIES="50")
-    servers = [ClickHouse(collector.own / f"server{port}", shards=ports, tcp=port) for port in ports]
+    servers = [ClickHouse(collector.own / f"server{port}", shards=[[one] for one in ports], tcp=port) for port in ports]
     cluster = (collectors.library / "forwarding/clickhouse-cluster.sql").read_text(encoding="utf-8")
     try:
         collector.set(URL=servers[0].url)
@@ -252,6 +255,58 @@ def two_servers(row: Row, collectors: Collectors) -> None:
     finally:
         for server in servers:
             server.kill()
+
+
+@ROWS.row
+def replicas(row: Row, collectors: Collectors) -> None:
+    """Two shards of two replicas, to which two collectors write while a replica is killed. By hand: FORWARD_REPLICAS=1
+    with ZooKeeper."""
+    if not os.environ.get("FORWARD_REPLICAS"):
+        return
+    first, second = (collectors.new(ENGINE="clickhouse", BATCH_ENTRIES="50") for _ in range(2))
+    ports = [[free_port(), free_port()] for _ in range(2)]
+    schema = call(first.forward, "--schema", first.set(URL="http://127.0.0.1:1").config).output.partition(";\n")[0]
+    here = schema.replace("EXISTS journal\n", "EXISTS journal_here\n")
+    here = here.replace("ENGINE = ReplacingMergeTree", REPLICATED)
+    cluster = (collectors.library / "forwarding/clickhouse-cluster.sql").read_text(encoding="utf-8")
+    with ZooKeeper(first.own / "zookeeper") as keeper:
+        servers = [ClickHouse(first.own / f"server{port}", shards=ports, tcp=port, more=clickhouse.REPLICATED.format(
+            interserver=free_port(), zookeeper=keeper.port, shard=shard, replica=port))
+            for shard, some in enumerate(ports) for port in some]
+        try:
+            for server in servers:
+                server.start()
+                server.run(here)
+                server.run(cluster.replace("@table@", "journal").replace("(journals,", "(own,"))
+            first.set(URL=servers[0].url).fill(200, 4, seed=26)
+            second.set(URL=servers[3].url).fill(300, 3, seed=27)
+            row.ends(first.run(), 0)
+            servers[1].kill()
+            row.ends(second.run(), 0)
+            servers[1].start()
+            row.ends(first.run("--again=all"), 0)
+            wanted = sorted({*first.searched(), *second.searched()})
+            row.same("replicas have the same", are_equal(servers), True)
+            for server in (servers[0], servers[2]):
+                server.kill()
+            for server in (servers[1], servers[3]):
+                found = sorted(map(of_row, server.rows(f"SELECT * FROM journal {ONCE}")))
+                row.same("entries", found == wanted, True)
+        finally:
+            for server in servers:
+                server.kill()
+
+
+def are_equal(servers: list[ClickHouse]) -> bool:
+    """Whether the replicas of each shard have the same at last. One that was killed waits until ZooKeeper has missed it
+    for half a minute."""
+    count = f"SELECT count() FROM (SELECT number FROM journal_here {ONCE})"
+    for _ in range(300):
+        counts = [server.query(count) for server in servers]
+        if counts[::2] == counts[1::2]:
+            return True
+        time.sleep(0.4)
+    return False
 
 
 if __name__ == "__main__":

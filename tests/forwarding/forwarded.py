@@ -51,10 +51,11 @@ class Collector:
         self.settings: dict[str, str] = {}
         self.set(FOLDER=str(self.folder), FREE_BYTES="0", **settings)
 
-    def set(self, **settings: str) -> None:
+    def set(self, **settings: str) -> "Collector":
         self.settings |= settings
         self.config.write_text("".join(f"{name}='{value}'\n" for name, value in self.settings.items()),
                                encoding="utf-8")
+        return self
 
     def put(self, name: str, entries: list[made.Entry]) -> Path:
         return made.database(self.databases / f"{name}.db", entries)
