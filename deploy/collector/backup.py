@@ -4,9 +4,9 @@
     FOLDER/state-NUMBER/            `kept` and `sources` as they were
     FOLDER/databases/NAME.db        each finished database, with its digest beside it as NAME.db.sha256
 
-All that the copied sources call acknowledged is in databases that are finished after they were copied. So sources are
-copied first, then the present databases are finished, and then databases are copied. A backup into the same folder
-copies what is new.
+The databases that there are when a backup begins are finished and copied, and then sources are, without what they know
+by databases that were begun since. So the copied sources call acknowledged what the copied databases have, all of that
+and nothing else. A backup into the same folder copies what is new.
 """
 import os
 import re
@@ -70,9 +70,11 @@ def make(folder: str) -> int:
     with files.locked(retention.BACKUP):
         before = [name for name in files.names(folder) if STATE.fullmatch(name)]
         number = 1 + max((int(name.removeprefix("state-")) for name in before), default=0)
-        copy_state(os.path.join(folder, f"state-{number}"))
-        wait_for_finished(running())
-        copied = {name: digest for name in databases.all_names() if (digest := copy_database(name, folder))}
+        copy_kept(os.path.join(folder, f"state-{number}"))
+        names = databases.all_names()
+        wait_for_finished(names, running())
+        copied = {name: digest for name in names if (digest := copy_database(name, folder))}
+        copy_sources(os.path.join(folder, f"state-{number}", "sources"), frozenset(names))
     os.sync()
     lines = [FORMAT, str(int(time.time())), f"state-{number}"]
     lines += [f"{digest} {name}" for name, digest in sorted(copied.items())]
@@ -82,17 +84,25 @@ def make(folder: str) -> int:
     return status()
 
 
-def copy_state(to: str) -> None:
-    """Copies what is known of sources, and the age."""
+def copy_kept(to: str) -> None:
+    """Copies the age, and what is noted of databases."""
     os.makedirs(to)
     with kept.locked():
         if state.is_file(kept.PATH):
             copy_file(kept.PATH, os.path.join(to, kept.PATH))
+
+
+def copy_sources(to: str, names: frozenset[str]) -> None:
+    """Copies what is known of sources by these databases, and by those that are gone."""
+    with kept.locked():
+        gone = kept.read().gone
     for machine in files.names("sources"):
         if os.path.isdir(os.path.join("sources", machine)):
             with source.locked(machine):
                 for name in source.names(machine):
-                    copy_source(os.path.join("sources", machine, name), os.path.join(to, "sources", machine, name))
+                    copy_source(os.path.join("sources", machine, name), os.path.join(to, machine, name))
+            for name in source.names(machine):
+                missing.forget_others(os.path.join(to, machine, name), names | gone)
 
 
 def copy_source(path: str, to: str) -> None:
@@ -123,9 +133,9 @@ def running() -> int | None:
         return None
 
 
-def wait_for_finished(process: int | None) -> None:
-    """Has the service finish the present databases, and waits until all that there are now are finished."""
-    open_now, end = unfinished(databases.all_names()), time.monotonic() + SECONDS
+def wait_for_finished(names: list[str], process: int | None) -> None:
+    """Has the service finish the present databases, and waits until these are finished."""
+    open_now, end = unfinished(names), time.monotonic() + SECONDS
     if process is not None:
         os.kill(process, signal.SIGHUP)
         while open_now and time.monotonic() < end:

@@ -111,6 +111,21 @@ def change_one(machine: str, path: str, change: Change) -> None:
     source.write(path, known)
 
 
+def forget_others(path: str, names: frozenset[str]) -> None:
+    """A copy of a source's files knows nothing by other databases than these from now on."""
+    try:
+        known = source.read(path)
+        others = named(known) - names - {PAST, UNKNOWN} if known and not known.is_old else set()
+        if not known or not others:
+            return
+        change_records(path, known, Change(frozenset(), frozenset(others)))
+    except state.Damaged:
+        return
+    known.files = {digest: name for digest, name in known.files.items() if name not in others}
+    known.answer = None
+    source.write(path, known)
+
+
 def change_records(path: str, known: Source, change: Change) -> int:
     """Has a source's records name no database that is gone; how many aren't kept."""
     every = records.all_of(path, known)

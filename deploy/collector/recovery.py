@@ -55,7 +55,7 @@ class Recovery:
         if not uploads and not databases.log_has_pages(name):
             self.finish(name)
             return
-        if not self.has_room(name):
+        if not self.has_room(name, uploads):
             return
         databases.unlink_others(name)
         self.shared.note(name)
@@ -81,9 +81,11 @@ class Recovery:
         else:
             self.failed(name, f"status {process.status}: {process.errors or ended}", process.errors.startswith("bad "))
 
-    def has_room(self, name: str) -> bool:
-        """Whether the disk has room to open a database. Without it the attempt would say nothing of the database."""
-        was_short, self.is_short = self.is_short, costs.room(self.shared.settings) < costs.LEAST_ROOM
+    def has_room(self, name: str, uploads: list[spool.Waiting]) -> bool:
+        """Whether the disk has room to finish a database. Without it the attempt would say nothing of the database."""
+        sizes = [files.size(os.path.join("batch", name, upload.name)) for upload in uploads]
+        least = costs.least_of(max(sizes, default=0)) + files.size(databases.path_of(name) + databases.LOG)
+        was_short, self.is_short = self.is_short, costs.room(self.shared.settings) < least
         if self.is_short and not was_short:
             report(3, f"only {files.free_bytes()} bytes are free: {databases.path_of(name)} isn't finished yet")
         return not self.is_short

@@ -97,6 +97,59 @@ def while_the_service_runs(row: Row, case: Case) -> None:
 
 
 @ROWS.once
+def what_comes_while_it_is_made(row: Row, case: Case) -> None:
+    """The service is slow: after a backup has begun it stores another upload in the present database, before it
+    finishes that, and one in the next. The backup's databases and what it knows of sources agree: nothing of the first
+    is stored a second time, and the other one isn't called acknowledged."""
+    case.set(DATABASE_SECONDS=1000)
+    service, backup = Service(row, case), f"{case.base}/backup"
+    service.store(upload(entries(1, 5)), f"ack {SOURCE} 0 5 ")
+    service.process.send_signal(signal.SIGSTOP)
+    making = subprocess.Popen([f"{case.library}/collect-incoming", "--backup", backup, case.conf],
+                              env=case.environment(), stderr=subprocess.PIPE)
+    # by then it waits for the service to finish the database
+    service.wait_for(lambda: glob.glob(f"{backup}/state-1"))
+    time.sleep(0.5)
+    case.receive(upload(entries(6, 9), start=5))
+    service.process.send_signal(signal.SIGCONT)
+    service.wait_for(lambda: case.answers()[0].startswith(f"ack {SOURCE} 0 9 "))
+    _, told = making.communicate(timeout=60)
+    row.expect("backup", (making.returncode, told), (0, b""))
+    service.store(upload(entries(10, 12), start=9), f"ack {SOURCE} 0 12 ")
+    service.stop()
+    lose(case)
+    row.expect("put back", case.collect("--restore", backup)[0], 0)
+    row.expect("what is acknowledged", case.answers()[0].split()[:4], ["ack", SOURCE, "0", str(len(case.numbers()))])
+    row.expect("entries", case.numbers(), list(range(1, len(case.numbers()) + 1)))
+    case.store(upload(entries(1, 12)))
+    row.expect("all of it again", case.numbers(), list(range(1, 13)))
+
+
+@ROWS.once
+def begun_while_it_is_made(row: Row, case: Case) -> None:
+    """A database that is begun while others are copied isn't in the backup, nor is what is known by it; that isn't
+    told as something that is missing."""
+    case.set(DATABASE_NAME="d")
+    case.store(upload(entries(1, 5)))
+    # as it is read: the copies of databases are made, those of sources aren't
+    text = ("import sys; sys.path.insert(0, sys.argv[1]); from collector import backup, incoming; import subprocess; "
+            "copy = backup.copy_database; backup.copy_database = lambda *words: (copy(*words), "
+            "subprocess.run(sys.argv[4:], check=True))[0]; sys.exit(incoming.main(['--backup', *sys.argv[2:4]]))")
+    case.receive(upload(entries(6, 9), start=5))
+    told = subprocess.run([sys.executable, "-BS", "-c", text, case.library, f"{case.base}/backup", case.conf,
+                           f"{case.library}/collect-incoming", "--once", case.conf], env=case.environment(),
+                          capture_output=True, check=False)
+    row.expect("backup", (told.returncode, noticed(told.stderr.decode())), (0, ""))
+    row.expect("before", (case.answers()[0], case.names()), (f"ack {SOURCE} 0 9 4 0", ["d", "d-2"]))
+    lose(case)
+    status, said = case.collect("--restore", f"{case.base}/backup")
+    row.expect("put back", (status, "is missing" in said, case.names()), (0, False, ["d"]))
+    row.expect("what is called acknowledged of the other one", case.answers(), [])
+    case.store(upload(entries(1, 9)))
+    row.expect("it comes again", case.numbers(), list(range(1, 10)))
+
+
+@ROWS.once
 def without_the_service(row: Row, case: Case) -> None:
     """What a kill left isn't finished, and isn't in the backup: that is told, and known when it is put back."""
     case.set(DATABASE_SECONDS=1000)

@@ -57,7 +57,7 @@ class Deployment:
         self.boot(name)
         bounds = {"stream_bytes": dice.choice((2000, 6000)), "entries": dice.choice((10, 40)),
                   "upload_bytes": dice.choice((3000, 10**6)), "boot": self.boots[name],
-                  "answer_seconds": dice.choice((0, 0, 0, 1))}
+                  "answer_seconds": dice.choice((0,) * 9 + (1,))}
         whole = MACHINE_CONF.format(folder=folder, **bounds)
         # a folder that is to have less than a stream, whose size is the default one
         small = "".join(line for line in whole.splitlines(True)

@@ -183,13 +183,13 @@ def stop_while_what_was_left_is_taken_up(row: Row, case: Case) -> None:
     row.expect("databases", (case.names(), len(case.stored())), (["d"], 40))
 
 
-def left_with_an_upload(case: Case) -> None:
+def left_with_an_upload(case: Case, text: str = "text") -> None:
     """A database that a run left, whose entries are acknowledged, with an upload that it was storing."""
     case.set(DATABASE_NAME="d")
-    case.store(upload(entries(1, 2)))
+    case.store(upload(entries(1, 2, text=text)))
     os.unlink(case.path("databases", "d.db.sha256"))
     os.makedirs(case.path("batch", "d"))
-    case.receive(upload(entries(1, 4)))
+    case.receive(upload(entries(1, 4, text=text)))
     name = os.listdir(case.path("incoming"))[0]
     os.rename(case.path("incoming", name), case.path("batch", "d", name))
 
@@ -239,10 +239,20 @@ def full_disk_counts_as_a_try(row: Row, case: Case) -> None:
 @ROWS.once
 def no_room_is_no_try(row: Row, case: Case) -> None:
     """A disk that has no room for anything says nothing of a database: none is opened, which is told once."""
+    no_room(row, case, 100_000, "text")
+
+
+@ROWS.once
+def room_for_a_smaller_upload(row: Row, case: Case) -> None:
+    """Nor does one that has none for the upload that is to be stored in it."""
+    no_room(row, case, 1_000_000, "x" * 100_000)
+
+
+def no_room(row: Row, case: Case, free: int, text: str) -> None:
     if not case.clock_library:
         return
-    left_with_an_upload(case)
-    case.free = 100_000
+    left_with_an_upload(case, text)
+    case.free = free
     break_program(case)
     service = begin_hurried(case)
     time.sleep(2)
