@@ -7,6 +7,8 @@ from reading import recent
 from reading.databases import begun
 from reading.recent import Upload
 
+# The keys of more entries aren't held: these go out again with their database.
+MOST_KEYS = 500_000
 Id = tuple[str, int]
 
 
@@ -31,8 +33,9 @@ class Recent:
     def add(self, database: str, entries: list[Entry], refused: list[Entry]) -> None:
         """These went out, but for those that weren't taken: they come again with their database."""
         keys = self.sent.setdefault(database, set())
-        keys.update((entry.sequence, entry.number) for entry in entries)
-        keys.difference_update((entry.sequence, entry.number) for entry in refused)
+        if sum(map(len, self.sent.values())) < MOST_KEYS:
+            keys.update((entry.sequence, entry.number) for entry in entries)
+            keys.difference_update((entry.sequence, entry.number) for entry in refused)
 
     def went(self, database: str) -> set[Id]:
         """The keys of what is in a database and went out before."""
