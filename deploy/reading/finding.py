@@ -4,6 +4,7 @@ Time is gone through in slices that have some thousands of entries, and only wha
 it. So what is held doesn't grow with what is found, however many sources there are and however their times overlap. A
 slice's sources are read side by side, and then what was found in them.
 """
+import time
 from collections import Counter
 from collections.abc import Callable, Iterator
 from dataclasses import dataclass, replace
@@ -22,6 +23,8 @@ KEYS, SPANS = 50_000, 64
 TOGETHER = 1_000
 # With fewer entries in all spans, other processes cost more than they bring.
 FEW = 60_000
+# What was found is shown after so long, though more of it would be shown together.
+SECONDS = 0.5
 
 
 @dataclass
@@ -71,8 +74,8 @@ class Finder:
         """The numbers of the sources that are looked at."""
         return sorted({number for number, _ in self.spans})
 
-    def show(self, places: Iterator[Place]) -> Iterator[bytes]:
-        """Entries as they are shown, in pieces."""
+    def show(self, places: Iterator[Place | None]) -> Iterator[bytes]:
+        """Entries as they are shown, in pieces. None among the places says that the next one may be long in coming."""
         for batch in batches(places, TOGETHER * self.workers.number * 4):
             parts = list(batches(iter(batch), TOGETHER))
             for part, made in zip(parts, self.workers.map(("texts", part) for part in parts)):
@@ -105,9 +108,14 @@ class Finder:
 
     def places(self, backwards: bool = False) -> Iterator[Place]:
         """Where the entries are, in the order of their times, each once. Two that differ under one key both come."""
+        return (place for place in self.paused(backwards) if place is not None)
+
+    def paused(self, backwards: bool = False) -> Iterator[Place | None]:
+        """The same, with None before each next slice."""
         for places in self.slices(backwards):
             for _, group in groupby(places, key=lambda place: place[:3]):
                 yield from self.distinct(list(group))
+            yield None
 
     def distinct(self, places: list[Place]) -> list[Place]:
         """Those of some entries with one key and time that differ. They are read only if there are several."""
@@ -196,7 +204,15 @@ class Finder:
         return places
 
 
-def batches(places: Iterator[Place], size: int) -> Iterator[list[Place]]:
-    """Places in lists of this size."""
-    while batch := list(islice(places, size)):
+def batches(places: Iterator[Place | None], size: int) -> Iterator[list[Place]]:
+    """Places in lists of this size, or smaller ones where the next place may be long in coming."""
+    batch: list[Place] = []
+    shown = time.monotonic()
+    for place in places:
+        if place is not None:
+            batch.append(place)
+        if len(batch) == size or (place is None and batch and time.monotonic() - shown >= SECONDS):
+            yield batch
+            batch, shown = [], time.monotonic()
+    if batch:
         yield batch

@@ -97,7 +97,14 @@ INSTEAD = {
     "--namespace": "_NAMESPACE=NAME finds a namespace's entries",
     "--header": "journal-collect check looks at a database", "--verify": "journal-collect check looks at a database",
     "--disk-usage": "du says it", "--vacuum-size": "KEEP_DAYS in collector.conf", "--slack": "every search is by time",
-    "--vacuum-time": "KEEP_DAYS in collector.conf", "--vacuum-files": "KEEP_DAYS in collector.conf"}
+    "--vacuum-time": "KEEP_DAYS in collector.conf", "--vacuum-files": "KEEP_DAYS in collector.conf",
+    "--version": "journal-collect --version says it", "--exclude-identifier": "grep -v over --output=json",
+    "-T": "grep -v over --output=json", "-i": "--database says what is searched",
+    "--list-invocations": "_SYSTEMD_INVOCATION_ID=ID finds one, and --field its ids",
+    "--invocation": "_SYSTEMD_INVOCATION_ID=ID finds one", "-I": "_SYSTEMD_INVOCATION_ID=ID finds one",
+    "--list-namespaces": "--field=_NAMESPACE lists them"} | dict.fromkeys((
+        "--rotate", "--flush", "--sync", "--relinquish-var", "--smart-relinquish-var", "--setup-keys", "--verify-key",
+        "--interval", "--list-catalog", "--dump-catalog", "--update-catalog"), "journalctl has it, on each machine")
 
 
 @dataclass

@@ -132,11 +132,14 @@ class Search:
             listing.boots_of(finder, where, self.folder, wish, len(set(self.words.all("machine"))) == 1), wish)
         finder.only([[Test(b"_BOOT_ID", tuple(ids) or (NO_BOOT,))]])
 
-    def places(self, finder: Finder, most: int | None) -> Iterator[Place]:
+    def places(self, finder: Finder, most: int | None) -> Iterator[Place | None]:
         """The entries in the order in which they are shown. With --grep a number of them begins at the end."""
-        if self.words.has("reverse") or (most is not None and self.words.has("grep")):
+        is_backwards = self.words.has("reverse")
+        if most is None:
+            return finder.paused(is_backwards)
+        if is_backwards or self.words.has("grep"):
             return islice(finder.places(backwards=True), most)
-        return finder.places() if most is None else reversed(finder.last(most))
+        return reversed(finder.last(most))
 
     def say_nothing(self, looked_at: int, total: int) -> None:
         """That nothing was found, where a person sees it."""

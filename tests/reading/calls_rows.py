@@ -128,6 +128,17 @@ def difference(got: object, wanted: object) -> object:
 
 
 @ROWS.row
+def every_option(row: Row, place: Place) -> None:
+    """Each option of journalctl's is taken, or it is said what serves instead."""
+    from reading import options  # pylint: disable=import-outside-toplevel,import-error
+    known = {f"--{option.name}" for option in [*options.OPTIONS, *options.NOTHING_TO_DO]}
+    found = set(re.findall(r"(?<![\w-])--[a-z][a-z-]+", run("journalctl", "--help").decode()))
+    row.same("options", len(found) > 40, True)
+    for option in sorted(found - known):
+        row.ends(call(place.main, option), 2, "", f"~search: there is no {option}: *", option)
+
+
+@ROWS.row
 def other_forms(row: Row, place: Place) -> None:
     """Those that are compared byte for byte, and those whose order or keys are a journal file's own."""
     for form in ("short", "short-precise", "short-full", "short-unix", "short-iso-precise"):

@@ -45,6 +45,9 @@ class Place:
             entry(4, TIME + 3, "c", "_HOSTNAME=web", "SYSLOG_IDENTIFIER=x", "MESSAGE=behind it")))
         self.colours.finished("colours", COLOURED)
         self.simple.finished("simple", FIRST)
+        self.many = Searched(library, folder / "many")
+        for number in (1, 2):
+            self.many.finished(f"many-{number}", (entry(number, TIME + number, "c", f"MESSAGE=a{number}"),))
 
 
 ROWS: Rows[Place] = Rows()
@@ -52,18 +55,24 @@ ROWS: Rows[Place] = Rows()
 
 def on_terminal(searched: Searched, *words: str, errors: bool = True, **environment: str) -> tuple[int, str]:
     """What a person sees of a call of the installed program, and its status."""
+    status, seen = seen_of([str(searched.library / "search"), "--folder", str(searched.folder), *words], errors,
+                           environment)
+    return status, seen.replace("\r\x1b[K", "")
+
+
+def seen_of(command: list[str], errors: bool, environment: dict[str, str]) -> tuple[int, str]:
     ours, theirs = pty.openpty()
     seen = bytearray()
     environ = {"PATH": os.environ["PATH"], "TZ": "UTC", "TERM": "dumb", "SYSTEMD_PAGER": "cat"} | environment
-    with subprocess.Popen([searched.library / "search", "--folder", searched.folder, *words], stdin=subprocess.DEVNULL,
-                          stdout=theirs, stderr=theirs if errors else subprocess.DEVNULL, env=environ) as process:
+    with subprocess.Popen(command, stdin=subprocess.DEVNULL, stdout=theirs,
+                          stderr=theirs if errors else subprocess.DEVNULL, env=environ) as process:
         os.close(theirs)
         reader = threading.Thread(target=read_all, args=(ours, seen))
         reader.start()
         status = process.wait(60)
         reader.join()
     os.close(ours)
-    return status, seen.decode(errors="surrogateescape").replace("\r\n", "\n").replace("\r\x1b[K", "")
+    return status, seen.decode(errors="surrogateescape").replace("\r\n", "\n")
 
 
 def read_all(terminal: int, seen: bytearray) -> None:
@@ -177,6 +186,21 @@ def pager(row: Row, place: Place) -> None:
     for words, environment in ((["--no-pager"], {}), ([], {"SYSTEMD_PAGER": ""}), ([], {"SYSTEMD_PAGER": "cat"})):
         row.same(f"{words} {environment}", on_terminal(place.simple, *words, **path | environment)[1].splitlines()[0],
                  first)
+
+
+@ROWS.row
+def progress(row: Row, place: Place) -> None:
+    """How far a search is, from its beginning to its end, on a line that goes; the first hits come meanwhile. What
+    takes no second says nothing."""
+    main = ("import sys; sys.path.insert(0, sys.argv.pop(1)); from reading import finding, searching, terminal; "
+            "terminal.LONG = terminal.SECONDS = finding.SECONDS = -1; finding.SPANS = 1; sys.exit(searching.main())")
+    status, seen = seen_of([sys.executable, "-IB", "-c", main, str(place.many.library), "--folder",
+                            str(place.many.folder)], True, {})
+    lines = [line.partition(" unknown: ")[2] or line for part in seen.split("\r\x1b[K") for line in part.splitlines()]
+    row.same("status", status, 0)
+    row.same("what is seen", [line for line in lines if line and "weren't looked at" not in line], [
+        "parts of databases: 1 of 2", "a1", "parts of databases: 2 of 2", "a2"])
+    row.same("a short one", "parts of databases" in on_terminal(place.many)[1], False)
 
 
 @ROWS.row
