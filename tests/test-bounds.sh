@@ -305,8 +305,9 @@ fi
 
 # A machine that was broken into beside healthy ones -----------------------------------------------------------------
 
-# HEALTHY=20 in the nights
-python3 -B tests/deploy/hostile_world.py "$library" --machines "${HEALTHY-4}" || differs "tests/deploy/hostile_world.py"
+# HEALTHY=20 SECONDS_MORE=5 in the nights: so much longer an answer may take than without it
+python3 -B tests/deploy/hostile_world.py "$library" --machines "${HEALTHY-4}" --seconds "${SECONDS_MORE-0}" ||
+    differs "tests/deploy/hostile_world.py"
 
 # Units --------------------------------------------------------------------------------------------------------------
 

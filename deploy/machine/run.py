@@ -68,12 +68,20 @@ def right_command(user: str, call: Call) -> str:
 
 
 def look_for_strangers(settings: Settings) -> None:
-    """Fails if something in the folder is of another user, as a run of an earlier version as root left it."""
+    """Fails if something in the folder is of another user, as a run of an earlier version as root left it. Another run
+    may be under way, and remove what was listed."""
     for folder in (".", "streams"):
         for name in os.listdir(folder):
-            if not os.access(os.path.join(folder, name), os.R_OK | os.W_OK):
+            if is_of_another_user(os.path.join(folder, name)):
                 raise Wrong(f"{os.path.normpath(os.path.join(settings.folder, folder, name))} is of another user; as "
                             f"root: chown -R --reference={settings.folder} {settings.folder}")
+
+
+def is_of_another_user(path: str) -> bool:
+    try:
+        return os.lstat(path).st_uid != os.geteuid()
+    except FileNotFoundError:
+        return False
 
 
 def enter_folder(settings: Settings, report: Report) -> int:

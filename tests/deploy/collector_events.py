@@ -38,7 +38,7 @@ class CollectorEvents:
 
     def happen(self) -> None:
         """Perhaps something becomes of it."""
-        for event, share in ((self.start, 0.1), (self.back_up, 0.04), (self.restore, 0.02), (self.rename, 0.03)):
+        for event, share in ((self.start, 0.1), (self.back_up, 0.08), (self.restore, 0.04), (self.rename, 0.05)):
             if self.dice.random() < share:
                 event()
 

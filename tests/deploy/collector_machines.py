@@ -48,6 +48,8 @@ class Source:
         self.entries = []
         self.acked = 0
         self.is_closed = False
+        # The collector was restored: where what it knows of this source ends, it may not know the key.
+        self.is_restored = False
         # uploads that were made: where each begins, how many entries it has, and its file
         self.made = []
 
@@ -99,7 +101,7 @@ class Source:
             start, count = int(words[2]), int(words[3])
             if start <= self.acked < start + count:
                 self.acked = start + count
-            if count:
+            if count and (lasts or not self.is_restored):
                 self.world.expect(f"{self.machine}: last of an ack", [int(last[2]) for last in lasts], [start + count])
         for words in lasts:
             entry = self.entries[int(words[2]) - 1]

@@ -302,7 +302,7 @@ class World(Trial):
         self.used = {name: since for name, since in self.used.items() if name in known}
         self.look_at_deleted(self.there(), "")
         for source in (source for sources in self.machines.values() for source in sources):
-            source.acked = 0
+            source.acked, source.is_restored = 0, True
         self.counts["restores"] += 1
 
     def rename(self) -> None:

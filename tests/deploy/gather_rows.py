@@ -404,6 +404,19 @@ def another_user(row: Row, machine: Machine) -> None:
 
 
 @ROWS.once
+def beside_another_run(row: Row, machine: Machine) -> None:
+    """Another run is under way, and removes what this one has just seen in the folder: that is nobody else's."""
+    machine.journal.grow(1)
+    row.expect("a run", machine.send(), (0, ""))
+    text = ("import os, sys; sys.path.insert(0, sys.argv[1]); os.chdir(sys.argv[2]); from machine import run, settings; "
+            "there = os.listdir; os.listdir = lambda folder: [*there(folder), 'begun']; "
+            "run.look_for_strangers(settings.Settings(folder=sys.argv[2]))")
+    told = subprocess.run([sys.executable, "-BS", "-c", text, machine.library, machine.folder], capture_output=True,
+                          text=True, check=False)
+    row.expect("what is said of it", (told.returncode, told.stderr), (0, ""))
+
+
+@ROWS.once
 def steps(row: Row, machine: Machine) -> None:
     """The folder's bound holds within one entry, however much one step could take; and what is left comes later."""
     machine.settings.update(FOLDER_BYTES=100_000, STREAM_BYTES=20_000)
