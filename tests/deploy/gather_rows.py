@@ -408,8 +408,9 @@ def beside_another_run(row: Row, machine: Machine) -> None:
     """Another run is under way, and removes what this one has just seen in the folder: that is nobody else's."""
     machine.journal.grow(1)
     row.expect("a run", machine.send(), (0, ""))
-    text = ("import os, sys; sys.path.insert(0, sys.argv[1]); os.chdir(sys.argv[2]); from machine import run, settings; "
-            "there = os.listdir; os.listdir = lambda folder: [*there(folder), 'begun']; "
+    text = ("import os, sys; sys.path.insert(0, sys.argv[1]); os.chdir(sys.argv[2]); "
+            "from machine import run, settings; there = os.listdir; "
+            "os.listdir = lambda folder: [*there(folder), 'begun']; "
             "run.look_for_strangers(settings.Settings(folder=sys.argv[2]))")
     told = subprocess.run([sys.executable, "-BS", "-c", text, machine.library, machine.folder], capture_output=True,
                           text=True, check=False)
