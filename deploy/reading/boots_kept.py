@@ -33,6 +33,10 @@ OF_HOUR = re.compile(r"(\d+):(\d+):(\d+)")
 LENGTH, OTHERS = len("2026-12-01T09"), "others"
 # Below so many databases other processes cost more than they bring.
 FEW = 4
+ID = re.compile(rb"[0-9a-f]{32}")
+LONGEST_HOST = 255
+# An hour with more boots isn't kept: a machine has made them up.
+MOST_OF_HOUR = 20_000
 # So often what was read until then is kept.
 SECONDS = 60.0
 
@@ -116,7 +120,7 @@ class Boots:
         for each in bad:
             self.tell(each)
         parts = joined([part for result in found if not isinstance(result, BadDatabase) for part in result])
-        if not bad:
+        if not bad and len(parts) <= MOST_OF_HOUR:
             self.known[hour.name] = digest, parts
             self.has_changed = True
         return parts
@@ -142,11 +146,13 @@ def look(path: Path) -> list[Part] | BadDatabase:
 
 
 def parts_of(tables: Tables) -> list[Part]:
-    """The boots of which some tables have something."""
+    """The boots of which some tables have something. What is no id isn't a boot, whatever machine says so."""
     found = []
     for boot, sequence, first, last, one in tables.boots():
-        machine, host = tables.values((first, sequence, one), (b"_MACHINE_ID", b"_HOSTNAME"))
-        found.append(Part(sequence, boot, machine or sequence, host or b"-", first, last))
+        if ID.fullmatch(boot):
+            machine, host = tables.values((first, sequence, one), (b"_MACHINE_ID", b"_HOSTNAME"))
+            machine = machine if machine and ID.fullmatch(machine) else sequence
+            found.append(Part(sequence, boot, machine, (host or b"-")[:LONGEST_HOST], first, last))
     return found
 
 

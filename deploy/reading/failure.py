@@ -21,3 +21,13 @@ class BadDatabase(Exception):
     def __reduce__(self) -> tuple[type, tuple[str, str, bool]]:
         """It comes from other processes, too."""
         return BadDatabase, (self.name, self.reason, self.lasting)
+
+
+class Gone(BadDatabase):
+    """A database that was there when databases were listed, and isn't any more: its time had come."""
+
+    def __init__(self, name: str) -> None:
+        super().__init__(name, "it isn't there any more", False)
+
+    def __reduce__(self) -> tuple[type, tuple[str]]:  # type: ignore[override]
+        return Gone, (self.name,)

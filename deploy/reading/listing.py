@@ -103,4 +103,4 @@ def machine_lines(finder: Finder, owners: Owners, style: Style, as_json: bool) -
             continue
         moment = full_moment(style, time) if time is not None else "no entry that can be read"
         note = "" if is_known else "  by _HOSTNAME alone: nothing says which machine sent it"
-        yield f"{name.ljust(width)}  {moment}{note}\n".replace("\t", " ").encode()
+        yield f"{name.ljust(width)}  {moment}{note}\n".replace("\t", " ").replace("\n", " ", name.count("\n")).encode()

@@ -9,7 +9,7 @@ from pathlib import Path
 
 from reading import boots, follow, listing, machines, options, printing, query, settings, sources, text
 from reading.conditions import Conditions, Test
-from reading.failure import FAILED, NEEDS_A_LOOK, BadDatabase, Failure
+from reading.failure import FAILED, NEEDS_A_LOOK, BadDatabase, Failure, Gone
 from reading.finding import Finder
 from reading.machines import Owners
 from reading.options import Words, wrong
@@ -39,7 +39,7 @@ class Search:
     def tell_bad(self, bad: BadDatabase) -> None:
         if bad.name not in self.bad:
             self.bad.add(bad.name)
-            self.tell(f"{bad}; it is passed over", NEEDS_A_LOOK)
+            self.tell(f"{bad}; it is passed over", 0 if isinstance(bad, Gone) else NEEDS_A_LOOK)
 
     def sources(self, conditions: Conditions) -> Sources:
         """What to look at."""

@@ -8,7 +8,7 @@ from typing import Any
 from urllib.parse import quote
 
 from reading.conditions import Conditions
-from reading.failure import BadDatabase
+from reading.failure import BadDatabase, Gone
 from reading.layouts import KEY, LAYOUTS
 from shared import files
 
@@ -39,7 +39,7 @@ def connect(path: Path) -> sqlite3.Connection:
     try:
         return sqlite3.connect(f"file:{quote(str(path.absolute()))}?mode=ro&immutable=1", uri=True)
     except sqlite3.Error as error:
-        raise BadDatabase(name, str(error), False) from error
+        raise BadDatabase(name, str(error), False) if path.exists() else Gone(name) from error
 
 
 @dataclass(frozen=True)
@@ -184,9 +184,11 @@ class Tables:
         return tuple(map(found.get, names))
 
     def boots(self) -> list[tuple[bytes, bytes, int, int, int]]:
-        """Each boot of each sequence, with the times of its first and last entry, and the number of one."""
+        """Each boot of each sequence, with the times of its first and last entry, and the number of one. Ids of another
+        length are none."""
         return self.fetch("SELECT value, seqid, min(realtime), max(realtime), seqnum FROM "
-                          f"{self.layout.joined} WHERE name = ? GROUP BY value, seqid", [b"_BOOT_ID"])
+                          f"{self.layout.joined} WHERE name = ? AND length(value) = 32 GROUP BY value, seqid",
+                          [b"_BOOT_ID"])
 
     def lasts(self) -> list[tuple[bytes, int, int]]:
         """Of each sequence the time of its last entry, and the number of that."""

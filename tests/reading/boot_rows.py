@@ -8,7 +8,7 @@ from pathlib import Path
 
 from collected import finish
 from rows import Row, Rows
-from searched import TIME, Searched, entry, opened
+from searched import TIME, Searched, binary, entry, opened
 
 HOUR = 3_600_000_000
 # web has a boot in each of the first two hours and a third one from then on; mail has one, and is silent since.
@@ -128,6 +128,23 @@ def what_is_not_believed(row: Row, place: Place) -> None:
     (searched.folder / "boots.new").symlink_to(searched.folder / "elsewhere")
     row.same("a link", boots(searched), LISTED)
     row.same("what it names", (searched.folder / "elsewhere").exists(), False)
+
+
+@ROWS.row
+def hostile(row: Row, place: Place) -> None:
+    """What is no id of a boot isn't listed, and fills no file; a name of a machine is on one line."""
+    searched = Searched(place.library, place.folder / "hostile")
+    host = binary("_HOSTNAME", b"mail\nforged")
+    searched.finished("2025-12-01T12-00", tuple(
+        entry(number, TIME + number, "c", binary("_BOOT_ID", boot), host, "_MACHINE_ID=\x1b[31m")
+        for number, boot in enumerate(
+            (b"\x1b[2J" + b"1" * 28, b"1\n 0 forged", b"", b"2" * 100_000, b"A" * 32, b"3" * 32), 1)))
+    told = searched.find("--list-boots", "--utc")
+    row.ends(told, 0, f"~IDX BOOT ID*\n  0 {'3' * 32} Mon 2025-12-01 12:00:00 UTC Mon 2025-12-01 12:00:00 UTC")
+    row.same("lines", told.output.count("\n"), 1)
+    row.same("what is kept", (searched.folder / "boots").stat().st_size < 1000, True)
+    row.same("machines", len(searched.find("--list-machines").output.split("\n")), 1)
+    row.same("the last boot's", len(searched.find("-b", "-o", "json").output.split("\n")), 1)
 
 
 @ROWS.row

@@ -10,6 +10,7 @@ import shutil
 import subprocess
 import sys
 from pathlib import Path
+from unittest import mock
 
 from collected import ROOT, finish, run
 from programs import Done, call
@@ -194,6 +195,24 @@ def damaged_page(row: Row, place: Place) -> None:
     bad(row, place, "d: database disk image is malformed")
     path.unlink()
     path.with_name("d.db.sha256").unlink()
+
+
+@ROWS.row
+def deleted_meanwhile(row: Row, place: Place) -> None:
+    """One that retention deletes while a search goes on is no fault."""
+    from reading import sources  # pylint: disable=import-outside-toplevel,import-error
+    path = place.put(place.one, "e")
+    place.one.find()
+    listed = sources.of_folder
+
+    def then_deleted(*words: object) -> object:
+        found = listed(*words)
+        path.unlink()
+        return found
+
+    with mock.patch.object(sources, "of_folder", then_deleted):
+        row.ends(place.one.find(*ONLY), 0, SHOWN, "search: e: it isn't there any more; it is passed over")
+    path.with_name("e.db.sha256").unlink()
 
 
 @ROWS.row
