@@ -36,11 +36,13 @@ def names_of(names: bytes) -> tuple[bytes, ...]:
 
 def of_joined(row: Joined) -> Entry | None:
     """An entry of a row, unless a value of it has to be looked at by itself."""
-    sequence, number, realtime, monotonic, count, names, values = row
-    lines = lines_of(values) if values is not None else ""
-    if lines is None or lines.count("\n") != max(count - 1, 0):
+    sequence, number, realtime, monotonic, count, size, names, values = row
+    if names is None or values is None or size is None:
+        return Entry(sequence.hex(), number, realtime, monotonic, 0, b"", "")
+    lines = lines_of(values) if len(names) + len(values) == size + 2 * (count - 1) else None
+    if lines is None or lines.count("\n") != count - 1:
         return None
-    return Entry(sequence.hex(), number, realtime, monotonic, count, names or b"", lines)
+    return Entry(sequence.hex(), number, realtime, monotonic, count, names, lines)
 
 
 def lines_of(values: bytes) -> str | None:

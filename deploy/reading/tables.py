@@ -22,10 +22,12 @@ Key = tuple[int, bytes, int]
 # What its tables know an entry by.
 Id = tuple[Any, ...]
 Pair = tuple[bytes, bytes]
-# An entry in one row: its key and times, how many fields it has, their names with `=` between them, which is in no
-# name, and their values with U+001F between them, which may be in one.
-Joined = tuple[bytes, int, int, int, int, bytes | None, bytes | None]
-JOINED = ("SELECT seqid, seqnum, realtime, monotonic, count(name), CAST(group_concat(name, '=') AS BLOB),"
+# An entry in one row: its key and times, how many fields it has, and of how many bytes; their names with `=` between
+# them, which is in no name, and their values with U+001F between them, which may be in one. SQLite doesn't promise that
+# it joins values with a zero in them: the bytes tell.
+Joined = tuple[bytes, int, int, int, int, int | None, bytes | None, bytes | None]
+JOINED = ("SELECT seqid, seqnum, realtime, monotonic, count(name), sum(length(name) + length(value)),"
+          " CAST(group_concat(name, '=') AS BLOB),"
           " CAST(group_concat(value, char(31)) AS BLOB) FROM {}"
           " WHERE (seqid, seqnum) > (?, ?) GROUP BY seqid, seqnum ORDER BY seqid, seqnum LIMIT ?")
 
