@@ -7,6 +7,7 @@ mod failures;
 mod files;
 mod journals;
 mod memory;
+mod numbers;
 mod readings;
 mod rows;
 mod same;

@@ -1,6 +1,6 @@
 //! Readings that conflict: a keeper takes nothing of them up, and asks for no entry behind the conflict.
 
-use super::journals::{Journals, Maps, Tables, keeps};
+use super::journals::{Journals, Maps, NumberTables, Tables, keeps};
 use super::readings::source;
 use super::same::{same_absorbed, same_bytes};
 use jc_base::{EntrySource, ListSource, OutOfMemory, Step};
@@ -54,4 +54,9 @@ fn conflicts_over_a_map(rt: HostRuntime) -> Result<(), Fail> {
 #[test]
 fn conflicts_over_tables(rt: HostRuntime) -> Result<(), Fail> {
     conflicts(&rt, &mut Tables(rt.alloc()))
+}
+
+#[test]
+fn conflicts_over_tables_by_number(rt: HostRuntime) -> Result<(), Fail> {
+    conflicts(&rt, &mut NumberTables(rt.alloc()))
 }

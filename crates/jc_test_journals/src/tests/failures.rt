@@ -1,7 +1,7 @@
 //! Devices that fail at every place: what is answered and stored then, and that the same delivery made anew is taken up.
 
 use super::answers::{NEVER, ack, collect, collect_all, no, space, stream, unread};
-use super::journals::{Journals, Maps, Tables, keeps};
+use super::journals::{Journals, Maps, NumberTables, Tables, keeps};
 use super::same::{same_answer, same_bytes, same_end, same_number};
 use jc_collect::{Delivery, RunEnd};
 use jc_keeper::Keeper;
@@ -227,4 +227,9 @@ fn devices_fail_over_tables(rt: HostRuntime) -> Result<(), Fail> {
     let mut tables = Tables(rt.alloc());
     devices_fail(&rt, &mut tables)?;
     a_conflict_comes_before_the_next_read(&rt, &mut tables)
+}
+
+#[test]
+fn devices_fail_over_tables_by_number(rt: HostRuntime) -> Result<(), Fail> {
+    devices_fail(&rt, &mut NumberTables(rt.alloc()))
 }

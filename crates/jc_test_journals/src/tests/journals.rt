@@ -4,6 +4,7 @@ use jc_base::{Id128, Key};
 use jc_export::canonical;
 use jc_keeper::{Keeper, MapKeeper};
 use jc_schema_one::SqlKeeper1;
+use jc_schema_three::NumberKeeper;
 use jc_test_samples::SEQNUM_ID;
 use jc_theorem_database::MemoryKeeper;
 use sqlite::{Connection, MemStore};
@@ -51,6 +52,22 @@ impl Journals for OldTables {
     fn empty(&mut self) -> Result<SqlKeeper1<MemStore>, Fail> {
         let conn = Connection::open_in_memory(self.0)?;
         match SqlKeeper1::create(self.0, conn) {
+            Ok(keeper) => Ok(keeper),
+            Err(_) => Err(Fail::new("not created")),
+        }
+    }
+}
+
+/// Journals in the tables of schema 3, each in a database in memory of its own.
+#[derive(Drop)]
+pub(super) struct NumberTables(pub(super) Global);
+
+impl Journals for NumberTables {
+    type Kept = NumberKeeper<MemStore>;
+
+    fn empty(&mut self) -> Result<NumberKeeper<MemStore>, Fail> {
+        let conn = Connection::open_in_memory(self.0)?;
+        match NumberKeeper::create(self.0, conn) {
             Ok(keeper) => Ok(keeper),
             Err(_) => Err(Fail::new("not created")),
         }

@@ -10,7 +10,7 @@
 //! `add_pieces` has the form of `PIECES`.
 
 use super::answers::{NEVER, Upload, collect, collect_all, space, stream};
-use super::journals::{Journals, Maps, OldTables, Tables, stored};
+use super::journals::{Journals, Maps, NumberTables, OldTables, Tables, stored};
 use super::same::same_bytes;
 use jc_collect::RunEnd;
 use jc_keeper::Keeper;
@@ -370,6 +370,11 @@ fn worked_runs_over_tables(rt: HostRuntime) -> Result<(), Fail> {
 #[test]
 fn worked_runs_over_old_tables(rt: HostRuntime) -> Result<(), Fail> {
     worked_runs(&rt, &mut OldTables(rt.alloc()))
+}
+
+#[test]
+fn worked_runs_over_tables_by_number(rt: HostRuntime) -> Result<(), Fail> {
+    worked_runs(&rt, &mut NumberTables(rt.alloc()))
 }
 
 const WRONG: &str = r#"upload head:1:0 ENTRY => ack S 0 1 0 0
