@@ -26,7 +26,7 @@ CALLS = os.path.abspath(os.environ["CALLS"])
 ITSELF = ("Error: Kind(OutOfMemory)\n", 1)
 ASKED = rb"asked \d+ \d+\n"
 # Words whose operand is no file.
-NAMED = ("get", "stored", "export")
+NAMED = ("get", "stored", "stored-numbers", "export", "export-numbers")
 
 
 class Told(NamedTuple):
@@ -72,7 +72,7 @@ def stored(word: str, key: str, journal: Journal) -> Iterator[Told]:
     entry = journal.entries.get((bytes.fromhex(digits), int(number)))
     yield Told(text(b"entry", entry.text()) if entry else b"entry none\n", journal, False)
     yield Told(refused(b"entry"), journal, True)
-    if word == "stored":
+    if word in ("stored", "stored-numbers"):
         yield Told(b"not opened\n|bad 63 0\n", journal, True)
 
 
@@ -105,11 +105,11 @@ def told_by(word: str, operand: Any, journal: Journal) -> Iterable[Iterator[Told
     """What each call of a word may print."""
     if word in ("space", "stream", "run"):
         return [collected(word, operand, journal)]
-    if word == "collect":
+    if word in ("collect", "collect-numbers"):
         return [collected_in_tables(operand, journal)]
-    if word == "export":
+    if word in ("export", "export-numbers"):
         return [made(b"entries", journal.text(), journal)]
-    if word in ("get", "stored"):
+    if word in ("get", "stored", "stored-numbers"):
         return [stored(word, operand, journal)]
     if word in ("read", "entries", "scan", "scan-7", "file", "pages"):
         return [read(word, operand, journal)]
@@ -196,7 +196,6 @@ class OneCall(Case):
 
 
 KEYS = [("get", f"{samples.SEQNUM_ID.hex()}:{number}") for number in (1, 2, 3)]
-STORED = [("stored", key) for _, key in KEYS[:2]]
 
 
 def cases(trial: Trial) -> Iterator[Case]:
@@ -214,10 +213,12 @@ def cases(trial: Trial) -> Iterator[Case]:
                        ("upload", samples.E1 + samples.E2), ("send", samples.FILE),
                        ("resume", f"resume 2 {samples.SEQNUM_ID.hex()} 2\n".encode())):
         yield Case(trial, word, [(word, data), (word, data)])
-    yield Case(trial, "entries in tables", [("collect", row), *STORED, *STORED], spared=1)
-    listed = ("export", "all")
-    yield OneCall(trial, "a conflict in tables",
-                  [("collect", row), ("collect", conflict), listed, ("collect", rest), listed], spared=1)
+    for tables, name in (("", "tables"), ("-numbers", "tables by number")):
+        collect, listed = "collect" + tables, ("export" + tables, "all")
+        stored = [("stored" + tables, key) for _, key in KEYS[:2]]
+        yield Case(trial, f"entries in {name}", [(collect, row), *stored, *stored], spared=1)
+        yield OneCall(trial, f"a conflict in {name}",
+                      [(collect, row), (collect, conflict), listed, (collect, rest), listed], spared=1)
 
 
 def main() -> None:

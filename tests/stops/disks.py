@@ -12,6 +12,7 @@ import re
 import subprocess
 from collections.abc import Callable, Sequence
 from concurrent.futures import Executor, ThreadPoolExecutor
+from functools import partial
 from typing import Any
 
 import samples
@@ -20,6 +21,9 @@ from trial import Trial
 
 CALLS = os.path.abspath(os.environ["CALLS"])
 DISKS = ("log", "db")
+# What the words of a journal in the tables of schema 3 end in.
+NUMBERS = "-numbers"
+NUMBERED = "two uploads into tables by number"
 # What a store that failed says: of an upload, or where it isn't opened or makes no journal.
 FAILED = f"no {samples.SOURCE.hex()} 0 62 0"
 CLOSED = (["not opened"], ["bad 62 0"])
@@ -77,11 +81,12 @@ class Told:
 class Case:
     """Uploads that are collected in one run."""
 
-    def __init__(self, trial: Trial, name: str, uploads: Sequence[bytes]) -> None:
+    def __init__(self, trial: Trial, name: str, uploads: Sequence[bytes], tables: str = "") -> None:
         self.trial = trial
         self.name = name
         self.uploads = uploads
-        self.collect = ("collect", ",".join(trial.put(uploads)))
+        self.collect = ("collect" + tables, ",".join(trial.put(uploads)))
+        self.export = ("export" + tables, "all")
         self.complete = Journal()
         self.usual = self.answers(self.complete)
 
@@ -97,7 +102,7 @@ class Case:
     def stopped(self, kind: str, disk: str, number: int) -> bool:
         """A disk stops; answers whether it did."""
         what = f"{self.name}, {kind} {disk} {number}"
-        told = self.run(what, kind, f"{disk}:{number}", *self.collect, "export", "all", *self.collect, "export", "all")
+        told = self.run(what, kind, f"{disk}:{number}", *self.collect, *self.export, *self.collect, *self.export)
         lines, is_met = told.answers(len(self.uploads)), told.is_harmed()
         if not is_met:
             self.trial.expect(f"{what}: undisturbed", lines, self.usual)
@@ -148,7 +153,7 @@ class Case:
         what = f"{self.name}, rot {disk} {place}" + ", not closed" * (closing is not None)
         left = () if closing is None else ("stop", f"db:{closing}")
         rot = ("rot", f"{disk}:{place}")
-        told = self.run(what, *left, *self.collect, *rot, *self.collect, *rot, "export", "all", "export", "all")
+        told = self.run(what, *left, *self.collect, *rot, *self.collect, *rot, *self.export, *self.export)
         self.trial.expect(f"{what}: answers", told.answers(len(self.uploads)), self.usual)
         if left:
             self.trial.expect(f"{what}: not closed", told.is_harmed(), True)
@@ -170,7 +175,7 @@ class Migration(Case):
     def stopped(self, kind: str, disk: str, number: int) -> bool:
         what = f"{self.name}, {kind} {disk} {number}"
         told = self.run(what, "collect-old", self.collect[1], kind, f"{disk}:{number}", "migrate", "all",
-                        "migrate", "all", *self.collect, "export", "all")
+                        "migrate", "all", *self.collect, *self.export)
         self.trial.expect(f"{what}: answers", told.answers(len(self.uploads)), self.usual)
         line, is_met = told.line(), told.is_harmed()
         if not is_met:
@@ -197,7 +202,8 @@ def upwards(pool: Executor, attempt: Callable[[int], Sequence[Any]], step: int =
 def stops(trial: Trial, pool: Executor) -> int:
     row, rest = samples.stream(samples.E1), samples.stream(samples.E2, samples.E3)
     tried = 0
-    cases = (Case(trial, "two uploads", [row, rest]), Case(trial, "an upload without entries", [samples.head(1)]),
+    cases = (Case(trial, "two uploads", [row, rest]), Case(trial, NUMBERED, [row, rest], NUMBERS),
+             Case(trial, "an upload without entries", [samples.head(1)]),
              Migration(trial, "two uploads that go over", [row, rest]))
     for case in cases:
         for kind in ("stop", "lose"):
@@ -210,16 +216,22 @@ def stops(trial: Trial, pool: Executor) -> int:
 
 
 def rot(trial: Trial, pool: Executor) -> int:
-    case = Case(trial, "two uploads", [samples.stream(samples.E1), samples.stream(samples.E2, samples.E3)])
+    uploads = [samples.stream(samples.E1), samples.stream(samples.E2, samples.E3)]
     tried = 0
-    for closing, left in ((None, "closed"), (case.closing(), "not closed")):
-        found = [one for disk in DISKS
-                 for one in upwards(pool, lambda place, disk=disk: case.rotten(disk, place, closing), ROT_STRIDE)]
-        count = sum(noticed for _, noticed in found)
-        print(f"disks: {left}: {len(found)} bytes that can't be read, {count} of them noticed")
-        trial.expect(f"{left}: some bytes are noticed, and some are of no use to anybody", 0 < count < len(found), True)
-        tried += len(found)
+    for case in (Case(trial, "two uploads", uploads), Case(trial, NUMBERED, uploads, NUMBERS)):
+        for closing, left in ((None, "closed"), (case.closing(), "not closed")):
+            found = [one for disk in DISKS
+                     for one in upwards(pool, partial(rotten_at, case, disk, closing), ROT_STRIDE)]
+            count = sum(noticed for _, noticed in found)
+            print(f"disks: {case.name}, {left}: {len(found)} bytes that can't be read, {count} of them noticed")
+            trial.expect(f"{case.name}, {left}: some bytes are noticed, and some are of no use to anybody",
+                         0 < count < len(found), True)
+            tried += len(found)
     return tried
+
+
+def rotten_at(case: Case, disk: str, closing: int | None, place: int) -> tuple[bool, bool]:
+    return case.rotten(disk, place, closing)
 
 
 def main() -> None:

@@ -27,9 +27,10 @@
 //! | `rot DISK:N` | during the next word the byte at N can't be read; `harmed` is said if the disk has it |
 //! | `collect PATH,PATH..` | collects the uploads by one run into the journal, which is made if there is none |
 //! | `collect-old PATH,PATH..` | the same, in the tables of schema 1 |
+//! | `collect-numbers PATH,PATH..` | the same, in the tables of schema 3 |
 //! | `migrate all` | the journal goes over from the tables of schema 1 |
-//! | `export all` | the journal's entries |
-//! | `stored ID:NUMBER` | the entry under the key |
+//! | `export all` | the journal's entries; so does `export-numbers`, of the tables of schema 3 |
+//! | `stored ID:NUMBER` | the entry under the key; so does `stored-numbers`, of the tables of schema 3 |
 //!
 //! `schedules PATH,PATH,PATH..` takes schedules of events, each in worlds of its own; `schedules.rt` says what the files
 //! are.
@@ -87,9 +88,20 @@ impl Calls {
                 self.disks
                     .perform(&Task::CollectOld(&uploads), &mut self.output)
             }
+            "collect-numbers" => {
+                let uploads = read_files(rt, operand)?;
+                self.disks
+                    .perform(&Task::CollectNumbers(&uploads), &mut self.output)
+            }
             "migrate" => self.disks.perform(&Task::Migrate, &mut self.output),
             "export" => self.disks.perform(&Task::Export, &mut self.output),
+            "export-numbers" => self
+                .disks
+                .perform(&Task::ExportNumbers, &mut self.output),
             "stored" => self.disks.perform(&Task::Get(operand), &mut self.output),
+            "stored-numbers" => self
+                .disks
+                .perform(&Task::GetNumbers(operand), &mut self.output),
             "schedules" => {
                 let files = read_files(rt, operand)?;
                 schedules::take_all(self.alloc, &files, &mut self.output)

@@ -5,6 +5,7 @@ use crate::collecting;
 use crate::output::{write_code, write_line, write_text};
 use jc_base::{Limits, VecSink};
 use jc_schema_one::{MigrateStop, SchemaOne};
+use jc_schema_three::SchemaThree;
 use jc_schema_two::SchemaTwo;
 use jc_store::{Listed, TableKeeper};
 use sqlite::{Alter, Connection};
@@ -18,12 +19,18 @@ pub enum Task<'a> {
     Collect(&'a [Vec<u8>]),
     /// Uploads are collected by one run into a journal in the tables of schema 1.
     CollectOld(&'a [Vec<u8>]),
+    /// Uploads are collected by one run into a journal in the tables of schema 3.
+    CollectNumbers(&'a [Vec<u8>]),
     /// It goes over from the tables of schema 1.
     Migrate,
     /// All entries are listed.
     Export,
+    /// All entries of a journal in the tables of schema 3 are listed.
+    ExportNumbers,
     /// The entry under a key is listed.
     Get(&'a str),
+    /// The entry under a key is listed, of a journal in the tables of schema 3.
+    GetNumbers(&'a str),
 }
 
 impl Task<'_> {
@@ -37,9 +44,14 @@ impl Task<'_> {
         match self {
             Task::Collect(uploads) => collect::<S, SchemaTwo>(alloc, conn, uploads, output),
             Task::CollectOld(uploads) => collect::<S, SchemaOne>(alloc, conn, uploads, output),
+            Task::CollectNumbers(uploads) => {
+                collect::<S, SchemaThree>(alloc, conn, uploads, output)
+            }
             Task::Migrate => migrate(alloc, conn, output),
-            Task::Export => export(alloc, conn, output),
-            Task::Get(named) => get(alloc, conn, named, output),
+            Task::Export => export::<S, SchemaTwo>(alloc, conn, output),
+            Task::ExportNumbers => export::<S, SchemaThree>(alloc, conn, output),
+            Task::Get(named) => get::<S, SchemaTwo>(alloc, conn, named, output),
+            Task::GetNumbers(named) => get::<S, SchemaThree>(alloc, conn, named, output),
         }
     }
 }
@@ -110,12 +122,12 @@ fn migrate<S: Alter + Drop>(
     }
 }
 
-fn export<S: Alter + Drop>(
+fn export<S: Alter + Drop, L: Listed + Drop>(
     alloc: Global,
     conn: Connection<S>,
     output: &mut Vec<u8>,
 ) -> io::Result<Connection<S>> {
-    let mut keeper = match journal::<S, SchemaTwo>(alloc, conn, false, output)? {
+    let mut keeper = match journal::<S, L>(alloc, conn, false, output)? {
         Ok(keeper) => keeper,
         Err(conn) => return Ok(conn),
     };
@@ -127,13 +139,13 @@ fn export<S: Alter + Drop>(
     Ok(keeper.into_connection())
 }
 
-fn get<S: Alter + Drop>(
+fn get<S: Alter + Drop, L: Listed + Drop>(
     alloc: Global,
     conn: Connection<S>,
     named: &str,
     output: &mut Vec<u8>,
 ) -> io::Result<Connection<S>> {
-    match journal::<S, SchemaTwo>(alloc, conn, false, output)? {
+    match journal::<S, L>(alloc, conn, false, output)? {
         Ok(mut keeper) => {
             collecting::get(alloc, &mut keeper, named, output)?;
             Ok(keeper.into_connection())
