@@ -3,6 +3,7 @@ pub mod Printing
 pub mod Fronts
 pub mod Inspections
 pub mod Results
+pub mod Found
 pub mod OverFiles
 pub mod Causes
 pub mod Open

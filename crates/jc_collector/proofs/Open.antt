@@ -23,14 +23,16 @@ use Rattle.jc_collector_answers.specs.Answered.{KeepsFirst, KeepsPrinted}
 use Rattle.jc_collector_answers.specs.Tied.{NamedWith, PrintsFront, PrintsWith}
 use Rattle.jc_command_shared.specs.declared.failure.Failure.{Failure}
 use Rattle.jc_command_shared.specs.declared.status.Status.{Status}
-use Rattle.jc_database.specs.Files.{BeginsWith, HoldsJournal, Keeps, KeepsAlways, LeadsTo}
-use Rattle.jc_schema_two.specs.Tables.{two}
+use Rattle.jc_command_args.specs.declared.request.Tables.{Tables}
+use Rattle.jc_database.specs.Files.{HoldsJournal, Keeps, KeepsAlways}
 use Rattle.jc_store.specs.Crash.{LeavesJournals, LeavesNoMore, MayLeave}
-use Rattle.jc_store.specs.Meaning.{AreMade, IsSound, KeepsJournal, journal_of}
+use Rattle.jc_store.specs.Meaning.{AreMade, IsSound, KeepsJournal, Meaning, journal_of}
 use Rattle.jc_upload.specs.Answer.{answer_text}
 use Rattle.jc_upload.specs.declared.answer.Answer.{Answer}
-use Rattle.jc_collector.specs.Open.{HoldsOpen, Recovers, WhileClean}
+use Rattle.jc_collector.specs.Open.{CleanIn, HasKind, HoldsIn, HoldsOpen, RecoversIn}
+use Rattle.jc_collector.specs.Kinds.{BeginsIn, LeadsIn, OpenedFiles, conn_of, journal_in, kind_of, meaning_of}
 use Rattle.jc_collector.specs.OverFiles.{AnyLeft, LeavesEach, StoresNamed, StoresPrinted}
+use Rattle.jc_collector.proofs.Found.{leads_kind}
 use Rattle.jc_collector.proofs.Results.{at_ok}
 
 -- ---- what is printed
@@ -123,19 +125,19 @@ all_first uploads before old new found p =
 
 -- ---- over a connection
 
-module _ {D : Type 0} {g : disk.Ghosts D} (first then last : Held (FileStore D g)) (before : Journal) (sound : IsSound over_files first)
-    (has : Keeps two first before) (durable : (found : Journal) → MayLeave two over_files first found → found ≡ journal_of two over_files first)
-    (made : AreMade two over_files then)
-    (back : IsSound over_files last → IsSound over_files then) (keeps : KeepsJournal two over_files then last)
+module _ {D : Type 0} {g : disk.Ghosts D} (m : Meaning) (first then last : Held (FileStore D g)) (before : Journal) (sound : IsSound over_files first)
+    (has : Keeps m first before) (durable : (found : Journal) → MayLeave m over_files first found → found ≡ journal_of m over_files first)
+    (made : AreMade m over_files then)
+    (back : IsSound over_files last → IsSound over_files then) (keeps : KeepsJournal m over_files then last)
     (less : LeavesNoMore (file_state then) (file_state last)) (clean : HasCleanDisk (file_state last))
   where
-    pub less_left : (found : Journal) → MayLeave two over_files last found → MayLeave two over_files then found
+    pub less_left : (found : Journal) → MayLeave m over_files last found → MayLeave m over_files then found
     less_left found may = record { trees = may.trees; left = less clean may.trees may.left; is = may.is }
 
     pub holds_open : (answers : List Answer)
-        → HoldsEach (held (journal_of two over_files first) (IsSound over_files first) (MayLeave two over_files first))
-        (held (journal_of two over_files then) (IsSound over_files then) (MayLeave two over_files then)) answers
-        → HoldsOpen last before answers
+        → HoldsEach (held (journal_of m over_files first) (IsSound over_files first) (MayLeave m over_files first))
+        (held (journal_of m over_files then) (IsSound over_files then) (MayLeave m over_files then)) answers
+        → HoldsOpen m last before answers
     holds_open answers h = record {
       stored = λ late. let early = back late in
           subst₂ (λ (b a : Journal). StoresEach b answers a) has.is (sym (keeps.same early made late)) (h.stored early);
@@ -151,46 +153,51 @@ module _ {D : Type 0} {g : disk.Ghosts D} (first then last : Held (FileStore D g
 
 -- ---- once it is closed
 
-module _ {D : Type 0} {g : disk.Ghosts D} (image : Image) (last : Held (FileStore D g)) (files : Files D)
-    (sound : AreClean g files.log files.db → IsSound over_files last)
-    (always : AreClean g files.log files.db → AreMade two over_files last → KeepsAlways two g files (journal_of two over_files last))
-    (recovers : WhileClean image last (λ _. Recovers last))
+module _ {D : Type 0} {g : disk.Ghosts D} (made : Tables) (image : Image) (opened : OpenedFiles D g) (files : Files D)
+    (sound : AreClean g files.log files.db → IsSound over_files (conn_of opened))
+    (always : AreClean g files.log files.db → AreMade (meaning_of (kind_of opened)) over_files (conn_of opened)
+    → KeepsAlways (meaning_of (kind_of opened)) g files (journal_in opened))
+    (kind : HasKind opened made image)
+    (recovers : CleanIn opened made image (λ _. RecoversIn opened))
     (status : Status) (old new : Option (List ℕ)) (done : Result Status Failure) (is : done ≡ Ok status)
   where
     pub leads_with : (count : ℕ)
-        → WhileClean image last (λ before. IfOk done (λ status. PrintsWith (HoldsOpen last before) count status old new))
-        → LeadsTo two image g files (StoresPrinted count status old new)
-    leads_with count each clean before begin =
+        → CleanIn opened made image (λ before. IfOk done (λ status. PrintsWith (HoldsIn opened before) count status old new))
+        → LeadsIn made image g files (StoresPrinted count status old new)
+    leads_with count each = leads_kind made image opened kind files sound (StoresPrinted count status old new)
+        (λ clean before begin.
         let late = sound clean in
         record {
-          found = journal_of two over_files last;
-          is = with_other (HoldsOpen last before) (λ answers. StoresEach before answers (journal_of two over_files last))
+          found = journal_in opened;
+          is = with_other (HoldsIn opened before) (λ answers. StoresEach before answers (journal_in opened))
               (λ answers h. h.stored late) count status old new (at_ok done status _ is (each late.clean before begin));
           keeps = always clean (recovers late.clean before begin).made;
-        }
+        })
 
     pub leads_named : (text : Option (List ℕ))
-        → WhileClean image last (λ before. IfOk done (λ status. NamedWith (HoldsOpen last before) text status old new))
-        → LeadsTo two image g files (StoresNamed text status old new)
-    leads_named text each clean before begin =
+        → CleanIn opened made image (λ before. IfOk done (λ status. NamedWith (HoldsIn opened before) text status old new))
+        → LeadsIn made image g files (StoresNamed text status old new)
+    leads_named text each = leads_kind made image opened kind files sound (StoresNamed text status old new)
+        (λ clean before begin.
         let late = sound clean in
         record {
-          found = journal_of two over_files last;
-          is = named_other (HoldsOpen last before) (λ answers. StoresEach before answers (journal_of two over_files last))
+          found = journal_in opened;
+          is = named_other (HoldsIn opened before) (λ answers. StoresEach before answers (journal_in opened))
               (λ answers h. h.stored late) text status old new (at_ok done status _ is (each late.clean before begin));
           keeps = always clean (recovers late.clean before begin).made;
-        }
+        })
 
 -- ---- once it is stopped
 
-module _ {D : Type 0} {g : disk.Ghosts D} (image : Image) (last : Held (FileStore D g)) (stopped : FileStore D g)
-    (clean : IsClean (view stopped) → HasCleanDisk (file_state last))
-    (left : IsClean (view stopped) → LeavesJournals two over_files last → (left : Image) → (state stopped).may_leave left
-    → ∥ ((found : Journal) × MayLeave two over_files last found × HoldsJournal two left found) ∥₁)
-    (recovers : WhileClean image last (λ _. Recovers last))
+module _ {D : Type 0} {g : disk.Ghosts D} (made : Tables) (image : Image) (opened : OpenedFiles D g) (stopped : FileStore D g)
+    (clean : IsClean (view stopped) → HasCleanDisk (file_state (conn_of opened)))
+    (left : IsClean (view stopped) → LeavesJournals (meaning_of (kind_of opened)) over_files (conn_of opened)
+    → (left : Image) → (state stopped).may_leave left
+    → ∥ ((found : Journal) × MayLeave (meaning_of (kind_of opened)) over_files (conn_of opened) found × HoldsJournal (meaning_of (kind_of opened)) left found) ∥₁)
+    (recovers : CleanIn opened made image (λ _. RecoversIn opened))
   where
-    pub left_each : IsClean (view stopped) → (before : Journal) → BeginsWith two image before → (answers : List Answer)
-        → HoldsOpen last before answers → AnyLeft stopped (LeavesEach before answers)
+    pub left_each : IsClean (view stopped) → (before : Journal) → BeginsIn made (kind_of opened) image before → (answers : List Answer)
+        → HoldsIn opened before answers → AnyLeft stopped (LeavesEach (kind_of opened) before answers)
     left_each is before begin answers h image may =
         ∥∥₁_map (left is (recovers (clean is) before begin).journals image may)
         (λ it. record { found = it.0; keeps = h.found it.0 it.1; holds = it.2 })

@@ -2,52 +2,37 @@
 use Rattle.std.proofs.Common.{◌≡◌, ℕ, List, [], ◌∷◌, ◌++◌, Option, Some, None, inl, inr, length, refl, sym, ap, subst, subst₂, ◌∙◌, arith}
 use Rattle.std.proofs.Math.Logic.{∥∥₁_map}
 use Rattle.std.specs.Prelude.{MatchOption, codes}
-use Rattle.std.specs.FinMap.{empty}
 use Rattle.std.specs.Io.KnownBytes.{Appends, prepend_known}
 use Rattle.sqlite_disk.specs.declared.Disk as disk
 use Rattle.sqlite.specs.declared.Files.{Files}
 use Rattle.sqlite.specs.declared.FileStore.{FileStore}
 use Rattle.sqlite.specs.Recovery.{Image}
-use Rattle.sqlite.specs.Schema.{Schema}
 use Rattle.sqlite.specs.State.{HasCleanDisk}
 use Rattle.sqlite.specs.WalReads.{AreClean}
 use Rattle.sqlite.specs.Held.{Held}
 use Rattle.sqlite.specs.Files.{file_state, over_files}
 use Rattle.jc_base.specs.Journal.{Journal}
 use Rattle.jc_store.specs.Meaning.{Meaning, AreMade, IsSound, KeepsJournal, MovesJournal, journal_of}
-use Rattle.jc_store.specs.Schema.{no_schema}
 use Rattle.jc_store.specs.Statements.{IsBlank}
-use Rattle.jc_schema_two.specs.Schema.{Shape, fresh, migrated, schema_two}
-use Rattle.jc_schema_two.specs.Tables.{two}
-use Rattle.jc_database.specs.Files.{BeginsWith, IsFound, Keeps, KeepsAlways, LeadsTo}
+use Rattle.jc_command_args.specs.declared.request.Tables.{Tables}
+use Rattle.jc_database.specs.Files.{BeginsWith, HoldsJournal, IsFound, Keeps, KeepsAlways}
 use Rattle.jc_collector_answers.specs.Answered.{KeepsPrinted}
 use Rattle.jc_command_shared.specs.declared.status.Status.{Status}
 use Rattle.jc_collector.specs.declared.health.Health.{Health}
-use Rattle.jc_collector.specs.Open.{StandsOver}
+use Rattle.jc_collector.specs.Open.{Begun, EndsOver, HasKind, IsFoundIn, StandsIn, StandsOver}
+use Rattle.jc_collector.specs.Kinds.{LeadsIn, OpenedFiles, conn_of, journal_in, kind_of, meaning_of}
 use Rattle.jc_collector.specs.Checked.{Counts, PrintsHealth, count_line, health_text}
 use Rattle.jc_collect.specs.Each.{KeepsEach}
 use Rattle.jc_upload.specs.declared.answer.Answer.{Answer}
 use Rattle.jc_collector.specs.OverFiles.{LeavesEach, LeavesPrinted, Prints, StoresListed, StoresNamed, StoresPrinted}
-use Rattle.jc_database.specs.FilesLaws.{database_found, keeps_found}
+use Rattle.jc_database.specs.FilesLaws.{keeps_found}
+use Rattle.jc_collector.proofs.Found.{leads_kind}
 
 -- ---- how a run begins
-
-some_tables : (shape : Shape) → schema_two shape ≡ no_schema → ⊥
-some_tables fresh none = let few = ap (λ (s : Schema). length s.tables) none in omega (arith, few)
-some_tables migrated none = let few = ap (λ (s : Schema). length s.tables) none in omega (arith, few)
 
 module _ {D : Type 0} {g : disk.Ghosts D} (image : Image) (opened kept : Held (FileStore D g))
     (found : HasCleanDisk (file_state opened) → IsFound image opened) (back : IsSound over_files kept → IsSound over_files opened)
   where
-    -- tables that were made anew
-    pub made_anew : IsBlank (file_state opened).now → AreMade two over_files kept → (IsSound over_files kept → journal_of two over_files kept ≡ empty)
-        → IsSound over_files kept → (before : Journal) → BeginsWith two image before → Keeps two kept before
-    made_anew blank made none sound before (inl holds) =
-        let is = database_found two image opened (found (back sound).clean) before holds in
-        let spells = holds.is_journal.spells in
-        absurd (some_tables spells.shape (sym spells.schema ∙ (ap (λ db. db.schema) (sym is) ∙ blank)))
-    made_anew blank made none sound before (inr nothing) = record { made = made; is = none sound ∙ sym nothing.1 }
-
     -- tables that were there
     pub adopted : (m : Meaning) → (¬ IsBlank (file_state opened).now) → KeepsJournal m over_files opened kept
         → IsSound over_files kept → (before : Journal) → BeginsWith m image before → Keeps m kept before
@@ -59,34 +44,37 @@ module _ {D : Type 0} {g : disk.Ghosts D} (image : Image) (opened kept : Held (F
 
 -- ---- how it ends
 
-module _ {D : Type 0} {g : disk.Ghosts D} (image : Image) (last : Held (FileStore D g)) (files : Files D)
-    (sound : AreClean g files.log files.db → IsSound over_files last)
-    (always : AreClean g files.log files.db → AreMade two over_files last → KeepsAlways two g files (journal_of two over_files last))
+module _ {D : Type 0} {g : disk.Ghosts D} (made : Tables) (image : Image) (opened : OpenedFiles D g) (files : Files D)
+    (sound : AreClean g files.log files.db → IsSound over_files (conn_of opened))
+    (always : AreClean g files.log files.db → AreMade (meaning_of (kind_of opened)) over_files (conn_of opened)
+    → KeepsAlways (meaning_of (kind_of opened)) g files (journal_in opened))
+    (kind : HasKind opened made image)
   where
-    pub leads_on : (Step : Journal → Journal → Type 0) → StandsOver image last Step → LeadsTo two image g files Step
-    leads_on Step stands clean before begin =
-        let it = stands (sound clean) before begin in record { found = journal_of two over_files last; is = it.1; keeps = always clean it.0 }
+    pub leads_on : (Step : Journal → Journal → Type 0) → StandsIn opened made image Step → LeadsIn made image g files Step
+    leads_on Step stands = leads_kind made image opened kind files sound Step
+        (λ clean before begin. let it = stands (sound clean) before begin in record { found = journal_in opened; is = it.1; keeps = always clean it.0 })
 
 -- ---- how it goes on
 
-module _ {D : Type 0} {g : disk.Ghosts D} (image : Image) (first then last : Held (FileStore D g))
-    (begins : IsSound over_files first → (before : Journal) → BeginsWith two image before → Keeps two first before)
-    (back : IsSound over_files then → IsSound over_files first) (made : AreMade two over_files first → AreMade two over_files then)
+module _ {D : Type 0} {g : disk.Ghosts D} (m : Meaning) (first then last : Held (FileStore D g))
+    (back : IsSound over_files then → IsSound over_files first) (made : AreMade m over_files first → AreMade m over_files then)
     (Step : Journal → Journal → Type 0)
-    (step : IsSound over_files then → AreMade two over_files first → Step (journal_of two over_files first) (journal_of two over_files then))
-    (back' : IsSound over_files last → IsSound over_files then) (keeps : KeepsJournal two over_files then last)
+    (step : IsSound over_files then → AreMade m over_files first → Step (journal_of m over_files first) (journal_of m over_files then))
+    (back' : IsSound over_files last → IsSound over_files then) (keeps : KeepsJournal m over_files then last)
   where
-    pub stands_over : StandsOver image last Step
+    pub stands_over : StandsOver m last (Begun m first) Step
     stands_over sound_last before begin =
         let sound_then = back' sound_last in
-        let it = begins (back sound_then) before begin in
+        let it = (begin (back sound_then).clean).1 in
         let made_then = made it.made in
         (keeps.made made_then, subst₂ Step it.is (sym (keeps.same sound_then made_then sound_last)) (step sound_then it.made))
 
-    pub leads_to : (files : Files D) → (AreClean g files.log files.db → IsSound over_files last)
-        → (AreClean g files.log files.db → AreMade two over_files last → KeepsAlways two g files (journal_of two over_files last))
-        → LeadsTo two image g files Step
-    leads_to files sound always = leads_on image last files sound always Step stands_over
+    pub ends_over : (files : Files D) → (AreClean g files.log files.db → IsSound over_files last)
+        → (AreClean g files.log files.db → AreMade m over_files last → KeepsAlways m g files (journal_of m over_files last))
+        → EndsOver m first files Step
+    ends_over files sound always clean before begin =
+        let it = stands_over (sound clean) before begin in
+        record { found = journal_of m over_files last; is = it.1; keeps = always clean it.0 }
 
 -- tables that became those of another meaning
 pub went_over : (m n : Meaning) → {D : Type 0} {g : disk.Ghosts D} (first moved : Held (FileStore D g))
@@ -110,23 +98,28 @@ match_each (Some f) Without Lacking With Given is none some = some f is
 
 -- ---- the next run
 
-pub found_again : {D : Type 0} {g : disk.Ghosts D} (uploads : List (List ℕ)) (before : Journal) (old new : Option (List ℕ)) (image : Image) (opened : Held (FileStore D g))
-    → ((found : Journal) → BeginsWith two image found → Keeps two opened found) → ∥ LeavesPrinted uploads before old new image ∥₁
-    → ∥ KeepsPrinted uploads before old new (journal_of two over_files opened) ∥₁
-found_again uploads before old new image opened begins left = ∥∥₁_map left
-    (λ (it : LeavesPrinted uploads before old new image). subst (λ found. KeepsPrinted uploads before old new found) (sym (begins it.found (inl it.holds)).is) it.keeps)
+module _ {D : Type 0} {g : disk.Ghosts D} (made : Tables) (image : Image) (opened : OpenedFiles D g)
+    (found : IsFoundIn made (kind_of opened) image (conn_of opened)) (clean : HasCleanDisk (file_state (conn_of opened)))
+  where
+    found_is : (kind : Tables) (journal : Journal) → HoldsJournal (meaning_of kind) image journal → journal_in opened ≡ journal
+    found_is kind journal holds = ((found clean).1 kind journal (inl holds)).1.is
 
-pub found_each : {D : Type 0} {g : disk.Ghosts D} (before : Journal) (answers : List Answer) (image : Image) (opened : Held (FileStore D g))
-    → ((found : Journal) → BeginsWith two image found → Keeps two opened found) → LeavesEach before answers image
-    → ∥ KeepsEach before answers (journal_of two over_files opened) ∥₁
-found_each before answers image opened begins left =
-    ∣ subst (λ (found : Journal). KeepsEach before answers found) (sym (begins left.found (inl left.holds)).is) left.keeps ∣₁
+    pub found_again : (kind : Tables) (uploads : List (List ℕ)) (before : Journal) (old new : Option (List ℕ))
+        → ∥ LeavesPrinted kind uploads before old new image ∥₁ → ∥ KeepsPrinted uploads before old new (journal_in opened) ∥₁
+    found_again kind uploads before old new left = ∥∥₁_map left
+        (λ (it : LeavesPrinted kind uploads before old new image).
+        subst (λ journal. KeepsPrinted uploads before old new journal) (sym (found_is kind it.found it.holds)) it.keeps)
+
+    pub found_each : (kind : Tables) (before : Journal) (answers : List Answer) → LeavesEach kind before answers image
+        → ∥ KeepsEach before answers (journal_in opened) ∥₁
+    found_each kind before answers left =
+        ∣ subst (λ (journal : Journal). KeepsEach before answers journal) (sym (found_is kind left.found left.holds)) left.keeps ∣₁
 
 -- a step that says less
-pub leads_weaker : {D : Type 0} {g : disk.Ghosts D} (image : Image) (files : Files D) (Step Other : Journal → Journal → Type 0)
-    → ((before after : Journal) → Step before after → Other before after) → LeadsTo two image g files Step → LeadsTo two image g files Other
-leads_weaker image files Step Other each leads clean before begin =
-    let it = leads clean before begin in record { found = it.found; is = each before it.found it.is; keeps = it.keeps }
+pub leads_weaker : {D : Type 0} {g : disk.Ghosts D} (made : Tables) (image : Image) (files : Files D) (Step Other : Journal → Journal → Type 0)
+    → ((before after : Journal) → Step before after → Other before after) → LeadsIn made image g files Step → LeadsIn made image g files Other
+leads_weaker made image files Step Other each leads clean kind before begin =
+    let it = leads clean kind before begin in record { found = it.found; is = each before it.found it.is; keeps = it.keeps }
 
 -- what is said of the lines of a text, by the name of the list that has it
 pub listed_named : (list : List ℕ) (given text : Option (List ℕ)) (status : Status) (old new : Option (List ℕ)) → (list ≡ codes "-" → text ≡ given)

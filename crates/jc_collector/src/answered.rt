@@ -1,24 +1,28 @@
 //! Uploads answered over a database that is opened or made: all that `collect` does before the database is closed.
 
-ghost use Rattle.std.specs.Prelude.{◌≡◌, ℕ, List, Err, Some, IfOk, IfErr, OnOk, length, map};
+ghost use Rattle.std.specs.Prelude.{◌≡◌, ◌≤◌, ℕ, List, Err, Some, IfOk, IfErr, OnOk, length, map};
 ghost use Rattle.std.specs.Io.KnownBytes.{Keeps};
+ghost use Rattle.sqlite.specs.View.{doubt};
 ghost use Rattle.sqlite.specs.WalFiles.{image_at};
+ghost use Rattle.sqlite.specs.Files.{file_state};
 ghost use Rattle.jc_collect.specs.Delivered.{of_delivery};
 ghost use Rattle.jc_collector_answers.specs.Answered.{KeepsFirst, KeepsPrinted, PrintsAnswers};
 ghost use Rattle.jc_collector_answers.specs.Named.{PrintsNamed};
 ghost use Rattle.jc_collector_answers.specs.Tied.{NamedWith, PrintsFront, PrintsWith};
 ghost use Rattle.jc_collector.specs.Database.{DatabaseFailsBy, IsOutFailure, MayEndNames};
-ghost use Rattle.jc_collector.specs.Open.{HoldsOpen, LeavesOpen, Recovers, StandsOver, WhileClean};
+ghost use Rattle.jc_collector.specs.Open.{Begun, CleanIn, HasKind, HoldsIn, HoldsOpen, LeavesIn, LeavesOpen, Recovers, RecoversIn, StandsIn, StandsOver, WhileClean};
 ghost use Rattle.jc_collector.specs.OverFiles.{CollectsAll, KeepsStored};
 
-use crate::database::{FileKeeper, open_or_make};
+use crate::database::{FileKeeper, Opened, OpenedFiles, open_or_make};
 use crate::then_export::export_after;
 use jc_base::ByteStream;
 use jc_collect::Delivery;
 use jc_collector_answers::{answer_all, answer_names};
+use jc_command_args::Tables;
 use jc_command_shared::{Failure, Status};
 use jc_database::sound_leaves_journals;
 use jc_file::ByteSpace;
+use jc_store::Listed;
 use sqlite::Start;
 use std::io::{BufRead, Write};
 
@@ -35,43 +39,96 @@ pub fn answer_deliveries<'a, S: Start, R: ByteStream, B: ByteSpace, O: Write>(
     rt: &HostRuntime,
     start: S,
     database: &'a str,
+    tables: Tables,
     then_export: Option<&'a str>,
     deliveries: &mut [Delivery<R, B>],
     output: &mut O,
-) -> Result<Answered<'a, FileKeeper<S>>, Failure<'a>>
-    ensures kept { IfOk result (λ run. StandsOver (image_at S.Start) run.keeper.conn KeepsStored) }
+) -> Result<Answered<'a, OpenedFiles<S>>, Failure<'a>>
+    ensures kind { IfOk result (λ run. HasKind run.keeper tables (image_at S.Start)) }
+    ensures kept { IfOk result (λ run. StandsIn run.keeper tables (image_at S.Start) KeepsStored) }
     ensures collected { (uploads : List (List ℕ)) → map (of_delivery R.remaining B.bytes) deliveries.old ≡ map (λ u. Some u) uploads
-        → IfOk result (λ run. OnOk run.done (StandsOver (image_at S.Start) run.keeper.conn
+        → IfOk result (λ run. OnOk run.done (StandsIn run.keeper tables (image_at S.Start)
         (CollectsAll uploads (O.contents output.old) (O.contents output.new)))) }
     // What the printed lines acknowledge is stored, and found after a crash, whether the bytes are known or not.
-    ensures each { IfOk result (λ run. WhileClean (image_at S.Start) run.keeper.conn
-        (λ before. IfOk run.done (λ status. PrintsWith (HoldsOpen run.keeper.conn before) (length deliveries.old) status
+    ensures each { IfOk result (λ run. CleanIn run.keeper tables (image_at S.Start)
+        (λ before. IfOk run.done (λ status. PrintsWith (HoldsIn run.keeper before) (length deliveries.old) status
         (O.contents output.old) (O.contents output.new)))) }
     // ... those that were printed before a failure too.
-    ensures each_failed { IfOk result (λ run. WhileClean (image_at S.Start) run.keeper.conn
-        (λ before. IfErr run.done (λ _. PrintsFront (HoldsOpen run.keeper.conn before)
+    ensures each_failed { IfOk result (λ run. CleanIn run.keeper tables (image_at S.Start)
+        (λ before. IfErr run.done (λ _. PrintsFront (HoldsIn run.keeper before)
         (O.contents output.old) (O.contents output.new)))) }
     // What a crash leaves of uploads whose bytes are known.
     ensures crash { (uploads : List (List ℕ)) → map (of_delivery R.remaining B.bytes) deliveries.old ≡ map (λ u. Some u) uploads
-        → IfOk result (λ run. WhileClean (image_at S.Start) run.keeper.conn (LeavesOpen run.keeper.conn
+        → IfOk result (λ run. CleanIn run.keeper tables (image_at S.Start) (LeavesIn run.keeper
         (λ before found. OnOk run.done (KeepsPrinted uploads before (O.contents output.old) (O.contents output.new) found)))) }
     ensures crash_unprinted { (uploads : List (List ℕ)) → map (of_delivery R.remaining B.bytes) deliveries.old ≡ map (λ u. Some u) uploads
-        → IfOk result (λ run. WhileClean (image_at S.Start) run.keeper.conn (LeavesOpen run.keeper.conn
+        → IfOk result (λ run. CleanIn run.keeper tables (image_at S.Start) (LeavesIn run.keeper
         (λ before found. run.done ≡ Err Failure.WriteFailed
         → KeepsFirst uploads before (O.contents output.old) (O.contents output.new) found))) }
-    ensures recovers { IfOk result (λ run. WhileClean (image_at S.Start) run.keeper.conn (λ _. Recovers run.keeper.conn)) }
+    ensures recovers { IfOk result (λ run. CleanIn run.keeper tables (image_at S.Start) (λ _. RecoversIn run.keeper)) }
     ensures printed { IfOk result (λ run. IfOk run.done (λ status.
         PrintsAnswers (length deliveries.old) status (O.contents output.old) (O.contents output.new))) }
     ensures stopped { IfOk result (λ run. IfErr run.done IsOutFailure) }
     ensures failed { IfErr result (DatabaseFailsBy database.now) }
     ensures untouched { IfErr result (λ _. Keeps (O.contents output.old) (O.contents output.new)) }
 {
-    let mut keeper = open_or_make(rt, database, start)?;
+    match open_or_make(rt, database, start, tables)? {
+        Opened::ByKey(mut keeper) => {
+            let done = answer_over(rt, &mut keeper, then_export, deliveries, output);
+            Ok(Answered {
+                done,
+                keeper: Opened::ByKey(keeper),
+            })
+        }
+        Opened::ByNumber(mut keeper) => {
+            let done = answer_over(rt, &mut keeper, then_export, deliveries, output);
+            Ok(Answered {
+                done,
+                keeper: Opened::ByNumber(keeper),
+            })
+        }
+    }
+}
+
+/// Takes deliveries up into the journal of a keeper, and prints an answer for each. Then the journal goes to a file, if one
+/// is named.
+fn answer_over<'a, S: Start, L: Listed, R: ByteStream, B: ByteSpace, O: Write>(
+    rt: &HostRuntime,
+    keeper: &mut FileKeeper<S, L>,
+    then_export: Option<&'a str>,
+    deliveries: &mut [Delivery<R, B>],
+    output: &mut O,
+) -> Result<Status, Failure<'a>>
+    ensures clean { doubt (file_state keeper.old.conn).is_clean ≤ doubt (file_state keeper.new.conn).is_clean }
+    ensures kept { StandsOver L.meaning keeper.new.conn (Begun L.meaning keeper.old.conn) KeepsStored }
+    ensures collected { (uploads : List (List ℕ)) → map (of_delivery R.remaining B.bytes) deliveries.old ≡ map (λ u. Some u) uploads
+        → OnOk result (StandsOver L.meaning keeper.new.conn (Begun L.meaning keeper.old.conn)
+        (CollectsAll uploads (O.contents output.old) (O.contents output.new))) }
+    // What the printed lines acknowledge is stored, and found after a crash, whether the bytes are known or not.
+    ensures each { WhileClean keeper.new.conn (Begun L.meaning keeper.old.conn)
+        (λ before. IfOk result (λ status. PrintsWith (HoldsOpen L.meaning keeper.new.conn before) (length deliveries.old) status
+        (O.contents output.old) (O.contents output.new))) }
+    // ... those that were printed before a failure too.
+    ensures each_failed { WhileClean keeper.new.conn (Begun L.meaning keeper.old.conn)
+        (λ before. IfErr result (λ _. PrintsFront (HoldsOpen L.meaning keeper.new.conn before)
+        (O.contents output.old) (O.contents output.new))) }
+    // What a crash leaves of uploads whose bytes are known.
+    ensures crash { (uploads : List (List ℕ)) → map (of_delivery R.remaining B.bytes) deliveries.old ≡ map (λ u. Some u) uploads
+        → WhileClean keeper.new.conn (Begun L.meaning keeper.old.conn) (LeavesOpen L.meaning keeper.new.conn
+        (λ before found. OnOk result (KeepsPrinted uploads before (O.contents output.old) (O.contents output.new) found))) }
+    ensures crash_unprinted { (uploads : List (List ℕ)) → map (of_delivery R.remaining B.bytes) deliveries.old ≡ map (λ u. Some u) uploads
+        → WhileClean keeper.new.conn (Begun L.meaning keeper.old.conn) (LeavesOpen L.meaning keeper.new.conn
+        (λ before found. result ≡ Err Failure.WriteFailed
+        → KeepsFirst uploads before (O.contents output.old) (O.contents output.new) found)) }
+    ensures recovers { WhileClean keeper.new.conn (Begun L.meaning keeper.old.conn) (λ _. Recovers L.meaning keeper.new.conn) }
+    ensures printed { IfOk result (λ status.
+        PrintsAnswers (length deliveries.old) status (O.contents output.old) (O.contents output.new)) }
+    ensures stopped { IfErr result IsOutFailure }
+{
     // Does nothing: from its contract the proof has what might have been left before.
-    sound_leaves_journals(&keeper);
-    let answered = answer_all(rt.alloc(), &mut keeper, deliveries, output);
-    let done = export_after(rt, &mut keeper, answered, then_export);
-    Ok(Answered { done, keeper })
+    sound_leaves_journals(keeper);
+    let answered = answer_all(rt.alloc(), keeper, deliveries, output);
+    export_after(rt, keeper, answered, then_export)
 }
 
 /// The same of the uploads that lines name, each answered before the next name is read.
@@ -79,21 +136,23 @@ pub fn answer_lines<'a, S: Start, L: BufRead, O: Write, E: Write>(
     rt: &HostRuntime,
     start: S,
     database: &'a str,
+    tables: Tables,
     then_export: Option<&'a str>,
     names: &mut L,
     output: &mut O,
     errors: &mut E,
-) -> Result<Answered<'a, FileKeeper<S>>, Failure<'a>>
-    ensures kept { IfOk result (λ run. StandsOver (image_at S.Start) run.keeper.conn KeepsStored) }
+) -> Result<Answered<'a, OpenedFiles<S>>, Failure<'a>>
+    ensures kind { IfOk result (λ run. HasKind run.keeper tables (image_at S.Start)) }
+    ensures kept { IfOk result (λ run. StandsIn run.keeper tables (image_at S.Start) KeepsStored) }
     // What the printed lines acknowledge is stored, and found after a crash.
-    ensures each { IfOk result (λ run. WhileClean (image_at S.Start) run.keeper.conn
-        (λ before. IfOk run.done (λ status. NamedWith (HoldsOpen run.keeper.conn before) (L.remaining names.old) status
+    ensures each { IfOk result (λ run. CleanIn run.keeper tables (image_at S.Start)
+        (λ before. IfOk run.done (λ status. NamedWith (HoldsIn run.keeper before) (L.remaining names.old) status
         (O.contents output.old) (O.contents output.new)))) }
     // ... those that were printed before a failure too.
-    ensures each_failed { IfOk result (λ run. WhileClean (image_at S.Start) run.keeper.conn
-        (λ before. IfErr run.done (λ _. PrintsFront (HoldsOpen run.keeper.conn before)
+    ensures each_failed { IfOk result (λ run. CleanIn run.keeper tables (image_at S.Start)
+        (λ before. IfErr run.done (λ _. PrintsFront (HoldsIn run.keeper before)
         (O.contents output.old) (O.contents output.new)))) }
-    ensures recovers { IfOk result (λ run. WhileClean (image_at S.Start) run.keeper.conn (λ _. Recovers run.keeper.conn)) }
+    ensures recovers { IfOk result (λ run. CleanIn run.keeper tables (image_at S.Start) (λ _. RecoversIn run.keeper)) }
     ensures printed { IfOk result (λ run. IfOk run.done (λ status.
         PrintsNamed (L.remaining names.old) status (O.contents output.old) (O.contents output.new))) }
     ensures quiet { IfOk result (λ run. IfOk run.done (λ status. status ≡ Status.Success
@@ -102,10 +161,52 @@ pub fn answer_lines<'a, S: Start, L: BufRead, O: Write, E: Write>(
     ensures failed { IfErr result (DatabaseFailsBy database.now) }
     ensures untouched { IfErr result (λ _. Keeps (O.contents output.old) (O.contents output.new)) }
 {
-    let mut keeper = open_or_make(rt, database, start)?;
+    match open_or_make(rt, database, start, tables)? {
+        Opened::ByKey(mut keeper) => {
+            let done = answer_lines_over(rt, &mut keeper, then_export, names, output, errors);
+            Ok(Answered {
+                done,
+                keeper: Opened::ByKey(keeper),
+            })
+        }
+        Opened::ByNumber(mut keeper) => {
+            let done = answer_lines_over(rt, &mut keeper, then_export, names, output, errors);
+            Ok(Answered {
+                done,
+                keeper: Opened::ByNumber(keeper),
+            })
+        }
+    }
+}
+
+/// The same of the uploads that lines name, over a keeper.
+fn answer_lines_over<'a, S: Start, T: Listed, L: BufRead, O: Write, E: Write>(
+    rt: &HostRuntime,
+    keeper: &mut FileKeeper<S, T>,
+    then_export: Option<&'a str>,
+    names: &mut L,
+    output: &mut O,
+    errors: &mut E,
+) -> Result<Status, Failure<'a>>
+    ensures clean { doubt (file_state keeper.old.conn).is_clean ≤ doubt (file_state keeper.new.conn).is_clean }
+    ensures kept { StandsOver T.meaning keeper.new.conn (Begun T.meaning keeper.old.conn) KeepsStored }
+    // What the printed lines acknowledge is stored, and found after a crash.
+    ensures each { WhileClean keeper.new.conn (Begun T.meaning keeper.old.conn)
+        (λ before. IfOk result (λ status. NamedWith (HoldsOpen T.meaning keeper.new.conn before) (L.remaining names.old) status
+        (O.contents output.old) (O.contents output.new))) }
+    // ... those that were printed before a failure too.
+    ensures each_failed { WhileClean keeper.new.conn (Begun T.meaning keeper.old.conn)
+        (λ before. IfErr result (λ _. PrintsFront (HoldsOpen T.meaning keeper.new.conn before)
+        (O.contents output.old) (O.contents output.new))) }
+    ensures recovers { WhileClean keeper.new.conn (Begun T.meaning keeper.old.conn) (λ _. Recovers T.meaning keeper.new.conn) }
+    ensures printed { IfOk result (λ status.
+        PrintsNamed (L.remaining names.old) status (O.contents output.old) (O.contents output.new)) }
+    ensures quiet { IfOk result (λ status. status ≡ Status.Success
+        → Keeps (E.contents errors.old) (E.contents errors.new)) }
+    ensures stopped { IfErr result MayEndNames }
+{
     // Does nothing: from its contract the proof has what might have been left before.
-    sound_leaves_journals(&keeper);
-    let answered = answer_names(rt, &mut keeper, names, output, errors);
-    let done = export_after(rt, &mut keeper, answered, then_export);
-    Ok(Answered { done, keeper })
+    sound_leaves_journals(keeper);
+    let answered = answer_names(rt, keeper, names, output, errors);
+    export_after(rt, keeper, answered, then_export)
 }

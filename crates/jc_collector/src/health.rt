@@ -6,21 +6,21 @@ ghost use Rattle.std.specs.Io.KnownBytes.{Keeps};
 ghost use Rattle.sqlite.specs.WalFiles.{image_at};
 ghost use Rattle.sqlite.specs.WalReads.{AreClean};
 ghost use Rattle.sqlite.specs.Files.{over_files};
-ghost use Rattle.jc_base.specs.Journal.{Journal};
 ghost use Rattle.jc_store.specs.Meaning.{IsSound, KeepsJournal};
-ghost use Rattle.jc_schema_two.specs.Tables.{two};
-ghost use Rattle.jc_database.specs.Files.{EndsWith, Keeps as HasJournal, LeadsTo};
 ghost use Rattle.jc_collector.specs.Checked.{Counts, IsHealth, PrintsHealth, count_line, health_text, health_status};
 ghost use Rattle.jc_collector.specs.Database.{CheckFailsBy, IsStoreFailure, WhyNoHealth};
+ghost use Rattle.jc_collector.specs.Open.{EndsOver};
+ghost use Rattle.jc_collector.specs.Kinds.{LeadsThere};
 ghost use Rattle.jc_collector.specs.OverFiles.{Prints};
 ghost use Rattle.jc_command_shared.specs.Failure.{status_of};
 
-use crate::database::{Closed, FileKeeper, check_name, close_after, open_there};
+use crate::closing::{Closed, close_after};
+use crate::database::{FileKeeper, Opened, check_name, open_there};
 use crate::failures::why_unanswered;
 use jc_base::Fault;
 use jc_command_shared::{Failure, Status, printed};
 use jc_keeper::Keeper;
-use jc_schema_two::SqlKeeper;
+use jc_store::{Listed, TableKeeper};
 use sqlite::{Alter, FileFrom, Files, Start};
 use sqlite_disk::Disk;
 use std::fmt;
@@ -40,6 +40,20 @@ pub enum Health {
 pub struct Examined<T: Drop, S: Start> {
     pub value: T,
     pub files: Option<Files<FileFrom<S>>>,
+}
+
+impl<T: Drop, S: Start> Examined<T, S> {
+    /// What is said of a database that was closed.
+    pub fn closed(closed: Closed<T, S>) -> Examined<T, S>
+        ensures value { result.value ≡ closed.value }
+        ensures files { result.files ≡ Some closed.files }
+    {
+        let Closed { value, files } = closed;
+        Examined {
+            value,
+            files: Some(files),
+        }
+    }
 }
 
 impl Health {
@@ -73,7 +87,7 @@ pub fn check<'a, S: Start, O: Write>(
 ) -> Result<Examined<Status, S>, Failure<'a>>
     // It prints how many entries the files had, and they keep them; or the database is refused.
     ensures counted { IfOk result (λ examined. MatchOption examined.files (examined.value ≡ Status.Refused)
-        (λ files. LeadsTo two (image_at S.Start) ⟦<FileFrom<S> as Disk>⟧ files
+        (λ files. LeadsThere (image_at S.Start) ⟦<FileFrom<S> as Disk>⟧ files
         (Prints count_line (O.contents output.old) (O.contents output.new)))) }
     ensures printed { IfOk result (λ examined. (health : Health) × IsHealth health
         × PrintsHealth health examined.value (O.contents output.old) (O.contents output.new)) }
@@ -94,18 +108,13 @@ fn read_health<'a, S: Start>(
     database: &'a str,
 ) -> Result<Examined<Health, S>, Failure<'a>>
     ensures counted { IfOk result (λ examined. MatchOption examined.files (health_status examined.value ≡ Status.Refused)
-        (λ files. LeadsTo two (image_at S.Start) ⟦<FileFrom<S> as Disk>⟧ files (Counts examined.value))) }
+        (λ files. LeadsThere (image_at S.Start) ⟦<FileFrom<S> as Disk>⟧ files (Counts examined.value))) }
     ensures health { IfOk result (λ examined. IsHealth examined.value) }
     ensures failed { IfErr result (WhyNoHealth database.now) }
 {
     match open_there(rt, database, start) {
-        Ok(keeper) => {
-            let Closed { value, files } = count_and_close(keeper)?;
-            Ok(Examined {
-                value,
-                files: Some(files),
-            })
-        }
+        Ok(Opened::ByKey(keeper)) => Ok(Examined::closed(count_and_close(keeper)?)),
+        Ok(Opened::ByNumber(keeper)) => Ok(Examined::closed(count_and_close(keeper)?)),
         Err(Failure::Bad(fault)) => Ok(refused(fault)),
         Err(failure) => Err(failure),
     }
@@ -123,14 +132,13 @@ pub fn refused<S: Start>(fault: Fault) -> Examined<Health, S>
 }
 
 /// Counts the entries of a keeper's journal, and closes its database.
-pub fn count_and_close<'a, S: Start>(
-    mut keeper: FileKeeper<S>,
+pub fn count_and_close<'a, S: Start, L: Listed>(
+    mut keeper: FileKeeper<S, L>,
 ) -> Result<Closed<Health, S>, Failure<'a>>
     ensures sound { IfOk result (λ closed. AreClean ⟦<FileFrom<S> as Disk>⟧ closed.files.log closed.files.db
         → IsSound over_files keeper.conn) }
-    ensures counted { IfOk result (λ closed. AreClean ⟦<FileFrom<S> as Disk>⟧ closed.files.log closed.files.db
-        → (before : Journal) → HasJournal two keeper.conn before
-        → EndsWith two ⟦<FileFrom<S> as Disk>⟧ closed.files (Counts closed.value before)) }
+    ensures counted { IfOk result (λ closed. EndsOver L.meaning keeper.conn closed.files
+        (Counts closed.value)) }
     ensures health { IfOk result (λ closed. IsHealth closed.value) }
     ensures failed { IfErr result IsStoreFailure }
 {
@@ -139,11 +147,11 @@ pub fn count_and_close<'a, S: Start>(
 }
 
 /// How many entries a keeper's journal has.
-fn count<'a, S: Alter>(keeper: &mut SqlKeeper<S>) -> Result<Health, Failure<'a>>
-    ensures counted { ⟦<SqlKeeper<S> as Keeper>⟧.sound keeper.new → ⟦<SqlKeeper<S> as Keeper>⟧.made keeper.old
-        → IfOk result (λ health. health ≡ Health.Whole (len (⟦<SqlKeeper<S> as Keeper>⟧.journal keeper.old))) }
+fn count<'a, S: Alter, L: Listed>(keeper: &mut TableKeeper<S, L>) -> Result<Health, Failure<'a>>
+    ensures counted { ⟦<TableKeeper<S, L> as Keeper>⟧.sound keeper.new → ⟦<TableKeeper<S, L> as Keeper>⟧.made keeper.old
+        → IfOk result (λ health. health ≡ Health.Whole (len (⟦<TableKeeper<S, L> as Keeper>⟧.journal keeper.old))) }
     ensures before { IsSound S.Store keeper.new.conn → IsSound S.Store keeper.old.conn }
-    ensures keeps { KeepsJournal two S.Store keeper.old.conn keeper.new.conn }
+    ensures keeps { KeepsJournal L.meaning S.Store keeper.old.conn keeper.new.conn }
     ensures health { IfOk result IsHealth }
     ensures failed { IfErr result IsStoreFailure }
 {

@@ -3,6 +3,7 @@
 #![tactic(auto)]
 
 mod answered;
+mod closing;
 mod collecting;
 mod database;
 mod failures;
@@ -15,8 +16,9 @@ mod stopping;
 mod then_export;
 
 pub use answered::{Answered, answer_deliveries, answer_lines};
+pub use closing::Closed;
 pub use collecting::{collect, collect_deliveries};
-pub use database::{Closed, FileKeeper};
+pub use database::{FileKeeper, Opened, OpenedFiles};
 pub use health::{Examined, Health, check};
 pub use inspecting::inspect;
 pub use listed::collect_listed;

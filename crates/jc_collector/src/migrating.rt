@@ -1,4 +1,4 @@
-//! `migrate`: a journal goes over from tables of the older version to those of the present one.
+//! `migrate`: a journal goes over from tables of the older version to others.
 
 ghost use Rattle.std.specs.Prelude.{◌≡◌, ◌≢◌, IfOk, IfErr, MatchOption};
 ghost use Rattle.std.specs.Io.KnownBytes.{Keeps};
@@ -6,35 +6,40 @@ ghost use Rattle.sqlite.specs.WalFiles.{image_at};
 ghost use Rattle.sqlite.specs.Files.{over_files};
 ghost use Rattle.jc_store.specs.Meaning.{IsSound, MovesJournal};
 ghost use Rattle.jc_schema_one.specs.Tables.{one};
-ghost use Rattle.jc_schema_two.specs.Tables.{two};
 ghost use Rattle.jc_database.specs.Files.{LeadsOver};
 ghost use Rattle.jc_collector.specs.Checked.{Counts, IsHealth, PrintsHealth, count_line, health_status};
 ghost use Rattle.jc_collector.specs.Database.{CheckFailsBy, IsStoreFailure, WhyNoHealth};
+ghost use Rattle.jc_collector.specs.Kinds.{meaning_of};
 ghost use Rattle.jc_collector.specs.OverFiles.{Prints};
 ghost use Rattle.jc_collector.specs.declared.health.Health.{Health};
 ghost use Rattle.jc_command_shared.specs.Failure.{status_of};
 
-use crate::database::{Closed, FileKeeper, check_name, close_connection, open_old};
+use crate::closing::close_connection;
+use crate::database::{FileKeeper, check_name, open_old};
 use crate::health::{Examined, Health, count_and_close, print_health, refused};
 use jc_base::Code;
+use jc_command_args::Tables;
 use jc_command_shared::{Failure, Status};
 use jc_schema_one::{MigrateStop, SqlKeeper1};
+use jc_schema_three::SchemaThree;
 use jc_schema_two::SchemaTwo;
+use jc_store::{Listed, Successor};
 use sqlite::{FileFrom, FileStore, Start};
 use sqlite_disk::Disk;
 use std::io::Write;
 
-/// Puts the journal of a database into tables of the present version, and prints what is in them; or what is wrong with the
+/// Puts the journal of a database from tables of schema 1 into these, and prints what is in them; or what is wrong with the
 /// database, which then stays as it is.
 pub fn migrate<'a, S: Start, O: Write>(
     rt: &HostRuntime,
     start: S,
     database: &'a str,
+    tables: Tables,
     output: &mut O,
 ) -> Result<Examined<Status, S>, Failure<'a>>
-    // The same of a journal in tables of schema 1, which the files then have in those of schema 2.
+    // It prints how many entries the files had in tables of schema 1, and they have them in these.
     ensures moved { IfOk result (λ examined. MatchOption examined.files (examined.value ≡ Status.Refused)
-        (λ files. LeadsOver one two (image_at S.Start) ⟦<FileFrom<S> as Disk>⟧ files
+        (λ files. LeadsOver one (meaning_of tables) (image_at S.Start) ⟦<FileFrom<S> as Disk>⟧ files
         (Prints count_line (O.contents output.old) (O.contents output.new)))) }
     ensures printed { IfOk result (λ examined. (health : Health) × IsHealth health
         × PrintsHealth health examined.value (O.contents output.old) (O.contents output.new)) }
@@ -43,44 +48,41 @@ pub fn migrate<'a, S: Start, O: Write>(
         → Keeps (O.contents output.old) (O.contents output.new)) }
 {
     check_name(database)?;
-    let Examined { value, files } = migrated(rt, start, database)?;
+    let Examined { value, files } = match tables {
+        Tables::ByKey => migrated::<S, SchemaTwo>(rt, start, database)?,
+        Tables::ByNumber => migrated::<S, SchemaThree>(rt, start, database)?,
+    };
     let value = print_health(value, output)?;
     Ok(Examined { value, files })
 }
 
-/// Puts the journal of the database at a path into tables of the present version, and counts its entries.
-fn migrated<'a, S: Start>(
+/// Puts the journal of the database at a path into tables of a layout, and counts its entries.
+fn migrated<'a, S: Start, L: Successor + Listed>(
     rt: &HostRuntime,
     start: S,
     database: &'a str,
 ) -> Result<Examined<Health, S>, Failure<'a>>
     ensures moved { IfOk result (λ examined. MatchOption examined.files (health_status examined.value ≡ Status.Refused)
-        (λ files. LeadsOver one two (image_at S.Start) ⟦<FileFrom<S> as Disk>⟧ files (Counts examined.value))) }
+        (λ files. LeadsOver one L.meaning (image_at S.Start) ⟦<FileFrom<S> as Disk>⟧ files (Counts examined.value))) }
     ensures health { IfOk result (λ examined. IsHealth examined.value) }
     ensures failed { IfErr result (WhyNoHealth database.now) }
 {
     match open_old(rt, database, start) {
-        Ok(keeper) => {
-            let Closed { value, files } = count_and_close(go_over(keeper)?)?;
-            Ok(Examined {
-                value,
-                files: Some(files),
-            })
-        }
+        Ok(keeper) => Ok(Examined::closed(count_and_close(go_over::<S, L>(keeper)?)?)),
         Err(Failure::Bad(fault)) => Ok(refused(fault)),
         Err(failure) => Err(failure),
     }
 }
 
-/// Puts a journal into tables of the present version. If it stays where it is, its database is closed.
-fn go_over<'a, S: Start>(
+/// Puts a journal into tables of a layout. If it stays where it is, its database is closed.
+fn go_over<'a, S: Start, L: Successor>(
     keeper: SqlKeeper1<FileStore<FileFrom<S>>>,
-) -> Result<FileKeeper<S>, Failure<'a>>
+) -> Result<FileKeeper<S, L>, Failure<'a>>
     ensures before { IfOk result (λ moved. IsSound over_files moved.conn → IsSound over_files keeper.conn) }
-    ensures moved { IfOk result (λ moved. MovesJournal one two over_files keeper.conn moved.conn) }
+    ensures moved { IfOk result (λ moved. MovesJournal one L.meaning over_files keeper.conn moved.conn) }
     ensures failed { IfErr result IsStoreFailure }
 {
-    match jc_schema_one::migrate::<FileStore<FileFrom<S>>, SchemaTwo>(keeper) {
+    match jc_schema_one::migrate::<FileStore<FileFrom<S>>, L>(keeper) {
         Ok(keeper) => Ok(keeper),
         Err(MigrateStop { code, keeper }) => {
             let _ = close_connection(keeper.into_connection());

@@ -3,18 +3,24 @@
 ghost use Rattle.std.specs.Prelude.{◌≡◌, Err, IfOk, IfErr, OnOk, length, map};
 ghost use Rattle.sqlite.specs.State.{HasCleanDisk};
 ghost use Rattle.sqlite.specs.WalFiles.{image_at};
+ghost use Rattle.sqlite.specs.Recovery.{Image};
+ghost use Rattle.sqlite.specs.FileStore.{state, view};
+ghost use Rattle.sqlite.specs.View.{IsClean};
 ghost use Rattle.sqlite.specs.Files.{file_state, over_files};
 ghost use Rattle.jc_collect.specs.Delivered.{of_delivery};
-ghost use Rattle.jc_store.specs.Meaning.{journal_of};
-ghost use Rattle.jc_schema_two.specs.Tables.{two};
+ghost use Rattle.jc_base.specs.Journal.{Journal};
+ghost use Rattle.jc_store.specs.Crash.{LeavesJournals, MayLeave};
+ghost use Rattle.jc_database.specs.Files.{HoldsJournal};
 ghost use Rattle.jc_collector_answers.specs.Answered.{KeepsPrinted};
 ghost use Rattle.jc_collector_answers.specs.Tied.{NamedWith, PrintsFront, PrintsWith};
+ghost use Rattle.jc_collector.specs.Kinds.{conn_of, journal_in, kind_of, meaning_of};
 ghost use Rattle.jc_collector.specs.OverFiles.{AnyLeft, FindsEach, LeavesEach, LeavesFirst, LeavesPrinted, WhenBegun, WhenStopped};
 
 use crate::answered::{Answered, answer_deliveries, answer_lines};
-use crate::database::{FileKeeper, open_or_make};
+use crate::database::{Opened, OpenedFiles, open_or_make};
 use jc_base::ByteStream;
 use jc_collect::Delivery;
+use jc_command_args::Tables;
 use jc_command_shared::{Failure, Status};
 use jc_database::stop_keeper;
 use jc_file::ByteSpace;
@@ -36,35 +42,37 @@ pub fn collect_and_stop<'a, S: Start, R: ByteStream, B: ByteSpace, O: Write>(
     rt: &HostRuntime,
     start: S,
     database: &'a str,
+    tables: Tables,
     then_export: Option<&'a str>,
     deliveries: &mut [Delivery<R, B>],
     output: &mut O,
 ) -> Result<Stopped<'a, FileFrom<S>>, Failure<'a>>
-    ensures each { IfOk result (λ run. WhenBegun (image_at S.Start) run.files (λ before. IfOk run.answered (λ status.
-        PrintsWith (λ answers. AnyLeft run.files (LeavesEach before answers)) (length deliveries.old) status
+    ensures each { IfOk result (λ run. WhenBegun tables (image_at S.Start) run.files (λ kind before. IfOk run.answered (λ status.
+        PrintsWith (λ answers. AnyLeft run.files (LeavesEach kind before answers)) (length deliveries.old) status
         (O.contents output.old) (O.contents output.new)))) }
-    ensures each_failed { IfOk result (λ run. WhenBegun (image_at S.Start) run.files (λ before. IfErr run.answered (λ _.
-        PrintsFront (λ answers. AnyLeft run.files (LeavesEach before answers))
+    ensures each_failed { IfOk result (λ run. WhenBegun tables (image_at S.Start) run.files (λ kind before. IfErr run.answered (λ _.
+        PrintsFront (λ answers. AnyLeft run.files (LeavesEach kind before answers))
         (O.contents output.old) (O.contents output.new)))) }
     // If the deliveries' bytes are known, these are the uploads that it says.
     ensures printed { IfOk result (λ run.
-        WhenStopped (image_at S.Start) (map (of_delivery R.remaining B.bytes) deliveries.old) run.files
-        (λ uploads before left. OnOk run.answered
-        (∥ LeavesPrinted uploads before (O.contents output.old) (O.contents output.new) left ∥₁))) }
+        WhenStopped tables (image_at S.Start) (map (of_delivery R.remaining B.bytes) deliveries.old) run.files
+        (λ kind uploads before left. OnOk run.answered
+        (∥ LeavesPrinted kind uploads before (O.contents output.old) (O.contents output.new) left ∥₁))) }
     ensures unprinted { IfOk result (λ run.
-        WhenStopped (image_at S.Start) (map (of_delivery R.remaining B.bytes) deliveries.old) run.files
-        (λ uploads before left. run.answered ≡ Err Failure.WriteFailed
-        → ∥ LeavesFirst uploads before (O.contents output.old) (O.contents output.new) left ∥₁)) }
+        WhenStopped tables (image_at S.Start) (map (of_delivery R.remaining B.bytes) deliveries.old) run.files
+        (λ kind uploads before left. run.answered ≡ Err Failure.WriteFailed
+        → ∥ LeavesFirst kind uploads before (O.contents output.old) (O.contents output.new) left ∥₁)) }
 {
     let Answered { done, keeper } = answer_deliveries(
         rt,
         start,
         database,
+        tables,
         then_export,
         deliveries,
         output,
     )?;
-    let files = stop_keeper(keeper);
+    let files = stop_opened(keeper);
     Ok(Stopped {
         answered: done,
         files,
@@ -76,28 +84,30 @@ pub fn collect_lines_and_stop<'a, S: Start, L: BufRead, O: Write, E: Write>(
     rt: &HostRuntime,
     start: S,
     database: &'a str,
+    tables: Tables,
     then_export: Option<&'a str>,
     names: &mut L,
     output: &mut O,
     errors: &mut E,
 ) -> Result<Stopped<'a, FileFrom<S>>, Failure<'a>>
-    ensures each { IfOk result (λ run. WhenBegun (image_at S.Start) run.files (λ before. IfOk run.answered (λ status.
-        NamedWith (λ answers. AnyLeft run.files (LeavesEach before answers)) (L.remaining names.old) status
+    ensures each { IfOk result (λ run. WhenBegun tables (image_at S.Start) run.files (λ kind before. IfOk run.answered (λ status.
+        NamedWith (λ answers. AnyLeft run.files (LeavesEach kind before answers)) (L.remaining names.old) status
         (O.contents output.old) (O.contents output.new)))) }
-    ensures each_failed { IfOk result (λ run. WhenBegun (image_at S.Start) run.files (λ before. IfErr run.answered (λ _.
-        PrintsFront (λ answers. AnyLeft run.files (LeavesEach before answers))
+    ensures each_failed { IfOk result (λ run. WhenBegun tables (image_at S.Start) run.files (λ kind before. IfErr run.answered (λ _.
+        PrintsFront (λ answers. AnyLeft run.files (LeavesEach kind before answers))
         (O.contents output.old) (O.contents output.new)))) }
 {
     let Answered { done, keeper } = answer_lines(
         rt,
         start,
         database,
+        tables,
         then_export,
         names,
         output,
         errors,
     )?;
-    let files = stop_keeper(keeper);
+    let files = stop_opened(keeper);
     Ok(Stopped {
         answered: done,
         files,
@@ -111,20 +121,27 @@ pub fn open_after_stop<'a, S: Start, T: Start, R: ByteStream, B: ByteSpace, O: W
     start: S,
     next: T,
     database: &'a str,
+    tables: Tables,
     then_export: Option<&'a str>,
     deliveries: &mut [Delivery<R, B>],
     output: &mut O,
-) -> Result<(Stopped<'a, FileFrom<S>>, Result<FileKeeper<T>, Failure<'a>>), Failure<'a>>
-    ensures each { IfOk result (λ runs. WhenBegun (image_at S.Start) runs.0.files (λ before. IfOk runs.0.answered (λ status.
+) -> Result<
+    (
+        Stopped<'a, FileFrom<S>>,
+        Result<OpenedFiles<T>, Failure<'a>>,
+    ),
+    Failure<'a>,
+>
+    ensures each { IfOk result (λ runs. WhenBegun tables (image_at S.Start) runs.0.files (λ kind before. IfOk runs.0.answered (λ status.
         PrintsWith (λ answers. AnyLeft runs.0.files (λ left. left ≡ image_at T.Start → IfOk runs.1 (FindsEach before answers)))
         (length deliveries.old) status (O.contents output.old) (O.contents output.new)))) }
-    ensures found { IfOk result (λ runs. WhenStopped (image_at S.Start) (map (of_delivery R.remaining B.bytes) deliveries.old) runs.0.files
-        (λ uploads before left. left ≡ image_at T.Start → OnOk runs.0.answered
-        (IfOk runs.1 (λ opened. HasCleanDisk (file_state opened.conn)
-        → ∥ KeepsPrinted uploads before (O.contents output.old) (O.contents output.new) (journal_of two over_files opened.conn) ∥₁)))) }
+    ensures found { IfOk result (λ runs. WhenStopped tables (image_at S.Start) (map (of_delivery R.remaining B.bytes) deliveries.old) runs.0.files
+        (λ kind uploads before left. left ≡ image_at T.Start → OnOk runs.0.answered
+        (IfOk runs.1 (λ opened. HasCleanDisk (file_state (conn_of opened))
+        → ∥ KeepsPrinted uploads before (O.contents output.old) (O.contents output.new) (journal_in opened) ∥₁)))) }
 {
-    let stopped = collect_and_stop(rt, start, database, then_export, deliveries, output)?;
-    Ok((stopped, open_or_make(rt, database, next)))
+    let stopped = collect_and_stop(rt, start, database, tables, then_export, deliveries, output)?;
+    Ok((stopped, open_or_make(rt, database, next, tables)))
 }
 
 /// A run over the uploads that lines name, which is stopped, and the next one.
@@ -133,15 +150,45 @@ pub fn open_after_lines<'a, S: Start, T: Start, L: BufRead, O: Write, E: Write>(
     start: S,
     next: T,
     database: &'a str,
+    tables: Tables,
     then_export: Option<&'a str>,
     names: &mut L,
     output: &mut O,
     errors: &mut E,
-) -> Result<(Stopped<'a, FileFrom<S>>, Result<FileKeeper<T>, Failure<'a>>), Failure<'a>>
-    ensures { IfOk result (λ runs. WhenBegun (image_at S.Start) runs.0.files (λ before. IfOk runs.0.answered (λ status.
+) -> Result<
+    (
+        Stopped<'a, FileFrom<S>>,
+        Result<OpenedFiles<T>, Failure<'a>>,
+    ),
+    Failure<'a>,
+>
+    ensures { IfOk result (λ runs. WhenBegun tables (image_at S.Start) runs.0.files (λ kind before. IfOk runs.0.answered (λ status.
         NamedWith (λ answers. AnyLeft runs.0.files (λ left. left ≡ image_at T.Start → IfOk runs.1 (FindsEach before answers)))
         (L.remaining names.old) status (O.contents output.old) (O.contents output.new)))) }
 {
-    let stopped = collect_lines_and_stop(rt, start, database, then_export, names, output, errors)?;
-    Ok((stopped, open_or_make(rt, database, next)))
+    let stopped = collect_lines_and_stop(
+        rt,
+        start,
+        database,
+        tables,
+        then_export,
+        names,
+        output,
+        errors,
+    )?;
+    Ok((stopped, open_or_make(rt, database, next, tables)))
+}
+
+/// What is left of the database of a keeper whose run is stopped.
+fn stop_opened<S: Start>(opened: OpenedFiles<S>) -> FileStore<FileFrom<S>>
+    ensures left { IsClean (view result) → LeavesJournals (meaning_of (kind_of opened)) over_files (conn_of opened)
+        → (left : Image) → (state result).may_leave left
+        → ∥ ((found : Journal) × MayLeave (meaning_of (kind_of opened)) over_files (conn_of opened) found
+        × HoldsJournal (meaning_of (kind_of opened)) left found) ∥₁ }
+    ensures clean { IsClean (view result) → HasCleanDisk (file_state (conn_of opened)) }
+{
+    match opened {
+        Opened::ByKey(keeper) => stop_keeper(keeper),
+        Opened::ByNumber(keeper) => stop_keeper(keeper),
+    }
 }

@@ -5,14 +5,13 @@ ghost use Rattle.sqlite.specs.Held.{state};
 ghost use Rattle.sqlite.specs.View.{doubt};
 ghost use Rattle.jc_store.specs.Crash.{LeavesNoMore};
 ghost use Rattle.jc_store.specs.Meaning.{IsSound, KeepsJournal};
-ghost use Rattle.jc_schema_two.specs.Tables.{two};
 ghost use Rattle.jc_collector.specs.Database.{IsOutFailure};
 
 use crate::listing::export_journal;
 use jc_command_shared::{
     Failure, Status, UNFINISHED, create_file, folder_and_name, name_beside, put_in_place,
 };
-use jc_schema_two::SqlKeeper;
+use jc_store::{Listed, TableKeeper};
 use sqlite::Alter;
 use std::fs;
 use std::io::ErrorKind;
@@ -72,16 +71,16 @@ fn is_same_file<R: Files>(rt: &R, first: &str, second: &str) -> bool {
 
 /// Puts a keeper's journal into the file at a path, if one is given and all uploads were answered. The status stays that of
 /// the answers.
-pub fn export_after<'a, R: Files + AllocGlobal, S: Alter>(
+pub fn export_after<'a, R: Files + AllocGlobal, S: Alter, L: Listed>(
     rt: &R,
-    keeper: &mut SqlKeeper<S>,
+    keeper: &mut TableKeeper<S, L>,
     answered: Result<Status, Failure<'a>>,
     path: Option<&'a str>,
 ) -> Result<Status, Failure<'a>>
     ensures answered { IfOk result (λ status. answered.entry ≡ Ok status) }
     ensures passed_on { IfErr answered.entry (λ failure. result ≡ Err failure) }
     ensures before { IsSound S.Store keeper.new.conn → IsSound S.Store keeper.old.conn }
-    ensures keeps { KeepsJournal two S.Store keeper.old.conn keeper.new.conn }
+    ensures keeps { KeepsJournal L.meaning S.Store keeper.old.conn keeper.new.conn }
     ensures clean { doubt (state S.Store keeper.old.conn).is_clean ≤ doubt (state S.Store keeper.new.conn).is_clean }
     ensures crash { LeavesNoMore (state S.Store keeper.old.conn) (state S.Store keeper.new.conn) }
     ensures failed { IfErr result (λ failure. (answered.entry ≡ Err failure) ⊎ IsOutFailure failure) }
@@ -94,13 +93,13 @@ pub fn export_after<'a, R: Files + AllocGlobal, S: Alter>(
 }
 
 /// Puts what `export` prints of a keeper's journal into the file at a path, which stays as it was if that fails.
-fn export_file<'a, R: Files + AllocGlobal, S: Alter>(
+fn export_file<'a, R: Files + AllocGlobal, S: Alter, L: Listed>(
     rt: &R,
-    keeper: &mut SqlKeeper<S>,
+    keeper: &mut TableKeeper<S, L>,
     path: &str,
 ) -> Result<(), Failure<'a>>
     ensures before { IsSound S.Store keeper.new.conn → IsSound S.Store keeper.old.conn }
-    ensures keeps { KeepsJournal two S.Store keeper.old.conn keeper.new.conn }
+    ensures keeps { KeepsJournal L.meaning S.Store keeper.old.conn keeper.new.conn }
     ensures clean { doubt (state S.Store keeper.old.conn).is_clean ≤ doubt (state S.Store keeper.new.conn).is_clean }
     ensures crash { LeavesNoMore (state S.Store keeper.old.conn) (state S.Store keeper.new.conn) }
     ensures failed { IfErr result IsOutFailure }

@@ -8,14 +8,14 @@ use Rattle.sqlite.specs.Recovery.{Image}
 use Rattle.jc_base.specs.Journal.{Journal}
 use Rattle.jc_keeper.specs.Listing.{export_text}
 use Rattle.jc_schema_one.specs.Tables.{one}
-use Rattle.jc_schema_two.specs.Tables.{two}
-use Rattle.jc_database.specs.Files.{LeadsOver, LeadsTo}
+use Rattle.jc_database.specs.Files.{LeadsOver}
 use Rattle.jc_collector.specs.declared.health.Health.{Health}
 use Rattle.jc_command_shared.specs.declared.failure.Failure.{Failure}
 use Rattle.jc_command_shared.specs.declared.failure.Failure.TheVariants.{CannotOpen, OutOfMemory, ReadFailed, WriteFailed}
 use Rattle.jc_command_shared.specs.declared.status.Status.{Status}
 use Rattle.jc_command_shared.specs.declared.status.Status.TheVariants.{Success, Refused, Misused, Failed}
 use Rattle.jc_command_args.specs.declared.request.Request.{Request}
+use Rattle.jc_command_args.specs.declared.request.Tables.{Tables}
 use Rattle.jc_command_args.specs.declared.request.Request.TheVariants.{Collect, CollectListed, Show, Check, Migrate, Verify, Inspect, Upload, Ack, ListCodes}
 use Rattle.jc_command_args.specs.declared.request.Request.TheVariants as request
 use Rattle.jc_collector_answers.specs.Answered.{PrintsAnswers, number_of_uploads}
@@ -24,6 +24,7 @@ use Rattle.jc_collector.specs.Database.{CheckFailsBy, CollectFailsBy, DatabaseFa
 use Rattle.jc_command_shared.specs.Failure.{status_of}
 use Rattle.jc_collector.specs.Inspected.{PrintsSomeInspected}
 use Rattle.jc_collector.specs.Listed.{PrintsListed}
+use Rattle.jc_collector.specs.Kinds.{LeadsIn, LeadsThere, meaning_of}
 use Rattle.jc_collector.specs.OverFiles.{CollectsAll, KeepsStored, Prints, PrintsAsked, StoresListed, StoresPrinted}
 use Rattle.jc_sender.specs.Sent.{PrintsSomeUpload}
 use Rattle.jc_sender.specs.Failing.{AckFailsBy, UploadFailsBy}
@@ -34,23 +35,28 @@ use Rattle.jc_command_args.specs.Words.{AreWrong, AskFor, AskForHelp}
 -- ---- what is done over a database
 
 module _ {D : Type 0} (image : Image) (g : disk.Ghosts D) (files : Option (Files D)) where
-  -- A run ends with the files of its database, closed, and made such a step over the journal that they had.
-  abbrev pub Leads : (Journal → Journal → Type 0) → Type 0
-  Leads Step = IsSomeAnd files (λ closed. LeadsTo two image g closed Step)
+  -- A run ends with the files of its database, closed, and made such a step over the journal that they had, or over the empty
+  -- one in tables that it made.
+  abbrev pub Leads : (made : Tables) → (Journal → Journal → Type 0) → Type 0
+  Leads made Step = IsSomeAnd files (λ closed. LeadsIn made image g closed Step)
+
+  -- The same of a run that makes no tables.
+  abbrev pub LeadsOn : (Journal → Journal → Type 0) → Type 0
+  LeadsOn Step = IsSomeAnd files (λ closed. LeadsThere image g closed Step)
 
   -- An answer to each upload was printed, and what they acknowledge is in the files. What one upload on standard input makes
   -- of the journal, and how it is answered.
-  pub record Collects (named : ℕ) (given old new : Option (List ℕ)) (status : Status) : Type 0 where
+  pub record Collects (made : Tables) (named : ℕ) (given old new : Option (List ℕ)) (status : Status) : Type 0 where
     pub printed : PrintsAnswers (number_of_uploads named) status old new
-    pub kept : Leads KeepsStored
-    pub stores : Leads (StoresPrinted (number_of_uploads named) status old new)
-    pub collects : named ≡ 0 → IfSome given (λ upload. Leads (CollectsAll (upload ∷ []) old new))
+    pub kept : Leads made KeepsStored
+    pub stores : Leads made (StoresPrinted (number_of_uploads named) status old new)
+    pub collects : named ≡ 0 → IfSome given (λ upload. Leads made (CollectsAll (upload ∷ []) old new))
 
   -- An answer to each upload that a list names was printed, and what they acknowledge is in the files.
-  pub record CollectsListed (list : List ℕ) (given old new : Option (List ℕ)) (status : Status) : Type 0 where
+  pub record CollectsListed (made : Tables) (list : List ℕ) (given old new : Option (List ℕ)) (status : Status) : Type 0 where
     pub printed : PrintsListed list given status old new
-    pub kept : Leads KeepsStored
-    pub stores : Leads (StoresListed list given status old new)
+    pub kept : Leads made KeepsStored
+    pub stores : Leads made (StoresListed list given status old new)
 
   -- The line of what there is of a journal was printed. If the files are given back, it is that of the journal which they
   -- had, and they keep it.
@@ -58,14 +64,14 @@ module _ {D : Type 0} (image : Image) (g : disk.Ghosts D) (files : Option (Files
     pub health : Health
     pub is : IsHealth health
     pub printed : PrintsHealth health status old new
-    pub counted : MatchOption files (status ≡ Refused) (λ closed. LeadsTo two image g closed (Prints count_line old new))
+    pub counted : MatchOption files (status ≡ Refused) (λ closed. LeadsThere image g closed (Prints count_line old new))
 
-  -- The same of a journal in tables of schema 1, which the files then have in those of schema 2.
-  pub record Migrates (old new : Option (List ℕ)) (status : Status) : Type 0 where
+  -- The same of a journal in tables of schema 1, which the files then have in these.
+  pub record Migrates (tables : Tables) (old new : Option (List ℕ)) (status : Status) : Type 0 where
     pub health : Health
     pub is : IsHealth health
     pub printed : PrintsHealth health status old new
-    pub moved : MatchOption files (status ≡ Refused) (λ closed. LeadsOver one two image g closed (Prints count_line old new))
+    pub moved : MatchOption files (status ≡ Refused) (λ closed. LeadsOver one (meaning_of tables) image g closed (Prints count_line old new))
 
   -- What standard output gains when a request is performed, over what standard input gives, the status, and what becomes of
   -- the files of its database: from `verify` a reading, from `inspect` what an upload says, from `upload` an upload, from
@@ -76,14 +82,14 @@ module _ {D : Type 0} (image : Image) (g : disk.Ghosts D) (files : Option (Files
   Performs (Inspect file) given old new status = PrintsSomeInspected status old new
   Performs (Upload source limit whole) given old new status = (status ≡ Success) × PrintsSomeUpload source limit whole old new
   Performs (Ack source) given old new status = (status ≡ Success) × PrintsSomePoint source given old new
-  Performs (Collect database uploads then_export) given old new status = Collects (length uploads.items) given old new status
-  Performs (CollectListed database list then_export) given old new status = CollectsListed list.now given old new status
-  Performs (request.Export database) given old new status = (status ≡ Success) × Leads (Prints export_text old new)
+  Performs (Collect database tables uploads then_export) given old new status = Collects tables (length uploads.items) given old new status
+  Performs (CollectListed database tables list then_export) given old new status = CollectsListed tables list.now given old new status
+  Performs (request.Export database) given old new status = (status ≡ Success) × LeadsOn (Prints export_text old new)
   Performs (Show database field id first last) given old new status =
       (status ≡ Success)
-      × Leads (PrintsAsked (option_map (λ name. name.now) field) (option_map (λ digits. digits.now) id) first last old new)
+      × LeadsOn (PrintsAsked (option_map (λ name. name.now) field) (option_map (λ digits. digits.now) id) first last old new)
   Performs (Check database) given old new status = Checks old new status
-  Performs (Migrate database) given old new status = Migrates old new status
+  Performs (Migrate database tables) given old new status = Migrates tables old new status
   Performs ListCodes given old new status = status ≡ Success
 
 -- ---- why nothing is done
@@ -102,13 +108,13 @@ FailsBy (Verify kind file) given failure = FileFailsBy file.now failure
 FailsBy (Inspect file) given failure = FileFailsBy file.now failure
 FailsBy (Upload source limit whole) given failure = UploadFailsBy source failure
 FailsBy (Ack source) given failure = AckFailsBy source given failure
-FailsBy (Collect database uploads then_export) given failure = CollectFailsBy database.now (map (λ path. path.now) uploads.items) failure
-FailsBy (CollectListed database list then_export) given failure = CollectFailsBy database.now (list.now ∷ []) failure
+FailsBy (Collect database tables uploads then_export) given failure = CollectFailsBy database.now (map (λ path. path.now) uploads.items) failure
+FailsBy (CollectListed database tables list then_export) given failure = CollectFailsBy database.now (list.now ∷ []) failure
 FailsBy (request.Export database) given failure = DatabaseFailsBy database.now failure
 FailsBy (Show database field id first last) given failure =
     ShowFailsBy database.now (option_map (λ name. name.now) field) (option_map (λ digits. digits.now) id) failure
 FailsBy (Check database) given failure = CheckFailsBy database.now failure
-FailsBy (Migrate database) given failure = CheckFailsBy database.now failure
+FailsBy (Migrate database tables) given failure = CheckFailsBy database.now failure
 FailsBy ListCodes given failure = failure ≡ WriteFailed
 
 -- ---- a run
@@ -139,6 +145,11 @@ Ends image g files words given output output' errors errors' Refused =
 Ends image g files words given output output' errors errors' Misused =
     (AreWrong words × Keeps output output') ⊎ StopsAsked words given output output' Misused
 Ends image g files words given output output' errors errors' Failed = PerformsAsked image g files words given output output' Failed
+
+-- The same of a run that keeps the files to itself.
+abbrev pub EndsWithin : {D : Type 0} → (image : Image) → disk.Ghosts D → List Text → (given output output' errors errors' : Option (List ℕ)) → Status → Type 0
+EndsWithin {D} image g words given output output' errors errors' status =
+    (files : Option (Files D)) × Ends image g files words given output output' errors errors' status
 
 -- If a run stops short, a device or memory failed, or something was asked for that is refused.
 abbrev pub Stops : List Text → (given output output' : Option (List ℕ)) → Failure → Type 0

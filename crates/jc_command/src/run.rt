@@ -6,7 +6,7 @@ ghost use Rattle.clap.specs.Words.{kind_of};
 ghost use Rattle.sqlite.specs.WalFiles.{image_at};
 ghost use Rattle.jc_command_args.specs.Answer.{IsAskedFor};
 ghost use Rattle.jc_command_shared.specs.Failure.{status_of};
-ghost use Rattle.jc_command.specs.Run.{Ends, FailsBy, Performs, Stops};
+ghost use Rattle.jc_command.specs.Run.{Ends, EndsWithin, FailsBy, Performs, Stops};
 
 use clap::error::ErrorKind;
 use jc_collector::{
@@ -89,6 +89,12 @@ pub fn command<S: Start, I: Read, O: Write, E: Write>(
     errors: &mut E,
 ) -> u8
     ensures status { result ≤ 3 }
+    ensures success { result ≡ 0 → EndsWithin (image_at S.Start) ⟦<FileFrom<S> as Disk>⟧ (map string_bytes words.items) (I.remaining input.old)
+        (O.contents output.old) (O.contents output.new) (E.contents errors.old) (E.contents errors.new) Status.Success }
+    ensures refused { result ≡ 1 → EndsWithin (image_at S.Start) ⟦<FileFrom<S> as Disk>⟧ (map string_bytes words.items) (I.remaining input.old)
+        (O.contents output.old) (O.contents output.new) (E.contents errors.old) (E.contents errors.new) Status.Refused }
+    ensures misused { result ≡ 2 → EndsWithin (image_at S.Start) ⟦<FileFrom<S> as Disk>⟧ (map string_bytes words.items) (I.remaining input.old)
+        (O.contents output.old) (O.contents output.new) (E.contents errors.old) (E.contents errors.new) Status.Misused }
 {
     run_command(rt, start, words, input, output, errors).status
 }
@@ -183,15 +189,26 @@ fn perform<'a, S: Start, I: Read, O: Write, E: Write>(
         }
         Request::Collect {
             database,
+            tables,
             uploads,
             then_export,
         } => {
             let uploads = uploads.as_slice();
-            let closed = collect(rt, start, database, uploads, then_export, input, output)?;
+            let closed = collect(
+                rt,
+                start,
+                database,
+                tables,
+                uploads,
+                then_export,
+                input,
+                output,
+            )?;
             Ok(Done::closed(closed))
         }
         Request::CollectListed {
             database,
+            tables,
             list,
             then_export,
         } => {
@@ -199,6 +216,7 @@ fn perform<'a, S: Start, I: Read, O: Write, E: Write>(
                 rt,
                 start,
                 database,
+                tables,
                 list,
                 then_export,
                 input,
@@ -219,7 +237,10 @@ fn perform<'a, S: Start, I: Read, O: Write, E: Write>(
             Ok(Done::listed(closed))
         }
         Request::Check { database } => Ok(Done::examined(check(rt, start, database, output)?)),
-        Request::Migrate { database } => Ok(Done::examined(migrate(rt, start, database, output)?)),
+        Request::Migrate { database, tables } => {
+            let examined = migrate(rt, start, database, tables, output)?;
+            Ok(Done::examined(examined))
+        }
         Request::ListCodes => {
             list_codes(output)?;
             Ok(Done::without(Status::Success))

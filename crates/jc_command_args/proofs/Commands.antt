@@ -1,5 +1,5 @@
 -- What the builder's calls make of a grammar.
-use Rattle.std.proofs.Common.{◌≡◌, ◌∙◌, ◌||◌, ap₂}
+use Rattle.std.proofs.Common.{◌∙◌, ◌||◌, ap₂}
 use Rattle.std.specs.Prelude.{IfOk, IsOkAnd, Result, Ok, Err}
 use Rattle.clap.specs.Words.{AddsArg, AddsSubcommand, App, Rule, with_rule, with_subcommand}
 use Rattle.clap.specs.declared.builder.arg.Arg.{Arg}

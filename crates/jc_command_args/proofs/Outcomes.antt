@@ -1,5 +1,5 @@
 -- The program's grammar is one that clap's definitions cover, and what follows for the words.
-use Rattle.std.proofs.Common.{◌≡◌, ◌⊎◌, ◌∙◌, ap, refl, sym, subst, inl, inr, true, List, [], Option, Some, None}
+use Rattle.std.proofs.Common.{◌≡◌, ◌⊎◌, ◌∙◌, ap, refl, sym, subst, inl, inr, true, List, Option, Some, None}
 use Rattle.std.specs.Prelude.{IfErr, IfOk, IsErrAnd, IsSomeAnd, MatchOption, Result, Ok, Err}
 use Rattle.clap.specs.Words.{App, FailsBy, HasKind, HasMatchesOf, Row, Text, fault_of, is_simple, is_simple_and_free, kind_of, subcommand_of, subcommand_rows_of}
 use Rattle.clap.specs.declared.error.Error.{Error}
@@ -11,19 +11,19 @@ use Rattle.jc_command_args.specs.declared.request.Request.{Request}
 use Rattle.jc_command_args.specs.Grammar.{IsGrammar, grammar}
 use Rattle.jc_command_args.specs.Words.{AreAnswered, AreRight, AskFor, Asks, AsksNothing}
 
-computed : (verify upload ack : ValueParser) → is_simple_and_free (grammar verify upload ack) ≡ true
+computed : (collect migrate verify upload ack : ValueParser) → is_simple_and_free (grammar collect migrate verify upload ack) ≡ true
 unfolding clap_on_literals
-computed verify upload ack = refl
+computed collect migrate verify upload ack = refl
 
-computed_simple : (verify upload ack : ValueParser) → is_simple (grammar verify upload ack) ≡ true
+computed_simple : (collect migrate verify upload ack : ValueParser) → is_simple (grammar collect migrate verify upload ack) ≡ true
 unfolding clap_on_literals
-computed_simple verify upload ack = refl
+computed_simple collect migrate verify upload ack = refl
 
 pub simple_and_free : (app : App) → IsGrammar app → is_simple_and_free app ≡ true
-simple_and_free app ours = ap is_simple_and_free ours.whole ∙ computed ours.verify ours.upload ours.ack
+simple_and_free app ours = ap is_simple_and_free ours.whole ∙ computed ours.collect ours.migrate ours.verify ours.upload ours.ack
 
 pub simple : (app : App) → IsGrammar app → is_simple app ≡ true
-simple app ours = ap is_simple ours.whole ∙ computed_simple ours.verify ours.upload ours.ack
+simple app ours = ap is_simple ours.whole ∙ computed_simple ours.collect ours.migrate ours.verify ours.upload ours.ack
 
 -- an error that is passed on is the one that came
 pub passed_on : {T : Type 0} (r : Result T Error) (e : Error) (P : Error → Type 0) → IsErrAnd r (λ given. given ≡ e) → P e

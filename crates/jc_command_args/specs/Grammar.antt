@@ -12,6 +12,8 @@ use Rattle.clap.specs.declared.builder.value_parser.ValueParser.TheVariants.{Nam
 use Rattle.jc_command_args.specs.declared.making.Making.{Making}
 use Rattle.jc_command_args.specs.declared.request.InputKind.{InputKind}
 use Rattle.jc_command_args.specs.declared.request.InputKind.TheVariants.{Export, File}
+use Rattle.jc_command_args.specs.declared.request.Tables.{Tables}
+use Rattle.jc_command_args.specs.declared.request.Tables.TheVariants.{ByKey, ByNumber}
 
 -- ---- arguments
 
@@ -41,6 +43,10 @@ required_rule name = record (option_rule name) { required = true }
 abbrev pub number_rule : Text → Rule
 number_rule name = record (option_rule name) { parser = Some (Unsigned 0 (2 ^ 63 - 1)) }
 
+-- `--tables N`, one of some names
+abbrev pub tables_rule : ValueParser → Rule
+tables_rule tables = record (option_rule (codes "tables")) { parser = Some tables }
+
 -- `--name`, which is true where it is given
 abbrev pub flag_rule : Text → Rule
 flag_rule name = record (new_rule name) { long = Some name; action = Some SetTrue }
@@ -51,17 +57,21 @@ flag_rule name = record (new_rule name) { long = Some name; action = Some SetTru
 abbrev pub database_grammar : Text → App
 database_grammar name = with_rule (new_app name) (place_rule (codes "DB"))
 
--- `collect DB [--files-from FILE] [--then-export FILE] [UPLOAD..]`
-abbrev pub collect_grammar : App
-collect_grammar =
-    with_rule (with_rule (with_rule (database_grammar (codes "collect")) uploads_rule) (option_rule (codes "files-from")))
-    (option_rule (codes "then-export"))
+-- `collect DB [--files-from FILE] [--then-export FILE] [--tables N] [UPLOAD..]`
+abbrev pub collect_grammar : ValueParser → App
+collect_grammar tables =
+    with_rule (with_rule (with_rule (with_rule (database_grammar (codes "collect")) uploads_rule) (option_rule (codes "files-from")))
+    (option_rule (codes "then-export"))) (tables_rule tables)
 
 -- `show DB [--id HEX] [--from N] [--to N] [--field NAME]`
 abbrev pub show_grammar : App
 show_grammar =
     with_rule (with_rule (with_rule (with_rule (database_grammar (codes "show")) (option_rule (codes "id")))
     (number_rule (codes "from"))) (number_rule (codes "to"))) (option_rule (codes "field"))
+
+-- `migrate DB [--tables N]`
+abbrev pub migrate_grammar : ValueParser → App
+migrate_grammar tables = with_rule (database_grammar (codes "migrate")) (tables_rule tables)
 
 -- `verify KIND FILE`
 abbrev pub verify_grammar : ValueParser → App
@@ -93,16 +103,16 @@ top_grammar = on_top (λ s. record s { has_version = true; arg_required_else_hel
     (new_app (codes "journal-collect"))
 
 -- the commands over a database
-abbrev pub collector_grammar : App
-collector_grammar =
-    with_subcommand (with_subcommand (with_subcommand (with_subcommand (with_subcommand top_grammar collect_grammar.top)
+abbrev pub collector_grammar : (collect migrate : ValueParser) → App
+collector_grammar collect migrate =
+    with_subcommand (with_subcommand (with_subcommand (with_subcommand (with_subcommand top_grammar (collect_grammar collect).top)
     (database_grammar (codes "export")).top) show_grammar.top) (database_grammar (codes "check")).top)
-    (database_grammar (codes "migrate")).top
+    (migrate_grammar migrate).top
 
 -- ... those over files, and `codes`
-abbrev pub grammar : (verify upload ack : ValueParser) → App
-grammar verify upload ack =
-    with_subcommand (with_subcommand (with_subcommand (with_subcommand (with_subcommand collector_grammar
+abbrev pub grammar : (collect migrate verify upload ack : ValueParser) → App
+grammar collect migrate verify upload ack =
+    with_subcommand (with_subcommand (with_subcommand (with_subcommand (with_subcommand (collector_grammar collect migrate)
     (verify_grammar verify).top) inspect_grammar.top) (upload_grammar upload).top) (ack_grammar ack).top) (new_app (codes "codes")).top
 
 abbrev pub kind_name : InputKind → Text
@@ -112,6 +122,14 @@ kind_name File = codes "file"
 abbrev pub all_kinds : List Text
 all_kinds = kind_name Export ∷ kind_name File ∷ []
 
+-- the names of the tables by key, those of schema 2, and of the tables by number, those of schema 3
+abbrev pub tables_name : Tables → Text
+tables_name ByKey = codes "2"
+tables_name ByNumber = codes "3"
+
+abbrev pub all_tables : List Text
+all_tables = tables_name ByKey ∷ tables_name ByNumber ∷ []
+
 -- the texts that a parser of names takes
 abbrev pub names_of : ValueParser → List Text
 names_of (Names names) = map (λ name. name.now) names.now
@@ -120,6 +138,10 @@ names_of _ = []
 -- a parser of the kinds' names
 abbrev pub AreKinds : ValueParser → Type 0
 AreKinds kinds = names_of kinds ≡ all_kinds
+
+-- a parser of the tables' names
+abbrev pub AreTables : ValueParser → Type 0
+AreTables tables = names_of tables ≡ all_tables
 
 -- The command has this grammar, and nothing that holds for other commands too.
 pub record IsCommand (command : Command) (app : App) : Type 0 where
@@ -139,12 +161,16 @@ pub record IsRule (arg : Arg) (rule : Rule) : Type 0 where
   pub shape : rule_of arg ≡ rule
   pub local : arg.global ≡ false
 
--- the program's grammar, in which each kind goes by its name
+-- the program's grammar, in which each kind goes by its name, and so do tables
 pub record IsGrammar (app : App) : Type 0 where
+  pub collect : ValueParser
+  pub collect_tables : AreTables collect
+  pub migrate : ValueParser
+  pub migrate_tables : AreTables migrate
   pub verify : ValueParser
   pub verify_kinds : AreKinds verify
   pub upload : ValueParser
   pub upload_kinds : AreKinds upload
   pub ack : ValueParser
   pub ack_kinds : AreKinds ack
-  pub whole : app ≡ grammar verify upload ack
+  pub whole : app ≡ grammar collect migrate verify upload ack

@@ -6,18 +6,20 @@ use Rattle.clap.specs.declared.parser.matches.ArgMatches.{ArgMatches}
 use Rattle.clap.specs.declared.error.kind.ErrorKind.{ErrorKind}
 use Rattle.clap.specs.declared.error.kind.ErrorKind.TheVariants.{ArgumentConflict}
 use Rattle.jc_command_args.specs.Answer.{IsAskedFor}
-use Rattle.jc_command_args.specs.Grammar.{IsGrammar, kind_name}
+use Rattle.jc_command_args.specs.Grammar.{IsGrammar, kind_name, tables_name}
 use Rattle.jc_command_args.specs.declared.request.Request.{Request}
 use Rattle.jc_command_args.specs.declared.request.Request.TheVariants.{Collect, CollectListed, Export, Show, Check, Migrate, Verify, Inspect, Upload, Ack, ListCodes}
 use Rattle.jc_command_args.specs.declared.request.Source.{Source}
+use Rattle.jc_command_args.specs.declared.request.Tables.{Tables}
+use Rattle.jc_command_args.specs.declared.request.Tables.TheVariants.{ByKey}
 
 abbrev pub command_name : Request → Text
-command_name (Collect database uploads then_export) = codes "collect"
-command_name (CollectListed database list then_export) = codes "collect"
+command_name (Collect database tables uploads then_export) = codes "collect"
+command_name (CollectListed database tables list then_export) = codes "collect"
 command_name (Export database) = codes "export"
 command_name (Show database field id first last) = codes "show"
 command_name (Check database) = codes "check"
-command_name (Migrate database) = codes "migrate"
+command_name (Migrate database tables) = codes "migrate"
 command_name (Verify kind file) = codes "verify"
 command_name (Inspect file) = codes "inspect"
 command_name (Upload source limit whole) = codes "upload"
@@ -45,14 +47,21 @@ IsNumberOr unless_given None number = number ≡ unless_given
 IsNumberOr unless_given (Some text) number =
     IsNumeral 10 (without_leading_plus text) × (digits_value 10 (without_leading_plus text) ≡ number) × (number < 2 ^ 64)
 
--- The values of a command's arguments ask for this. Without `--limit` it is 1,000, and without `--from` and `--to` the range is
--- that of all numbers. clap's value of `--whole` is `true` where it is given.
+-- The tables that an argument's value names; given ones if there is no value.
+abbrev pub AreTablesOr : (unless_given : Tables) → Option Text → Tables → Type 0
+AreTablesOr unless_given None tables = tables ≡ unless_given
+AreTablesOr unless_given (Some text) tables = tables_name tables ≡ text
+
+-- The values of a command's arguments ask for this. Without `--tables` they are by key, without `--limit` it is 1,000, and
+-- without `--from` and `--to` the range is that of all numbers. clap's value of `--whole` is `true` where it is given.
 abbrev pub AskBy : List Row → Request → Type 0
-AskBy rows (Collect database uploads then_export) =
-    IsGiven rows (codes "DB") database.now × (map (λ upload. upload.now) uploads.items ≡ all_given rows (codes "UPLOAD"))
+AskBy rows (Collect database tables uploads then_export) =
+    IsGiven rows (codes "DB") database.now × AreTablesOr ByKey (first_of (codes "tables") rows) tables
+    × (map (λ upload. upload.now) uploads.items ≡ all_given rows (codes "UPLOAD"))
     × (first_of (codes "files-from") rows ≡ None) × (option_map (λ path. path.now) then_export ≡ first_of (codes "then-export") rows)
-AskBy rows (CollectListed database list then_export) =
-    IsGiven rows (codes "DB") database.now × IsGiven rows (codes "files-from") list.now × (all_given rows (codes "UPLOAD") ≡ [])
+AskBy rows (CollectListed database tables list then_export) =
+    IsGiven rows (codes "DB") database.now × AreTablesOr ByKey (first_of (codes "tables") rows) tables
+    × IsGiven rows (codes "files-from") list.now × (all_given rows (codes "UPLOAD") ≡ [])
     × (option_map (λ path. path.now) then_export ≡ first_of (codes "then-export") rows)
 AskBy rows (Export database) = IsGiven rows (codes "DB") database.now
 AskBy rows (Show database field id first last) =
@@ -60,7 +69,8 @@ AskBy rows (Show database field id first last) =
     × (option_map (λ hex. hex.now) id ≡ first_of (codes "id") rows)
     × IsNumberOr 0 (first_of (codes "from") rows) first × IsNumberOr (2 ^ 63 - 1) (first_of (codes "to") rows) last
 AskBy rows (Check database) = IsGiven rows (codes "DB") database.now
-AskBy rows (Migrate database) = IsGiven rows (codes "DB") database.now
+AskBy rows (Migrate database tables) =
+    IsGiven rows (codes "DB") database.now × AreTablesOr ByKey (first_of (codes "tables") rows) tables
 AskBy rows (Verify kind file) = IsGiven rows (codes "KIND") (kind_name kind) × IsGiven rows (codes "FILE") file.now
 AskBy rows (Inspect file) = IsGiven rows (codes "FILE") file.now
 AskBy rows (Upload source limit whole) =

@@ -3,7 +3,7 @@
 ghost use Rattle.std.specs.Prelude.{codes};
 ghost use Rattle.clap.specs.Words.{App};
 ghost use Rattle.clap.specs.declared.builder.value_parser.ValueParser.{ValueParser};
-ghost use Rattle.jc_command_args.specs.Grammar.{AreKinds, IsRule, Makes, flag_rule, kind_rule, number_rule, option_rule, place_rule, required_rule, uploads_rule, with_source};
+ghost use Rattle.jc_command_args.specs.Grammar.{AreKinds, AreTables, IsRule, Makes, flag_rule, kind_rule, number_rule, option_rule, place_rule, required_rule, tables_rule, uploads_rule, with_source};
 
 use crate::making::Making;
 use crate::texts;
@@ -12,6 +12,8 @@ use clap::{Arg, ArgAction};
 use std::alloc::Global;
 
 static KINDS: [&str; 2] = ["export", "file"];
+
+static TABLES: [&str; 2] = ["2", "3"];
 
 /// The greatest number that an argument takes.
 pub(crate) const MOST: u64 = (1 << 63) - 1;
@@ -67,6 +69,13 @@ pub(crate) fn then_export_arg<'a>(alloc: Global) -> Arg<'a>
     ensures { IsRule result (option_rule (codes "then-export")) }
 {
     option_arg(alloc, "then-export", "FILE", texts::THEN_EXPORT_HELP)
+}
+
+/// `--tables N`, the tables of a database.
+pub(crate) fn tables_arg<'a>(alloc: Global, help: &'a str) -> Arg<'a>
+    ensures { (tables : ValueParser) × AreTables tables × IsRule result (tables_rule tables) }
+{
+    option_arg(alloc, "tables", "N", help).value_parser(TABLES.as_slice())
 }
 
 /// A value that has its place, and has to be given.

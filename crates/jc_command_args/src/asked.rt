@@ -3,11 +3,11 @@
 ghost use Rattle.std.specs.Prelude.{◌≡◌, ◌≢◌, ◌↔◌, ℕ, Some, IsSomeAnd, IsTrue, IfOk, MatchOption, codes, map, option_map};
 ghost use Rattle.clap.specs.Words.{first_of, subcommand_rows_of};
 ghost use Rattle.jc_command_args.specs.declared.request.Source.{Source as SourceWords};
-ghost use Rattle.jc_command_args.specs.Grammar.{kind_name};
-ghost use Rattle.jc_command_args.specs.Words.{AskBy, Asks, AsksNone, AsksNothing, IsGiven, IsNumberOr, NameSource, all_given, command_name, given_rows};
+ghost use Rattle.jc_command_args.specs.Grammar.{kind_name, tables_name};
+ghost use Rattle.jc_command_args.specs.Words.{AreTablesOr, AskBy, Asks, AsksNone, AsksNothing, IsGiven, IsNumberOr, NameSource, all_given, command_name, given_rows};
 
 use crate::arguments::MOST;
-use crate::request::{InputKind, Request, Source};
+use crate::request::{InputKind, Request, Source, Tables};
 use clap::ArgMatches;
 use std::alloc::{AllocError, Global};
 
@@ -50,16 +50,21 @@ fn collect_request<'a>(
     let Some(database) = text_given(given, "DB") else {
         return Ok(None);
     };
+    let Some(tables) = tables_given(given) else {
+        return Ok(None);
+    };
     let uploads = texts_given(alloc, given, "UPLOAD")?;
     let then_export = text_given(given, "then-export");
     match text_given(given, "files-from") {
         None => Ok(Some(Request::Collect {
             database,
+            tables,
             uploads,
             then_export,
         })),
         Some(list) if uploads.is_empty() => Ok(Some(Request::CollectListed {
             database,
+            tables,
             list,
             then_export,
         })),
@@ -104,7 +109,8 @@ fn migrate_request<'a>(given: &ArgMatches<'a>) -> Option<Request<'a>>
         (λ request. (command_name request ≡ codes "migrate") × AskBy (given_rows given.now) request) }
 {
     let database = text_given(given, "DB")?;
-    Some(Request::Migrate { database })
+    let tables = tables_given(given)?;
+    Some(Request::Migrate { database, tables })
 }
 
 fn verify_request<'a>(given: &ArgMatches<'a>) -> Option<Request<'a>>
@@ -205,6 +211,29 @@ fn kind_of(text: &str) -> Option<InputKind>
     match text {
         "export" => Some(InputKind::Export),
         "file" => Some(InputKind::File),
+        _ => None,
+    }
+}
+
+/// The tables that are named, or those by key if none are.
+fn tables_given(given: &ArgMatches<'_>) -> Option<Tables>
+    ensures { MatchOption result
+        ((tables : Tables) → ¬ AreTablesOr Tables.ByKey (first_of (codes "tables") (given_rows given.now)) tables)
+        (AreTablesOr Tables.ByKey (first_of (codes "tables") (given_rows given.now))) }
+{
+    match text_given(given, "tables") {
+        Some(text) => tables_of(text),
+        None => Some(Tables::ByKey),
+    }
+}
+
+fn tables_of(text: &str) -> Option<Tables>
+    ensures { MatchOption result ((tables : Tables) → tables_name tables ≢ text.now)
+        (λ tables. tables_name tables ≡ text.now) }
+{
+    match text {
+        "2" => Some(Tables::ByKey),
+        "3" => Some(Tables::ByNumber),
         _ => None,
     }
 }

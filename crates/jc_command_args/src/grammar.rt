@@ -3,11 +3,11 @@
 ghost use Rattle.std.specs.Prelude.{IfOk, codes};
 ghost use Rattle.clap.specs.Words.{app_of, new_app};
 ghost use Rattle.clap.specs.declared.builder.value_parser.ValueParser.{ValueParser};
-ghost use Rattle.jc_command_args.specs.Grammar.{AreKinds, IsGrammar, IsMade, Makes, ack_grammar, collect_grammar, collector_grammar, database_grammar, inspect_grammar, show_grammar, top_grammar, upload_grammar, verify_grammar};
+ghost use Rattle.jc_command_args.specs.Grammar.{AreKinds, AreTables, IsGrammar, IsMade, Makes, ack_grammar, collect_grammar, collector_grammar, database_grammar, inspect_grammar, migrate_grammar, show_grammar, top_grammar, upload_grammar, verify_grammar};
 
 use crate::arguments::{
-    flag_arg, kind_arg, list_arg, number_arg, option_arg, place_arg, then_export_arg, uploads_arg,
-    with_source,
+    flag_arg, kind_arg, list_arg, number_arg, option_arg, place_arg, tables_arg, then_export_arg,
+    uploads_arg, with_source,
 };
 use crate::making::Making;
 use crate::texts;
@@ -29,7 +29,8 @@ pub(crate) fn program<'a>(alloc: Global) -> Result<Command<'a>, AllocError>
 
 /// The program with the commands over a database.
 fn collector<'a>(alloc: Global) -> Making<'a>
-    ensures { Makes result collector_grammar }
+    ensures { (collect migrate : ValueParser) × AreTables collect × AreTables migrate
+        × Makes result (collector_grammar collect migrate) }
 {
     top(alloc)
         .subcommand(collect_command(alloc))
@@ -54,12 +55,13 @@ fn top<'a>(alloc: Global) -> Making<'a>
 }
 
 pub(crate) fn collect_command<'a>(alloc: Global) -> Making<'a>
-    ensures { Makes result collect_grammar }
+    ensures { (tables : ValueParser) × AreTables tables × Makes result (collect_grammar tables) }
 {
     database_command(alloc, "collect", texts::COLLECT, texts::COLLECT_MORE)
         .arg(uploads_arg(alloc))
         .arg(list_arg(alloc))
         .arg(then_export_arg(alloc))
+        .arg(tables_arg(alloc, texts::MADE_TABLES_HELP))
 }
 
 fn export_command<'a>(alloc: Global) -> Making<'a>
@@ -85,9 +87,12 @@ fn check_command<'a>(alloc: Global) -> Making<'a>
 }
 
 fn migrate_command<'a>(alloc: Global) -> Making<'a>
-    ensures { Makes result (database_grammar (codes "migrate")) }
+    ensures { (tables : ValueParser) × AreTables tables × Makes result (migrate_grammar tables) }
 {
-    database_command(alloc, "migrate", texts::MIGRATE, texts::MIGRATE_MORE)
+    database_command(alloc, "migrate", texts::MIGRATE, texts::MIGRATE_MORE).arg(tables_arg(
+        alloc,
+        texts::NEW_TABLES_HELP,
+    ))
 }
 
 fn verify_command<'a>(alloc: Global) -> Making<'a>

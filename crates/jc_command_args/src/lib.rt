@@ -9,6 +9,6 @@ mod request;
 mod texts;
 mod words;
 
-pub use request::{InputKind, Request, Source};
+pub use request::{InputKind, Request, Source, Tables};
 pub use texts::CODES;
 pub use words::parse;

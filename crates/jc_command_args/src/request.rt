@@ -3,17 +3,21 @@
 /// What the command line asks for. Texts are as they were given.
 #[derive(Debug, Drop)]
 pub enum Request<'a> {
-    /// Uploads taken into the journal of a database, in this order; if none is named, the one on standard input. Once all
-    /// are answered, the journal goes to a file as an export stream, if one is named.
+    /// Uploads taken into the journal of a database, in this order; if none is named, the one on standard input. The
+    /// database is made in these tables if there is none. Once all are answered, the journal goes to a file as an export
+    /// stream, if one is named.
     Collect {
         database: &'a str,
+        tables: Tables,
         uploads: Vec<&'a str>,
         then_export: Option<&'a str>,
     },
-    /// Uploads that the lines of a file name, where `-` is standard input, taken into the journal of a database. Once all
-    /// are answered, the journal goes to a file as an export stream, if one is named.
+    /// Uploads that the lines of a file name, where `-` is standard input, taken into the journal of a database. The
+    /// database is made in these tables if there is none. Once all are answered, the journal goes to a file as an export
+    /// stream, if one is named.
     CollectListed {
         database: &'a str,
+        tables: Tables,
         list: &'a str,
         then_export: Option<&'a str>,
     },
@@ -34,9 +38,10 @@ pub enum Request<'a> {
     Check {
         database: &'a str,
     },
-    /// The journal of a database put into the tables of the present version, or what is wrong with it.
+    /// The journal of a database put into these tables, or what is wrong with it.
     Migrate {
         database: &'a str,
+        tables: Tables,
     },
     /// How the file reads.
     Verify {
@@ -60,6 +65,15 @@ pub enum Request<'a> {
     },
     /// What each code means.
     ListCodes,
+}
+
+/// The tables of a database.
+#[derive(Clone, Copy, Debug)]
+pub enum Tables {
+    /// Those of schema 2, where a field is found by the key of its entry.
+    ByKey,
+    /// Those of schema 3, where a field is found by its number.
+    ByNumber,
 }
 
 /// A machine's journal as a source of uploads.

@@ -50,6 +50,8 @@ be opened is answered `no - - 61 0`, and the next one is taken.
 With --then-export, FILE gets what `export` would write then, or stays as it was if that fails. What is answered stays
 stored.
 
+A database with tables by number is smaller, and four times as fast. One that is there keeps the tables that it has.
+
 Example: the uploads of two machines, and the answers to send back to them
   journal-collect collect logs.db web.upload mail.upload > answers
 
@@ -208,6 +210,12 @@ pub(crate) const LIST_HELP: &str =
 
 pub(crate) const THEN_EXPORT_HELP: &str =
     "A file that gets all stored entries as an export stream, once the uploads are answered";
+
+pub(crate) const MADE_TABLES_HELP: &str =
+    "The tables of a new database: 2, by key (the default), or 3, by number";
+
+pub(crate) const NEW_TABLES_HELP: &str =
+    "The tables that the entries go into: 2, by key (the default), or 3, by number";
 
 pub(crate) const ID_HELP: &str = "Only entries with this sequence id, 32 hexadecimal digits";
 

@@ -1,13 +1,8 @@
 -- The closed files have the journal that was counted.
-use Rattle.std.proofs.Common.{inl, ap, ◌∙◌}
-use Rattle.std.specs.FinMap.{len}
-use Rattle.sqlite.specs.Files.{over_files}
-use Rattle.jc_base.specs.Journal.{Journal}
-use Rattle.jc_store.specs.Meaning.{journal_of}
-use Rattle.jc_schema_two.specs.Tables.{two}
-use Rattle.jc_collector.specs.Checked.{IsHealth}
+use Rattle.std.proofs.Common.{inl, refl}
+use Rattle.jc_collector.specs.Checked.{Counts, IsHealth}
 use Rattle.jc_collector.specs.Database.{IsStoreFailure}
-use Rattle.jc_collector.specs.declared.health.Health.TheVariants.{Whole}
+use Rattle.jc_collector.proofs.OverFiles.{ends_over}
 use Rattle.jc_collector.proofs.Results.{IfOk-each, IfOk-three, at_ok, failure_of_other, value_of_other}
 use Rattle.jc_collector.proofs.health.count_and_close.Goals as goal
 
@@ -17,17 +12,15 @@ returns-clause-sound g c = IfOk-each c.close_after.result _ _ (λ closed sound c
 pub returns-clause-counted : goal.returns-clause-counted
 returns-clause-counted g c =
     let counted = c.count-counted.ensures in
+    let first = c.args.keeper.conn in
+    let last = c.count-counted.new.keeper.conn in
     IfOk-three c.close_after.result _ _ _ _
-    (λ closed done sound always. λ clean before has.
-    let last = sound clean in
-    record {
-      found = journal_of two over_files c.count-counted.new.keeper.conn;
-      is = record {
-        counted = at_ok c.count-counted.result closed.value _ done (counted.counted last has.made) ∙ ap (λ (journal : Journal). Whole (len journal)) has.is;
-        stays = counted.keeps.same (counted.before last) has.made last ∙ has.is;
-      };
-      keeps = always clean (counted.keeps.made has.made);
+    (λ closed done sound always. ends_over g.L.Layout.meaning first last last counted.before counted.keeps.made (Counts closed.value)
+    (λ now made. record {
+      counted = at_ok c.count-counted.result closed.value _ done (counted.counted now made);
+      stays = counted.keeps.same (counted.before now) made now;
     })
+    (λ now. now) (record { same = λ _ _ _. refl; made = λ made. made }) closed.files sound always)
     c.close_after.ensures.done c.close_after.ensures.sound c.close_after.ensures.keeps
 
 pub returns-clause-health : goal.returns-clause-health

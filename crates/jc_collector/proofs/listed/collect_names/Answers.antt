@@ -11,10 +11,10 @@ use Rattle.jc_collector.proofs.listed.collect_names.Goals as goal
 
 pub returns-clause-kept : goal.returns-clause-kept
 returns-clause-kept g c =
-    IfOk-both c.close_after.result _ _ _
-    (λ closed sound always. leads_on (image_at g.S.Start) c.in_ok-done.field-0.keeper.conn closed.files sound always KeepsStored
+    IfOk-both c.close_opened.result _ _ _
+    (λ closed sound always. leads_on c.args.tables (image_at g.S.Start) c.in_ok-done.field-0.keeper closed.files sound always c.in_ok-done.ensures.kind KeepsStored
     c.in_ok-done.ensures.kept)
-    c.close_after.ensures.sound c.close_after.ensures.keeps
+    c.close_opened.ensures.sound c.close_opened.ensures.keeps
 
 pub returns-clause-each : goal.returns-clause-each
 returns-clause-each g c =
@@ -23,29 +23,29 @@ returns-clause-each g c =
     let text = g.L.Read.remaining c.args.names.now in
     let run = c.in_ok-done.ensures in
     let it = c.in_ok-done.field-0 in
-    IfOk-three c.close_after.result _ _ _ _
-    (λ closed done sound always. leads_named (image_at g.S.Start) it.keeper.conn closed.files sound always run.recovers closed.value old new
+    IfOk-three c.close_opened.result _ _ _ _
+    (λ closed done sound always. leads_named c.args.tables (image_at g.S.Start) it.keeper closed.files sound always run.kind run.recovers closed.value old new
     it.done done text run.each)
-    c.close_after.ensures.done c.close_after.ensures.sound c.close_after.ensures.keeps
+    c.close_opened.ensures.done c.close_opened.ensures.sound c.close_opened.ensures.keeps
 
 pub returns-clause-printed : goal.returns-clause-printed
 returns-clause-printed g c =
-    value_of_other c.close_after.result c.in_ok-done.field-0.done (λ closed. closed.value) _ c.close_after.ensures.done
+    value_of_other c.close_opened.result c.in_ok-done.field-0.done (λ closed. closed.value) _ c.close_opened.ensures.done
     c.in_ok-done.ensures.printed
 
 pub returns-clause-quiet : goal.returns-clause-quiet
 returns-clause-quiet g c =
-    value_of_other c.close_after.result c.in_ok-done.field-0.done (λ closed. closed.value) _ c.close_after.ensures.done
+    value_of_other c.close_opened.result c.in_ok-done.field-0.done (λ closed. closed.value) _ c.close_opened.ensures.done
     c.in_ok-done.ensures.quiet
 
 pub returns-clause-failed : goal.returns-clause-failed
 returns-clause-failed g c =
-    IfErr-each c.close_after.result MayEndNames _ (by_names c.args.database.now)
-    (failure_of_other c.close_after.result c.in_ok-done.field-0.done _ MayEndNames c.close_after.ensures.failed
+    IfErr-each c.close_opened.result MayEndNames _ (by_names c.args.database.now)
+    (failure_of_other c.close_opened.result c.in_ok-done.field-0.done _ MayEndNames c.close_opened.ensures.failed
     c.in_ok-done.ensures.stopped (λ failure is. inr (inr (inl is))))
 
 pub returns-clause-untouched : goal.returns-clause-untouched
 returns-clause-untouched g c =
-    IfErr-each c.close_after.result MayEndNames _ (λ failure out judged. absurd (judged (names_failed failure out)))
-    (failure_of_other c.close_after.result c.in_ok-done.field-0.done _ MayEndNames c.close_after.ensures.failed
+    IfErr-each c.close_opened.result MayEndNames _ (λ failure out judged. absurd (judged (names_failed failure out)))
+    (failure_of_other c.close_opened.result c.in_ok-done.field-0.done _ MayEndNames c.close_opened.ensures.failed
     c.in_ok-done.ensures.stopped (λ failure is. inr (inr (inl is))))

@@ -1,64 +1,91 @@
 -- Whatever a crash leaves is a journal, which keeps what was printed.
-use Rattle.std.proofs.Common.{length}
+use Rattle.std.proofs.Common.{◌≡◌, Err, IfErr, IfOk, OnOk, length}
 use Rattle.std.proofs.Math.Logic.{∥∥₁_map}
+use Rattle.sqlite.specs.FileStore.{state}
+use Rattle.sqlite.specs.Recovery.{Image}
 use Rattle.sqlite.specs.WalFiles.{image_at}
+use Rattle.jc_command_shared.specs.declared.failure.Failure.TheVariants.{WriteFailed}
 use Rattle.jc_collector_answers.specs.Tied.{PrintsWith, PrintsFront}
-use Rattle.jc_collector.specs.Open.{HoldsOpen}
-use Rattle.jc_collector.specs.OverFiles.{AnyLeft, LeavesEach}
+use Rattle.jc_collector.specs.Open.{HoldsIn}
+use Rattle.jc_collector.specs.Kinds.{kind_of}
+use Rattle.jc_collector.specs.OverFiles.{AnyLeft, LeavesEach, LeavesFirst, LeavesPrinted}
+use Rattle.jc_collector.proofs.Found.{at_kind}
 use Rattle.jc_collector.proofs.Open.{front_other, left_each, with_other}
 use Rattle.jc_collector.proofs.Results.{IfErr-each, IfOk-each, on_ok_if}
 use Rattle.jc_collector.proofs.stopping.collect_and_stop.Goals as goal
 
 pub returns-clause-each : goal.returns-clause-each
-returns-clause-each g c = λ clean before begin.
+returns-clause-each g c = λ clean.
     let old = g.O.Write.contents c.args.output.now in
     let new = g.O.Write.contents c.answer_deliveries.new.output in
     let run = c.in_ok-done.ensures in
     let it = c.in_ok-done.field-0 in
-    let files = c.stop_keeper-files.result in
-    IfOk-each it.done _ (λ status. PrintsWith (λ answers. AnyLeft files (LeavesEach before answers)) (length c.args.deliveries.now) status old new)
-    (λ status p. with_other (HoldsOpen it.keeper.conn before) (λ answers. AnyLeft files (LeavesEach before answers))
-    (left_each (image_at g.S.Start) it.keeper.conn files c.stop_keeper-files.ensures.clean
-    (c.stop_keeper-files.ensures.left (λ db journal. journal.spells.sound)) run.recovers clean before begin)
+    let files = c.stop_opened-files.result in
+    at_kind c.args.tables (image_at g.S.Start) it.keeper run.kind
+    (λ kind before. IfOk it.done (λ status. PrintsWith (λ answers. AnyLeft files (LeavesEach kind before answers)) (length c.args.deliveries.now) status old new))
+    (c.stop_opened-files.ensures.clean clean)
+    (λ before begin.
+    IfOk-each it.done _ (λ status. PrintsWith (λ answers. AnyLeft files (LeavesEach (kind_of it.keeper) before answers)) (length c.args.deliveries.now) status old new)
+    (λ status p. with_other (HoldsIn it.keeper before) (λ answers. AnyLeft files (LeavesEach (kind_of it.keeper) before answers))
+    (left_each c.args.tables (image_at g.S.Start) it.keeper files c.stop_opened-files.ensures.clean
+    c.stop_opened-files.ensures.left run.recovers clean before begin)
     (length c.args.deliveries.now) status old new p)
-    (run.each (c.stop_keeper-files.ensures.clean clean) before begin)
+    (run.each (c.stop_opened-files.ensures.clean clean) before begin))
 
 pub returns-clause-each_failed : goal.returns-clause-each_failed
-returns-clause-each_failed g c = λ clean before begin.
+returns-clause-each_failed g c = λ clean.
     let old = g.O.Write.contents c.args.output.now in
     let new = g.O.Write.contents c.answer_deliveries.new.output in
     let run = c.in_ok-done.ensures in
     let it = c.in_ok-done.field-0 in
-    let files = c.stop_keeper-files.result in
-    IfErr-each it.done _ (λ _. PrintsFront (λ answers. AnyLeft files (LeavesEach before answers)) old new)
-    (λ failure p. front_other (HoldsOpen it.keeper.conn before) (λ answers. AnyLeft files (LeavesEach before answers))
-    (left_each (image_at g.S.Start) it.keeper.conn files c.stop_keeper-files.ensures.clean
-    (c.stop_keeper-files.ensures.left (λ db journal. journal.spells.sound)) run.recovers clean before begin)
+    let files = c.stop_opened-files.result in
+    at_kind c.args.tables (image_at g.S.Start) it.keeper run.kind
+    (λ kind before. IfErr it.done (λ _. PrintsFront (λ answers. AnyLeft files (LeavesEach kind before answers)) old new))
+    (c.stop_opened-files.ensures.clean clean)
+    (λ before begin.
+    IfErr-each it.done _ (λ _. PrintsFront (λ answers. AnyLeft files (LeavesEach (kind_of it.keeper) before answers)) old new)
+    (λ failure p. front_other (HoldsIn it.keeper before) (λ answers. AnyLeft files (LeavesEach (kind_of it.keeper) before answers))
+    (left_each c.args.tables (image_at g.S.Start) it.keeper files c.stop_opened-files.ensures.clean
+    c.stop_opened-files.ensures.left run.recovers clean before begin)
     old new p)
-    (run.each_failed (c.stop_keeper-files.ensures.clean clean) before begin)
+    (run.each_failed (c.stop_opened-files.ensures.clean clean) before begin))
 
 pub returns-clause-printed : goal.returns-clause-printed
-returns-clause-printed g c = λ clean before begin uploads are left may.
+returns-clause-printed g c = λ clean kind before begin uploads are.
+    let old = g.O.Write.contents c.args.output.now in
+    let new = g.O.Write.contents c.answer_deliveries.new.output in
     let run = c.in_ok-done.ensures in
     let it = c.in_ok-done.field-0 in
-    let early = c.stop_keeper-files.ensures.clean clean in
-    on_ok_if it.done _
+    let early = c.stop_opened-files.ensures.clean clean in
+    at_kind c.args.tables (image_at g.S.Start) it.keeper run.kind
+    (λ kind before. (left : Image) → (state c.stop_opened-files.result).may_leave left → OnOk it.done (∥ LeavesPrinted kind uploads before old new left ∥₁))
+    early
+    (λ before begin left may. on_ok_if it.done _
     (λ status is. ∥∥₁_map
-    (c.stop_keeper-files.ensures.left (λ db journal. journal.spells.sound) clean (run.recovers early before begin).journals left may)
+    (c.stop_opened-files.ensures.left clean (run.recovers early before begin).journals left may)
     (λ found. record {
       found = found.0;
       keeps = is _ (run.crash uploads are early before begin found.0 found.1);
       holds = found.2;
-    }))
+    })))
+    kind before begin
 
 pub returns-clause-unprinted : goal.returns-clause-unprinted
-returns-clause-unprinted g c = λ clean before begin uploads are left may failed.
+returns-clause-unprinted g c = λ clean kind before begin uploads are.
+    let old = g.O.Write.contents c.args.output.now in
+    let new = g.O.Write.contents c.answer_deliveries.new.output in
     let run = c.in_ok-done.ensures in
-    let early = c.stop_keeper-files.ensures.clean clean in
-    ∥∥₁_map
-    (c.stop_keeper-files.ensures.left (λ db journal. journal.spells.sound) clean (run.recovers early before begin).journals left may)
+    let it = c.in_ok-done.field-0 in
+    let early = c.stop_opened-files.ensures.clean clean in
+    at_kind c.args.tables (image_at g.S.Start) it.keeper run.kind
+    (λ kind before. (left : Image) → (state c.stop_opened-files.result).may_leave left → it.done ≡ Err WriteFailed
+    → ∥ LeavesFirst kind uploads before old new left ∥₁)
+    early
+    (λ before begin left may failed. ∥∥₁_map
+    (c.stop_opened-files.ensures.left clean (run.recovers early before begin).journals left may)
     (λ found. record {
       found = found.0;
       keeps = run.crash_unprinted uploads are early before begin found.0 found.1 failed;
       holds = found.2;
-    })
+    }))
+    kind before begin

@@ -1,36 +1,47 @@
 -- Whatever a crash leaves is a journal, which keeps what was printed.
+use Rattle.std.proofs.Common.{IfErr, IfOk}
 use Rattle.sqlite.specs.WalFiles.{image_at}
 use Rattle.jc_collector_answers.specs.Tied.{NamedWith, PrintsFront}
-use Rattle.jc_collector.specs.Open.{HoldsOpen}
+use Rattle.jc_collector.specs.Open.{HoldsIn}
+use Rattle.jc_collector.specs.Kinds.{kind_of}
 use Rattle.jc_collector.specs.OverFiles.{AnyLeft, LeavesEach}
+use Rattle.jc_collector.proofs.Found.{at_kind}
 use Rattle.jc_collector.proofs.Open.{front_other, left_each, named_other}
 use Rattle.jc_collector.proofs.Results.{IfErr-each, IfOk-each}
 use Rattle.jc_collector.proofs.stopping.collect_lines_and_stop.Goals as goal
 
 pub returns-clause-each : goal.returns-clause-each
-returns-clause-each g c = λ clean before begin.
+returns-clause-each g c = λ clean.
     let old = g.O.Write.contents c.args.output.now in
     let new = g.O.Write.contents c.answer_lines.new.output in
     let run = c.in_ok-done.ensures in
     let it = c.in_ok-done.field-0 in
-    let files = c.stop_keeper-files.result in
-    IfOk-each it.done _ (λ status. NamedWith (λ answers. AnyLeft files (LeavesEach before answers)) (g.L.Read.remaining c.args.names.now) status old new)
-    (λ status p. named_other (HoldsOpen it.keeper.conn before) (λ answers. AnyLeft files (LeavesEach before answers))
-    (left_each (image_at g.S.Start) it.keeper.conn files c.stop_keeper-files.ensures.clean
-    (c.stop_keeper-files.ensures.left (λ db journal. journal.spells.sound)) run.recovers clean before begin)
+    let files = c.stop_opened-files.result in
+    at_kind c.args.tables (image_at g.S.Start) it.keeper run.kind
+    (λ kind before. IfOk it.done (λ status. NamedWith (λ answers. AnyLeft files (LeavesEach kind before answers)) (g.L.Read.remaining c.args.names.now) status old new))
+    (c.stop_opened-files.ensures.clean clean)
+    (λ before begin.
+    IfOk-each it.done _ (λ status. NamedWith (λ answers. AnyLeft files (LeavesEach (kind_of it.keeper) before answers)) (g.L.Read.remaining c.args.names.now) status old new)
+    (λ status p. named_other (HoldsIn it.keeper before) (λ answers. AnyLeft files (LeavesEach (kind_of it.keeper) before answers))
+    (left_each c.args.tables (image_at g.S.Start) it.keeper files c.stop_opened-files.ensures.clean
+    c.stop_opened-files.ensures.left run.recovers clean before begin)
     (g.L.Read.remaining c.args.names.now) status old new p)
-    (run.each (c.stop_keeper-files.ensures.clean clean) before begin)
+    (run.each (c.stop_opened-files.ensures.clean clean) before begin))
 
 pub returns-clause-each_failed : goal.returns-clause-each_failed
-returns-clause-each_failed g c = λ clean before begin.
+returns-clause-each_failed g c = λ clean.
     let old = g.O.Write.contents c.args.output.now in
     let new = g.O.Write.contents c.answer_lines.new.output in
     let run = c.in_ok-done.ensures in
     let it = c.in_ok-done.field-0 in
-    let files = c.stop_keeper-files.result in
-    IfErr-each it.done _ (λ _. PrintsFront (λ answers. AnyLeft files (LeavesEach before answers)) old new)
-    (λ failure p. front_other (HoldsOpen it.keeper.conn before) (λ answers. AnyLeft files (LeavesEach before answers))
-    (left_each (image_at g.S.Start) it.keeper.conn files c.stop_keeper-files.ensures.clean
-    (c.stop_keeper-files.ensures.left (λ db journal. journal.spells.sound)) run.recovers clean before begin)
+    let files = c.stop_opened-files.result in
+    at_kind c.args.tables (image_at g.S.Start) it.keeper run.kind
+    (λ kind before. IfErr it.done (λ _. PrintsFront (λ answers. AnyLeft files (LeavesEach kind before answers)) old new))
+    (c.stop_opened-files.ensures.clean clean)
+    (λ before begin.
+    IfErr-each it.done _ (λ _. PrintsFront (λ answers. AnyLeft files (LeavesEach (kind_of it.keeper) before answers)) old new)
+    (λ failure p. front_other (HoldsIn it.keeper before) (λ answers. AnyLeft files (LeavesEach (kind_of it.keeper) before answers))
+    (left_each c.args.tables (image_at g.S.Start) it.keeper files c.stop_opened-files.ensures.clean
+    c.stop_opened-files.ensures.left run.recovers clean before begin)
     old new p)
-    (run.each_failed (c.stop_keeper-files.ensures.clean clean) before begin)
+    (run.each_failed (c.stop_opened-files.ensures.clean clean) before begin))

@@ -8,21 +8,21 @@ use Rattle.jc_collector_answers.specs.Tied.{NamedWith}
 use Rattle.jc_collector.specs.OverFiles.{AnyLeft, FindsEach, LeavesEach}
 use Rattle.jc_collector.proofs.Open.{named_other}
 use Rattle.jc_collector.proofs.OverFiles.{found_each}
-use Rattle.jc_collector.proofs.Results.{IfOk-both, IfOk-each}
+use Rattle.jc_collector.proofs.Results.{IfOk-each}
 use Rattle.jc_collector.proofs.stopping.open_after_lines.Goals as goal
 
 pub returns : goal.returns
-returns g c = λ clean before begin.
+returns g c = λ clean kind before begin.
     let old = g.O.Write.contents c.args.output.now in
     let new = g.O.Write.contents c.collect_lines_and_stop.new.output in
     let stopped = c.in_ok-stopped.stopped in
     let Finds : List Answer → Type 0
     = λ answers. AnyLeft stopped.files (λ left. left ≡ image_at g.T.Start → IfOk c.open_or_make.result (FindsEach before answers)) in
     IfOk-each stopped.answered _ (λ status. NamedWith Finds (g.L.Read.remaining c.args.names.now) status old new)
-    (λ status p. named_other (λ answers. AnyLeft stopped.files (LeavesEach before answers)) Finds
-    (λ answers any left may. ∥∥₁_map (any left may) (λ it same. IfOk-both c.open_or_make.result _ _ _
-    (λ opened sound begins late. found_each before answers (image_at g.T.Start) opened.conn (begins (sound late))
-    (subst (λ (image : Image). LeavesEach before answers image) same it))
-    c.open_or_make.ensures.sound c.open_or_make.ensures.begins))
+    (λ status p. named_other (λ answers. AnyLeft stopped.files (LeavesEach kind before answers)) Finds
+    (λ answers any left may. ∥∥₁_map (any left may) (λ it same. IfOk-each c.open_or_make.result _ _
+    (λ opened found late. found_each c.args.tables (image_at g.T.Start) opened found late kind before answers
+    (subst (λ (image : Image). LeavesEach kind before answers image) same it))
+    c.open_or_make.ensures.found))
     (g.L.Read.remaining c.args.names.now) status old new p)
-    (c.in_ok-stopped.ensures.each clean before begin)
+    (c.in_ok-stopped.ensures.each clean kind before begin)

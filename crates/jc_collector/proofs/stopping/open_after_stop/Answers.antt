@@ -8,31 +8,31 @@ use Rattle.jc_collector_answers.specs.Tied.{PrintsWith}
 use Rattle.jc_collector.specs.OverFiles.{AnyLeft, FindsEach, LeavesEach, LeavesPrinted}
 use Rattle.jc_collector.proofs.Open.{with_other}
 use Rattle.jc_collector.proofs.OverFiles.{found_again, found_each}
-use Rattle.jc_collector.proofs.Results.{IfOk-both, IfOk-each, on_ok_if}
+use Rattle.jc_collector.proofs.Results.{IfOk-each, on_ok_if}
 use Rattle.jc_collector.proofs.stopping.open_after_stop.Goals as goal
 
 pub returns-clause-each : goal.returns-clause-each
-returns-clause-each g c = λ clean before begin.
+returns-clause-each g c = λ clean kind before begin.
     let old = g.O.Write.contents c.args.output.now in
     let new = g.O.Write.contents c.collect_and_stop.new.output in
     let stopped = c.in_ok-stopped.stopped in
     let Finds : List Answer → Type 0
     = λ answers. AnyLeft stopped.files (λ left. left ≡ image_at g.T.Start → IfOk c.open_or_make.result (FindsEach before answers)) in
     IfOk-each stopped.answered _ (λ status. PrintsWith Finds (length c.args.deliveries.now) status old new)
-    (λ status p. with_other (λ answers. AnyLeft stopped.files (LeavesEach before answers)) Finds
-    (λ answers any left may. ∥∥₁_map (any left may) (λ it same. IfOk-both c.open_or_make.result _ _ _
-    (λ opened sound begins late. found_each before answers (image_at g.T.Start) opened.conn (begins (sound late))
-    (subst (λ (image : Image). LeavesEach before answers image) same it))
-    c.open_or_make.ensures.sound c.open_or_make.ensures.begins))
+    (λ status p. with_other (λ answers. AnyLeft stopped.files (LeavesEach kind before answers)) Finds
+    (λ answers any left may. ∥∥₁_map (any left may) (λ it same. IfOk-each c.open_or_make.result _ _
+    (λ opened found late. found_each c.args.tables (image_at g.T.Start) opened found late kind before answers
+    (subst (λ (image : Image). LeavesEach kind before answers image) same it))
+    c.open_or_make.ensures.found))
     (length c.args.deliveries.now) status old new p)
-    (c.in_ok-stopped.ensures.each clean before begin)
+    (c.in_ok-stopped.ensures.each clean kind before begin)
 
 pub returns-clause-found : goal.returns-clause-found
-returns-clause-found g c = λ clean before begin uploads are left may same.
+returns-clause-found g c = λ clean kind before begin uploads are left may same.
     let old = g.O.Write.contents c.args.output.now in
     let new = g.O.Write.contents c.collect_and_stop.new.output in
     on_ok_if c.in_ok-stopped.stopped.answered _
-    (λ status is. IfOk-both c.open_or_make.result _ _ _
-    (λ opened sound begins late. found_again uploads before old new (image_at g.T.Start) opened.conn (begins (sound late))
-    (subst (λ (image : Image). ∥ LeavesPrinted uploads before old new image ∥₁) same (is _ (c.in_ok-stopped.ensures.printed clean before begin uploads are left may))))
-    c.open_or_make.ensures.sound c.open_or_make.ensures.begins)
+    (λ status is. IfOk-each c.open_or_make.result _ _
+    (λ opened found late. found_again c.args.tables (image_at g.T.Start) opened found late kind uploads before old new
+    (subst (λ (image : Image). ∥ LeavesPrinted kind uploads before old new image ∥₁) same (is _ (c.in_ok-stopped.ensures.printed clean kind before begin uploads are left may))))
+    c.open_or_make.ensures.found)

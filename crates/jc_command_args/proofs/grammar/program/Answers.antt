@@ -8,14 +8,20 @@ use Rattle.jc_command_args.proofs.grammar.program.Goals as goal
 
 pub returns : goal.returns
 returns c =
+    let collector = c.collector.ensures in
+    let base = collector_grammar collector.0 collector.1 in
     let verify = c.verify_command.ensures in
     let upload = c.upload_command.ensures in
     let ack = c.ack_command.ensures in
-    let one = with_subcommand collector_grammar (verify_grammar verify.0).top in
+    let one = with_subcommand base (verify_grammar verify.0).top in
     let two = with_subcommand one inspect_grammar.top in
     let three = with_subcommand two (upload_grammar upload.0).top in
     let four = with_subcommand three (ack_grammar ack.0).top in
     IfOk-weaker c.subcommand-5.result.command _ _ (λ command is. record {
+      collect = collector.0;
+      collect_tables = collector.2;
+      migrate = collector.1;
+      migrate_tables = collector.3;
       verify = verify.0;
       verify_kinds = verify.1;
       upload = upload.0;
@@ -27,6 +33,6 @@ returns c =
     (c.subcommand-4.ensures three (ack_grammar ack.0)
     (c.subcommand-3.ensures two (upload_grammar upload.0)
     (c.subcommand-2.ensures one inspect_grammar
-    (c.subcommand.ensures collector_grammar (verify_grammar verify.0) c.collector.ensures verify.2) c.inspect_command.ensures)
+    (c.subcommand.ensures base (verify_grammar verify.0) collector.4 verify.2) c.inspect_command.ensures)
     upload.2) ack.2)
     (made c.codes_command.result (new_app (codes "codes")) c.codes_command.ensures))
