@@ -91,6 +91,19 @@ expect 2 "" "~error: a value is required for '--then-export <FILE>' but none was
     "$PROGRAM" collect db --then-export
 expect 2 "" "~error: the argument '--then-export <FILE>' cannot be used multiple times*" \
     "$PROGRAM" collect db --then-export out --then-export out
+for command in collect migrate; do
+    for word in 1 4 02 23 key " 2"; do
+        expect 2 "" "~error: invalid value '$word' for '--tables <N>'"$'\n'"  \\[possible values: 2, 3\\]*" \
+            "$PROGRAM" $command --tables "$word" "$folder/none"
+    done
+    expect 2 "" "~error: a value is required for '--tables <N>' but none was supplied*" \
+        "$PROGRAM" $command "$folder/none" --tables
+    expect 2 "" "~error: the argument '--tables <N>' cannot be used multiple times*" \
+        "$PROGRAM" $command "$folder/none" --tables 2 --tables 3
+    expect 2 "" "~$missing"$'\n'"  <DB>*" "$PROGRAM" $command --tables 3
+done
+[[ ! -e $folder/none ]] || differs "a database is made though its tables are wrong"
+expect 2 "" "~error: unexpected argument '--tables' found*" "$PROGRAM" check "$folder/none" --tables 2
 expect 2 "" "~$more*" "$PROGRAM" export db more
 expect 2 "" "~$more*" "$PROGRAM" check db more
 expect 2 "" "~$more*" "$PROGRAM" show db more

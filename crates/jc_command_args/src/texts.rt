@@ -212,10 +212,10 @@ pub(crate) const THEN_EXPORT_HELP: &str =
     "A file that gets all stored entries as an export stream, once the uploads are answered";
 
 pub(crate) const MADE_TABLES_HELP: &str =
-    "The tables of a new database: 2, by key (the default), or 3, by number";
+    "The tables of a new database: 2 by key (the default), 3 by number";
 
 pub(crate) const NEW_TABLES_HELP: &str =
-    "The tables that the entries go into: 2, by key (the default), or 3, by number";
+    "The tables that the entries go into: 2 by key (the default), 3 by number";
 
 pub(crate) const ID_HELP: &str = "Only entries with this sequence id, 32 hexadecimal digits";
 
