@@ -14,17 +14,16 @@ use Rattle.sqlite.specs.Files.{file_state, over_files}
 use Rattle.jc_base.specs.Journal.{Journal}
 use Rattle.jc_command_args.specs.declared.request.Tables.{Tables}
 use Rattle.jc_command_args.specs.declared.request.Tables.TheVariants.{ByKey, ByNumber}
-use Rattle.jc_records.specs.Beside.{Shape, fresh, migrated}
 use Rattle.jc_store.specs.Meaning.{AreMade, IsSound, KeepsJournal, journal_of}
 use Rattle.jc_store.specs.Schema.{no_schema}
 use Rattle.jc_store.specs.Statements.{IsBlank}
-use Rattle.jc_schema_two.specs.Schema.{schema_two}
+use Rattle.jc_schema_two.specs.Schema.{Shape, fresh, migrated, schema_two}
 use Rattle.jc_schema_two.specs.Tables.{two}
 use Rattle.jc_schema_three.specs.Schema.{schema_three}
 use Rattle.jc_schema_three.specs.Tables.{three}
 use Rattle.jc_database.specs.Files.{AreLawful, EndsWith, HoldsJournal, IsFound, Keeps}
 use Rattle.jc_database.specs.FilesLaws.{database_found, keeps_found}
-use Rattle.jc_collector.specs.Open.{HasKind, IsFoundIn}
+use Rattle.jc_collector.specs.Open.{Begun, HasKind, IsFoundIn}
 use Rattle.jc_collector.specs.Kinds.{AreByNumber, BeginsIn, IsAdoptedFrom, IsMadeIn, LeadsIn, OpenedFiles, conn_of, kind_of, meaning_of}
 
 -- ---- the tables of each kind
@@ -124,13 +123,18 @@ module _ {D : Type 0} {g : disk.Ghosts D} (made : Tables) (image : Image) (opene
   leads_kind files sound Step ends clean =
       at_kind (λ kind before. EndsWith (meaning_of kind) g files (Step before)) (sound clean).clean (ends clean)
 
+-- a connection that was opened, for a journal in tables of its kind
+pub begun_found : {D : Type 0} {g : disk.Ghosts D} (made mine : Tables) (image : Image) (first : Held (FileStore D g))
+    → IsFoundIn made mine image first → (before : Journal) → BeginsIn made mine image before → Begun (meaning_of mine) first before
+begun_found made mine image first found before begin clean = let it = found clean in (it.0, (it.1 mine before begin).1)
+
 -- the same of a keeper over tables of one kind
 pub leads_found : {D : Type 0} {g : disk.Ghosts D} (made mine : Tables) (image : Image) (first : Held (FileStore D g)) (files : Files D)
     → IsFoundIn made mine image first → (AreClean g files.log files.db → IsSound over_files first) → (Step : Journal → Journal → Type 0)
     → (AreClean g files.log files.db → (before : Journal) → (HasCleanDisk (file_state first) → IsSound over_files first × Keeps (meaning_of mine) first before)
     → EndsWith (meaning_of mine) g files (Step before))
     → LeadsIn made image g files Step
-leads_found made mine image first files found sound Step ends clean kind before begin =
+leads_found {g = g} made mine image first files found sound Step ends clean kind before begin =
     let it = found (sound clean).clean in
     let at = it.1 kind before begin in
     subst (λ (k : Tables). EndsWith (meaning_of k) g files (Step before)) (sym at.0) (ends clean before (λ _. (it.0, at.1)))

@@ -1,8 +1,8 @@
 //! Uploads answered over a database that is opened or made: all that `collect` does before the database is closed.
 
-ghost use Rattle.std.specs.Prelude.{◌≡◌, ◌≤◌, ℕ, List, Err, Some, IfOk, IfErr, OnOk, length, map};
+ghost use Rattle.std.specs.Prelude.{◌≡◌, ℕ, List, Err, Some, IfOk, IfErr, OnOk, length, map};
 ghost use Rattle.std.specs.Io.KnownBytes.{Keeps};
-ghost use Rattle.sqlite.specs.View.{doubt};
+ghost use Rattle.sqlite.specs.State.{HasCleanDisk};
 ghost use Rattle.sqlite.specs.WalFiles.{image_at};
 ghost use Rattle.sqlite.specs.Files.{file_state};
 ghost use Rattle.jc_collect.specs.Delivered.{of_delivery};
@@ -99,7 +99,7 @@ fn answer_over<'a, S: Start, L: Listed, R: ByteStream, B: ByteSpace, O: Write>(
     deliveries: &mut [Delivery<R, B>],
     output: &mut O,
 ) -> Result<Status, Failure<'a>>
-    ensures clean { doubt (file_state keeper.old.conn).is_clean ≤ doubt (file_state keeper.new.conn).is_clean }
+    ensures clean { HasCleanDisk (file_state keeper.new.conn) → HasCleanDisk (file_state keeper.old.conn) }
     ensures kept { StandsOver L.meaning keeper.new.conn (Begun L.meaning keeper.old.conn) KeepsStored }
     ensures collected { (uploads : List (List ℕ)) → map (of_delivery R.remaining B.bytes) deliveries.old ≡ map (λ u. Some u) uploads
         → OnOk result (StandsOver L.meaning keeper.new.conn (Begun L.meaning keeper.old.conn)
@@ -188,7 +188,7 @@ fn answer_lines_over<'a, S: Start, T: Listed, L: BufRead, O: Write, E: Write>(
     output: &mut O,
     errors: &mut E,
 ) -> Result<Status, Failure<'a>>
-    ensures clean { doubt (file_state keeper.old.conn).is_clean ≤ doubt (file_state keeper.new.conn).is_clean }
+    ensures clean { HasCleanDisk (file_state keeper.new.conn) → HasCleanDisk (file_state keeper.old.conn) }
     ensures kept { StandsOver T.meaning keeper.new.conn (Begun T.meaning keeper.old.conn) KeepsStored }
     // What the printed lines acknowledge is stored, and found after a crash.
     ensures each { WhileClean keeper.new.conn (Begun T.meaning keeper.old.conn)

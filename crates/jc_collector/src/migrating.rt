@@ -48,12 +48,27 @@ pub fn migrate<'a, S: Start, O: Write>(
         → Keeps (O.contents output.old) (O.contents output.new)) }
 {
     check_name(database)?;
-    let Examined { value, files } = match tables {
-        Tables::ByKey => migrated::<S, SchemaTwo>(rt, start, database)?,
-        Tables::ByNumber => migrated::<S, SchemaThree>(rt, start, database)?,
-    };
+    let Examined { value, files } = migrated_to(rt, start, database, tables)?;
     let value = print_health(value, output)?;
     Ok(Examined { value, files })
+}
+
+/// Puts the journal of the database at a path into these tables, and counts its entries.
+fn migrated_to<'a, S: Start>(
+    rt: &HostRuntime,
+    start: S,
+    database: &'a str,
+    tables: Tables,
+) -> Result<Examined<Health, S>, Failure<'a>>
+    ensures moved { IfOk result (λ examined. MatchOption examined.files (health_status examined.value ≡ Status.Refused)
+        (λ files. LeadsOver one (meaning_of tables) (image_at S.Start) ⟦<FileFrom<S> as Disk>⟧ files (Counts examined.value))) }
+    ensures health { IfOk result (λ examined. IsHealth examined.value) }
+    ensures failed { IfErr result (WhyNoHealth database.now) }
+{
+    match tables {
+        Tables::ByKey => migrated::<S, SchemaTwo>(rt, start, database),
+        Tables::ByNumber => migrated::<S, SchemaThree>(rt, start, database),
+    }
 }
 
 /// Puts the journal of the database at a path into tables of a layout, and counts its entries.

@@ -95,9 +95,7 @@ impl Calls {
             }
             "migrate" => self.disks.perform(&Task::Migrate, &mut self.output),
             "export" => self.disks.perform(&Task::Export, &mut self.output),
-            "export-numbers" => self
-                .disks
-                .perform(&Task::ExportNumbers, &mut self.output),
+            "export-numbers" => self.disks.perform(&Task::ExportNumbers, &mut self.output),
             "stored" => self.disks.perform(&Task::Get(operand), &mut self.output),
             "stored-numbers" => self
                 .disks

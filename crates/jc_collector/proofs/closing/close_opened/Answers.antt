@@ -1,0 +1,8 @@
+-- The keeper is that of one kind.
+use Rattle.jc_collector.proofs.closing.close_opened.Goals as goal
+
+pub returns-in-ByKey-clause-keeps : goal.returns-in-ByKey-clause-keeps
+returns-in-ByKey-clause-keeps g c = rw c.in-ByKey.is c.close_after.ensures.keeps
+
+pub returns-in-ByNumber-clause-keeps : goal.returns-in-ByNumber-clause-keeps
+returns-in-ByNumber-clause-keeps g c = rw c.in-ByNumber.is c.close_after-in-ByNumber.ensures.keeps

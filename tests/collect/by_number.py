@@ -1,0 +1,179 @@
+"""Rows over tables by number, as docs/FORMATS.md has them: usage: python3 by_number.py PROGRAM FOLDER
+
+Databases are looked at, changed and made by the sqlite3 of Python.
+"""
+import contextlib
+import os
+import sqlite3
+import subprocess
+import sys
+from collections.abc import Iterator
+
+from samples import BOOT_ID, E1, E2, E3, H1, SEQNUM_ID, entry_text, stream
+
+PROGRAM, FOLDER = sys.argv[1:]
+SOURCE = "a0a1a2a3a4a5a6a7a8a9aaabacadaeaf"
+ACK = f"ack {SOURCE} 0 {{}} {{}} 0\n"
+BY_NUMBER = [
+    "CREATE TABLE journal(one INTEGER PRIMARY KEY, version INTEGER NOT NULL) STRICT",
+    "CREATE TABLE record(id INTEGER PRIMARY KEY, seqid BLOB NOT NULL, seqnum INTEGER NOT NULL,\n"
+    "  realtime INTEGER NOT NULL, monotonic INTEGER NOT NULL, UNIQUE(seqid, seqnum)) STRICT",
+    "CREATE TABLE field(id INTEGER PRIMARY KEY, name BLOB NOT NULL, value BLOB NOT NULL) STRICT",
+]
+BY_ONE_VALUE = """
+CREATE TABLE journal(one INTEGER PRIMARY KEY, version INTEGER NOT NULL) STRICT;
+CREATE TABLE entry(seqid BLOB NOT NULL, seqnum INTEGER NOT NULL,
+  realtime INTEGER NOT NULL, monotonic INTEGER NOT NULL,
+  body BLOB NOT NULL, PRIMARY KEY(seqid, seqnum)) STRICT;
+INSERT INTO journal VALUES (1, 1);
+"""
+mistakes = 0
+rows = 0
+
+
+def expect(what: str, got: object, wanted: object) -> None:
+    global mistakes, rows
+    rows += 1
+    if got != wanted:
+        mistakes += 1
+        print(f"{what}: {got}, not {wanted}", file=sys.stderr)
+
+
+def run(*words: str, upload: bytes = b"") -> tuple[int, str]:
+    """The status of a command, and what it printed on both outputs."""
+    told = subprocess.run([PROGRAM, *words], input=upload, capture_output=True, check=False)
+    return told.returncode, told.stdout.decode() + told.stderr.decode()
+
+
+def collect(path: str, *entries: bytes, options: tuple[str, ...] = ("--tables", "3")) -> tuple[int, str]:
+    return run("collect", *options, path, upload=stream(*entries))
+
+
+@contextlib.contextmanager
+def stock(path: str) -> Iterator[sqlite3.Connection]:
+    """A database as the stock SQLite has it; what is changed is committed."""
+    connection = sqlite3.connect(path)
+    with connection:
+        yield connection
+    connection.close()
+
+
+def schema(path: str) -> list[str]:
+    with stock(path) as connection:
+        return [text for text, in connection.execute("SELECT sql FROM sqlite_schema WHERE sql IS NOT NULL ORDER BY rootpage")]
+
+
+def new(name: str) -> str:
+    return f"{FOLDER}/{name}"
+
+
+def is_made() -> None:
+    """What is made, as the stock SQLite reads it."""
+    path = new("made")
+    two = b"__REALTIME_TIMESTAMP=7\n__MONOTONIC_TIMESTAMP=8\n__SEQNUM=9\n__SEQNUM_ID=%s\nB=2\nA=3\nB=1\n\n" % (
+        SEQNUM_ID.hex().encode())
+    expect("collect", collect(path, E2, two, E1), (0, ACK.format(3, 3)))
+    expect("its tables", schema(path), BY_NUMBER)
+    with stock(path) as connection:
+        expect("the version", connection.execute("SELECT * FROM journal").fetchall(), [(1, 3)])
+        expect("records", connection.execute("SELECT * FROM record ORDER BY id").fetchall(),
+               [(1, SEQNUM_ID, 2, 1000000, 5), (2, SEQNUM_ID, 9, 7, 8), (3, SEQNUM_ID, 1, 1000000, 5)])
+        expect("fields", connection.execute("SELECT * FROM field ORDER BY id").fetchall(),
+               [(8192, b"MESSAGE", b"hi"), (16384, b"A", b"3"), (16385, b"B", b"1"), (16386, b"B", b"2"),
+                (24576, b"MESSAGE", b"hi")])
+        expect("the stock check", connection.execute("PRAGMA integrity_check").fetchall(), [("ok",)])
+
+
+def goes_on() -> None:
+    """A database stays as it is, whatever is asked for, and each command finds out which tables it has."""
+    texts = {}
+    for kind, other in (("2", "3"), ("3", "2")):
+        path = new(f"kind-{kind}")
+        expect("collect", collect(path, E1, E2, options=("--tables", kind)), (0, ACK.format(2, 2)))
+        before = schema(path)
+        expect("another option", collect(path, E2, E3, options=("--tables", other)), (0, ACK.format(2, 1)))
+        expect("no option", collect(path, E1, E3, options=()), (0, ACK.format(2, 0)))
+        expect("a conflict", collect(path, H1), (1, f"no {SOURCE} 0 60 0\n"))
+        expect("its tables", schema(path), before)
+        expect("check", run("check", path), (0, "ok 3\n"))
+        texts[kind] = [run("export", path), run("show", path), run("show", "--from", "2", "--field", "MESSAGE", path)]
+    expect("what is listed", texts["3"], texts["2"])
+    expect("an export", texts["3"][0][1].encode().replace(b"__REALTIME", b"\n__REALTIME").count(b"\n\n__REALTIME"), 3)
+    path = new("without")
+    collect(path, E1, options=())
+    with stock(path) as connection:
+        expect("without the option", connection.execute("SELECT version FROM journal").fetchall(), [(2,)])
+    expect("no such tables", run("collect", "--tables", "4", new("never"))[0], 2)
+    expect("nothing is made", os.path.exists(new("never")), False)
+
+
+# A change of three entries with two fields each, and what `check` says then. Records are in the order of keys.
+HOSTILE = {
+    "a field that belongs to no record": ("INSERT INTO field VALUES (32768, 'A', '1')", "bad 65 3"),
+    "a field below all records": ("INSERT INTO field VALUES (8191, x'41', x'31')", "bad 65 3"),
+    "a field far beyond": ("INSERT INTO field VALUES (9223372036854775807, x'41', x'31')", "bad 65 3"),
+    "a field at a negative number": ("INSERT INTO field VALUES (-1, x'41', x'31')", "bad 65 3"),
+    "a record without fields": ("DELETE FROM field WHERE id / 8192 = 2", "ok 3"),
+    "a place that is left out": ("DELETE FROM field WHERE id = 16384", "bad 65 1"),
+    "a place behind the last": ("UPDATE field SET id = id + 5 WHERE id = 24577", "bad 65 2"),
+    "names out of order": ("UPDATE field SET name = x'41' WHERE id = 16385", "bad 65 1"),
+    "a name that is none": ("UPDATE field SET name = x'3d' WHERE id = 8192", "bad 65 0"),
+    "a number of 2^50": ("UPDATE record SET id = 1125899906842624 WHERE id = 2", "bad 65 1"),
+    "the number 0": ("UPDATE record SET id = 0 WHERE id = 1", "bad 65 0"),
+    "a negative number": ("UPDATE record SET id = -7 WHERE id = 3", "bad 65 2"),
+    "a sequence id of 15 bytes": ("UPDATE record SET seqid = x'000102030405060708090a0b0c0d0e' WHERE id = 1", "bad 65 0"),
+    "the sequence number 0": ("UPDATE record SET seqnum = 0 WHERE id = 1", "bad 65 0"),
+    "a negative time": ("UPDATE record SET realtime = -1 WHERE id = 2", "bad 65 1"),
+    "version 9": ("UPDATE journal SET version = 9", "bad 64 0"),
+    "version 2": ("UPDATE journal SET version = 2", "bad 67 0"),
+    "no version": ("DELETE FROM journal", "bad 64 0"),
+    "two versions": ("INSERT INTO journal VALUES (2, 3)", "bad 64 0"),
+}
+
+
+def hostile() -> None:
+    """Rows that somebody else wrote: the first bad one in the order of keys is told, and nothing is taken up over it."""
+    def with_two(number: int) -> bytes:
+        return entry_text(number).replace(b"MESSAGE=hi\n", b"MESSAGE=hi\nPRIORITY=6\n")
+
+    for number, (what, (change, says)) in enumerate(HOSTILE.items()):
+        path = new(f"hostile-{number}")
+        collect(path, *map(with_two, (1, 2, 3)))
+        with stock(path) as connection:
+            connection.execute(change)
+        good = says.startswith("ok")
+        expect(what, run("check", path), (0 if good else 1, says + "\n"))
+        expect(f"{what}: collect", collect(path, with_two(4))[0], 0 if good else 1)
+        with stock(path) as connection:
+            expect(f"{what}: what is stored", connection.execute("SELECT count(*) FROM record").fetchone(), (3 + good,))
+
+
+def is_migrated() -> None:
+    """From tables of version 1."""
+    for kind, version in (("3", 3), ("2", 2)):
+        path = new(f"old-{kind}")
+        with stock(path) as connection:
+            connection.executescript(BY_ONE_VALUE)
+            connection.executemany("INSERT INTO entry VALUES (?, ?, ?, ?, ?)", [
+                (SEQNUM_ID, number, 1000000, 5, b"MESSAGE=hi\n_BOOT_ID=" + BOOT_ID.hex().encode() + b"\n")
+                for number in (1, 2, 3)])
+        expect("an old one", run("check", path), (1, "bad 67 0\n"))
+        expect("migrate", run("migrate", "--tables", kind, path), (0, "ok 3\n"))
+        expect("check", run("check", path), (0, "ok 3\n"))
+        expect("once more", run("migrate", "--tables", kind, path), (1, "bad 64 0\n"))
+        expect("collect", collect(path, entry_text(4)), (0, ACK.format(1, 1)))
+        with stock(path) as connection:
+            expect("the version", connection.execute("SELECT version FROM journal").fetchall(), [(version,)])
+            expect("fields", connection.execute("SELECT count(*) FROM field").fetchone(), (7,))
+            expect("old rows", connection.execute("SELECT count(*) FROM entry").fetchone(), (0,))
+
+
+def main() -> None:
+    for part in (is_made, goes_on, hostile, is_migrated):
+        part()
+    print(f"{rows} rows, {mistakes} mistakes")
+    sys.exit(mistakes > 0)
+
+
+if __name__ == "__main__":
+    main()
