@@ -60,7 +60,8 @@ def stock(path: str) -> Iterator[sqlite3.Connection]:
 
 def schema(path: str) -> list[str]:
     with stock(path) as connection:
-        return [text for text, in connection.execute("SELECT sql FROM sqlite_schema WHERE sql IS NOT NULL ORDER BY rootpage")]
+        return [text for text, in connection.execute(
+            "SELECT sql FROM sqlite_schema WHERE sql IS NOT NULL ORDER BY rootpage")]
 
 
 def new(name: str) -> str:
@@ -121,7 +122,8 @@ HOSTILE = {
     "a number of 2^50": ("UPDATE record SET id = 1125899906842624 WHERE id = 2", "bad 65 1"),
     "the number 0": ("UPDATE record SET id = 0 WHERE id = 1", "bad 65 0"),
     "a negative number": ("UPDATE record SET id = -7 WHERE id = 3", "bad 65 2"),
-    "a sequence id of 15 bytes": ("UPDATE record SET seqid = x'000102030405060708090a0b0c0d0e' WHERE id = 1", "bad 65 0"),
+    "a sequence id of 15 bytes": (
+        "UPDATE record SET seqid = x'000102030405060708090a0b0c0d0e' WHERE id = 1", "bad 65 0"),
     "the sequence number 0": ("UPDATE record SET seqnum = 0 WHERE id = 1", "bad 65 0"),
     "a negative time": ("UPDATE record SET realtime = -1 WHERE id = 2", "bad 65 1"),
     "version 9": ("UPDATE journal SET version = 9", "bad 64 0"),
@@ -132,7 +134,7 @@ HOSTILE = {
 
 
 def hostile() -> None:
-    """Rows that somebody else wrote: the first bad one in the order of keys is told, and nothing is taken up over it."""
+    """Rows that somebody else wrote: the first bad one in the order of keys is told, and nothing is stored over it."""
     def with_two(number: int) -> bytes:
         return entry_text(number).replace(b"MESSAGE=hi\n", b"MESSAGE=hi\nPRIORITY=6\n")
 
@@ -145,7 +147,8 @@ def hostile() -> None:
         expect(what, run("check", path), (0 if good else 1, says + "\n"))
         expect(f"{what}: collect", collect(path, with_two(4))[0], 0 if good else 1)
         with stock(path) as connection:
-            expect(f"{what}: what is stored", connection.execute("SELECT count(*) FROM record").fetchone(), (3 + good,))
+            stored, = connection.execute("SELECT count(*) FROM record").fetchone()
+        expect(f"{what}: what is stored", stored, 3 + good)
 
 
 def is_migrated() -> None:
@@ -154,9 +157,9 @@ def is_migrated() -> None:
         path = new(f"old-{kind}")
         with stock(path) as connection:
             connection.executescript(BY_ONE_VALUE)
-            connection.executemany("INSERT INTO entry VALUES (?, ?, ?, ?, ?)", [
-                (SEQNUM_ID, number, 1000000, 5, b"MESSAGE=hi\n_BOOT_ID=" + BOOT_ID.hex().encode() + b"\n")
-                for number in (1, 2, 3)])
+            body = b"MESSAGE=hi\n_BOOT_ID=" + BOOT_ID.hex().encode() + b"\n"
+            connection.executemany("INSERT INTO entry VALUES (?, ?, 1000000, 5, ?)",
+                                   [(SEQNUM_ID, number, body) for number in (1, 2, 3)])
         expect("an old one", run("check", path), (1, "bad 67 0\n"))
         expect("migrate", run("migrate", "--tables", kind, path), (0, "ok 3\n"))
         expect("check", run("check", path), (0, "ok 3\n"))

@@ -63,16 +63,16 @@ performed image g files words (Upload source limit whole) given output output' e
 performed image g files words (Ack source) given output output' errors errors' Misused asks does quiet = let same : Misused ≡ Success = does.0 in cc
 performed image g files words (requests.Inspect file) given output output' errors errors' Misused asks does quiet =
     absurd (inspected_not_misused does.inspected does.printed.judged)
-performed image g files words (requests.Collect database uploads then_export) given output output' errors errors' Misused asks does quiet =
+performed image g files words (requests.Collect database tables uploads then_export) given output output' errors errors' Misused asks does quiet =
     absurd (judged_not_misused (list_any is_failure does.printed.answers) (list_any is_refusal does.printed.answers) does.printed.is)
-performed image g files words (requests.CollectListed database list then_export) given output output' errors errors' Misused asks does quiet =
+performed image g files words (requests.CollectListed database tables list then_export) given output output' errors errors' Misused asks does quiet =
     let printed = does.printed.printed.printed in
     absurd (judged_not_misused (list_any is_failure printed.answers) (list_any is_refusal printed.answers) printed.is)
 performed image g files words (requests.Export database) given output output' errors errors' Misused asks does quiet = let same : Misused ≡ Success = does.0 in cc
 performed image g files words (requests.Show database field id first last) given output output' errors errors' Misused asks does quiet = let same : Misused ≡ Success = does.0 in cc
 performed image g files words requests.ListCodes given output output' errors errors' Misused asks does quiet = let same : Misused ≡ Success = does in cc
 performed image g files words (requests.Check database) given output output' errors errors' Misused asks does quiet = absurd (health_not_misused does.health does.printed.judged)
-performed image g files words (requests.Migrate database) given output output' errors errors' Misused asks does quiet = absurd (health_not_misused does.health does.printed.judged)
+performed image g files words (requests.Migrate database tables) given output output' errors errors' Misused asks does quiet = absurd (health_not_misused does.health does.printed.judged)
 
 -- a failure's status is that of a device or memory, or another one
 device_or_not : (status : Status) → (status ≡ Failed) ⊎ (status ≢ Failed)
