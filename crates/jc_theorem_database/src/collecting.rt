@@ -12,6 +12,7 @@ use jc_base::{ByteSink, ByteStream, Limits, OutOfMemory, SliceStream};
 use jc_collect::{Delivery, RunEnd, run};
 use jc_file::{ByteSpace, SliceSpace};
 use jc_keeper::KeepStop;
+use jc_store::Layout;
 use std::alloc::Global;
 
 /// The bytes of one upload, and whether they come as a stream or as a space.
@@ -19,9 +20,9 @@ pub type Upload<'a> = Delivery<&'a [u8], &'a [u8]>;
 
 /// Collects uploads in order into a journal, which may have entries of earlier runs, and writes the lines of the answers.
 /// If memory for the deliveries is refused, none was collected.
-pub fn collect<W: ByteSink>(
+pub fn collect<L: Layout, W: ByteSink>(
     alloc: Global,
-    keeper: &mut MemoryKeeper,
+    keeper: &mut MemoryKeeper<L>,
     uploads: &[Upload<'_>],
     sink: &mut W,
     limits: &Limits,
@@ -38,12 +39,12 @@ pub fn collect<W: ByteSink>(
 }
 
 /// Collects uploads in order into the journal of a new database, and writes the lines of the answers.
-pub fn collect_anew<W: ByteSink>(
+pub fn collect_anew<L: Layout, W: ByteSink>(
     alloc: Global,
     uploads: &[Upload<'_>],
     sink: &mut W,
     limits: &Limits,
-) -> Result<(RunEnd, MemoryKeeper), KeepStop>
+) -> Result<(RunEnd, MemoryKeeper<L>), KeepStop>
     ensures run { IfOk result (λ done.
         IsRunInMemory limits.now (map (of_delivery (λ b. b.now) (λ b. b.now)) uploads.now)
         (record { journal = finite.empty; failures = 0 }) (W.written sink.old) done.0 done.1 (W.written sink.new)) }

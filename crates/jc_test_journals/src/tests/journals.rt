@@ -5,6 +5,7 @@ use jc_export::canonical;
 use jc_keeper::{Keeper, MapKeeper};
 use jc_schema_one::SqlKeeper1;
 use jc_schema_three::NumberKeeper;
+use jc_schema_two::SchemaTwo;
 use jc_test_samples::SEQNUM_ID;
 use jc_theorem_database::MemoryKeeper;
 use sqlite::{Connection, MemStore};
@@ -35,9 +36,9 @@ impl Journals for Maps {
 pub(super) struct Tables(pub(super) Global);
 
 impl Journals for Tables {
-    type Kept = MemoryKeeper;
+    type Kept = MemoryKeeper<SchemaTwo>;
 
-    fn empty(&mut self) -> Result<MemoryKeeper, Fail> {
+    fn empty(&mut self) -> Result<MemoryKeeper<SchemaTwo>, Fail> {
         Ok(MemoryKeeper::new(self.0)?)
     }
 }

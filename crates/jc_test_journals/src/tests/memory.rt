@@ -4,6 +4,9 @@ use super::journals::keeps;
 use super::same::{same_bytes, same_end};
 use jc_base::{Limits, VecSink};
 use jc_collect::{Delivery, RunEnd};
+use jc_schema_three::SchemaThree;
+use jc_schema_two::SchemaTwo;
+use jc_store::Layout;
 use jc_test_samples::{CHANGED_ENTRY, ENTRY, ENTRY_2, ENTRY_3, EXPORT, answer_lines};
 use jc_theorem_database::{MemoryKeeper, Upload, collect, collect_anew};
 use std::alloc::Global;
@@ -24,11 +27,11 @@ fn check_lines(
 }
 
 /// A whole run into a new journal.
-fn collected_anew(
+fn collected_anew<L: Layout>(
     alloc: Global,
     uploads: &[Upload<'_>],
     sink: &mut VecSink,
-) -> Result<(RunEnd, MemoryKeeper), Fail> {
+) -> Result<(RunEnd, MemoryKeeper<L>), Fail> {
     match collect_anew(alloc, uploads, sink, &Limits::default()) {
         Ok(collected) => Ok(collected),
         Err(_) => Err(Fail::new("no journal")),
@@ -36,10 +39,10 @@ fn collected_anew(
 }
 
 /// A whole run, and the same uploads once more.
-fn collect_twice(
+fn collect_twice<L: Layout>(
     rt: &(impl Abort + AllocGlobal),
     uploads: &[Upload<'_>],
-) -> Result<MemoryKeeper, Fail> {
+) -> Result<MemoryKeeper<L>, Fail> {
     let mut lines = VecSink::new(rt.alloc());
     let (first, mut keeper) = collected_anew(rt.alloc(), uploads, &mut lines)?;
     check_lines(
@@ -76,8 +79,10 @@ fn uploads_are_collected_in_memory(rt: HostRuntime) -> Result<(), Fail> {
         Delivery::Space(conflict.as_slice()),
         Delivery::Stream(rest.as_slice()),
     ];
-    let keeper = collect_twice(&rt, &uploads)?;
     let texts = [ENTRY, ENTRY_2, ENTRY_3];
+    let keeper = collect_twice::<SchemaTwo>(&rt, &uploads)?;
+    assert!(rt; keeps(alloc, &mut keeper.into_keeper(), &texts)?);
+    let keeper = collect_twice::<SchemaThree>(&rt, &uploads)?;
     assert!(rt; keeps(alloc, &mut keeper.into_keeper(), &texts)?);
     Ok(())
 }

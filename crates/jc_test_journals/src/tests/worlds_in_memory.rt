@@ -3,6 +3,9 @@
 use super::same::same_answers;
 use super::worlds::{ack, no};
 use jc_base::{Id128, Limits};
+use jc_schema_three::SchemaThree;
+use jc_schema_two::SchemaTwo;
+use jc_store::Layout;
 use jc_test_samples::SOURCE_ID;
 use jc_theorem_database::{MemoryKeeper, world_after};
 use jc_world::{Event, Progress, World};
@@ -10,7 +13,10 @@ use std::alloc::Global;
 use std::test::Fail;
 
 /// A world of one machine that took events, and how many it took.
-fn world_of(alloc: Global, events: &[Event]) -> Result<(Progress, World<MemoryKeeper>), Fail> {
+fn world_of<L: Layout>(
+    alloc: Global,
+    events: &[Event],
+) -> Result<(Progress, World<MemoryKeeper<L>>), Fail> {
     let sources = vec![in alloc; Id128(SOURCE_ID)]?;
     match world_after(alloc, sources, Limits::default(), events) {
         Ok(Some(ran)) => Ok(ran),
@@ -30,7 +36,10 @@ fn a_world_in_memory(rt: HostRuntime) -> Result<(), Fail> {
         Event::Make(1, 1),
         Event::Alien(bytes),
     ];
-    let (progress, world) = world_of(alloc, &events)?;
+    let (progress, world) = world_of::<SchemaTwo>(alloc, &events)?;
+    assert!(rt; progress.taken == 5 && progress.refusal.is_none());
+    same_answers(&rt, world.answers(), &[ack(0, 0, 0, 0), no(None, 1, 8)]);
+    let (progress, world) = world_of::<SchemaThree>(alloc, &events)?;
     assert!(rt; progress.taken == 5 && progress.refusal.is_none());
     same_answers(&rt, world.answers(), &[ack(0, 0, 0, 0), no(None, 1, 8)]);
     Ok(())
