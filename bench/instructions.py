@@ -2,9 +2,10 @@
 """Counts the instructions of programs: instructions.py ENTRIES PROGRAM..
 
 Each program collects one upload of entries with 24 fields into a new database, opens the database, collects the same
-upload again, and shows the first hundredth of the entries. Valgrind counts the instructions, which are the same in each
-run, whatever else the machine does. The program `baseline` in bench/out, which `make bench` builds, may be one of them:
-it has no option for a part of the entries, so it shows all.
+upload again, and shows the first hundredth of the entries; with tables by key, and with tables by number. Valgrind
+counts the instructions, which are the same in each run, whatever else the machine does. The program `baseline` in
+bench/out, which `make bench` builds, may be one of them: it has tables by key alone, and no option for a part of the
+entries, so it shows all.
 """
 from __future__ import annotations
 
@@ -28,29 +29,33 @@ def instructions(command: list[str]) -> int:
     return int(counted[1].replace(",", ""))
 
 
-def count(program: str, entries: int) -> None:
+def count(program: str, entries: int, options: list[str]) -> None:
     """Prints what a program takes, for its steps in turn."""
     upload = made(f"{entries}.busy", "make_upload.py", "busy", 1, entries)
     empty = made("empty.upload", "make_upload.py", "export", 1, 0)
     database = os.path.join(OUT, "counted.db")
-    first = [] if os.path.basename(program) == "baseline" else ["--to", str(entries // 100)]
+    first = ["--to", str(entries // 100)] if options else []
     forget(database)
-    collected = instructions([program, "collect", database, upload])
+    collected = instructions([program, "collect", *options, database, upload])
+    size = os.path.getsize(database)
     opened = instructions([program, "collect", database, empty])
     again = instructions([program, "collect", database, upload])
     shown = instructions([program, "show", database, *first])
     forget(database)
-    print(f"{program}, {entries:,} entries of 24 fields, in instructions")
+    print(f"{program} {' '.join(options)}, {entries:,} entries of 24 fields, in instructions")
     print(f"  collect into a new database    {collected:18,}")
     print(f"  opened, adopted and closed     {opened:18,}")
     print(f"  again, without the opening     {again - opened:18,}")
-    print(f"  show, without the opening      {shown - opened:18,}", flush=True)
+    print(f"  show, without the opening      {shown - opened:18,}")
+    print(f"  bytes of the database          {size:18,}", flush=True)
 
 
 def main() -> None:
     os.makedirs(OUT, exist_ok=True)
     for program in sys.argv[2:]:
-        count(os.path.abspath(program), int(sys.argv[1]))
+        kinds = [[]] if os.path.basename(program) == "baseline" else [["--tables", "2"], ["--tables", "3"]]
+        for options in kinds:
+            count(os.path.abspath(program), int(sys.argv[1]), options)
 
 
 if __name__ == "__main__":
