@@ -37,23 +37,36 @@ exec /usr/bin/ssh -F /dev/null -p {port} "$@"
 Write = Callable[[str], object]
 
 
-@contextlib.contextmanager
-def journald(namespace: str) -> Iterator[Write]:
-    """A journald of its own; what writes an entry to it."""
-    address = f"/run/systemd/journal.{namespace}/socket"
-    with subprocess.Popen([JOURNALD, namespace], stderr=subprocess.DEVNULL) as process, \
-            socket.socket(socket.AF_UNIX, socket.SOCK_DGRAM) as to:
+class Journald:
+    """A journald of its own. One of a namespace ends when nothing was written for a while, and is begun again then."""
+
+    def __init__(self, namespace: str) -> None:
+        self.namespace, self.address = namespace, f"/run/systemd/journal.{namespace}/socket"
+        self.socket = socket.socket(socket.AF_UNIX, socket.SOCK_DGRAM)
+        self.begin()
+
+    def begin(self) -> None:
+        self.process = subprocess.Popen([JOURNALD, self.namespace], stderr=subprocess.DEVNULL)
+        while not os.path.exists(self.address):
+            time.sleep(0.1)
+
+    def write(self, text: str) -> None:
+        entry = f"MESSAGE={text}\nPRIORITY=6\nSYSLOG_IDENTIFIER=bench\n".encode()
         try:
-            while not os.path.exists(address):
-                time.sleep(0.1)
-            yield lambda text: to.sendto(f"MESSAGE={text}\nPRIORITY=6\nSYSLOG_IDENTIFIER=bench\n".encode(), address)
-        finally:
-            process.terminate()
-            process.wait()
-            machine = Path("/etc/machine-id").read_text(encoding="ascii").strip()
-            for path in (os.path.dirname(address), f"/var/log/journal/{machine}.{namespace}",
-                         f"/run/log/journal/{machine}.{namespace}"):
-                shutil.rmtree(path, ignore_errors=True)
+            self.socket.sendto(entry, self.address)
+        except ConnectionRefusedError:
+            self.process.wait()
+            os.unlink(self.address)
+            self.begin()
+            self.socket.sendto(entry, self.address)
+
+    def end(self) -> None:
+        self.process.terminate()
+        self.process.wait()
+        machine = Path("/etc/machine-id").read_text(encoding="ascii").strip()
+        for path in (os.path.dirname(self.address), f"/var/log/journal/{machine}.{self.namespace}",
+                     f"/run/log/journal/{machine}.{self.namespace}"):
+            shutil.rmtree(path, ignore_errors=True)
 
 
 @contextlib.contextmanager
@@ -68,10 +81,11 @@ def real(both: Any, library: str) -> Iterator[Write]:
     both.machine.settings |= {
         "COLLECTOR": f"{sshd.user}@127.0.0.1", "KEY": str(sshd.key(0)), "KNOWN_HOSTS": str(sshd.known_hosts),
         "NAMESPACE": namespace, "BOOT_ID_FILE": "/proc/sys/kernel/random/boot_id"}
+    journald = Journald(namespace)
     try:
-        with journald(namespace) as write:
-            yield write
+        yield journald.write
     finally:
+        journald.end()
         sshd.end()
 
 
