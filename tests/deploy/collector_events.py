@@ -28,7 +28,9 @@ class CollectorEvents:
         self.world, self.dice, self.library = world, world.dice, library
         self.clock = os.path.join(world.folder(), "clock")
         self.starts = 0
-        self.backups: list[str] = []
+        # Each backup, and how many machines had got other names by then.
+        self.backups: list[tuple[str, int]] = []
+        self.renamed: list[tuple[str, str]] = []
         self.finished: set[str] = set()
         self.counts: collections.Counter[str] = collections.Counter()
 
@@ -81,7 +83,7 @@ class CollectorEvents:
             if run.disturbance[0] == "term":
                 run.process.terminate()
             world.end(run, began)
-        self.backups.append(folder)
+        self.backups.append((folder, len(self.renamed)))
         self.counts["backups"] += 1
 
     def restore(self) -> None:
@@ -91,7 +93,10 @@ class CollectorEvents:
             return
         world = self.world
         shutil.rmtree(world.deployment.collector)
-        self.expect_well("a restore", self.call("--restore", self.dice.choice(self.backups)))
+        folder, renamed = self.dice.choice(self.backups)
+        self.expect_well("a restore", self.call("--restore", folder))
+        for old, new in self.renamed[renamed:]:
+            self.expect_well("another name", self.call("--rename", old, new))
         self.finished = self.databases()
         world.expected &= set(world.stored()) | self.on_machines()
         # A machine can't be set back any more to what the collector has forgotten.
@@ -118,6 +123,7 @@ class CollectorEvents:
         old, new = self.dice.choice([*names.values()]), f"machine-{self.counts['other names']}"
         if self.expect_well("another name", self.call("--rename", old, new)):
             names.update({name: new for name, known_as in names.items() if known_as == old})
+            self.renamed.append((old, new))
             self.counts["other names"] += 1
 
     # What has to hold

@@ -14,6 +14,7 @@ deleted before its days were over.
 """
 import argparse
 import collections
+import contextlib
 import glob
 import os
 import shutil
@@ -79,8 +80,10 @@ class World(Trial):
         self.stored = {}
         self.unfinished = {}
         self.counts = collections.Counter()
-        # of each backup what the databases had that had been deleted by then
+        # of each backup what the databases had that had been deleted by then, and how many machines had other names
         self.whole_backups = {}
+        # the names that machines had before and have since, in their order
+        self.renamed = []
 
     def __exit__(self, *error: object) -> None:
         os.environ["PATH"] = self.path
@@ -193,7 +196,8 @@ class World(Trial):
             children = self.children(run.pid) if kind == "kill all" else []
             run.send_signal(signal.SIGKILL if kind.startswith("kill") else signal.SIGTERM)
             for child in children:
-                os.kill(child, signal.SIGKILL)
+                with contextlib.suppress(ProcessLookupError):
+                    os.kill(child, signal.SIGKILL)
         _, errors = run.communicate(timeout=120)
         errors = errors.decode()
         self.expect(f"{kind}: a mistake: {errors}", any(word in errors for word in BROKEN), False)
@@ -284,7 +288,7 @@ class World(Trial):
         folder = os.path.join(self.backups, f"whole-{self.dice.randrange(2)}")
         told = self.call("collect-incoming", ["--backup", folder, self.conf])
         self.expect(f"backup: {told.stderr}: status", told.returncode in (0, 1), True)
-        self.whole_backups[folder] = {name: self.stored[name] for name in self.deleted}
+        self.whole_backups[folder] = {name: self.stored[name] for name in self.deleted}, len(self.renamed)
         self.counts["whole backups"] += 1
 
     def lose_the_disk(self) -> None:
@@ -295,7 +299,10 @@ class World(Trial):
         shutil.rmtree(self.collector)
         told = self.call("collect-incoming", ["--restore", folder, self.conf])
         self.expect(f"restore: {told.stderr}: status", told.returncode in (0, 1), True)
-        self.stored = dict(self.whole_backups[folder])
+        deleted, renamed = self.whole_backups[folder]
+        for old, new in self.renamed[renamed:]:
+            self.call("collect-incoming", ["--rename", old, new, self.conf])
+        self.stored = dict(deleted)
         self.deleted = set(self.stored)
         self.unfinished = {}
         known = self.there()
@@ -313,6 +320,7 @@ class World(Trial):
         self.expect(f"rename: {told.stderr}: status", told.returncode in (0, 1), True)
         if told.returncode == 0:
             self.machines[new] = self.machines.pop(old)
+            self.renamed.append((old, new))
             for source in self.machines[new]:
                 source.machine = new
             self.counts["other names"] += 1
