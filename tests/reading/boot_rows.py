@@ -72,6 +72,7 @@ def counted_over_all(row: Row, place: Place) -> None:
     row.same("the first ones, since", find("-b1", "--since", at(2)), [])
     row.same("the last ones, since", find("-b", "--since", at(3)), ["w3 3", "w3 4"])
     row.same("the last ones, until", find("-b", "--until", at(1)), ["m9 0"])
+    row.same("the ones before, since", find("-b-1", "--since", at(3)), [])
     row.same("the ones before, until", find("-b-1", "--until", at(1)), ["w2 1"])
     row.same("of one machine", find("-b-1", "-M", "web", "--since", at(2)), ["w2 2"])
     row.same("of one machine, counted from the first one", find("-b2", "-M", "web"), ["w2 1", "w2 2"])
