@@ -183,7 +183,7 @@ expect 0 "10 5" "" stored
 
 # the same by the time on a processor; and an upload that takes so long to read is refused
 begin
-costly dense 300 > "$folder/dense"
+costly dense 1900 > "$folder/dense"
 expect 0 "" "" receive web "$folder/dense"
 echo UPLOAD_CPU_SECONDS=1 >> "$conf"
 expect 1 "" "~collect-incoming: set aside: web@$id: it takes over * seconds*; it is kept as *" collect
