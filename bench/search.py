@@ -80,13 +80,13 @@ class Place:
             self.fill(index, databases, entries, machines)
 
     def made(self, program: str) -> bytes:
-        """A database as the program makes it."""
+        """A database as the service has the program make it."""
         stream, upload, path = (self.folder / name for name in ("stream", "upload", "one.db"))
         stream.write_bytes(ENTRY)
         with upload.open("wb") as file:
             subprocess.run([program, "upload", "--source", "f" * 32, "--resume", self.folder / "resume", "export",
                             stream], stdout=file, check=True)
-        subprocess.run([program, "collect", path, upload], stdout=subprocess.DEVNULL, check=True)
+        subprocess.run([program, "collect", "--tables", "3", path, upload], stdout=subprocess.DEVNULL, check=True)
         return path.read_bytes()
 
     def fill(self, index: int, of: int, entries: int, machines: int) -> None:
