@@ -471,10 +471,10 @@ wait_for test -e "$folder/closing"
 stop
 expect 0 "5 5" "" stored
 
-# stops before calls that change files, and random rounds
+# stops before calls that change files, and random rounds, as in test-deploy.sh
 if [[ -n $clock ]]; then
     python3 -B tests/deploy/collector_stops.py "$library" --step "${STEP-4}" || differs "stops at calls"
-    python3 -B tests/deploy/collector_world.py "$library" --rounds "${ROUNDS-50}" --real "${REAL-10}" ||
+    SEED=${SEED-7} python3 -B tests/deploy/collector_world.py "$library" --rounds "${ROUNDS-50}" --real "${REAL-10}" ||
         differs "the random rounds"
 fi
 finish
