@@ -23,7 +23,7 @@ import subprocess
 import sys
 import time
 import zlib
-from typing import Any
+from typing import Any, NamedTuple
 
 HERE = os.path.dirname(os.path.abspath(__file__))
 sys.path[:0] = [os.path.join(HERE, ".."), os.path.join(HERE, "..", "collect")]
@@ -50,6 +50,15 @@ EXPORTS={exports}
 BROKEN = ("Traceback", "Error:", "isn't read as the program reads it")
 # How many rounds a world has.
 ROUNDS = 40
+
+
+class Backup(NamedTuple):
+    """What is known of a backup: the databases that were deleted before it and what they had, how many machines had got
+    another name, when databases were first seen, and when it was made."""
+    deleted: dict[str, list[tuple[str, int, bytes]]]
+    renamed: int
+    used: dict[str, float]
+    made: float
 
 
 class World(Trial):
@@ -289,7 +298,11 @@ class World(Trial):
         folder = os.path.join(self.backups, f"whole-{self.dice.randrange(2)}")
         told = self.call("collect-incoming", ["--backup", folder, self.conf])
         self.expect(f"backup: {told.stderr}: status", told.returncode in (0, 1), True)
-        self.whole_backups[folder] = {name: self.stored[name] for name in self.deleted}, len(self.renamed)
+        # a run that goes on meanwhile may have deleted some that nothing looked for since
+        deleted = {*self.stored, *self.unfinished} - self.there()
+        self.whole_backups[folder] = Backup(
+            {name: self.stored.get(name) or self.unfinished.get(name, []) for name in deleted}, len(self.renamed),
+            dict(self.used), self.gone_by)
         self.counts["whole backups"] += 1
 
     def lose_the_disk(self) -> None:
@@ -300,14 +313,13 @@ class World(Trial):
         shutil.rmtree(self.collector)
         told = self.call("collect-incoming", ["--restore", folder, self.conf])
         self.expect(f"restore: {told.stderr}: status", told.returncode in (0, 1), True)
-        deleted, renamed = self.whole_backups[folder]
-        for old, new in self.renamed[renamed:]:
+        backup = self.whole_backups[folder]
+        for old, new in self.renamed[backup.renamed:]:
             self.call("collect-incoming", ["--rename", old, new, self.conf])
-        self.stored = dict(deleted)
+        self.stored = dict(backup.deleted)
         self.deleted = set(self.stored)
         self.unfinished = {}
-        known = self.there()
-        self.used = {name: since for name, since in self.used.items() if name in known}
+        self.used = {name: backup.used.get(name, backup.made) for name in self.there()}
         self.look_at_deleted(self.there(), "")
         for source in (source for sources in self.machines.values() for source in sources):
             source.acked, source.is_restored = 0, True
