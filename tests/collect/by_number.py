@@ -3,6 +3,7 @@
 Databases are looked at, changed and made by the sqlite3 of Python.
 """
 import contextlib
+import itertools
 import os
 import sqlite3
 import subprocess
@@ -108,6 +109,18 @@ def goes_on() -> None:
     expect("nothing is made", os.path.exists(new("never")), False)
 
 
+def beside_others() -> None:
+    """What another program added stands beside a journal's tables, and its kind is told by them alone."""
+    for kind, change in itertools.product(("2", "3"), ("ANALYZE", "CREATE TABLE other(id INTEGER PRIMARY KEY, a, b)",
+                                                       "CREATE TABLE other(a, b, c, d, e)")):
+        path = new(f"beside-{kind}-{change.replace(' ', '')[:20]}-{len(change)}")
+        collect(path, E1, E2, options=("--tables", kind))
+        with stock(path) as connection:
+            connection.execute(change)
+        expect(f"{kind} {change}", run("check", path), (0, "ok 2\n"))
+        expect(f"{kind} {change}: collect", collect(path, E2, E3, options=()), (0, ACK.format(2, 1)))
+
+
 # A change of three entries with two fields each, and what `check` says then. Records are in the order of keys.
 HOSTILE = {
     "a field that belongs to no record": ("INSERT INTO field VALUES (32768, x'41', x'31')", "bad 65 3"),
@@ -172,7 +185,7 @@ def is_migrated() -> None:
 
 
 def main() -> None:
-    for part in (is_made, goes_on, hostile, is_migrated):
+    for part in (is_made, goes_on, beside_others, hostile, is_migrated):
         part()
     print(f"{rows} rows, {mistakes} mistakes")
     sys.exit(mistakes > 0)

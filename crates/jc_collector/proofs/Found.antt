@@ -45,10 +45,10 @@ by_number fresh = refl
 by_number migrated = refl
 
 by_key : (shape : Shape) → AreByNumber (schema_two shape) → ⊥
-by_key fresh few = omega (arith, few)
-by_key migrated few = omega (arith, few)
+by_key fresh none = cc
+by_key migrated none = cc
 
--- A database with a journal has tables of the kind that the last one of them tells.
+-- A database with a journal has tables of the kind that they tell.
 pub which_kind : (mine : Tables) (now : Database) → (mine ≡ ByNumber) ↔ AreByNumber now.schema
     → (kind : Tables) (db : Database) → (meaning_of kind).is_journal db → db ≡ now → kind ≡ mine
 which_kind ByKey now tells ByKey db journal is = refl

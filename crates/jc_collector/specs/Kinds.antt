@@ -1,5 +1,5 @@
 -- In which tables the journal of a database is, and what its files begin and end with. (own)
-use Rattle.std.specs.Prelude.{◌≡◌, ◌⊎◌, ◌↔◌, ◌-◌, IsSomeAnd, length, slice_get}
+use Rattle.std.specs.Prelude.{◌≡◌, ◌⊎◌, ◌↔◌, IsSome, IsSomeAnd, slice_get}
 use Rattle.std.specs.FinMap.{empty as none}
 use Rattle.sqlite_disk.specs.declared.Disk as disk
 use Rattle.sqlite_disk.specs.declared.Files.{Files}
@@ -44,9 +44,9 @@ journal_in opened = journal_of (meaning_of (kind_of opened)) over_files (conn_of
 
 -- ---- a database
 
--- The last one of its tables has three columns, as that of the fields has if they are found by number.
+-- Its third table has an integer for its key, as `record` and `field` have if fields are found by number.
 abbrev pub AreByNumber : Schema → Type 0
-AreByNumber schema = IsSomeAnd (slice_get schema.tables (length schema.tables - 1)) (λ table. length table.columns ≡ 3)
+AreByNumber schema = IsSomeAnd (slice_get schema.tables 2) (λ table. IsSome table.key)
 
 module _ {D : Type 0} {g : disk.Ghosts D} (before : Held (FileStore D g)) where
   -- Tables of a kind were made over a connection, of an empty journal.
@@ -57,7 +57,7 @@ module _ {D : Type 0} {g : disk.Ghosts D} (before : Held (FileStore D g)) where
     pub made : AreMade (meaning_of (kind_of opened)) over_files (conn_of opened)
     pub empty : IsSound over_files (conn_of opened) → journal_in opened ≡ none
 
-  -- The tables that a connection has were taken for a journal's, by the kind of the last one.
+  -- The tables that a connection has were taken for a journal's, by the kind that they tell.
   pub record IsAdoptedFrom (opened : OpenedFiles D g) : Type 0 where
     pub kind : (kind_of opened ≡ ByNumber) ↔ AreByNumber (file_state before).now.schema
     pub sound : HasCleanDisk (file_state (conn_of opened)) → IsSound over_files (conn_of opened)
