@@ -12,6 +12,7 @@ mod readings;
 mod rows;
 mod same;
 mod tables;
+mod unions;
 mod whole_uploads;
 mod worlds;
 mod worlds_in_memory;

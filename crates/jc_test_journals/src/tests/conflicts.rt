@@ -1,6 +1,6 @@
 //! Readings that conflict: a keeper takes nothing of them up, and asks for no entry behind the conflict.
 
-use super::journals::{Journals, Maps, NumberTables, Tables, keeps};
+use super::journals::{Journals, Maps, NumberTables, Tables, Unions, keeps};
 use super::readings::source;
 use super::same::{same_absorbed, same_bytes};
 use jc_base::{EntrySource, ListSource, OutOfMemory, Step};
@@ -49,6 +49,11 @@ fn conflicts<J: Journals>(rt: &(impl Abort + AllocGlobal), journals: &mut J) -> 
 #[test]
 fn conflicts_over_a_map(rt: HostRuntime) -> Result<(), Fail> {
     conflicts(&rt, &mut Maps(rt.alloc()))
+}
+
+#[test]
+fn conflicts_over_a_union(rt: HostRuntime) -> Result<(), Fail> {
+    conflicts(&rt, &mut Unions(rt.alloc()))
 }
 
 #[test]

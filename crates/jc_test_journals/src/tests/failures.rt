@@ -1,7 +1,7 @@
 //! Devices that fail at every place: what is answered and stored then, and that the same delivery made anew is taken up.
 
 use super::answers::{NEVER, ack, collect, collect_all, no, space, stream, unread};
-use super::journals::{Journals, Maps, NumberTables, Tables, keeps};
+use super::journals::{Journals, Maps, NumberTables, Tables, Unions, keeps};
 use super::same::{same_answer, same_bytes, same_end, same_number};
 use jc_collect::{Delivery, RunEnd};
 use jc_keeper::Keeper;
@@ -220,6 +220,11 @@ fn devices_fail<J: Journals>(
 #[test]
 fn devices_fail_over_a_map(rt: HostRuntime) -> Result<(), Fail> {
     devices_fail(&rt, &mut Maps(rt.alloc()))
+}
+
+#[test]
+fn devices_fail_over_a_union(rt: HostRuntime) -> Result<(), Fail> {
+    devices_fail(&rt, &mut Unions(rt.alloc()))
 }
 
 #[test]

@@ -3,6 +3,7 @@
 use jc_base::{Id128, Key};
 use jc_export::canonical;
 use jc_keeper::{Keeper, MapKeeper};
+use jc_ledger::{EmptyShelf, MapLedger, UnionKeeper};
 use jc_schema_one::SqlKeeper1;
 use jc_schema_three::NumberKeeper;
 use jc_schema_two::SchemaTwo;
@@ -28,6 +29,23 @@ impl Journals for Maps {
 
     fn empty(&mut self) -> Result<MapKeeper, Fail> {
         Ok(MapKeeper::new(self.0))
+    }
+}
+
+/// Journals in databases that take turns, each of them in a map. No database is finished.
+#[derive(Drop)]
+pub(super) struct Unions(pub(super) Global);
+
+impl Journals for Unions {
+    type Kept = UnionKeeper<MapKeeper, MapLedger, EmptyShelf>;
+
+    fn empty(&mut self) -> Result<UnionKeeper<MapKeeper, MapLedger, EmptyShelf>, Fail> {
+        Ok(UnionKeeper::new(
+            self.0,
+            MapKeeper::new(self.0),
+            MapLedger::new(self.0),
+            EmptyShelf,
+        ))
     }
 }
 

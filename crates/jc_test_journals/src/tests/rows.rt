@@ -10,7 +10,7 @@
 //! `add_pieces` has the form of `PIECES`.
 
 use super::answers::{NEVER, Upload, collect, collect_all, space, stream};
-use super::journals::{Journals, Maps, NumberTables, OldTables, Tables, stored};
+use super::journals::{Journals, Maps, NumberTables, OldTables, Tables, Unions, stored};
 use super::same::same_bytes;
 use jc_collect::RunEnd;
 use jc_keeper::Keeper;
@@ -360,6 +360,11 @@ fn worked_runs<J: Journals>(rt: &(impl Abort + AllocGlobal), journals: &mut J) -
 #[test]
 fn worked_runs_over_a_map(rt: HostRuntime) -> Result<(), Fail> {
     worked_runs(&rt, &mut Maps(rt.alloc()))
+}
+
+#[test]
+fn worked_runs_over_a_union(rt: HostRuntime) -> Result<(), Fail> {
+    worked_runs(&rt, &mut Unions(rt.alloc()))
 }
 
 #[test]

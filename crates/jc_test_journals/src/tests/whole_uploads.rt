@@ -1,6 +1,6 @@
 //! Uploads with headers of version 2 over each keeper, as rows of a script.
 
-use super::journals::{Journals, Maps, Tables};
+use super::journals::{Journals, Maps, Tables, Unions};
 use super::rows::report_of;
 use super::same::same_bytes;
 use std::alloc::Global;
@@ -81,6 +81,11 @@ fn whole_uploads<J: Journals>(
 #[test]
 fn whole_uploads_over_a_map(rt: HostRuntime) -> Result<(), Fail> {
     whole_uploads(&rt, &mut Maps(rt.alloc()))
+}
+
+#[test]
+fn whole_uploads_over_a_union(rt: HostRuntime) -> Result<(), Fail> {
+    whole_uploads(&rt, &mut Unions(rt.alloc()))
 }
 
 #[test]

@@ -1,6 +1,6 @@
 //! Worked steps of two machines and their collector, over each keeper.
 
-use super::journals::{Journals, Maps, Tables, keeps};
+use super::journals::{Journals, Maps, Tables, Unions, keeps};
 use super::readings::{entries, source};
 use super::same::{holds_at, same_answers, same_number};
 use jc_base::{Id128, Limits, OutOfMemory};
@@ -314,6 +314,11 @@ fn worlds<J: Journals>(rt: &(impl Abort + AllocGlobal), journals: &mut J) -> Res
 #[test]
 fn worlds_over_a_map(rt: HostRuntime) -> Result<(), Fail> {
     worlds(&rt, &mut Maps(rt.alloc()))
+}
+
+#[test]
+fn worlds_over_a_union(rt: HostRuntime) -> Result<(), Fail> {
+    worlds(&rt, &mut Unions(rt.alloc()))
 }
 
 #[test]
