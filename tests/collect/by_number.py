@@ -184,8 +184,25 @@ def is_migrated() -> None:
             expect("old rows", connection.execute("SELECT count(*) FROM entry").fetchone(), (0,))
 
 
+def migrated_beside() -> None:
+    """From tables of version 1, beside a table of another program."""
+    changes = ("ANALYZE", "CREATE TABLE other(a, b)", "CREATE TABLE other(id INTEGER PRIMARY KEY)",
+               "CREATE TABLE a(a); CREATE TABLE b(b); CREATE TABLE c(c)")
+    for number, change in enumerate(changes):
+        for kind in ("2", "3"):
+            path = new(f"migrated-beside-{number}-{kind}")
+            with stock(path) as connection:
+                connection.executescript(BY_ONE_VALUE)
+                connection.executescript(change)
+            what = f"to {kind}, {change}"
+            expect(what, run("migrate", "--tables", kind, path), (0, "ok 0\n"))
+            expect(f"{what}: check", run("check", path), (0, "ok 0\n"))
+            expect(f"{what}: collect", collect(path, E1, E2), (0, ACK.format(2, 2)))
+            expect(f"{what}: export", run("export", path)[1].count("__SEQNUM="), 2)
+
+
 def main() -> None:
-    for part in (is_made, goes_on, beside_others, hostile, is_migrated):
+    for part in (is_made, goes_on, beside_others, hostile, is_migrated, migrated_beside):
         part()
     print(f"{rows} rows, {mistakes} mistakes")
     sys.exit(mistakes > 0)

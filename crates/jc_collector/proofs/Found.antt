@@ -6,6 +6,7 @@ use Rattle.sqlite.specs.declared.Files.{Files}
 use Rattle.sqlite.specs.declared.FileStore.{FileStore}
 use Rattle.sqlite.specs.Recovery.{Image}
 use Rattle.sqlite.specs.Schema.{Schema}
+use Rattle.sqlite_tied.specs.Compute.{everything}
 use Rattle.sqlite.specs.State.{HasCleanDisk}
 use Rattle.sqlite.specs.WalReads.{AreClean}
 use Rattle.sqlite.specs.Held.{Held}
@@ -41,10 +42,12 @@ some_tables ByKey db journal none = some_by_key journal.spells.shape (sym journa
 some_tables ByNumber db journal none = some_by_number journal.spells.shape (sym journal.spells.schema ∙ none)
 
 by_number : (shape : Shape) → AreByNumber (schema_three shape)
+unfolding everything
 by_number fresh = refl
 by_number migrated = refl
 
 by_key : (shape : Shape) → AreByNumber (schema_two shape) → ⊥
+unfolding everything
 by_key fresh none = cc
 by_key migrated none = cc
 

@@ -1,10 +1,11 @@
 -- In which tables the journal of a database is, and what its files begin and end with. (own)
-use Rattle.std.specs.Prelude.{◌≡◌, ◌⊎◌, ◌↔◌, IsSome, IsSomeAnd, slice_get}
+use Rattle.std.specs.Prelude.{◌≡◌, ◌⊎◌, ◌↔◌, IsSome, IsSomeAnd, codes, option_and_then, slice_get}
 use Rattle.std.specs.FinMap.{empty as none}
 use Rattle.sqlite_disk.specs.declared.Disk as disk
 use Rattle.sqlite_disk.specs.declared.Files.{Files}
 use Rattle.sqlite.specs.Recovery.{Image}
 use Rattle.sqlite.specs.Schema.{Schema}
+use Rattle.sqlite_schema.specs.Names.{table_named}
 use Rattle.sqlite.specs.WalReads.{AreClean}
 use Rattle.sqlite.specs.Held.{Held}
 use Rattle.sqlite.specs.declared.FileStore.{FileStore}
@@ -44,9 +45,9 @@ journal_in opened = journal_of (meaning_of (kind_of opened)) over_files (conn_of
 
 -- ---- a database
 
--- Its third table has an integer for its key, as `record` and `field` have if fields are found by number.
+-- Its table `record` has an integer for its key, as it has if fields are found by number.
 abbrev pub AreByNumber : Schema → Type 0
-AreByNumber schema = IsSomeAnd (slice_get schema.tables 2) (λ table. IsSome table.key)
+AreByNumber schema = IsSomeAnd (option_and_then (slice_get schema.tables) (table_named schema (codes "record"))) (λ table. IsSome table.key)
 
 module _ {D : Type 0} {g : disk.Ghosts D} (before : Held (FileStore D g)) where
   -- Tables of a kind were made over a connection, of an empty journal.
