@@ -55,6 +55,10 @@ if command -v systemd-analyze > "$folder/told"; then
     for unit in "$folder"/root/usr/lib/systemd/system/*; do
         sed "s#/usr/lib/journal-collect#$library#" "$unit" > "$folder/units/${unit##*/}"
     done
+    if [[ ! -x /lib/systemd/systemd-journal-gatewayd ]]; then
+        echo "skipped: systemd-journal-gatewayd isn't installed, so the units that start it aren't verified"
+        rm "$folder"/units/journal-collect-browse.*
+    fi
     expect 0 "" "" systemd-analyze --man=no verify "$folder"/units/*
 else
     echo "skipped: systemd-analyze isn't installed, so the units aren't verified"

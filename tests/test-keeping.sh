@@ -1,6 +1,6 @@
 #!/usr/bin/env bash
 # What the collector acknowledges, how long it keeps what it has, and what becomes of it: days and clocks, databases
-# that are missing, backups, machines with another name, damage to its state, and how it stops.
+# that are missing, backups, machines with another name, and how it stops.
 set -uo pipefail
 . "$(dirname "$0")/expect.sh"
 
@@ -17,5 +17,4 @@ for rows in ack_rows keeping_rows backup_rows service_rows; do
     python3 -B tests/deploy/$rows.py "$library" || differs "tests/deploy/$rows.py"
 done
 python3 -B tests/deploy/clock_rounds.py "$library" --events "${CLOCK_EVENTS-2000}" || differs "the rounds of clocks"
-python3 -B tests/deploy/state_fuzz.py "$library" --edits "${STATE_EDITS-100}" || differs "edits of the state"
 finish

@@ -13,7 +13,7 @@ trap 'rm -rf "$folder"' EXIT
 deploy/install.sh "$folder/root" /usr || differs "the programs aren't installed"
 library=$folder/root/usr/lib/journal-collect
 export PROGRAM
-for rows in gather_rows large_rows since_rows send_rows refusal_rows damaged_state; do
+for rows in gather_rows large_rows since_rows send_rows refusal_rows; do
     python3 -B tests/deploy/$rows.py "$library" || differs "tests/deploy/$rows.py"
 done
 if command -v journalctl > "$folder/told"; then

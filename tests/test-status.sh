@@ -14,5 +14,6 @@ deploy/install.sh "$folder/root" /usr || differs "the programs aren't installed"
 library=$folder/root/usr/lib/journal-collect
 export PROGRAM
 python3 -B tests/deploy/status_rows.py "$library" || differs "tests/deploy/status_rows.py"
-python3 -B tests/deploy/status_fuzz.py "$library" --rounds "${ROUNDS-25}" || differs "tests/deploy/status_fuzz.py"
+python3 -B tests/deploy/status_fuzz.py "$library" --rounds "${ROUNDS-50}" --seed "${SEED-7}" ||
+    differs "tests/deploy/status_fuzz.py"
 finish

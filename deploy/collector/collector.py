@@ -216,8 +216,20 @@ class Collector:
             spool.give_back(self.name, upload)
         self.tally.add(upload.machine, self.new, self.name, is_first)
         meter.charge(upload.machine, self.process and self.process.process.pid, databases.bytes_of(self.name))
+        if outcome == storing.Outcome.UNSURE:
+            self.close_without(upload)
         self.pause = 0.0
         return True
+
+    def close_without(self, upload: Waiting) -> None:
+        """Closes the present database after its program had no memory for an upload. If it is closed well it doesn't
+        have the upload, which waits again; else the upload stays with it."""
+        self.later[upload.name] = time.monotonic() + AGAIN
+        process = self.leave_process()
+        if not process or process.end():
+            spool.give_back(self.name, upload)
+        self.let_go()
+        self.shared.wake()
 
     def set_aside(self, upload: Waiting, error: program.TooCostly) -> None:
         """An upload that costs too much is tried no more. What it left of its database is taken up later."""

@@ -60,12 +60,13 @@ class Recovery:
         databases.unlink_others(name)
         self.shared.note(name)
         process = self.shared.collecting(name)
-        ended, is_cut = None, False
+        ended, is_cut, unsure = None, False, []
         try:
             for upload in uploads:
                 if is_cut := self.shared.stops:
                     break
-                self.store(upload, name, process)
+                if self.store(upload, name, process) == storing.Outcome.UNSURE:
+                    unsure.append(upload)
         except program.TooCostly as error:
             collector.set_aside(self.shared.settings, name, upload, error)
             return
@@ -77,6 +78,8 @@ class Recovery:
             # The next start goes on with this database, which may have what the uploads that are left have.
             return
         if ended is None and is_well:
+            for upload in unsure:
+                spool.give_back(name, upload)
             self.finish(name)
         else:
             self.failed(name, f"status {process.status}: {process.errors or ended}", process.errors.startswith("bad "))
@@ -90,12 +93,14 @@ class Recovery:
             report(3, f"only {files.free_bytes()} bytes are free: {databases.path_of(name)} isn't finished yet")
         return not self.is_short
 
-    def store(self, upload: spool.Waiting, name: str, process: Collecting) -> None:
-        """Has one upload stored, of a machine that nobody else is at work for."""
+    def store(self, upload: spool.Waiting, name: str, process: Collecting) -> storing.Outcome:
+        """Has one upload stored, of a machine that nobody else is at work for; what became of it."""
         self.shared.begin(upload.machine, waits=True)
         try:
-            if storing.store(upload, name, self.shared.age, process.ask) == storing.Outcome.LATER:
+            outcome = storing.store(upload, name, self.shared.age, process.ask)
+            if outcome == storing.Outcome.LATER:
                 spool.give_back(name, upload)
+            return outcome
         finally:
             self.shared.end(upload.machine)
 

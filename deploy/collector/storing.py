@@ -27,6 +27,12 @@ class Outcome(enum.Enum):
     """What became of an upload."""
     DONE = 1
     LATER = 2
+    # The program had no memory for it. It may be stored nevertheless, unless its database is closed well.
+    UNSURE = 3
+
+
+class NoMemory(Exception):
+    """The program had no memory for an upload."""
 
 
 class Spoiled(Exception):
@@ -45,7 +51,8 @@ class Step(NamedTuple):
 
 def store(upload: Waiting, folder: str, age: float, ask: Ask) -> Outcome:
     """Has an upload stored by what `ask` asks, and keeps its answer. Raises program.Ended if the database failed; one
-    that the collector failed to read or had no memory for is to be tried later."""
+    that the collector failed to read is to be tried later, and one that it had no memory for once its database is
+    closed."""
     path = os.path.join("batch", folder, upload.name)
     kept = os.path.join("sources", upload.machine, upload.source)
     with source.locked(upload.machine):
@@ -62,6 +69,9 @@ def keep(step: Step, age: float) -> Outcome:
         kept_as = spool.put_aside(path)
         report(3, f"{upload.of}: {error}: it is put aside as {kept_as}; its machine sends it again")
         return Outcome.DONE
+    except NoMemory as error:
+        report(3, f"kept for later: {upload.of}: {error}")
+        return Outcome.UNSURE
     except program.Failed as error:
         report(3, f"kept for later: {upload.of}: {error}")
         answer = None
@@ -138,7 +148,9 @@ def answer_to(step: Step) -> Answer | None:
 def asked(step: Step, path: str) -> Answer | None:
     """The program's answer, if it says something of the upload."""
     answer = step.ask(path)
-    if answer.code in (UNREAD, NO_MEMORY):
+    if answer.code == NO_MEMORY:
+        raise NoMemory(answer.text)
+    if answer.code == UNREAD:
         report(3, f"kept for later: {step.upload.of}: {answer.text}")
         return None
     if answer.source != step.upload.source:

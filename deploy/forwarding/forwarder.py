@@ -11,7 +11,7 @@ from forwarding.aside import Aside
 from forwarding.batches import Batches
 from forwarding.engine import Engine, Prepared, Refusal, Unavailable
 from forwarding.entries import Entries
-from forwarding.place import Place, Within
+from forwarding.place import ASIDE, Place, Within
 from forwarding.recent import Recent
 from forwarding.report import Report
 from forwarding.settings import Settings
@@ -42,7 +42,7 @@ class Forwarder:
     def __init__(self, chosen: Settings, folder: Path, place: Place, engine: Engine, report: Report) -> None:
         self.chosen, self.folder, self.place = chosen, folder, place
         self.engine, self.report = engine, report
-        self.aside = Aside(place.folder / "aside.json", place)
+        self.aside = Aside(place.folder / ASIDE, place)
         self.batches = Batches(engine, chosen.batch_entries, chosen.batch_bytes, engines.most_bytes(chosen))
         self.listed, self.recent = Listed([], [], 0), Recent(folder)
         self.once, self.stopping = False, False

@@ -1,14 +1,19 @@
 """How far forwarding has come. Two files say it, which are replaced whole once the engine has what they count: one with
 the databases that are forwarded, and a small one with how far the next one is."""
 from dataclasses import asdict, dataclass, field
+from functools import partial
 from pathlib import Path
 from typing import Any
 
 from forwarding.entry import Entry
 from reading import json_files
 from reading.databases import Database
-from reading.failure import Failure
+from reading.failure import NEEDS_A_LOOK
+from reading.json_files import Damaged, Tell
 from reading.taken import Taken
+from shared import files
+
+PLACE, DATABASES, ASIDE = "place.json", "databases.json", "aside.json"
 
 
 @dataclass
@@ -75,29 +80,59 @@ class Place:
         self.write()
 
     def write(self) -> None:
-        json_files.write(self.folder / "place.json", {
+        json_files.write(self.folder / PLACE, {
             "version": 1, "target": self.target, "within": asdict(self.within) if self.within else None,
             "aside": self.aside, "aside_bytes": self.aside_bytes})
 
     def write_databases(self) -> None:
-        json_files.write(self.folder / "databases.json", {"version": 1, **asdict(self.databases)})
+        json_files.write(self.folder / DATABASES, {"version": 1, **asdict(self.databases)})
 
 
-def read(folder: Path) -> Place:
+def look(folder: Path) -> Place:
     """What the files in a folder say; nothing is forwarded if there are none."""
-    place, forwarded = read_value(folder / "place.json"), read_value(folder / "databases.json")
+    place = json_files.read(folder / PLACE, partial(place_of, folder)) or Place(folder)
+    place.databases = json_files.read(folder / DATABASES, databases_of) or Databases()
+    return place
+
+
+def take_up(folder: Path, tell: Tell) -> Place:
+    """The same for a run, which puts aside what isn't right. What was kept aside then stays so."""
     try:
-        if place.get("within"):
-            place["within"] = Within(**place["within"])
-        return Place(folder, databases=Databases(**forwarded), **place)
-    except (AttributeError, TypeError) as error:
-        raise Failure(f"{folder} doesn't say how far forwarding has come: {error!r}") from error
+        place = json_files.read(folder / PLACE, partial(place_of, folder)) or Place(folder)
+    except Damaged as damaged:
+        kept = Path(files.put_aside(folder / PLACE)).name
+        tell(f"{damaged}; it is kept as {kept}, and the database that was under way is forwarded anew", NEEDS_A_LOOK)
+        lines = aside_lines(folder / ASIDE)
+        place = Place(folder, aside=len(lines), aside_bytes=sum(map(len, lines)))
+    place.databases = json_files.read_or_put_aside(
+        folder / DATABASES, databases_of, "all databases that are there are forwarded anew", tell) or Databases()
+    return place
 
 
-def read_value(path: Path) -> dict[str, Any]:
-    value = json_files.read(path)
-    if value is None:
-        return {}
-    if not isinstance(value, dict) or value.pop("version", None) != 1:
-        raise Failure(f"{path} is of a version that isn't known")
-    return value
+def aside_lines(path: Path) -> list[bytes]:
+    """The whole lines of what is kept aside."""
+    try:
+        return [line for line in files.read(path).splitlines(keepends=True) if line.endswith(b"\n")]
+    except OSError:
+        return []
+
+
+def place_of(folder: Path, value: dict[str, Any]) -> Place:
+    """What an object says; a ValueError if it says no place."""
+    json_files.only(value, "target", "within", "aside", "aside_bytes")
+    return Place(folder, json_files.text(value["target"]), within_of(value["within"]) if value["within"] else None,
+                 json_files.number(value["aside"]), json_files.number(value["aside_bytes"]))
+
+
+def within_of(value: dict[str, Any]) -> Within:
+    json_files.only(value, "database", "digest", "sequence", "number", "entries")
+    return Within(*(json_files.text(value[name]) for name in ("database", "digest", "sequence")),
+                  *(json_files.number(value[name]) for name in ("number", "entries")))
+
+
+def databases_of(value: dict[str, Any]) -> Databases:
+    json_files.only(value, "databases", "bad", "waited", "missed")
+    found = Databases(waited=json_files.some(value["waited"], json_files.text),
+                      missed=json_files.some(value["missed"], json_files.text))
+    found.take(value)
+    return found

@@ -50,13 +50,12 @@ class Run:
             raise Failure(f"{self.folder} belongs to another user; let systemd start this: "
                           "systemctl start journal-collect-forward", WRONG_CALL)
         self.state.mkdir(exist_ok=True)
-        self.lock = (self.state / "lock").open("wb")
-        if not files.lock_now(self.lock.fileno()):
+        if not files.lock_now(files.open_lock(self.state / "lock")):
             raise Failure("another run is under way", UNDER_WAY)
 
     def place(self, again: list[str], keeps: bool) -> Place:
         """How far it has come. What another engine has says nothing of this one."""
-        found, target = place.read(self.state), settings.target(self.chosen)
+        found, target = place.take_up(self.state, self.report.tell), settings.target(self.chosen)
         if ALL in again:
             found = Place(self.state, aside=found.aside, aside_bytes=found.aside_bytes)
         elif found.target not in ("", target) and not keeps:
@@ -83,7 +82,7 @@ class Run:
 
     def say_status(self) -> int:
         """How far behind it is; the status that tells whether something is to be looked at."""
-        found, listed = place.read(self.state), sources.listed(self.folder)
+        found, listed = place.look(self.state), sources.listed(self.folder)
         waiting = [database for database in listed.found if found.databases.waits(database)]
         newest = max(found.databases.databases, key=natural, default="none")
         print(f"engine {settings.target(self.chosen)}")
@@ -98,10 +97,9 @@ class Run:
         wrong = [f"damaged {name}" for name in found.databases.bad] + [
             f"missed {name}" for name in found.databases.missed] + [f"unreadable {name}" for name in listed.unread]
         if found.aside:
-            wrong.append(f"aside {found.aside} in {self.state / 'aside.json'}")
-        if self.report.problem.exists():
-            since, _, reason = self.report.problem.read_text(errors="replace").strip().partition(" ")
-            wrong.append(f"waits since {int(time.time()) - int(since)} seconds: {reason}")
+            wrong.append(f"aside {found.aside} in {self.state / place.ASIDE}")
+        if waits := self.report.waits():
+            wrong.append(waits)
         for line in wrong:
             print(line)
         return NEEDS_A_LOOK if wrong else 0

@@ -49,7 +49,16 @@ class Report:
         if self.waits_for:
             self.waits_for = ""
             self.tell("it goes on")
-        files.remove(self.problem)
+        with contextlib.suppress(OSError):
+            files.remove(self.problem)
+
+    def waits(self) -> str:
+        """What the file says, in words; nothing if there is none that is right."""
+        try:
+            since, _, reason = files.read(self.problem).decode(errors="replace").strip().partition(" ")
+            return f"waits since {int(time.time()) - int(since)} seconds: {harmless(reason)}"
+        except (OSError, ValueError):
+            return ""
 
     def end(self) -> None:
         print(self.wiped(), end="", file=sys.stderr, flush=True)

@@ -70,6 +70,7 @@ class Gathering:
             self.gathered.newest = newest
             self.begin_stream()
             return
+        streams.drop_uncommitted(self.gathered.newest)
         self.stream = Stream(self.gathered.newest)
         size = self.stream.size()
         if size < self.gathered.size:
@@ -89,9 +90,15 @@ class Gathering:
     def begin_stream(self) -> None:
         self.close()
         now = self.gathered
-        self.stream = streams.begin(now.newest + 1, now.is_again)
-        now.newest, now.size, now.boot, now.begun = now.newest + 1, 0, self.clock.boot, self.clock.seconds()
-        now.save()
+        before = now.newest, now.size, now.boot, now.begun
+        stream = streams.begin(now.newest + 1, now.is_again)
+        now.newest, now.size, now.boot, now.begun = stream.number, 0, self.clock.boot, self.clock.seconds()
+        try:
+            now.save()
+        except OSError:
+            now.newest, now.size, now.boot, now.begun = before
+            raise
+        self.stream = stream
 
     def close(self) -> None:
         """Nothing more is appended. What isn't committed needn't reach the disk."""

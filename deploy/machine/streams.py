@@ -130,6 +130,13 @@ def begin(number: int, is_again: bool) -> Stream:
     return stream
 
 
+def drop_uncommitted(newest: int) -> None:
+    """Removes the stream behind the newest one, which a run had begun when it was stopped or the disk was full."""
+    for number in numbers():
+        if number > newest and Stream(number).size() == 0:
+            Stream(number).delete()
+
+
 def renew(stream: Stream, data: Iterable[bytes]) -> None:
     """The stream's number has a stream with these entries and another id from now on."""
     renewed = f"renewed.{stream.number:08}"

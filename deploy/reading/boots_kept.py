@@ -28,7 +28,7 @@ HEAD = "boots 1"
 NAME = "boots"
 BOOT = re.compile(r"^boot ([0-9a-f]*) ([0-9a-f]*) ([0-9a-f]*) ([0-9a-f]*)$", re.MULTILINE)
 HOUR = re.compile(r"^hour (\S+) (\w+) ([\d: ]*)$", re.MULTILINE)
-OF_HOUR = re.compile(r"(\d+):(\d+):(\d+)")
+OF_HOUR = re.compile(r"(\d{1,19}):(\d{1,19}):(\d{1,19})")
 # Databases whose names tell no hour are together.
 LENGTH, OTHERS = len("2026-12-01T09"), "others"
 # Below so many databases other processes cost more than they bring.
@@ -66,12 +66,15 @@ def hours(lines: dict[str, Line]) -> list[Hour]:
 
 
 def known(file: Path) -> dict[str, tuple[str, list[Part]]]:
-    """What the file says: of each hour the digest, and the boots."""
+    """What the file says: of each hour the digest, and the boots; nothing, if it says what it can't."""
     text = kept.read(file, HEAD)
-    boots = [tuple(map(bytes.fromhex, words)) for words in BOOT.findall(text)]
-    return {name: (digest, [Part(*boots[int(number)], int(first), int(last))
-                            for number, first, last in OF_HOUR.findall(some)])
-            for name, digest, some in HOUR.findall(text)}
+    try:
+        boots = [tuple(map(bytes.fromhex, words)) for words in BOOT.findall(text)]
+        return {name: (digest, [Part(*boots[int(number)], int(first), int(last))
+                                for number, first, last in OF_HOUR.findall(some)])
+                for name, digest, some in HOUR.findall(text)}
+    except (IndexError, ValueError):
+        return {}
 
 
 def texts_of(found: dict[str, tuple[str, list[Part]]]) -> list[str]:

@@ -111,7 +111,7 @@ def listing(folder: Path) -> Listing:
 def digest(mark: Path) -> str | None:
     """The digest that a file beside a database says, if it can be read."""
     try:
-        match = DIGEST.match(mark.read_text(encoding="ascii", errors="replace"))
+        match = DIGEST.match(files.read(mark).decode("ascii", errors="replace"))
     except OSError:
         return None
     return match[1] if match else None

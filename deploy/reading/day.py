@@ -1,11 +1,14 @@
 """What journal files a day has, and which entries are in them. Each day has one file that says it."""
+import re
 from bisect import bisect_right
 from dataclasses import asdict, dataclass, field
-from pathlib import Path
+from itertools import pairwise
 from typing import Any
 
 from reading import json_files
-from reading.failure import Failure
+
+# The name of a journal file is that of a sequence, of what came between, or of a machine's overflow.
+NAME = re.compile("[0-9a-z-]{1,255}")
 
 
 @dataclass
@@ -88,18 +91,34 @@ class Day:
                                             for name, sequence in self.sequences.items()}}
 
 
-def read(path: Path) -> Day:
-    """The day that a file says; one without entries if there is no file."""
-    value = json_files.read(path)
-    return Day() if value is None else of_json(value, path)
+def of_json(value: dict[str, Any]) -> Day:
+    """The day that an object says; a ValueError if it says none."""
+    json_files.only(value, "sequences")
+    return Day(json_files.by_name(value["sequences"], sequence_of))
 
 
-def of_json(value: Any, path: Path) -> Day:
-    try:
-        if value["version"] != 1:
-            raise ValueError("an unknown version")
-        return Day({name: Sequence([Part(**part) for part in item["parts"]], Numbers(item["numbers"]),
-                                   item.get("machine", ""), item.get("overflows", False))
-                    for name, item in value["sequences"].items()})
-    except (KeyError, TypeError, ValueError) as error:
-        raise Failure(f"{path} isn't the state of a day: {error!r}") from error
+def sequence_of(item: dict[str, Any]) -> Sequence:
+    json_files.only(item, "parts", "numbers", "machine", "overflows")
+    return Sequence(json_files.some(item["parts"], part_of), numbers_of(item["numbers"]),
+                    json_files.text(item.get("machine", "")), json_files.truth(item.get("overflows", False)))
+
+
+def part_of(item: dict[str, Any]) -> Part:
+    json_files.only(item, "name", "entries", "last", "full")
+    return Part(name_of(item["name"]), json_files.number(item["entries"]), json_files.number(item["last"] + 1) - 1,
+                json_files.truth(item["full"]))
+
+
+def name_of(value: Any) -> str:
+    """The name of a journal file; a ValueError if it can't be one."""
+    if not NAME.fullmatch(json_files.text(value)):
+        raise ValueError(f"no name of a journal file: {value[:80]!r}")
+    return str(value)
+
+
+def numbers_of(value: Any) -> Numbers:
+    """Ranges, each behind the one before it."""
+    ranges = [[json_files.number(first), json_files.number(last)] for first, last in value]
+    if any(first > last for first, last in ranges) or any(one[1] >= next[0] for one, next in pairwise(ranges)):
+        raise ValueError("ranges of numbers that aren't in order")
+    return Numbers(ranges)

@@ -15,9 +15,9 @@ import time
 from collections.abc import Callable, Iterable, Iterator
 from dataclasses import dataclass, field, replace
 from pathlib import Path
-from typing import TYPE_CHECKING
+from typing import TYPE_CHECKING, Any
 
-from reading import databases, machines, recent, tables
+from reading import databases, json_files, machines, recent, tables
 from reading.failure import BadDatabase, Failure
 from reading.finding import Finder
 from reading.options import wrong
@@ -59,16 +59,22 @@ class Shown:
 def read(path: Path) -> Shown | None:
     """What was shown when this file was written; nothing, if there is none."""
     try:
-        value = json.loads(path.read_bytes())
-        if value["version"] != 1:
-            raise ValueError("an unknown version")
-        return Shown(set(value["databases"]), set(value["uploads"]),
-                     {name: {(bytes.fromhex(sequence), int(number)) for sequence, number in keys}
-                      for name, keys in value["keys"].items()})
-    except FileNotFoundError:
-        return None
-    except (OSError, KeyError, TypeError, ValueError) as error:
-        raise Failure(f"{path} doesn't say what was shown: {error!r}") from error
+        return json_files.read(path, of_json)
+    except json_files.Damaged as damaged:
+        raise Failure(f"{path} doesn't say what was shown: {damaged}") from damaged
+
+
+def of_json(value: dict[str, Any]) -> Shown:
+    """What an object says; a ValueError if it doesn't say what was shown."""
+    json_files.only(value, "databases", "uploads", "keys")
+    return Shown(set(json_files.some(value["databases"], json_files.text)),
+                 set(json_files.some(value["uploads"], json_files.text)),
+                 json_files.by_name(value["keys"], lambda keys: set(json_files.some(keys, key_of))))
+
+
+def key_of(value: Any) -> Key:
+    sequence, number = value
+    return bytes.fromhex(json_files.text(sequence)), json_files.number(number)
 
 
 class Follower:

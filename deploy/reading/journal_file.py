@@ -12,10 +12,11 @@ from collections.abc import Iterator
 from dataclasses import dataclass
 from itertools import islice
 from pathlib import Path
+from typing import IO
 
 from reading import export
 from reading.failure import Failure
-from shared.files import remove
+from shared.files import open_file, remove
 
 # A file is full from these on; so it takes one more spool of the size that follows before systemd would begin another
 # file. That is at three quarters of the buckets (233,016 for data and 333 for names, by default) and at 128 MiB.
@@ -48,7 +49,7 @@ class Header:
 def header(path: Path) -> Header | None:
     """The header of a file, or nothing if there is none."""
     try:
-        with path.open("rb") as file:
+        with open_file(path) as file:
             head = file.read(224)
         size = path.stat().st_size
     except OSError:
@@ -119,9 +120,7 @@ class Writer:
             with subprocess.Popen(call, stdout=subprocess.PIPE, stderr=subprocess.DEVNULL) as process:
                 assert process.stdout
                 try:
-                    yield from export.entries(process.stdout, keys=False)
-                except export.Malformed:
-                    pass
+                    yield from readable(process.stdout)
                 finally:
                     process.stdout.close()
 
@@ -130,16 +129,18 @@ class Again:
     """A journal file made anew, in the working folder, and then put in its place."""
 
     def __init__(self, path: Path, work: Path) -> None:
-        self.path, self.text, self.made, self.had = path, work / "again.export", work / "again.journal", 0
+        self.path, self.text, self.made = path, work / "again.export", work / "again.journal"
+        self.had = self.added = 0
 
     def gather(self, writer: Writer, before: int, spool: Path) -> int:
-        """The first entries of the file and those of a spool, in the order of times; how many it had."""
+        """The first entries of the file and those of a spool that can be read, in the order of times; how many it
+        had."""
         with self.text.open("wb") as file, spool.open("rb") as added:
             old = ((entry, 1) for entry in islice(writer.read(self.path), before))
-            new = ((entry, 0) for entry in export.entries(added, keys=False))
+            new = ((entry, 0) for entry in readable(added))
             for entry, own in heapq.merge(old, new, key=lambda item: item[0].realtime):
                 file.write(text(entry))
-                self.had += own
+                self.had, self.added = self.had + own, self.added + 1 - own
         return self.had
 
     def make(self, writer: Writer) -> None:
@@ -152,6 +153,14 @@ class Again:
             beside.rename(self.path.parent / (self.path.stem + beside.name.removeprefix(self.made.stem)))
         self.made.replace(self.path)
         remove(self.text)
+
+
+def readable(stream: IO[bytes]) -> Iterator[export.Entry]:
+    """The entries of a stream up to what is none."""
+    try:
+        yield from export.entries(stream, keys=False)
+    except export.Malformed:
+        return
 
 
 def last_line(errors: bytes) -> str:

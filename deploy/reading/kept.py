@@ -7,11 +7,13 @@ import hashlib
 import os
 from pathlib import Path
 
+from shared import files
+
 
 def read(file: Path, head: str) -> str:
     """The lines of a file behind its first one; none if it isn't whole."""
     try:
-        text = file.read_text(encoding="ascii")
+        text = files.read(file).decode("ascii")
     except (OSError, UnicodeDecodeError):
         return ""
     lines, _, end = text.rpartition("end ")

@@ -82,7 +82,7 @@ def known(folder: Path) -> Owners:
 def sequences(path: Path) -> set[bytes]:
     """The sequences that a file names."""
     try:
-        lines = path.read_text(encoding="ascii", errors="replace").splitlines()
+        lines = files.read(path).decode("ascii", errors="replace").splitlines()
     except OSError:
         return set()
     return {bytes.fromhex(match[1]) for match in map(SEQUENCE.fullmatch, lines) if match}

@@ -1,10 +1,9 @@
 """Of which databases journal files are made. One file says it."""
 from dataclasses import asdict, dataclass
-from pathlib import Path
+from datetime import date
 from typing import Any
 
 from reading import json_files
-from reading.failure import Failure
 from reading.taken import Taken
 
 
@@ -20,11 +19,11 @@ class Made(Taken):
         return {"version": 1, **asdict(self)}
 
 
-def read(path: Path) -> Made:
-    """What a file says; nothing is made if there is no file."""
-    value = json_files.read(path)
-    if value is None:
-        return Made()
-    if value.get("version") != 1:
-        raise Failure(f"{path} is of a version that isn't known")
-    return Made(value["databases"], value["bad"], value["newest_day"])
+def of_json(value: dict[str, Any]) -> Made:
+    """What an object says; a ValueError if it isn't one of these."""
+    json_files.only(value, "databases", "bad", "newest_day")
+    made = Made()
+    made.take(value)
+    if value["newest_day"] is not None:
+        made.newest_day = str(date.fromisoformat(json_files.text(value["newest_day"])))
+    return made

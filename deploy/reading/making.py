@@ -45,10 +45,10 @@ class Maker:
             raise Failure(f"{self.folder} belongs to another user; let systemd start this: "
                           "systemctl start journal-collect-journal-files", WRONG_CALL)
         self.places.make()
-        self.lock = (self.places.state / "lock").open("wb")
-        if not files.lock_now(self.lock.fileno()):
+        lock = files.open_lock(self.places.state / "lock")
+        if not files.lock_now(lock):
             raise Failure("another run is under way", UNDER_WAY)
-        self.writer = Writer(self.remote, self.lock.fileno())
+        self.writer = Writer(self.remote, lock)
         for number in (signal.SIGTERM, signal.SIGINT):
             signal.signal(number, self.stop)
 
@@ -60,17 +60,23 @@ class Maker:
         """Brings an earlier run's plan to its end, and then makes what waits, some databases at a time."""
         self.apply()
         plan.clean(self.places)
-        state = made.read(self.places.made)
+        state = self.made()
         while (waiting := self.waiting(state)) and not self.stopping:
             if files.free_bytes(self.folder) < self.free_bytes:
                 raise Failure(f"fewer than {self.free_bytes} bytes are free; {len(waiting)} databases wait")
             self.step(together(waiting), state)
-            state = made.read(self.places.made)
+            state = self.made()
         for name in state.bad:
             self.tell(f"databases/{name}.db is damaged, and no journal files are made of it", NEEDS_A_LOOK)
         if not self.stopping:
             for old in retention.expire(self.places, self.keep_days, state):
                 self.tell(f"{old} has been kept for {self.keep_days} days, and is deleted")
+
+    def made(self) -> Made:
+        """What is made; nothing, if it isn't known."""
+        return json_files.read_or_put_aside(
+            self.places.made, made.of_json, "all databases are made anew, and what their days have already is left out",
+            self.tell) or Made()
 
     def waiting(self, state: Made) -> list[Database]:
         """The finished databases that wait, but for those that this run passes over."""
@@ -85,7 +91,7 @@ class Maker:
         """Makes some databases, or finds out that one of them can't be."""
         try:
             room = max(0, files.free_bytes(self.folder) - self.free_bytes // 2)
-            spools = taking.take(batch, self.places, self.writer, self.keep_days, state, room)
+            spools = taking.take(batch, self.places, self.writer, self.keep_days, state, room, self.tell)
         except BadDatabase as bad:
             self.pass_over(bad, batch)
             return
@@ -108,22 +114,22 @@ class Maker:
             return
         self.tell(f"databases/{bad}", NEEDS_A_LOOK if bad.lasting else FAILED)
         if bad.lasting:
-            state = made.read(self.places.made)
+            state = self.made()
             state.bad |= {database.name: database.identity for database in batch if database.name == bad.name}
             json_files.write(self.places.made, state.as_json())
 
     def apply(self) -> None:
         """Brings a plan to its end, if there is one."""
-        applying = Applying(self.places, self.writer, self.free_bytes)
+        applying = Applying(self.places, self.writer, self.free_bytes, self.tell)
         applying.run()
         for text in applying.told:
             self.tell(text, NEEDS_A_LOOK)
         if applying.plan:
-            print(f"{applying.plan['says']}; {len(self.waiting(made.read(self.places.made)))} wait", flush=True)
+            print(f"{applying.plan['says']}; {len(self.waiting(self.made()))} wait", flush=True)
 
     def say_status(self) -> None:
         """How far behind it is."""
-        state = made.read(self.places.made)
+        state = json_files.read(self.places.made, made.of_json) or Made()
         waiting = self.waiting(state)
         newest = max(state.databases, key=databases.natural, default="none")
         print(f"made {len(state.databases)} newest {newest}")

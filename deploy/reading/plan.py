@@ -2,16 +2,19 @@
 file is touched; so whatever stops the program, the next run brings the plan to its end, and only then makes another.
 """
 import shutil
+import stat
+from collections.abc import Callable
 from dataclasses import dataclass
 from datetime import date
 from itertools import count
 from pathlib import Path
 from typing import Any
 
-from reading import day, journal_file, json_files
+from reading import day, journal_file, json_files, made
 from reading.day import Day, Part
-from reading.failure import Failure
+from reading.failure import NEEDS_A_LOOK, Failure
 from reading.journal_file import Writer
+from reading.json_files import Tell
 from reading.made import Made
 from reading.spool import Spools
 from shared import files
@@ -64,22 +67,73 @@ def write(places: Places, spools: Spools, made: Made, says: str) -> None:
                                    "days": {str(of): state.as_json() for of, state in spools.days.items()}})
 
 
+def of_json(value: dict[str, Any]) -> dict[str, Any]:
+    """The plan that an object is; a ValueError if it is none."""
+    json_files.only(value, "parts", "made", "says", "days")
+    json_files.text(value["says"])
+    versionless(value["made"], made.of_json)
+    days = json_files.by_name(value["days"], lambda of: versionless(of, day.of_json))
+    for item in json_files.some(value["parts"], item_of):
+        if item["day"] not in days or str(date.fromisoformat(item["day"])) != item["day"]:
+            raise ValueError(f"no day: {item['day'][:80]!r}")
+    return value
+
+
+def versionless(value: dict[str, Any], parse: Callable[[dict[str, Any]], Any]) -> Any:
+    """What stands in a file of its own, too, where it has the version."""
+    if value["version"] != 1:
+        raise ValueError("another version")
+    return parse({name: of for name, of in value.items() if name != "version"})
+
+
+def item_of(item: dict[str, Any]) -> dict[str, Any]:
+    """What a plan says of one journal file."""
+    json_files.only(item, "day", "name", "spool", "before", "adds", "between", "machine", "tries", "moves")
+    for name in ("day", "spool", "machine"):
+        json_files.text(item[name])
+    for name in ("before", "adds", "tries"):
+        json_files.number(item[name])
+    day.name_of(item["name"])
+    json_files.truth(item["between"])
+    for beside, other in item["moves"]:
+        day.name_of(other)
+        if Path(json_files.text(beside)).name != beside:
+            raise ValueError(f"no name of a file: {beside[:80]!r}")
+    if Path(item["spool"]).name != item["spool"]:
+        raise ValueError(f"no name of a file: {item['spool'][:80]!r}")
+    return item
+
+
 class Applying:
     """A plan brought to its end. Each of its steps may have been taken already, or half of it."""
 
-    def __init__(self, places: Places, writer: Writer, free_bytes: int) -> None:
+    def __init__(self, places: Places, writer: Writer, free_bytes: int, tell: Tell) -> None:
         self.places, self.writer, self.free_bytes = places, writer, free_bytes
         self.told: list[str] = []
-        self.plan = json_files.read(places.plan)
+        self.plan = json_files.read_or_put_aside(places.plan, of_json, "its databases are taken anew", tell)
+        if self.plan and not all(map(self.can_be_made, self.plan["parts"])):
+            tell(f"{places.work} lacks a file that is to be appended; its databases are taken anew", NEEDS_A_LOOK)
+            files.remove(places.plan)
+            self.plan = None
 
     def run(self) -> None:
         if self.plan is None:
             return
-        if self.plan.get("version") != 1:
-            raise Failure(f"{self.places.plan} is of a version that isn't known")
         for item in self.plan["parts"]:
             self.make(item)
         self.finish()
+
+    def can_be_made(self, item: dict[str, Any]) -> bool:
+        """What is appended to the file is there, or is in it already."""
+        try:
+            is_there = stat.S_ISREG((self.places.work / item["spool"]).lstat().st_mode)
+        except OSError:
+            is_there = False
+        return is_there or bool(item["moves"]) or journal_file.is_made(self.path(item), item["before"] + item["adds"])
+
+    def save(self) -> None:
+        assert self.plan
+        json_files.write(self.places.plan, {"version": 1, **self.plan})
 
     def path(self, item: dict[str, Any]) -> Path:
         return self.places.journals / item["day"] / f"{item['name']}.journal"
@@ -91,8 +145,8 @@ class Applying:
             if files.free_bytes(self.places.journals) < self.free_bytes // 2:
                 raise Failure(f"fewer than {self.free_bytes // 2} bytes are free; it goes on when there are more")
             path.parent.mkdir(exist_ok=True)
-            expected = item["adds"] + self.append(item, path)
-            has = journal_file.count(path)
+            had = self.append(item, path)
+            expected, has = had + item["adds"], journal_file.count(path)
             if has != expected:
                 self.lacks(item, f"{path} has {has} entries, and should have {expected}")
             self.plan_moves(item, path)
@@ -120,6 +174,11 @@ class Applying:
         if again.gather(self.writer, before, spool) < before:
             self.lacks(item, f"{before - again.had} of the {before} entries of {path} can't be read")
             self.keep(path)
+        if again.added < item["adds"]:
+            self.told.append(f"{item['adds'] - again.added} of the {item['adds']} entries for {path} can't be read any "
+                             "more, and are left out")
+            item["adds"] = again.added
+            self.save()
         again.make(self.writer)
         return again.had
 
@@ -130,7 +189,7 @@ class Applying:
             return
         if files.free_bytes(self.places.journals) >= self.free_bytes:
             item["tries"] += 1
-            json_files.write(self.places.plan, self.plan)
+            self.save()
         raise Failure(f"{text}; the next run tries again")
 
     def keep(self, path: Path) -> None:
@@ -148,11 +207,11 @@ class Applying:
             names = (f"{item['name']}-full-{number}" for number in count(1))
             unused = (name for name in names if not (path.parent / f"{name}.journal").exists())
             item["moves"] = [[file.name, name] for file, name in zip(beside, unused)]
-            json_files.write(self.places.plan, self.plan)
+            self.save()
 
     def finish(self) -> None:
         """All files are made: the states of the days, then which databases are made, and then there is no plan."""
-        states = {of: day.of_json(value, self.places.plan) for of, value in self.plan["days"].items()}
+        states = {of: versionless(value, day.of_json) for of, value in self.plan["days"].items()}
         for item in self.plan["parts"]:
             update(states[item["day"]], item, self.path(item))
         for of, state in states.items():
@@ -181,7 +240,7 @@ def update(state: Day, item: dict[str, Any], path: Path) -> None:
 def clean(places: Places) -> None:
     """Takes away what an earlier run left in the working folder. No plan needs it."""
     for left in places.work.iterdir():
-        if left.is_dir():
+        if left.is_dir() and not left.is_symlink():
             shutil.rmtree(left)
         else:
             files.remove(left)

@@ -59,7 +59,7 @@ def entries(upload: Upload, sieve: Sieve | None = None) -> Iterator[Entry]:
     """The entries of an upload; none if it is there no more, or a sieve lets nothing of it through. An unfinished last
     one isn't stored, so it isn't given."""
     try:
-        data = upload.path.read_bytes()
+        data = files.read(upload.path)
         if data[8:9] != bytes([STREAM]):
             yield from entries_of_file(upload)
         elif sieve is None or sieve.takes_upload(data):

@@ -45,7 +45,10 @@ def clock_is_steady(places: Places) -> bool:
     """The clock is within a day of where the last run found it. What it is now is kept for the next one."""
     path, now = places.state / "clock", int(time.time())
     try:
-        last = int(path.read_text())
+        last = int(files.read(path))
+    except files.NotAFile:
+        files.put_aside(path)
+        last = -SECONDS
     except (OSError, ValueError):
         last = -SECONDS
     files.replace(path, b"%d\n" % now)

@@ -25,7 +25,7 @@ from reading.workers import Workers, processors
 
 HEAD = "spans 2"
 NAME = "spans"
-LINE = re.compile(r"^(\w+) (\d+ \d+) (\S+) ([\d: ]*)$", re.MULTILINE)
+LINE = re.compile(r"^(\w+) (\d+ \d+) (\S+) ((?:\d{1,19}:\d{1,19}:\d{1,19}(?: (?=\d)|$))*)$", re.MULTILINE)
 # Entries that are further apart are in spans of their own, but only so many.
 GAP, MOST_SPANS = 3_600_000_000, 8
 # Below so many databases other processes cost more than they bring.

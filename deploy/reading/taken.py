@@ -1,6 +1,8 @@
 """Which finished databases a program has taken, and which of them are damaged."""
 from dataclasses import dataclass, field
+from typing import Any
 
+from reading import json_files
 from reading.databases import Database
 
 
@@ -9,6 +11,11 @@ class Taken:
     """The databases that are taken, each with its digest, and those that are damaged, each with its identity."""
     databases: dict[str, str] = field(default_factory=dict)
     bad: dict[str, str] = field(default_factory=dict)
+
+    def take(self, value: dict[str, Any]) -> None:
+        """What a file says of them; a ValueError if it doesn't say that."""
+        self.databases = json_files.by_name(value["databases"], json_files.text)
+        self.bad = json_files.by_name(value["bad"], json_files.text)
 
     def waits(self, database: Database) -> bool:
         """It isn't taken yet, and wasn't found to be damaged."""

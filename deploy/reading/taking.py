@@ -5,11 +5,12 @@ from datetime import date
 from pathlib import Path
 from typing import BinaryIO
 
-from reading import day, export
+from reading import day, export, json_files
 from reading.databases import Database
 from reading.day import Day
 from reading.failure import BadDatabase, Failure
 from reading.journal_file import Writer
+from reading.json_files import Tell
 from reading.made import Made
 from reading.placing import LAST, Placing, ordinal_of
 from reading.plan import Places
@@ -20,12 +21,14 @@ from shared import files
 class Days(dict[date, Day]):
     """The days, each read when it is asked for."""
 
-    def __init__(self, places: Places) -> None:
+    def __init__(self, places: Places, tell: Tell) -> None:
         super().__init__()
-        self.places = places
+        self.places, self.tell = places, tell
 
     def __missing__(self, of: date) -> Day:
-        self[of] = day.read(self.places.day_state(of))
+        self[of] = json_files.read_or_put_aside(
+            self.places.day_state(of), day.of_json, f"further entries of {of} get files of their own; what comes a "
+            "second time may be there twice", self.tell) or Day()
         return self[of]
 
 
@@ -62,10 +65,11 @@ class Source:
         files.remove(self.work / "export")
 
 
-def take(batch: list[Database], places: Places, writer: Writer, keep_days: int, made: Made, room: int) -> Spools:
+def take(batch: list[Database], places: Places, writer: Writer, keep_days: int, made: Made, room: int,
+         tell: Tell) -> Spools:
     """All entries of some databases, for which new files may take so much room. The newest day of `made` is raised by
     them."""
-    spools = Spools(places.work, places.journals, Days(places), writer, room)
+    spools = Spools(places.work, places.journals, Days(places, tell), writer, room)
     for database in batch:
         take_one(database, spools, keep_days, made)
     spools.compare()

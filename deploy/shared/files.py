@@ -9,10 +9,33 @@ import stat
 TYPE_CHECKING = False
 if TYPE_CHECKING:
     from types import TracebackType
+    from typing import BinaryIO
 
 Name = str | os.PathLike[str]
 # What a link, a folder or a pipe without a reader says to whoever would open a file.
-NO_LOCK = (errno.ELOOP, errno.EISDIR, errno.ENXIO)
+NO_FILE = (errno.ELOOP, errno.EISDIR, errno.ENXIO)
+
+
+class NotAFile(OSError):
+    """What has a file's name is a folder, a pipe, or a link that leads to none."""
+
+
+def open_file(path: Name) -> BinaryIO:
+    """Opens a file, to be read. Nothing else that has its name is waited for, as a pipe that nobody writes to."""
+    try:
+        handle = os.open(path, os.O_RDONLY | os.O_NONBLOCK | os.O_CLOEXEC)
+    except OSError as error:
+        raise NotAFile(f"{path}: {error.strerror}") if error.errno in NO_FILE else error
+    if not stat.S_ISREG(os.fstat(handle).st_mode):
+        os.close(handle)
+        raise NotAFile(f"{path} isn't a file")
+    return os.fdopen(handle, "rb")
+
+
+def read(path: Name) -> bytes:
+    """All bytes of a file."""
+    with open_file(path) as file:
+        return file.read()
 
 
 def sync(path: Name) -> None:
@@ -101,7 +124,7 @@ def open_lock(path: Name) -> int:
         try:
             file = os.open(path, os.O_RDWR | os.O_CREAT | os.O_NOFOLLOW | os.O_NONBLOCK | os.O_CLOEXEC, 0o600)
         except OSError as error:
-            if error.errno not in NO_LOCK:
+            if error.errno not in NO_FILE:
                 raise
         else:
             if stat.S_ISREG(os.fstat(file).st_mode):

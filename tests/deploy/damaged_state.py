@@ -1,25 +1,32 @@
-"""Random edits of what a machine keeps: usage: python3 damaged_state.py LIBRARY
+"""Random edits of what a machine keeps: usage: python3 damaged_state.py LIBRARY [--edits EDITS]
 
-Each file of the machine's folder is edited by turns: bytes are changed, lines are lost, doubled or swapped, the file is
-cut, emptied, made long, or replaced by a pipe or a folder. The next runs end with a status of their own, without a
-traceback and in time, and everything that the journal has is in an upload, or was in one before. STATE_EDITS is how
-many edits are tried, SEED chooses them. The runs of one edit in twenty are begun as they are installed.
+Some files of the machine's folder are edited, as tests/shared/edits.py has it, and streams get other names. The next
+runs end with a status of their own, without a traceback and in time, and everything that the journal has is in an
+upload, or was in one before. SEED chooses the edits. The runs of one try in twenty are begun as they are installed.
 """
+import argparse
 import os
 import random
 import shutil
 import subprocess
 import sys
+from collections.abc import Callable
 
-import forked
-from journal import Key
-from one_machine import HERE, Machine
+HERE = os.path.dirname(os.path.abspath(__file__))
+sys.path.insert(0, os.path.join(HERE, "..", "shared"))
+import edits  # noqa: E402
+import forked  # noqa: E402
+from journal import Key  # noqa: E402
+from one_machine import Machine  # noqa: E402
 
-COUNT = int(os.environ.get("STATE_EDITS", "60"))
 SEED = int(os.environ.get("SEED", "5"))
-FILES = ("gathered", "link", "unread", "forks", "large", "lock", "streams/{}/id", "streams/{}/resume",
-         "streams/{}/sent", "streams/{}/stream", "streams/{}/cut", "streams/{}/again")
-WORDS = (b"", b"-1", b"9" * 5_000, b"..", b"0" * 32, b"\xff", b"1e9", b"5")
+# Names that files and streams get.
+NAMES = ("id", "resume", "sent", "stream", "again", "cut", "gathered", "forks", "large", "last", "link", "lock", "x",
+         "x.damaged", "renewed.00000001", "renewed.x", "deleted.00000002", "begun", "\udcff", "a\nb")
+STREAMS = ("00000000", "00000099", "99999999", "9" * 60, "x", "1", "\udcff", "00000001.damaged", "٠٠٠٠٠٠٠٠١")
+CUT = "cut 1 5 17\n"
+# Each try has an edit in each of these.
+AREAS = ("[^/]+$", "streams/00000001/", "streams/00000002/", "streams/00000003/")
 FORK = f"forks 1\nfork {'a' * 32} 7 {'b' * 32} told\nfork {'b' * 32} 9 {'c' * 32} told\n"
 
 
@@ -43,55 +50,43 @@ def prepared(library: str) -> Machine:
     return machine
 
 
-def edited(dice: random.Random, data: bytes) -> bytes:
-    lines = data.split(b"\n")
-    at, other = dice.randrange(len(lines)), dice.randrange(len(lines))
-    kind = dice.randrange(10)
-    if kind < 4:
-        changed = bytearray(data or b"x")
-        for _ in range(dice.choice((1, 1, 1, 3))):
-            changed[dice.randrange(len(changed))] = dice.choice((dice.randrange(256), *b"0019af -\n="))
-        return bytes(changed)
-    if kind == 4:
-        return data[:dice.randrange(len(data) + 1)]
-    if kind == 5:
-        lines[at], lines[other] = lines[other], lines[at]
-    elif kind == 6:
-        del lines[at]
-    elif kind == 7:
-        lines.insert(other, lines[at])
-    elif kind == 8:
-        words = lines[at].split(b" ")
-        words[dice.randrange(len(words))] = dice.choice(WORDS)
-        lines[at] = b" ".join(words)
-    else:
-        return dice.choice((b"", dice.randbytes(200), b"\n" * 1_000, data * 50))
-    return b"\n".join(lines)
+class Edit(edits.Edit):
+    """One edit of a machine's folder."""
+
+    # What a right sum says is believed, so it may cost entries.
+    is_believed = False
+
+    def kinds(self) -> list[Callable[[], None]]:
+        return [*super().kinds(), *[self.rename_stream] * ("/streams/" in self.path)]
+
+    def may_sum(self, _body: bytes) -> bool:
+        self.is_believed = True
+        return True
+
+    def rename_stream(self) -> None:
+        """The folder that the file is in has another name."""
+        name = self.dice.choice(STREAMS)
+        self.said += f" {name!r}"
+        self.is_believed = True
+        folder = os.path.dirname(self.path)
+        if not os.path.exists(to := os.path.join(os.path.dirname(folder), name)):
+            os.rename(folder, to)
+
+    @property
+    def costs_entries(self) -> bool:
+        """What a stream has is lost if its bytes are."""
+        return self.is_believed or self.path.endswith("/stream") or "'stream'" in self.said
 
 
-def edit(dice: random.Random, machine: Machine) -> str:
-    """Edits one file; what was done."""
+def harmed(dice: random.Random, machine: Machine) -> list[Edit]:
+    """Edits a file in each area, which may be one that is there only now and then."""
     streams = os.listdir(f"{machine.folder}/streams")
-    name = dice.choice(FILES).format(dice.choice(streams))
-    path = f"{machine.folder}/{name}"
-    data = b""
-    if os.path.isfile(path):
-        with open(path, "rb") as file:
-            data = file.read()
-        os.remove(path)
-    kind = dice.randrange(25)
-    if kind == 0:
-        return f"{name}: removed"
-    if kind == 1:
-        os.mkfifo(path)
-        return f"{name}: a pipe"
-    if kind == 2:
-        os.mkdir(path)
-        return f"{name}: a folder"
-    changed = edited(dice, data)
-    with open(path, "wb") as file:
-        file.write(changed)
-    return f"{name}: {changed[:300]!r}"
+    for name, text in (("unread", "journalctl: no\n"), ("link", "70000\n"), ("old-collector", "1764590400\n"),
+                       (f"streams/{dice.choice(streams)}/again", ""), (f"streams/{dice.choice(streams)}/cut", CUT)):
+        if dice.random() < 0.2:
+            with open(f"{machine.folder}/{name}", "w", encoding="ascii") as file:
+                file.write(text)
+    return edits.made(lambda: Edit(dice, machine.folder, NAMES), machine.folder, AREAS)
 
 
 def look(machine: Machine, what: str, wanted: set[Key]) -> str:
@@ -109,27 +104,33 @@ def look(machine: Machine, what: str, wanted: set[Key]) -> str:
 
 
 def main() -> None:
-    library, dice, mistakes = os.path.abspath(sys.argv[1]), random.Random(SEED), 0
+    parser = argparse.ArgumentParser()
+    parser.add_argument("library")
+    parser.add_argument("--edits", type=int, default=60)
+    asked = parser.parse_args()
+    library, mistakes = os.path.abspath(asked.library), 0
     first = prepared(library)
     forked.install(library, {"journalctl": f"{HERE}/journalctl.py", "systemd-analyze": f"{HERE}/journalctl.py",
                              "ssh": f"{first.base}/bin/ssh"})
-    for number in range(COUNT):
-        forked.is_on = number % 20 > 0
+    tries = done = 0
+    while done < asked.edits:
+        dice = random.Random(SEED * 1_000_000 + tries)
+        forked.is_on = tries % 20 > 0
         machine = Machine(library, 254)
         machine.settings.update(STREAM_BYTES=3_000, RESEND_MINUTES=0)
         for name in ("machine", "journal", "uploads"):
             shutil.rmtree(f"{machine.base}/{name}", ignore_errors=True)
             shutil.copytree(f"{first.base}/{name}", f"{machine.base}/{name}")
-        what = edit(dice, machine)
-        # what a stream has is lost if its bytes are
-        wanted = set() if "/stream: " in what else first.journal.keys()
-        wrong = look(machine, f"{number}: {what}", wanted)
+        made = harmed(dice, machine)
+        wanted = set() if any(edit.costs_entries for edit in made) else first.journal.keys()
+        wrong = look(machine, f"{tries}: {'; '.join(edit.said for edit in made)}", wanted)
+        tries, done = tries + 1, done + len(made)
         if wrong:
             mistakes += 1
             print(wrong[:1500], file=sys.stderr)
         shutil.rmtree(machine.base)
     shutil.rmtree(first.base)
-    print(f"a machine's state: {COUNT} edits, {mistakes} mistakes; SEED={SEED}")
+    print(f"a machine's state: {done} edits in {tries} tries, {mistakes} mistakes; SEED={SEED}")
     sys.exit(mistakes > 0)
 
 

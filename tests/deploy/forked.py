@@ -29,16 +29,17 @@ codes: dict[str, CodeType] = {}
 _begin, _spawn, _exec = subprocess.Popen.__init__, os.posix_spawnp, os.execvp
 
 
-def install(library: str, stand_ins: Mapping[str, str]) -> None:
-    """From now on the programs of a library run so, and those that stand in for others: by name, the source of each."""
+def install(library: str, stand_ins: Mapping[str, str], programs: Sequence[str] = PROGRAMS,
+            packages: Sequence[str] = PACKAGES) -> None:
+    """From now on programs of a library run so, and those that stand in for others: by name, the source of each."""
     global is_on
     sys.path.insert(0, library)
-    for package in PACKAGES:
+    for package in packages:
         for name in sorted(os.listdir(os.path.join(library, package))):
             if name.endswith(".py") and name != "__init__.py":
                 __import__(f"{package}.{name[:-3]}")
-    programs = {os.path.join(library, name): os.path.join(library, name) for name in PROGRAMS}
-    for name, path in {**programs, **stand_ins}.items():
+    own = {os.path.join(library, name): os.path.join(library, name) for name in programs}
+    for name, path in {**own, **stand_ins}.items():
         with open(path, encoding="utf-8") as file:
             codes[name] = compile(file.read(), path, "exec", dont_inherit=True)
     subprocess.Popen.__init__ = begin  # type: ignore[method-assign]

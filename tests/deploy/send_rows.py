@@ -2,14 +2,17 @@
 
 journalctl is as in systemd 252: what is sent doesn't depend on it. The collector says what the row has it say.
 """
+import itertools
 import os
+import signal
 import subprocess
 import sys
 import time
 
+import forked
 from exported import body, read
 from journal import Journal
-from one_machine import Machine
+from one_machine import HERE, Machine
 from trial_rows import Row, Rows
 
 ROWS: Rows[Machine] = Rows()
@@ -113,6 +116,55 @@ def what_it_did_when_stopped(row: Row, machine: Machine) -> None:
     row.expect("what it did", machine.did, ["send: sent 0 entries in 0 uploads, 3 acknowledged"])
     machine.journal.grow(3)
     row.expect("nothing went out", (machine.send(UPLOAD_STATUS="255")[0], machine.did), (3, []))
+
+
+@ROWS.row
+def stopped_when_a_stream_begins(row: Row, machine: Machine) -> None:
+    """Wherever a run is stopped that begins a stream, since the folder is full: none is left that nothing comes to."""
+    forked.install(machine.library, {"ssh": f"{machine.base}/bin/ssh", **dict.fromkeys(
+        ("journalctl", "systemd-analyze"), f"{HERE}/journalctl.py")})
+    small, usual = dict.fromkeys(("FOLDER_BYTES", "STREAM_BYTES", "BACKLOG_BYTES"), 100), machine.settings
+    machine.journal.grow(4)
+    machine.send(UPLOAD_STATUS="255")
+    status = -signal.SIGKILL
+    for number in itertools.count(1):
+        machine.settings = usual | small
+        status, _ = machine.send(stop=number, UPLOAD_STATUS="255")
+        machine.settings = usual
+        machine.send(UPLOAD_STATUS="255")
+        last = max(int(name) for name in os.listdir(f"{machine.folder}/streams"))
+        row.expect(f"the last stream after a stop at step {number}", last, newest(machine))
+        if status != -signal.SIGKILL:
+            break
+    forked.is_on = False
+    row.expect("steps", number > 20, True)
+    row.all_stored(machine)
+
+
+def newest(machine: Machine) -> int:
+    """The stream that counts as the newest one."""
+    with open(f"{machine.folder}/gathered", encoding="ascii") as file:
+        return next(int(line.split()[1]) for line in file if line.startswith("stream "))
+
+
+@ROWS.row
+def full_disk_when_a_stream_is_split(row: Row, machine: Machine) -> None:
+    """An entry is refused while nothing more can be written: what counts as the newest stream stays it."""
+    machine.settings["STREAM_BYTES"] = 500
+    machine.journal.grow(4)
+    machine.send()
+    refused = machine.upload()[0]
+    machine.settings["STREAM_BYTES"] = 100_000
+    machine.journal.grow(2)
+    machine.send()
+    machine.answers(f"no {refused} 0 60 1\n" + machine.collect(machine.files()[-1]) + machine.last())
+    status, said = machine.send(file_bytes=100)
+    row.expect("a full disk", (status, "File too large" in said, "forked: " in said), (3, True, True))
+    before = len(machine.files())
+    row.expect("the next run", machine.send(), (0, ""))
+    sent = [entry for name in machine.files()[before:] for entry in read(body(name))]
+    row.expect("what goes out", [(entry[0] == sent[0][0], entry[1]) for entry in sent],
+               [(True, 1), (False, 2), (False, 3), (False, 4)])
 
 
 @ROWS.row

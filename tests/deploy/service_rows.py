@@ -265,6 +265,50 @@ def no_room(row: Row, case: Case, free: int, text: str) -> None:
     row.expect("with room", (case.collect(), case.numbers()), ((0, ""), [1, 2, 3, 4]))
 
 
+def forgetful_program(case: Case, ending: str) -> None:
+    """The program's first collect stores an upload, says that it had no memory for it, and ends so."""
+    forgetful = f"{case.base}/bin/journal-collect"
+    os.unlink(forgetful)
+    with open(forgetful, "w", encoding="ascii") as file:
+        file.write(f"""#!/bin/bash
+if [[ $1 != collect || -e {case.base}/told ]]; then
+    exec {os.environ["PROGRAM"]} "$@"
+fi
+touch {case.base}/told
+read -r name
+[[ {ending} == well ]] || {os.environ["PROGRAM"]} collect --tables 3 "${{@: -1}}" "$name" > /dev/null
+echo "no {SOURCE} 0 63 0"
+cat > /dev/null
+[[ {ending} == well ]] || echo "store failed" >&2
+exit 3
+""")
+    os.chmod(forgetful, 0o755)
+
+
+@ROWS.once
+def no_memory_and_a_database_that_fails(row: Row, case: Case) -> None:
+    """An upload that the program had no memory for may be stored, if its database isn't closed well then: no other
+    database gets it."""
+    forgetful_program(case, "badly")
+    case.receive(upload(entries(1, 3)))
+    said = case.collect()[1] + case.collect()[1]
+    row.expect("what is stored", (case.numbers(), len(case.names())), ([1, 2, 3], 1))
+    row.expect("the answer", case.answers()[0].split()[:4], ["ack", SOURCE, "0", "3"])
+    row.expect("told", "kept for later" in said, True)
+
+
+@ROWS.once
+def no_memory(row: Row, case: Case) -> None:
+    """If the database is closed well, the upload waits again, and is stored in whichever is used then."""
+    forgetful_program(case, "well")
+    case.receive(upload(entries(1, 3)))
+    case.collect()
+    row.expect("it waits", (os.listdir(case.path("incoming")) != [], case.numbers()), (True, []))
+    case.collect()
+    row.expect("what is stored", case.numbers(), [1, 2, 3])
+    row.expect("the answer", case.answers()[0].split()[:4], ["ack", SOURCE, "0", "3"])
+
+
 def main() -> int:
     folder = Case.build(sys.argv[1])
     try:

@@ -188,10 +188,19 @@ def goes_on(row: Row, library: str) -> None:
         with Follower(collector, "--state", state) as follower:
             follower.shows([4, 5])
             follower.end()
-        with open(state, "w", encoding="ascii") as file:
-            file.write("{}")
-        with Follower(collector, "--state", state) as follower:
-            row.same("damaged", (follower.process.wait(), "doesn't say what was shown" in follower.said()), (3, True))
+        for text in ("{}", "[]", "[" * 100_000, '{"version":1,"databases":"ab","uploads":[],"keys":{}}',
+                     '{"version":1,"databases":[],"uploads":[],"keys":{"x":[["zz",1]]}}'):
+            with open(state, "w", encoding="ascii") as file:
+                file.write(text)
+            damaged(row, collector, state)
+        os.unlink(state)
+        os.mkfifo(state)
+        damaged(row, collector, state)
+
+
+def damaged(row: Row, collector: Collector, state: str) -> None:
+    with Follower(collector, "--state", state) as follower:
+        row.same("damaged", (follower.process.wait(20), "doesn't say what was shown" in follower.said()), (3, True))
 
 
 @ROWS.row

@@ -1,17 +1,14 @@
-"""Edits of the collector's state, one at a time: no program ends in a traceback, a loop or a hang, the service goes on,
-and nothing is acknowledged that is in no database.
+"""Edits of the collector's state: no program ends in a traceback, a loop or a hang, the service goes on, and nothing is
+acknowledged that is in no database.
 
 usage: python3 state_fuzz.py LIBRARY [--edits EDITS]
 
-An edit changes, shortens, lengthens or empties a file of the state, swaps or repeats its lines, changes its numbers
-(also with the sum that they need then), or puts a folder, a pipe or a link in its place; or it gives an upload, a
-database or a source another name. What an upload that waits says isn't changed.
+tests/shared/edits.py has what an edit may be. What an upload that waits says isn't changed.
 """
 import argparse
 import importlib
 import os
 import random
-import re
 import shutil
 import signal
 import subprocess
@@ -22,15 +19,20 @@ import zlib
 from collections.abc import Callable
 
 HERE = os.path.dirname(os.path.abspath(__file__))
-sys.path.insert(0, HERE)
+sys.path[:0] = [HERE, os.path.join(HERE, "..", "shared")]
+import edits  # noqa: E402
 from collector_case import Case, entries, file_upload, source, upload  # noqa: E402
 from collector_machines import PROGRAM, entries_of  # noqa: E402
 
 SECONDS = 60
 SEQUENCES = {source(number): f"{number:032x}" for number in range(1, 6)}
 WRONG = ("Traceback", "Error(", "Exception")
-NUMBERS = (b"-1", b"0", b"00", b"1", b"7", b"64", b"9" * 12, b"9" * 19, b"9" * 400, b"1e9", b"nan", b"inf",
-           "٣".encode())
+# Each try has an edit in each of these.
+AREAS = ("sources/web/", "sources/mail/", "(databases|batch|incoming)/.*(?<!db)$",
+         "(shares/|calls/|answers/.*/)?[^/]+$")
+# What is there only while a machine gets another name, or where an earlier version was.
+OTHERS = {"renaming": b"mail post\nsum %08x\n" % zlib.crc32(b"mail post\n"), "age": b"5.25 1764590400\n",
+          f"answers/web/{'7' * 32}.answer": b"ack %s 0 5 5 0\n" % (b"7" * 32)}
 NAMES = ("..", ".", "a", "a@b@c.upload", "000000000001@..@{id}.upload", "999999999999@web@{id}.upload",
          "000000000001@web@{id}.upload", "000000000001@we\nb@{id}.upload", "٠٠٠٠٠٠٠٠٠٠٠١@web@{id}.upload", "{id}",
          "ä.db", "a\nb.db", "a b.db", ".db", "x.db", "x.db.sha256", "x.db.refused", "{id}.entries", "lock")
@@ -59,99 +61,17 @@ def made(library: str) -> Case:
     return case
 
 
-class Edit:
-    """One edit of the state in a folder."""
+class Edit(edits.Edit):
+    """One edit of the collector's state."""
 
-    def __init__(self, dice: random.Random, folder: str) -> None:
-        self.dice, self.folder = dice, folder
-        self.said = ""
+    def kinds(self) -> list[Callable[[], None]]:
+        """An upload that waits and has other entries than it came with is another upload: nothing here can tell."""
+        return [self.cut, self.replace, self.rename] if self.path.endswith(".upload") else super().kinds()
 
-    def make(self) -> None:
-        """Makes it."""
-        found = [os.path.join(top, name) for top, _, names in os.walk(self.folder) for name in names
-                 if not name.endswith(".db")]
-        path = self.dice.choice(sorted(found))
-        # An upload that waits and has other entries than it came with is another upload: nothing here can tell.
-        kinds = (self.cut, self.replace, self.rename) if path.endswith(".upload") else (
-            self.change, self.change, self.cut, self.lines, self.number, self.number, self.replace, self.rename)
-        kind = self.dice.choice(kinds)
-        self.said = f"{kind.__name__} {os.path.relpath(path, self.folder)}"
-        kind(path)
-
-    def edit(self, path: str, how: Callable[[bytes], bytes]) -> None:
-        with open(path, "rb") as file:
-            data = file.read()
-        with open(path, "wb") as file:
-            file.write(how(data))
-
-    def change(self, path: str) -> None:
-        """One bit is another one."""
-        def how(data: bytes) -> bytes:
-            copy = bytearray(data or b"x")
-            copy[self.dice.randrange(len(copy))] ^= 1 << self.dice.randrange(8)
-            return bytes(copy)
-        self.edit(path, how)
-
-    def cut(self, path: str) -> None:
-        """It ends early, or late."""
-        garbage = self.dice.choice((b"\n", b"\0" * 50, b"sum 00000000\n", self.dice.randbytes(30), b"9" * 5000))
-        self.edit(path, lambda data: data + garbage if self.dice.random() < 0.4
-                  else data[:self.dice.randrange(len(data) + 1)])
-
-    def lines(self, path: str) -> None:
-        """Its lines are in another order, or some are there twice, or not at all."""
-        def how(data: bytes) -> bytes:
-            lines = data.split(b"\n")
-            place = self.dice.randrange(len(lines))
-            lines[place:place + 1] = self.dice.choice(([], [lines[place]] * 2, [self.dice.choice(lines)]))
-            return self.summed(b"\n".join(lines))
-        self.edit(path, how)
-
-    def number(self, path: str) -> None:
-        """A number of it is another one."""
-        def how(data: bytes) -> bytes:
-            numbers = list(re.finditer(rb"\b[0-9]+\b", data))
-            if not numbers:
-                return b"5"
-            chosen = self.dice.choice(numbers)
-            return self.summed(data[:chosen.start()] + self.dice.choice(NUMBERS) + data[chosen.end():])
-        self.edit(path, how)
-
-    def summed(self, data: bytes) -> bytes:
-        """Often with the sum that it needs; so what doesn't fit together is found out otherwise. A sum that fits isn't
-        damage, so what acknowledges less is left to chance, and what acknowledges more is not."""
-        body, found, _ = data.rpartition(b"sum ")
-        if not found or self.dice.random() < 0.5 or b"\nrun " in body or b"\nanswer " in body:
-            return data
-        return body + b"sum %08x\n" % zlib.crc32(body)
-
-    def replace(self, path: str) -> None:
-        """Something else is in its place."""
-        os.unlink(path)
-        kind = self.dice.choice(("nothing", "folder", "pipe", "link", "loop", "empty", "dark"))
-        self.said += f" {kind}"
-        if kind == "folder":
-            os.mkdir(path)
-        elif kind == "pipe":
-            os.mkfifo(path)
-        elif kind == "link":
-            # a file that nobody can write to, whatever follows the link
-            os.symlink("/proc/version", path)
-        elif kind == "loop":
-            os.symlink(os.path.basename(path), path)
-        elif kind == "empty":
-            open(path, "wb").close()
-        elif kind == "dark":
-            os.mkdir(path)
-            os.mkfifo(os.path.join(path, "pipe"))
-
-    def rename(self, path: str) -> None:
-        """It has another name."""
-        name = self.dice.choice(NAMES).format(id=self.dice.choice([*SEQUENCES, "0" * 32, "A" * 32]))
-        self.said += f" {name!r}"
-        to = os.path.join(os.path.dirname(path), name)
-        if not os.path.isdir(to):
-            os.replace(path, to)
+    def may_sum(self, body: bytes) -> bool:
+        """A sum that fits isn't damage, so what acknowledges less is left to chance, and what acknowledges more is
+        not."""
+        return b"\nrun " not in body and b"\nanswer " not in body
 
 
 def run(library: str, program: str, words: list[str], folder: str) -> tuple[int, str]:
@@ -210,18 +130,24 @@ def look(said: str, outcomes: list[tuple[int, str]], answers: list[str], there: 
     return [f"{said}: {text}" for text in wrong]
 
 
-def tried(case: Case, dice: random.Random) -> list[str]:
-    """What is wrong after one edit."""
+def tried(case: Case, dice: random.Random) -> tuple[int, list[str]]:
+    """How many edits were made at once, and what is wrong after them."""
     case.put_back("kept")
-    edit = Edit(dice, case.folder)
-    edit.make()
+    names = [name.format(id=dice.choice([*SEQUENCES, "0" * 32, "A" * 32])) for name in NAMES]
+    for path, text in OTHERS.items():
+        if dice.random() < 0.1:
+            os.makedirs(os.path.dirname(case.path(path)), exist_ok=True)
+            with open(case.path(path), "wb") as file:
+                file.write(text)
+    made = edits.made(lambda: Edit(dice, case.folder, names), case.folder, AREAS)
+    said = "; ".join(edit.said for edit in made)
     outcomes = []
     for program, words in (("answers", ["web"]), ("collect-incoming", ["--once"]), ("collect-incoming", ["--once"]),
                            ("answers", ["web"])):
         outcomes.append(run(case.library, program, [*words, case.conf], case.base))
     with open(f"{case.base}/answers", encoding="ascii") as file:
         answers = file.read().splitlines()
-    return look(edit.said, outcomes, answers, stored(case.folder))
+    return len(made), look(said, outcomes, answers, stored(case.folder))
 
 
 def main() -> int:
@@ -237,13 +163,14 @@ def main() -> int:
     case, mistakes = made(arguments.library), 0
     os.environ["PATH"] = f"{case.base}/bin:{os.environ['PATH']}"
     case.keep("kept")
-    for number in range(arguments.edits):
-        for text in tried(case, random.Random(seed + number)):
-            mistakes += 1
-            if mistakes <= 20:
-                print(f"state: SEED={seed + number}: {text}", file=sys.stderr)
+    tries = done = 0
+    while done < arguments.edits:
+        count, wrong = tried(case, random.Random(seed * 1_000_000 + tries))
+        tries, done, mistakes = tries + 1, done + count, mistakes + len(wrong)
+        for text in wrong if mistakes <= 20 else ():
+            print(f"{tries - 1}: {text}", file=sys.stderr)
     shutil.rmtree(case.base)
-    print(f"state: {arguments.edits} edits, {mistakes} mistakes; SEED={seed}")
+    print(f"the collector's state: {done} edits in {tries} tries, {mistakes} mistakes; SEED={seed}")
     return int(mistakes > 0)
 
 

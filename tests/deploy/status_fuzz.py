@@ -3,7 +3,8 @@
 In each round the folders of a machine and of a collector are harmed in some places, at random: files that are cut, have
 other bytes or other JSON, are gone, huge, folders, pipes, devices or links, and names that a terminal would obey.
 Whatever there is, the program ends by itself with a status from 0 to 3, says nothing on standard error, prints JSON
-that can be read and text that a terminal only shows, and leaves all as it was.
+that can be read and text that a terminal only shows, and leaves all as it was. The runs of one round in twenty are
+begun as they are installed, the others in forked processes.
 """
 import argparse
 import json
@@ -12,6 +13,7 @@ import random
 import shutil
 import sys
 
+import forked
 from watched import SOURCE, UNSEEN, Watched, tree
 
 JSONS = ("[]", "null", "1e400", '"x"', "[" * 100_000, '{"databases":[],"bad":7}',
@@ -131,12 +133,15 @@ def main() -> None:
     parser.add_argument("--seed", type=int, default=random.randrange(1 << 32))
     asked = parser.parse_args()
     print(f"seed {asked.seed}")
-    whole = world(os.path.abspath(asked.library))
+    library = os.path.abspath(asked.library)
+    whole = world(library)
+    forked.install(library, {}, ("status",), ("shared", "machine", "collector", "reading", "watching"))
     folders = [whole.folder, whole.collector]
     for folder in folders:
         shutil.copytree(folder, folder + ".whole", symlinks=True)
     wrong = 0
     for number in range(asked.rounds):
+        forked.is_on = number % 20 > 0
         for folder in folders:
             shutil.rmtree(folder, ignore_errors=True)
             shutil.copytree(folder + ".whole", folder, symlinks=True)

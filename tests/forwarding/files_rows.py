@@ -7,6 +7,7 @@ import gzip
 import json
 import os
 import shutil
+import signal
 import subprocess
 import sys
 from itertools import count
@@ -241,6 +242,77 @@ def full_disk(row: Row, collectors: Collectors) -> None:
         row.same("entries", sorted(set(collector.lines())), collector.searched())
     finally:
         subprocess.run(["umount", small(collector)], check=True)
+
+
+STRANGE = ("", "5", "[]", "{}", "[" * 100_000, '{"version":true}', '{"version":1}', '{"version":1,"databases":[]}',
+           '{"version":1,"target":"files","within":"x","aside":0,"aside_bytes":0}',
+           '{"version":1,"target":5,"within":null,"aside":0,"aside_bytes":0}',
+           '{"version":1,"databases":{},"bad":{},"waited":"x","missed":[]}', "pipe")
+COSTS = {"place.json": "the database that was under way is forwarded anew",
+         "databases.json": "all databases that are there are forwarded anew"}
+
+
+@ROWS.row
+def state_that_is_not_right(row: Row, collectors: Collectors) -> None:
+    """Each file is put aside and told, with what that costs, and what comes later is forwarded. What is of a later
+    version stays as it is."""
+    first = collectors.new(ENGINE="files")
+    first.fill(10, 2, seed=9)
+    row.ends(first.run(), 0)
+    (first.state / "aside.json").write_bytes(b'{"first":1}\n{"second":2}\n{"cut')
+    for name, cost in COSTS.items():
+        for text in STRANGE:
+            collector, what = copy(collectors, first), f"{name}: {text[:60]}"
+            make_strange(collector.state / name, text)
+            collector.put("2025-12-01T12-50", [made.entry("a" * 32, 1, made.START, (b"MESSAGE", b"it came later"))])
+            row.ends(call(collector.forward, "--status", collector.config, before=in_time), 3, "",
+                     f"~forward: {collector.state / name} isn't right: *", what)
+            row.ends(collector.run(before=in_time), 1, "", f"~forward: {collector.state / name} isn't right: *; it is "
+                     f"kept as {name}.damaged, and {cost}", what)
+            row.ends(collector.run(), 0, "", "", f"{what}, again")
+            row.same(f"{what}: entries", sorted(set(collector.lines())), collector.searched())
+            row.same(f"{what}: what was put aside", "aside 2 in" in collector.status()[-1], name == "place.json")
+        collector = copy(collectors, first)
+        make_strange(collector.state / name, '{"version":2}')
+        row.ends(collector.run(), 3, "", f"~*{name} is of a version that isn't known")
+
+
+def copy(collectors: Collectors, first: Collector) -> Collector:
+    """A collector whose folder has what another one's has."""
+    other = collectors.new(ENGINE="files")
+    shutil.rmtree(other.folder)
+    shutil.copytree(first.folder, other.folder)
+    return other
+
+
+def make_strange(path: Path, text: str) -> None:
+    path.unlink(missing_ok=True)
+    if text == "pipe":
+        os.mkfifo(path)
+    else:
+        path.write_text(text, encoding="ascii")
+
+
+def in_time() -> None:
+    """A program that waits for ever is ended."""
+    signal.alarm(10)
+
+
+@ROWS.row
+def other_files_that_are_not_right(row: Row, collectors: Collectors) -> None:
+    """What only helps is done without."""
+    collector = collectors.new(ENGINE="files")
+    collector.fill(10, 2, seed=9)
+    for text in ("pipe", "", "soon\n", "9" * 5_000, "1 \x1b[2J\n"):
+        for name in ("problem", "lock"):
+            collector.state.mkdir(exist_ok=True)
+            make_strange(collector.state / name, text)
+        done = call(collector.forward, "--status", collector.config, before=in_time)
+        row.same(f"{text[:9]}: status", (done.status, done.errors, "\x1b" in done.output), (int(text[:1] == "1"), "",
+                                                                                           False))
+        row.ends(collector.run(before=in_time), 0, what=text[:9])
+    (collector.state / "problem").mkdir()
+    row.ends(collector.run(before=in_time), 0, what="a folder")
 
 
 def small(collector: Collector) -> Path:

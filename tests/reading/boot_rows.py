@@ -2,6 +2,7 @@
 """Rows of boots over many databases: which are counted, whatever time is asked for, and what is kept of them in
 FOLDER/boots. boot_rows.py LIBRARY FOLDER [ROW..]
 """
+import os
 import shutil
 import sys
 from pathlib import Path
@@ -129,6 +130,13 @@ def what_is_not_believed(row: Row, place: Place) -> None:
     (searched.folder / "boots.new").symlink_to(searched.folder / "elsewhere")
     row.same("a link", boots(searched), LISTED)
     row.same("what it names", (searched.folder / "elsewhere").exists(), False)
+    from reading import kept as kept_files  # pylint: disable=import-outside-toplevel,import-error
+    for lie in ("hour 2025-12-01T12 aa 7:1:2", f"hour 2025-12-01T12 aa {'9' * 5000}:1:2", "boot a b c d"):
+        kept_files.write(file, f"boots 1\n{lie}\n".encode("ascii"))
+        row.same(lie[:40], boots(searched), LISTED)
+    file.unlink()
+    os.mkfifo(file)
+    row.same("a pipe", boots(searched), LISTED)
 
 
 @ROWS.row

@@ -114,6 +114,9 @@ def what_the_service_keeps(row: Row, place: Place) -> None:
     path.mkdir()
     row.same("a folder in its place", place.known.messages("-M", "front"), ["front 1", "front 2", "older"])
     path.rmdir()
+    os.mkfifo(path)
+    row.same("a pipe", place.known.messages("-M", "front"), ["front 1", "front 2", "older"])
+    path.unlink()
 
 
 if __name__ == "__main__":

@@ -3,15 +3,35 @@
 making_rows.py LIBRARY FOLDER [ROW..]
 """
 import fcntl
+import os
+import signal
 import sys
 from pathlib import Path
 
-from collected import ROOT, run
+from collected import ROOT, entries_of_headers, run
 from collector import Collector, Collectors
 from rows import Row, Rows
 
 ROWS: Rows[Collectors] = Rows()
 WEB = ROOT / "examples/web.export"
+PLAIN = ROOT / "tests/reading/plain_remote.py"
+# What a file of the state may have become; `pipe` is one.
+STRANGE = ("", "5", "[]", "{}", "[" * 100_000, '{"version":true}', '{"version":1}', '{"version":1,"databases":[]}',
+           '{"version":1,"databases":{},"bad":{},"newest_day":7}', '{"version":1,"sequences":{"a":5}}',
+           '{"version":1,"parts":[5],"days":{},"made":{"version":1},"says":""}', "pipe")
+COSTS = {"made.json": "all databases are made anew, and what their days have already is left out",
+         "days/2025-12-01.json": "further entries of 2025-12-01 get files of their own; what comes a second time may "
+                                 "be there twice",
+         "plan.json": "its databases are taken anew"}
+
+
+def plain(collectors: Collectors) -> dict[str, object]:
+    """How a program is called that has stand-ins for systemd's, and is ended if it waits for ever."""
+    own = collectors.folder / "bin"
+    own.mkdir(exist_ok=True)
+    if not (own / "journalctl").exists():
+        (own / "journalctl").symlink_to(PLAIN)
+    return {"before": lambda: signal.alarm(10), "environment": {"PATH": f"{own}:{os.environ['PATH']}"}}
 
 
 @ROWS.row
@@ -117,6 +137,83 @@ def dates_that_are_none(row: Row, collectors: Collectors) -> None:
     row.ends(collector.make(), 0, "made 3 databases, the last of them 9999-12-31T23-50, with 0 entries; 0 wait")
     row.ends(collector.make(), 0)
     row.same("days", collector.days(), ["2025-02-30"])
+
+
+@ROWS.row
+def state_that_is_not_right(row: Row, collectors: Collectors) -> None:
+    """Each file is put aside and told, with what that costs, and what comes later is made. What is of a later version
+    stays as it is."""
+    first, how = collectors.new(JOURNAL_REMOTE=str(PLAIN)), plain(collectors)
+    first.exported("2025-12-01T00-00", "a", 1, 3)
+    row.ends(first.make(), 0, "~made 1 databases*with 3 entries*")
+    for name, cost in COSTS.items():
+        for text in STRANGE:
+            collector = collectors.copy(first)
+            path, what = collector.journals / ".state" / name, f"{name}: {text[:60]}"
+            make_strange(path, text)
+            collector.exported("2025-12-01T00-10", "b", 1, 2)
+            if name == "made.json":
+                row.ends(collector.make("--status", **how), 3, "", f"~journal-files: {path} isn't right: *", what)
+            row.ends(collector.make(**how), 1, "~made *", f"~journal-files: {path} isn't right: *; it is kept as "
+                     f"{path.name}.damaged, and {cost}*", what)
+            row.ends(collector.make(**how), 0, "", "", f"{what}, again")
+            row.same(f"{what}: entries", entries_of_headers(collector.journals / "2025-12-01"), 5)
+        collector = collectors.copy(first)
+        make_strange(collector.journals / ".state" / name, '{"version":2}')
+        collector.exported("2025-12-01T00-10", "b", 1, 2)
+        row.ends(collector.make(**how), 3, "", f"~*{name} is of a version that isn't known")
+
+
+def make_strange(path: Path, text: str) -> None:
+    path.unlink(missing_ok=True)
+    if text == "pipe":
+        os.mkfifo(path)
+    else:
+        path.write_text(text, encoding="ascii")
+
+
+@ROWS.row
+def other_files_that_are_not_right(row: Row, collectors: Collectors) -> None:
+    """What only helps is made anew, and a plan without what it is to append is done without."""
+    collector, how = collectors.new(JOURNAL_REMOTE=str(PLAIN)), plain(collectors)
+    collector.exported("2025-12-01T00-00", "a", 1, 3)
+    row.ends(collector.make(before=killed_before_the_plan_is_done), -signal.SIGKILL)
+    state = collector.journals / ".state"
+    (state / "made.json").mkdir()
+    row.ends(collectors.copy(collector).make(**how), 0, "~made 1 databases*with 3 entries*", what="a folder")
+    (state / "made.json").rmdir()
+    for spool in (state / "work").glob("*.export"):
+        spool.unlink()
+    row.ends(collector.make(**how), 1, "~made 1 databases*with 3 entries*",
+             "~journal-files: *work lacks a file that is to be appended; its databases are taken anew")
+    for name in ("clock", "lock"):
+        make_strange(state / name, "pipe")
+        row.ends(collector.make(**how), 0, what=name)
+    collector.exported("2025-12-01T00-10", "b", 1, 2)
+    make_strange(collector.databases / "2025-12-01T00-10.db.sha256", "pipe")
+    row.ends(collector.make(**how), 1, "", "~*2025-12-01T00-10.db.sha256 can't be read: the database is passed over")
+
+
+@ROWS.row
+def a_spool_that_is_cut(row: Row, collectors: Collectors) -> None:
+    """Entries that go between others: those that can't be read any more are left out and told, and it goes on."""
+    collector, how = collectors.new(JOURNAL_REMOTE=str(PLAIN)), plain(collectors)
+    collector.exported("2025-12-01T00-00", "a", 4, 6)
+    row.ends(collector.make(**how), 0, "~made 1 *with 3 entries*")
+    collector.exported("2025-12-01T00-10", "a", 1, 3)
+    row.ends(collector.make(**how | {"before": killed_before_the_plan_is_done}), -signal.SIGKILL)
+    spool, = (collector.journals / ".state/work").glob("*.export")
+    spool.write_bytes(spool.read_bytes()[:-9])
+    row.ends(collector.make(**how), 1, "~made 1 *",
+             "~*1 of the 3 entries for * can't be read any more, and are left out")
+    collector.exported("2025-12-01T00-20", "b", 1, 2)
+    row.ends(collector.make(**how), 0, "~made 1 *with 2 entries*")
+    row.same("entries", entries_of_headers(collector.journals / "2025-12-01"), 7)
+
+
+def killed_before_the_plan_is_done() -> None:
+    from reading import plan  # pylint: disable=import-outside-toplevel,import-error
+    plan.Applying.run = lambda self: self.plan and os.kill(os.getpid(), signal.SIGKILL)
 
 
 if __name__ == "__main__":

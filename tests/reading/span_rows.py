@@ -5,6 +5,7 @@ slices of time. span_rows.py LIBRARY FOLDER [ROW..]
 import itertools
 import os
 import random
+import re
 import shutil
 import sys
 from pathlib import Path
@@ -67,6 +68,14 @@ def what_is_not_believed(row: Row, place: Place) -> None:
     for data in (b"", b"spans 2\n", whole[:-1], whole[:len(whole) // 2], b"\xff" * 100, whole + b"\n"):
         spans.write_bytes(data)
         row.same(f"{data[:20]!r}", len(searched.messages()), len(SECOND) + len(THIRD))
+    from reading import kept  # pylint: disable=import-outside-toplevel,import-error
+    for lie in (b"5:6", b"1:2:3:4", b":", b"1 2", b"9" * 5_000 + b":1:2"):
+        kept.write(spans, re.sub(rb"\d+:\d+:\d+", lie, whole.rpartition(b"end ")[0]))
+        row.same(f"{lie[:20]!r}", len(searched.messages()), len(SECOND) + len(THIRD))
+    for path in (spans, searched.databases / "a.db.sha256"):
+        path.unlink()
+        os.mkfifo(path)
+    row.ends(searched.find("-o", "cat"), 1, "~*b2 alice*", "search: a: its .sha256 can't be read; it is passed over")
 
 
 def restored(searched: Searched) -> list[str]:
