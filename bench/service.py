@@ -1,0 +1,96 @@
+#!/usr/bin/env python3
+"""How many entries the collector's service stores in a second.
+
+usage: python3 bench/service.py PROGRAM [--tables N,N] [--collectors N] [--uploads N] [--rounds N]
+
+Uploads of 1,000 entries of 24 fields wait, each of a machine of its own, and a run of the service stores them. Kinds of
+tables take turns: the service makes tables by number (3), and a copy of it, with that one word changed, tables by key
+(2). It prints the time of each run, and that of a processor, which other work on the machine lengthens less.
+"""
+from __future__ import annotations
+
+import argparse
+import os
+import shutil
+import subprocess
+import tempfile
+import time
+from pathlib import Path
+
+ROOT = Path(__file__).resolve().parent.parent
+ENTRIES = 1000
+SETTING = '"--tables", "3"'
+
+
+def upload(number: int) -> bytes:
+    """Entries of a source of its own, each with 24 fields and about 1.1 kB."""
+    source = b"%032x" % (number + 1)
+    others = b"".join(b"FIELD_%02d=%s\n" % (place, b"%d of some text" % place) for place in range(19))
+    texts = (b"__REALTIME_TIMESTAMP=%d\n__MONOTONIC_TIMESTAMP=%d\n__SEQNUM=%d\n__SEQNUM_ID=%s\n_BOOT_ID=%s\n%s"
+             b"PRIORITY=6\n_PID=%d\n_CMDLINE=%s\nMESSAGE=session %d of user %d: %s\n\n" % (
+                 1700000000000000 + each, each + 1, each + 1, source, b"5" * 32, others, each % 4000, b"c" * 200, each,
+                 each % 97, b"m" * 160) for each in range(ENTRIES))
+    head = b"JCUPLD02\1\1" + bytes(6) + bytes.fromhex(source.decode()) + bytes(8) + ENTRIES.to_bytes(8, "little")
+    return head + b"".join(texts)
+
+
+class Service:
+    """The service below a folder, which makes tables of a kind."""
+
+    def __init__(self, folder: Path, program: str, tables: str) -> None:
+        self.tables = tables
+        self.library = folder / "usr/lib/journal-collect"
+        subprocess.run([ROOT / "deploy/install.sh", folder, "/usr"], check=True, stdout=subprocess.DEVNULL)
+        (folder / "usr/bin").mkdir(exist_ok=True)
+        shutil.copy(program, folder / "usr/bin/journal-collect")
+        module = self.library / "collector/collecting.py"
+        text = module.read_text(encoding="utf-8")
+        if SETTING not in text:
+            raise ValueError(f"{module} has no {SETTING}")
+        module.write_text(text.replace(SETTING, f'"--tables", "{tables}"'), encoding="utf-8")
+        self.path = f"{folder}/usr/bin:{os.environ['PATH']}"
+
+    def run(self, folder: Path, uploads: list[bytes], collectors: int) -> tuple[float, float, int]:
+        """The seconds and the processor seconds of a run that stores them, and the bytes of the databases."""
+        conf = folder / "conf"
+        conf.write_text(f"FOLDER={folder}/collector\nFREE_BYTES=0\nCOLLECTORS={collectors}\n", encoding="ascii")
+        environment = {**os.environ, "PATH": self.path}
+        for number, given in enumerate(uploads):
+            subprocess.run([self.library / "receive", f"m{number}", conf], input=given, env=environment, check=True)
+        begin = time.monotonic()
+        service = subprocess.Popen([self.library / "collect-incoming", "--once", conf], env=environment,
+                                   stderr=subprocess.DEVNULL)
+        _, status, used = os.wait4(service.pid, 0)
+        took = time.monotonic() - begin
+        if status:
+            raise OSError(f"the service ended with {status}")
+        size = sum(path.stat().st_size for path in (folder / "collector/databases").glob("*.db"))
+        return took, used.ru_utime + used.ru_stime, size
+
+
+def main() -> None:
+    parser = argparse.ArgumentParser()
+    parser.add_argument("program")
+    parser.add_argument("--tables", default="3,2")
+    parser.add_argument("--collectors", type=int, default=1)
+    parser.add_argument("--uploads", type=int, default=16)
+    parser.add_argument("--rounds", type=int, default=3)
+    asked = parser.parse_args()
+    uploads = [upload(number) for number in range(asked.uploads)]
+    entries = ENTRIES * len(uploads)
+    print(f"{entries:,} entries of {sum(map(len, uploads)) / entries:.0f} bytes, {asked.collectors} collectors")
+    with tempfile.TemporaryDirectory(prefix="service-") as base:
+        services = [Service(Path(base) / kind, asked.program, kind) for kind in asked.tables.split(",")]
+        for number in range(asked.rounds):
+            for service in services:
+                folder = Path(base) / f"{service.tables}-{number}"
+                folder.mkdir()
+                took, used, size = service.run(folder, uploads, asked.collectors)
+                print(f"  tables {service.tables}: {took:6.2f} s, {entries / took:7,.0f} entries a second; "
+                      f"{used:6.2f} s of a processor, {1000 * used / entries:.3f} ms an entry; "
+                      f"{size / entries:,.0f} bytes an entry; load {os.getloadavg()[0]:.1f}", flush=True)
+                shutil.rmtree(folder)
+
+
+if __name__ == "__main__":
+    main()
