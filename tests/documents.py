@@ -3,8 +3,8 @@
 
 One version, one toolchain, one table of codes, which the program prints too, a list of crates and of scripts that is
 whole, the number of edits, one table of the figures to plan with, tries that add up, the functions that the README
-names for its claims on the page of proofs, links to headings that are there, and a README that stays short. Prints what
-differs.
+names for its claims on the page of contracts, links to headings that are there, and a README that stays short. Prints
+what differs.
 """
 import re
 import subprocess
@@ -156,13 +156,13 @@ def claims() -> set[str]:
 
 
 def told_claims() -> Iterator[str]:
-    """Functions that the README names for a claim, and that the page of proofs doesn't speak of."""
+    """Functions that the README names for a claim, and that the page of contracts doesn't have."""
     named = claims()
     if not named:
         yield "README.md names no function for its claims"
-    there = set(re.findall(r"\*\*`([\w:]+)`\*\*", text_of("docs/PROOFS.md")))
+    there = set(re.findall(r"\*\*`([\w:]+)`\*\*", text_of("docs/CONTRACTS.md")))
     for it in sorted(named - there):
-        yield f"README.md names {it} for a claim, and docs/PROOFS.md doesn't have it"
+        yield f"README.md names {it} for a claim, and docs/CONTRACTS.md doesn't have it"
 
 
 def headings(path: Path) -> set[str]:

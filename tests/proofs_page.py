@@ -1,11 +1,12 @@
 #!/usr/bin/env python3
-"""Compares the page on proofs with the sources: proofs_page.py [PAGE]
+"""Compares the pages on proofs with the sources: proofs_page.py [PROOFS [CONTRACTS]]
 
-The page has a section for each crate. A claim there names a function in bold, and its clauses in brackets after it;
-`(unnamed)` is one clause without a name. `impl TRAIT for TYPE` in bold stands for a contract that the trait has.
-"`NAME` in `specs/FILE`" is a definition. Each of these has to be in the sources of that crate, and each public function
-of a library on the page. The list of what the main theorem rests on has to have all definitions that its own file uses,
-and what these use; that of jc_world those that are more.
+The page of contracts, which tools/contracts.py prints, has a section for each crate, and that on proofs for some. A
+claim there names a function in bold, and its clauses in brackets after it; `(unnamed)` is one clause without a name.
+`impl TRAIT for TYPE` in bold stands for a contract that the trait has. "`NAME` in `specs/FILE`" is a definition. Each
+of these has to be in the sources of that crate, and each public function of a library on the page of contracts. The
+list of what the main theorem rests on has to have all definitions that its own file uses, and what these use; that of
+jc_world those that are more.
 """
 from __future__ import annotations
 
@@ -17,6 +18,8 @@ from typing import NamedTuple
 
 ROOT = Path(__file__).resolve().parent.parent
 THEOREM = "What the main theorem rests on"
+# The section that is about a crate without its name.
+ABOUT = {"The main theorem": "jc_collect"}
 CLAIM = re.compile(r"\*\*`([^`]+)`\*\*(?: \(([^)]*)\))?")
 DEFINITION = re.compile(r"`(\w+)` in `(specs/[\w/]+\.antt)`")
 USED = re.compile(r"^use Rattle\.(jc_\w+)\.specs\.([A-Z][\w.]*?)\.\{", re.MULTILINE)
@@ -88,9 +91,15 @@ class Sources:
 
 
 def sections(page: str) -> dict[str, str]:
-    """The sections of the page."""
-    parts = re.split(r"^## (.*)$", page, flags=re.MULTILINE)
+    """The sections of a page, of whatever depth."""
+    parts = re.split(r"^##+ (.*)$", page, flags=re.MULTILINE)
     return dict(zip(parts[1::2], parts[2::2]))
+
+
+def of_crates(page: dict[str, str]) -> list[tuple[str, str]]:
+    """The sections about crates, each with its text in one line."""
+    named = [(ABOUT.get(title, title), text) for title, text in page.items()]
+    return [(title, " ".join(text.split())) for title, text in named if title.startswith("jc_")]
 
 
 def definitions_below(crate: str, names: Iterable[str]) -> set[tuple[str, str]]:
@@ -125,7 +134,7 @@ def mistaken_claims(title: str, text: str, sources: Sources) -> Iterator[str]:
 
 
 def mistakes_in(title: str, text: str) -> Iterator[str]:
-    """What a section says that its crate has not, and what it leaves out."""
+    """What a section says that its crate has not."""
     folder = ROOT / "crates" / title
     if not folder.is_dir():
         yield f"{title}: there is no such crate"
@@ -136,17 +145,26 @@ def mistakes_in(title: str, text: str) -> Iterator[str]:
         file = folder / path
         if not file.exists() or not re.search(rf"^\s*(?:\w+ )*{name}\b.* :", file.read_text(), re.MULTILINE):
             yield f"{title}: there is no {name} in {path}"
+
+
+def left_out(title: str, text: str) -> Iterator[str]:
+    """The public functions of a crate that its section leaves out."""
+    folder = ROOT / "crates" / title / "src"
     named = {name for name, _ in CLAIM.findall(text)}
-    yield from (f"{title}: {name} isn't on the page" for name in sorted(sources.public(folder / "src/lib.rt") - named))
+    public = Sources(folder.glob("**/*.rt")).public(folder / "lib.rt")
+    yield from (f"{title}: {name} isn't on the page" for name in sorted(public - named))
 
 
 def main() -> int:
-    page = Path(sys.argv[1]) if len(sys.argv) > 1 else ROOT / "docs/PROOFS.md"
-    found = sections(page.read_text())
-    about = {title: " ".join(text.split()) for title, text in found.items() if title.startswith("jc_")}
+    pages = [ROOT / "docs/PROOFS.md", ROOT / "docs/CONTRACTS.md"]
+    for place, path in enumerate(sys.argv[1:3]):
+        pages[place] = Path(path)
+    found, printed = [sections(path.read_text()) for path in pages]
     crates = {path.name for path in (ROOT / "crates").glob("jc_*") if (path / "specs").is_dir()}
-    mistakes = [mistake for title, text in about.items() for mistake in mistakes_in(title, text)]
-    mistakes += [f"{crate} has no section" for crate in sorted(crates - set(about))]
+    contracts = of_crates(printed)
+    mistakes = [mistake for title, text in [*of_crates(found), *contracts] for mistake in mistakes_in(title, text)]
+    mistakes += [mistake for title, text in contracts for mistake in left_out(title, text)]
+    mistakes += [f"{crate} has no section" for crate in sorted(crates - {title for title, _ in contracts})]
     rests_on = definitions_below("jc_collect", ["Run"])
     of_worlds = definitions_below("jc_world", ["Kept", "Schedule", "World"]) - rests_on
     lists = ("the main theorem", rests_on, found[THEOREM]), ("jc_world", of_worlds, found["jc_world"])

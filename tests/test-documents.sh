@@ -1,8 +1,8 @@
 #!/usr/bin/env bash
 # The documents agree with each other, with the sources and with the program: one version, one toolchain, one table of
 # codes, all crates and scripts in the lists, the number of edits, one table of the figures to plan with, tries that add
-# up, the functions that the README names for its claims on the page of proofs, links to headings that are there, and a
-# README that stays short.
+# up, the functions that the README names for its claims on the page of contracts, links to headings that are there, and
+# a README that stays short.
 set -uo pipefail
 . "$(dirname "$0")/expect.sh"
 
@@ -54,9 +54,9 @@ changed docs/FAULTS.md '/^- .*: 380 =/s/ 40$/ 47/' \
     "docs/FAULTS.md: 380 isn't the sum of 150 + 20 + 50 + 60 + 60 + 47
 docs/FAULTS.md: 47, a part of 380, stands nowhere else"
 changed docs/FAULTS.md 's/\| 380 \|/| 381 |/' "docs/FAULTS.md: the table doesn't have 380 for test-collect.sh"
-changed docs/PROOFS.md 's/\*\*`export_reads_back`\*\*/**`export_reads`**/' \
-    "README.md names export_reads_back for a claim, and docs/PROOFS.md doesn't have it"
+changed docs/CONTRACTS.md 's/\*\*`export_reads_back`\*\*/**`export_reads`**/' \
+    "README.md names export_reads_back for a claim, and docs/CONTRACTS.md doesn't have it"
 changed README.md 's/\(`Keeper::absorb`, /(`Keeper::absorbs`, /' \
-    "README.md names Keeper::absorbs for a claim, and docs/PROOFS.md doesn't have it"
+    "README.md names Keeper::absorbs for a claim, and docs/CONTRACTS.md doesn't have it"
 changed docs/FORMATS.md 's/^\| 60 \|/| 59 |/' "~code (59, *code (60, *"
 finish
