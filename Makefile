@@ -10,7 +10,7 @@ DOC := $(SHARE)/doc/journal-collect
 LIB := $(DESTDIR)$(PREFIX)/lib
 
 .DELETE_ON_ERROR:
-.PHONY: build help demo check lint install uninstall deb test gate-times bench clean always
+.PHONY: build help demo check files lint install uninstall deb test gate-times bench clean always
 
 build: $(PROGRAM) ## prove and build the program: the first goal, and make without one
 
@@ -22,6 +22,9 @@ demo: $(PROGRAM) ## a collector that is killed: the same upload is sent again, a
 
 check: ## prove the crates that changed, and what stands on them; with SINCE=REVISION only what git says has changed
 	@python3 -ESB tools/check.py $(if $(SINCE),--since "$(SINCE)")
+
+files: ## what each file is about, by its own first sentence
+	@python3 -ESB tools/files.py
 
 lint: ## shell, Python and the layout of all texts; what isn't installed is told as skipped
 	@python3 -ESB tools/lint

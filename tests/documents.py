@@ -1,10 +1,10 @@
 #!/usr/bin/env python3
 """Compares the documents with each other and with the sources: documents.py PROGRAM [FOLDER]
 
-One version, one toolchain, one table of codes, which the program prints too, a list of crates and of scripts that is
-whole, the number of edits, one table of the figures to plan with, tries that add up, the functions that the README
-names for its claims on the page of contracts, links to headings that are there, and a README that stays short. Prints
-what differs.
+One version, one toolchain, one table of codes, which the program prints too, a list of crates that is whole, scripts
+that say what they test, the number of edits, one table of the figures to plan with, tries that add up, the functions
+that the README names for its claims on the page of contracts, links to headings that are there, and a README that stays
+short. Prints what differs.
 """
 import re
 import subprocess
@@ -91,16 +91,19 @@ def toolchains() -> Iterator[str]:
 
 
 def lists() -> Iterator[str]:
-    """Crates and scripts that docs/ARCHITECTURE.md doesn't have in its tables, and those that it has and aren't."""
+    """Crates that docs/ARCHITECTURE.md doesn't have in its tables, those that it has and aren't, and scripts that don't
+    say what they test."""
     page = text_of("docs/ARCHITECTURE.md")
     table = page.split("\n## Crates\n")[1].split("\n## ")[0]
     crates = {it.split(":")[0] for it in text_of("crates.txt").splitlines() if it and it[0] != "#"}
-    scripts = {it.name for it in (ROOT / "tests").glob("test-*.sh")}
-    tables = ("crate", crates, set(re.findall(r"^\| (jc_\w+) \|", table, re.MULTILINE))), (
-        "script", scripts, set(re.findall(r"`(test-[\w-]+\.sh)`", page)))
-    for what, there, listed in tables:
-        for it in sorted(there ^ listed):
-            yield f"docs/ARCHITECTURE.md: the {what} {it} isn't both there and listed"
+    for it in sorted(crates ^ set(re.findall(r"^\| (jc_\w+) \|", table, re.MULTILINE))):
+        yield f"docs/ARCHITECTURE.md: the crate {it} isn't both there and listed"
+    for path in sorted((ROOT / "tests").glob("test-*.sh")):
+        if not re.match(r"#!.*\n# \S", path.read_text()):
+            yield f"tests/{path.name} doesn't begin with what it tests"
+    for it in sorted(set(re.findall(r"`(?:tests/)?(test-[\w-]+\.sh)`", page))):
+        if not (ROOT / "tests" / it).exists():
+            yield f"docs/ARCHITECTURE.md: there is no script {it}"
 
 
 def edits() -> Iterator[str]:

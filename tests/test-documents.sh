@@ -1,8 +1,8 @@
 #!/usr/bin/env bash
 # The documents agree with each other, with the sources and with the program: one version, one toolchain, one table of
-# codes, all crates and scripts in the lists, the number of edits, one table of the figures to plan with, tries that add
-# up, the functions that the README names for its claims on the page of contracts, links to headings that are there, and
-# a README that stays short.
+# codes, all crates in the list, scripts that say what they test, the number of edits, one table of the figures to plan
+# with, tries that add up, the functions that the README names for its claims on the page of contracts, links to
+# headings that are there, and a README that stays short. Each file says what it is about (`make files`).
 set -uo pipefail
 . "$(dirname "$0")/expect.sh"
 
@@ -13,6 +13,8 @@ printf '#!/bin/sh\necho journal-collect 0.0.0\n' > "$other"
 chmod 755 "$other"
 
 expect 0 "" "" python3 -B tests/documents.py "$PROGRAM"
+expect 0 "~*
+tests/test-stops.sh: The program stopped at *" "" python3 -ESB tools/files.py
 expect 1 "" "~versions: *'--version': '0.0.0'*" python3 -B tests/documents.py "$other"
 
 # a copy in which one thing after another is wrong
@@ -36,9 +38,9 @@ changed docs/PROOFS.md 's/rattle-kit-\w+//' "docs/PROOFS.md is for None, which t
 changed crates.txt 's/^jc_file:/jc_files:/' \
     "docs/ARCHITECTURE.md: the crate jc_file isn't both there and listed
 docs/ARCHITECTURE.md: the crate jc_files isn't both there and listed"
-changed docs/ARCHITECTURE.md 's/`test-stops.sh`/`test-stop.sh`/' \
-    "docs/ARCHITECTURE.md: the script test-stop.sh isn't both there and listed
-docs/ARCHITECTURE.md: the script test-stops.sh isn't both there and listed"
+changed docs/ARCHITECTURE.md 's/`test-send.sh`/`test-sends.sh`/' \
+    "docs/ARCHITECTURE.md: there is no script test-sends.sh"
+changed tests/test-stops.sh '2s/^.*$/set -u/' "tests/test-stops.sh doesn't begin with what it tests"
 changed docs/GUIDE.md '$a An open takes 9.9 ms and 4.4\nkB of memory an entry, at 9,999 entries in a second.' \
     "docs/GUIDE.md: the figure '9,999 entries' isn't in the table of docs/PERFORMANCE.md
 docs/GUIDE.md: the figure '9.9 ms' isn't in the table of docs/PERFORMANCE.md"

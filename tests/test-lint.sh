@@ -59,6 +59,13 @@ skipped: pyflakes3 isn't installed, so 2 texts of python aren't read by it"
 expect 1 "$found
 9 texts: 9 mistakes, 0 exceptions, 2 checks skipped" "" lint_alone "$folder/tree"
 
+# a page that isn't as its tool prints it
+printf 'import sys\nsys.exit("it is older")\n' > "$folder/tree/tools/contracts.py"
+expect 1 "~*
+docs/CONTRACTS.md:1: it is older (printed)
+*" "" lint_alone "$folder/tree"
+rm "$folder/tree/tools/contracts.py"
+
 # what the list names is passed over; a line of it that isn't needed is a mistake, but not for a check that was skipped
 exceptions=$folder/tree/tools/lint/exceptions.txt
 printf '%s\n' '# why' 'blanks *.md they are old' 'types *.py so are they' 'steps steps as well' 'width width.md too' \
