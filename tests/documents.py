@@ -70,6 +70,15 @@ def lines_of_table() -> str:
     return "".join(f"{number:<3} {name:<20}{meaning}\n" for number, name, meaning in rows)
 
 
+def codes_of_guide() -> Iterator[str]:
+    """Codes that the table of the guide hasn't, has twice, or has alone."""
+    table = text_of("docs/GUIDE.md").partition("\n## What to do about each code\n")[2]
+    told = [int(it) for row in re.findall(r"^\| ([\d, ]+) \|", table, re.MULTILINE) for it in row.split(", ")]
+    known = {number for number, _ in codes_of_table()}
+    yield from (f"docs/GUIDE.md doesn't say once what to do about code {it}"
+                for it in sorted(known | set(told)) if told.count(it) != 1 or it not in known)
+
+
 def printed_codes(program: str) -> Iterator[str]:
     """Whether `codes` and `help codes` print the table, and which codes in it aren't the sources'."""
     codes = printed(program, "codes")
@@ -190,6 +199,7 @@ def differences(program: str) -> Iterator[str]:
     yield from (f"code {code} isn't in both tables" for code in sorted(codes_of_sources() ^ codes_of_table()))
     if len(text_of("README.md").splitlines()) >= README_LINES:
         yield f"README.md has {README_LINES} lines or more"
+    yield from codes_of_guide()
     yield from printed_codes(program)
     yield from toolchains()
     yield from lists()

@@ -50,7 +50,7 @@ deploy/collector.conf: the figure '7.5 million' isn't in the table of docs/PERFO
 changed docs/PERFORMANCE.md 's/^## Figures to plan with$/## Others/' \
     "~docs/PERFORMANCE.md has no figures under 'Figures to plan with'*"
 changed docs/GUIDE.md 's/^## Sizing$/## Size/' "docs/LIMITS.md: there is no GUIDE.md#sizing"
-changed docs/GUIDE.md 's/\]\(#journal-files\)/](#files)/' "docs/GUIDE.md: there is no #files"
+changed docs/GUIDE.md 's/\]\(#an-engine\)/](#engine)/' "docs/GUIDE.md: there is no #engine"
 changed docs/GATE.md 's/^There are [0-9]+\.$/There are 7./' "~docs/GATE.md tells of 7 edits, and there are *"
 changed docs/FAULTS.md '/^- .*: 380 =/s/ 40$/ 47/' \
     "docs/FAULTS.md: 380 isn't the sum of 150 + 20 + 50 + 60 + 60 + 47
@@ -61,4 +61,8 @@ changed docs/CONTRACTS.md 's/\*\*`export_reads_back`\*\*/**`export_reads`**/' \
 changed README.md 's/\(`Keeper::absorb`, /(`Keeper::absorbs`, /' \
     "README.md names Keeper::absorbs for a claim, and docs/CONTRACTS.md doesn't have it"
 changed docs/FORMATS.md 's/^\| 60 \|/| 59 |/' "~code (59, *code (60, *"
+changed docs/GUIDE.md 's/^\| 12, 14, 15 \|/| 12, 15, 16, 11 |/' \
+    "docs/GUIDE.md doesn't say once what to do about code 11
+docs/GUIDE.md doesn't say once what to do about code 14
+docs/GUIDE.md doesn't say once what to do about code 16"
 finish
