@@ -267,6 +267,11 @@ used web 0 10000
 expect 75 "" "receive: web has used 0 bytes and 10 seconds of a processor today" receive web "$folder/five"
 sed -i 's/^day .*/day x 0/' "$collector/shares/web.share"
 expect 0 "" "" receive web "$folder/five"
+# what a machine met at the end of a day is told on the next one
+expect 1 "" "collect-incoming: web goes over what one machine may use in a day (DAY_BYTES, DAY_SECONDS)" collect
+sed -i 's/^day .*/day x 0/' "$collector/shares/web.share"
+expect 0 "" "" receive web "$folder/five"
+expect 0 "" "" collect
 for text in '' 'share 2\nday 0\n' 'share 1\n' 'share 1\nday 0\nbytes -1\n' 'share 1\nday 0\nbytes x\n' \
     'share 1\nday 0\nbytes 1' 'share 1\nday 0\nbytes 1\0\n' 'share 1\nday 0\nrefused x 1\n' \
     'share 1\nday 0\nbytes 9999999999999999999\n' \

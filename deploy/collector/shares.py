@@ -7,8 +7,8 @@
     refused BOUND COUNT   how many calls and uploads met this bound, and weren't taken
     told BOUND            that was told
 
-A file that isn't right, or of another day, says nothing. Losing one costs no more than that a machine may have its
-share of a day twice, as it also may if the collector's machine is started anew.
+A file that isn't right says nothing, and one of another day no more than what is to be told yet. Losing one costs no
+more than that a machine may have its share of a day twice, as it also may if the collector's machine is started anew.
 """
 from __future__ import annotations
 
@@ -67,6 +67,12 @@ class Share:
         else:
             raise ValueError(f"an unknown line: {line[:40]!r}")
 
+    def next(self, day: str) -> Share:
+        """What is known on another day: which bounds were met, and weren't told yet."""
+        share = Share(day)
+        share.refused = {bound: count for bound, count in self.refused.items() if bound not in self.told}
+        return share
+
     def is_used_up(self, settings: Settings) -> bool:
         """Whether the machine has had what one may have of a day."""
         return self.bytes >= settings.day_bytes or self.milliseconds >= 1000 * settings.day_seconds
@@ -93,7 +99,7 @@ def of_text(text: str, day: str) -> Share:
     share = Share(lines[1][4:])
     for line in lines[2:]:
         share.take_line(line)
-    return share if share.day == day else Share(day)
+    return share if share.day == day else share.next(day)
 
 
 def path_of(machine: str) -> str:
