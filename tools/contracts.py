@@ -149,12 +149,14 @@ def definitions_of(path: Path) -> dict[str, str]:
     """The definitions of a file of specs, each with its comment."""
     found, comment = {}, []
     for line in path.read_text().splitlines():
-        if line.startswith("-- ----"):
+        bare = line.strip()
+        if bare.startswith("-- ----"):
             comment = []
-        elif line.startswith("--"):
-            comment.append(line[2:])
+        elif bare.startswith("--"):
+            comment.append(bare[2:])
         else:
-            if match := DEFINITION.match(line):
+            # what stands deeper, and is no definition, is a part of a record
+            if (match := DEFINITION.match(bare)) and (bare == line or {"abbrev", "record"} & set(bare.split()[:2])):
                 found.setdefault(match[1], joined(comment))
             comment = []
     return found
