@@ -1,19 +1,22 @@
 #!/usr/bin/env python3
 """What machines that send each minute cost a collector, over real sshd and real keys.
 
-usage: python3 bench/load.py PROGRAM [--machines N] [--seconds S] [--every S] [--entries N,N..] [--collectors N]
-                             [--way session|calls] [--kex ALGORITHM]
+usage: python3 bench/load.py PROGRAM [--machines N] [--seconds S] [--every S] [--entries N,N..] [--collectors N,N..]
+                             [--way session|calls] [--kex ALGORITHM] [--deploy FOLDER] [--rounds N]
 
 It installs deploy/ below a temporary folder and starts an sshd of its own on loopback, with a key for each machine, and
-the collector's service. Then each machine sends once a minute, so many entries each time, at a moment of its own. What
-sshd with all that it ran, and the service with its programs, took of the processors is divided by the runs; the
-machines' own side isn't counted. `calls` is the way of an earlier version: a connection for the answers and one for the
-upload. Run it as root, for sshd wants that.
+the collector's service. Then each machine sends once a minute, so many entries each time, at a moment of its own. The
+processor time of each kind of process is divided by the runs: that of sshd with the shell that it begins, of `serve`
+with what it runs, of the service, and of its programs. The machines' side, which is ssh alone here, isn't counted to
+what a processor serves. `calls` is the way of an earlier version: a connection for the answers and one for the upload.
+--deploy has another tree's deploy/ installed beside this one's, and both measured in turn. Run it as root, for sshd
+wants that.
 """
 from __future__ import annotations
 
 import argparse
 import os
+import resource
 import shutil
 import signal
 import subprocess
@@ -121,16 +124,20 @@ class Machine:
 class Place:
     """The folder with everything, sshd and the service."""
 
-    def __init__(self, program: str, machines: int, collectors: int, kex: str) -> None:
+    def __init__(self, program: str, machines: int, collectors: int, kex: str, tree: Path) -> None:
         self.folder = Path(tempfile.mkdtemp(prefix="load-", dir="/var/tmp"))
         os.chmod(self.folder, 0o755)
-        subprocess.run([ROOT / "deploy/install.sh", self.folder / "root", "/usr"], check=True)
+        subprocess.run([tree / "deploy/install.sh", self.folder / "root", "/usr"], check=True)
         self.library = self.folder / "root/usr/lib/journal-collect"
         (self.folder / "root/usr/bin").mkdir(exist_ok=True)
         shutil.copy(program, self.folder / "root/usr/bin/journal-collect")
         self.conf = self.folder / "collector.conf"
         self.conf.write_text(f"FOLDER={self.folder}/collector\nCOLLECTORS={collectors}\nFREE_BYTES=0\n")
-        commands = [f"{self.library}/serve m{number} {self.conf}" for number in range(machines)]
+        # bash says last what the processes took that it waited for.
+        self.times = self.folder / "times"
+        self.times.write_bytes(b"")
+        commands = [f"{self.library}/serve m{number} {self.conf}; code=$?; times >> {self.times}; exit $code"
+                    for number in range(machines)]
         self.sshd = Sshd(self.folder, commands)
         self.ssh = ["ssh", "-F", "/dev/null", "-p", str(self.sshd.port), "-l", self.sshd.user, "-o",
                     "HostName=127.0.0.1", "-o", "BatchMode=yes", "-o", "IdentitiesOnly=yes", "-o",
@@ -138,11 +145,25 @@ class Place:
                     *(["-o", f"KexAlgorithms={kex}"] if kex else [])]
         self.service = subprocess.Popen([self.library / "collect-incoming", self.conf],
                                         stderr=open(self.folder / "service", "wb"))
+        self.machines = [Machine(self, number) for number in range(machines)]
+        self.most = 0
+
+    def served(self) -> float:
+        """The processor seconds of `serve` and what it ran."""
+        lines = self.times.read_text(encoding="ascii").splitlines()
+        return sum(60 * float(minutes) + float(seconds.rstrip("s")) for line in lines[1::2]
+                   for minutes, _, seconds in (word.partition("m") for word in line.split()))
 
     def used(self) -> dict[str, float]:
-        """The processor seconds of sshd with what it ran, and of the service with its programs."""
-        return {"sshd": seconds_of(self.sshd.process.pid), "service": seconds_of(self.service.pid) + sum(
-            seconds_of(child) for child in children_of(self.service.pid))}
+        """The processor seconds of each kind of process."""
+        served, service = self.served(), self.service.pid
+        programs = children_of(service)
+        self.most = max([self.most, *map(most_memory_of, programs)])
+        own, waited = seconds_of(service)
+        ssh = resource.getrusage(resource.RUSAGE_CHILDREN)
+        return {"sshd": sum(seconds_of(self.sshd.process.pid)) - served, "serve": served, "service": own,
+                "programs": waited + sum(sum(seconds_of(each)) for each in programs),
+                "ssh": ssh.ru_utime + ssh.ru_stime}
 
     def end(self) -> None:
         self.sshd.end()
@@ -151,14 +172,21 @@ class Place:
         shutil.rmtree(self.folder)
 
 
-def seconds_of(process: int) -> float:
-    """What a process and those that it waited for took."""
+def seconds_of(process: int) -> tuple[float, float]:
+    """What a process took, and those that it waited for."""
     words = Path(f"/proc/{process}/stat").read_text(encoding="ascii").rpartition(")")[2].split()
-    return sum(map(int, words[11:15])) / TICKS
+    own, waited = sum(map(int, words[11:13])), sum(map(int, words[13:15]))
+    return own / TICKS, waited / TICKS
 
 
 def children_of(process: int) -> list[int]:
     return [int(word) for path in Path(f"/proc/{process}/task").glob("*/children") for word in path.read_text().split()]
+
+
+def most_memory_of(process: int) -> int:
+    """The most memory that it had, in kB."""
+    lines = Path(f"/proc/{process}/status").read_text(encoding="ascii").splitlines()
+    return next((int(line.split()[1]) for line in lines if line.startswith("VmHWM")), 0)
 
 
 def memory_of(process: int) -> int:
@@ -187,12 +215,12 @@ def busy() -> float:
     return (sum(map(int, words[1:])) - int(words[4]) - int(words[5])) / TICKS
 
 
-def measure(place: Place, machines: list[Machine], way: str, entries: int, seconds: float, every: float) -> None:
-    figures, begin = Figures(), time.monotonic() + 1
+def measure(place: Place, way: str, entries: int, asked: argparse.Namespace) -> str:
+    figures, begin, machines = Figures(), time.monotonic() + 1, place.machines
     before, was_busy = place.used(), busy()
-    threads = [threading.Thread(target=serve, args=(machine, way, entries, begin + every * number / len(machines),
-                                                    begin + seconds, every, figures))
-               for number, machine in enumerate(machines)]
+    threads = [threading.Thread(target=serve, args=(
+        machine, way, entries, begin + asked.every * number / len(machines), begin + asked.seconds, asked.every,
+        figures)) for number, machine in enumerate(machines)]
     for thread in threads:
         thread.start()
     for thread in threads:
@@ -201,19 +229,40 @@ def measure(place: Place, machines: list[Machine], way: str, entries: int, secon
     took = time.monotonic() - begin
     used = {name: value - before[name] for name, value in place.used().items()}
     share = (busy() - was_busy) / took / (os.cpu_count() or 1)
-    print(text_of(figures, way, entries, used, share), flush=True)
+    return text_of(figures, way, entries, used, share)
 
 
 def text_of(figures: Figures, way: str, entries: int, used: dict[str, float], share: float) -> str:
     runs = max(figures.runs, 1)
     each = {name: 1000 * value / runs for name, value in used.items()}
-    total = sum(each.values())
+    total = sum(value for name, value in each.items() if name != "ssh")
     waits = sorted(figures.waits) or [0.0]
-    return (f"{way:8} {entries:4} entries: {figures.runs} runs; sshd with serve {each['sshd']:.1f} ms a run, service "
-            f"{each['service']:.1f} ms; {60_000 / total if total else 0:.0f} machines a processor; answers after "
-            f"{waits[len(waits) // 2]:.2f} s in the median, {waits[len(waits) * 99 // 100]:.2f} s 99 %; "
-            f"{len(figures.faults)} faults {sorted(set(figures.faults))[:2]}; the machine's processors were "
-            f"{100 * share:.0f} % busy")
+    kinds = ", ".join(f"{name} {value:.1f}" for name, value in each.items())
+    return (f"{way:8} {entries:4} entries: {figures.runs} runs of {kinds} ms; {60_000 / total if total else 0:.0f} "
+            f"machines a processor; answers after {waits[len(waits) // 2]:.2f} s in the median, "
+            f"{waits[len(waits) * 99 // 100]:.2f} s 99 %; {len(figures.faults)} faults "
+            f"{sorted(set(figures.faults))[:2]}; the machine's processors were {100 * share:.0f} % busy, load "
+            f"{os.getloadavg()[0]:.0f}")
+
+
+def measure_all(asked: argparse.Namespace, collectors: int) -> None:
+    """Each number of entries, each way of sending, and each tree, in turn."""
+    places: list[Place] = []
+    try:
+        for tree in asked.trees:
+            places.append(Place(os.path.abspath(asked.program), asked.machines, collectors, asked.kex, tree))
+        kinds = [(entries, way) for _ in range(asked.rounds) for entries in map(int, asked.entries.split(","))
+                 for way in asked.way or ("calls", "session")]
+        for entries, way in kinds:
+            for tree, place in zip(asked.trees, places):
+                print(f"{tree.name}, {collectors} collectors: {measure(place, way, entries, asked)}", flush=True)
+        for tree, place in zip(asked.trees, places):
+            place.used()
+            print(f"{tree.name}, {collectors} collectors: memory of the service {memory_of(place.service.pid)} kB, of "
+                  f"its largest program {place.most} kB at most")
+    finally:
+        for place in places:
+            place.end()
 
 
 def main() -> None:
@@ -222,20 +271,15 @@ def main() -> None:
     parser.add_argument("--machines", type=int, default=60)
     parser.add_argument("--seconds", type=float, default=60)
     parser.add_argument("--every", type=float, default=60, help="the seconds between two runs of a machine")
+    parser.add_argument("--rounds", type=int, default=1)
     parser.add_argument("--entries", default="0,20,100")
-    parser.add_argument("--collectors", type=int, default=1)
+    parser.add_argument("--collectors", default="1,4")
     parser.add_argument("--way", action="append", choices=("session", "calls"))
     parser.add_argument("--kex", default="")
+    parser.add_argument("--deploy", dest="trees", action="append", type=Path, default=[ROOT], metavar="FOLDER")
     asked = parser.parse_args()
-    place = Place(os.path.abspath(asked.program), asked.machines, asked.collectors, asked.kex)
-    try:
-        machines = [Machine(place, number) for number in range(asked.machines)]
-        for entries in map(int, asked.entries.split(",")):
-            for way in asked.way or ("calls", "session"):
-                measure(place, machines, way, entries, asked.seconds, asked.every)
-        print(f"memory of the service: {memory_of(place.service.pid)} kB")
-    finally:
-        place.end()
+    for collectors in map(int, asked.collectors.split(",")):
+        measure_all(asked, collectors)
 
 
 if __name__ == "__main__":

@@ -45,7 +45,9 @@ class Sshd:
         config = self.folder / "sshd_config"
         config.write_text(f"Port {self.port}\nListenAddress 127.0.0.1\nHostKey {host}\nPidFile {self.folder}/pid\n"
                           f"AuthorizedKeysFile {self.folder}/authorized_keys\nStrictModes no\nMaxStartups 200:30:400\n"
-                          "PermitRootLogin yes\nUsePAM no\nLogLevel ERROR\n", encoding="ascii")
+                          # A shell reads what it finds at home, which would be counted.
+                          f"PermitRootLogin yes\nUsePAM no\nLogLevel ERROR\nSetEnv HOME={self.folder}\n",
+                          encoding="ascii")
         self.process = subprocess.Popen(["/usr/sbin/sshd", "-D", "-f", config, "-E", self.folder / "sshd-log"])
         for _ in range(100):
             if (self.folder / "pid").exists():
