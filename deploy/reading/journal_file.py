@@ -28,6 +28,10 @@ OFFLINE, ARCHIVED = 0, 2
 OWN_MACHINE, MACHINE = Path("/etc/machine-id"), re.compile("[0-9a-f]{32}")
 
 
+class Refused(Failure):
+    """systemd-journal-remote ended with an error."""
+
+
 @dataclass(frozen=True)
 class Header:
     """What the header of a journal file says."""
@@ -111,7 +115,7 @@ class Writer:
             except OSError as error:
                 raise Failure(f"{self.remote} can't be run: {error}") from error
         if done.returncode != 0:
-            raise Failure(f"{self.remote} ended with status {done.returncode}: {last_line(done.stderr)}")
+            raise Refused(f"{self.remote} ended with status {done.returncode}: {last_line(done.stderr)}")
 
     def read(self, path: Path) -> Iterator[export.Entry]:
         """The entries of a file and of what is beside it, in their order, as far as they can be read."""

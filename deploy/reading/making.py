@@ -121,9 +121,11 @@ class Maker:
     def apply(self) -> None:
         """Brings a plan to its end, if there is one."""
         applying = Applying(self.places, self.writer, self.free_bytes, self.tell)
-        applying.run()
-        for text in applying.told:
-            self.tell(text, NEEDS_A_LOOK)
+        try:
+            applying.run()
+        finally:
+            for text in applying.told:
+                self.tell(text, NEEDS_A_LOOK)
         if applying.plan:
             print(f"{applying.plan['says']}; {len(self.waiting(self.made()))} wait", flush=True)
 

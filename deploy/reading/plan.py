@@ -1,6 +1,7 @@
 """The step from one state of the journal files to the next. A plan says all of it, and is on the disk before a journal
 file is touched; so whatever stops the program, the next run brings the plan to its end, and only then makes another.
 """
+import os
 import shutil
 import stat
 from collections.abc import Callable
@@ -13,7 +14,7 @@ from typing import Any
 from reading import day, journal_file, json_files, made
 from reading.day import Day, Part
 from reading.failure import NEEDS_A_LOOK, Failure
-from reading.journal_file import Writer
+from reading.journal_file import Refused, Writer
 from reading.json_files import Tell
 from reading.made import Made
 from reading.spool import Spools
@@ -145,7 +146,7 @@ class Applying:
             if files.free_bytes(self.places.journals) < self.free_bytes // 2:
                 raise Failure(f"fewer than {self.free_bytes // 2} bytes are free; it goes on when there are more")
             path.parent.mkdir(exist_ok=True)
-            had = self.append(item, path)
+            had = self.append_or_keep(item, path)
             expected, has = had + item["adds"], journal_file.count(path)
             if has != expected:
                 self.lacks(item, f"{path} has {has} entries, and should have {expected}")
@@ -155,6 +156,21 @@ class Applying:
                 (path.parent / name).rename(path.parent / f"{other}.journal")
         for name in [item["name"], *(other for _, other in item["moves"])]:
             journal_file.set_machine(path.parent / f"{name}.journal", item["machine"])
+
+    def append_or_keep(self, item: dict[str, Any], path: Path) -> int:
+        """Appends to a file. What systemd-journal-remote ends with an error over again and again is kept for a look,
+        and the file stays without it; how many entries that had before."""
+        try:
+            return self.append(item, path)
+        except Refused as refused:
+            self.lacks(item, str(refused))
+        self.keep_spool(item, path)
+        try:
+            return self.append(item, path)
+        except Refused as refused:
+            self.told.append(f"{refused}, over what {path} had, too")
+            self.keep(path)
+            return 0
 
     def append(self, item: dict[str, Any], path: Path) -> int:
         """Appends to a file that is as the plan found it, and makes any other anew, and one whose entries go between
@@ -167,6 +183,8 @@ class Applying:
         if before == 0:
             for file in [path, *journal_file.siblings(path)]:
                 files.remove(file)
+            if not item["adds"]:
+                return 0
         if before == 0 or (not item["between"] and journal_file.is_made(path, before)):
             self.writer.append(path, spool)
             return before
@@ -191,6 +209,18 @@ class Applying:
             item["tries"] += 1
             self.save()
         raise Failure(f"{text}; the next run tries again")
+
+    def keep_spool(self, item: dict[str, Any], path: Path) -> None:
+        """What can't be appended to a file is kept for a look, and nothing is appended."""
+        spool, kept = self.places.work / item["spool"], self.places.state / "damaged" / item["spool"]
+        kept.parent.mkdir(exist_ok=True)
+        files.remove(kept)
+        os.link(spool, kept)
+        files.sync(kept.parent)
+        self.told.append(f"{item['adds']} entries for {path} are in no journal file; they are kept as {kept}")
+        item["adds"] = 0
+        self.save()
+        files.replace(spool, b"")
 
     def keep(self, path: Path) -> None:
         """A file that can't be read whole is kept for a look."""
@@ -231,6 +261,8 @@ def update(state: Day, item: dict[str, Any], path: Path) -> None:
     head = journal_file.header(path)
     for sequence in state.sequences.values():
         for part in list(sequence.parts):
+            if part.name == item["name"] and not path.exists():
+                part.entries = 0
             if part.name == item["name"] and head:
                 part.entries = head.entries
                 part.full = part.full or head.is_full

@@ -9,7 +9,7 @@ import sys
 from pathlib import Path
 
 from collected import ROOT, entries_of_headers, run
-from collector import Collector, Collectors
+from collector import TIME, Collector, Collectors
 from rows import Row, Rows
 
 ROWS: Rows[Collectors] = Rows()
@@ -31,7 +31,7 @@ def plain(collectors: Collectors) -> dict[str, object]:
     own.mkdir(exist_ok=True)
     if not (own / "journalctl").exists():
         (own / "journalctl").symlink_to(PLAIN)
-    return {"before": lambda: signal.alarm(10), "environment": {"PATH": f"{own}:{os.environ['PATH']}"}}
+    return {"before": lambda: signal.alarm(300), "environment": {"PATH": f"{own}:{os.environ['PATH']}"}}
 
 
 @ROWS.row
@@ -209,6 +209,35 @@ def a_spool_that_is_cut(row: Row, collectors: Collectors) -> None:
     collector.exported("2025-12-01T00-20", "b", 1, 2)
     row.ends(collector.make(**how), 0, "~made 1 *with 2 entries*")
     row.same("entries", entries_of_headers(collector.journals / "2025-12-01"), 7)
+
+
+@ROWS.row
+def what_systemd_refuses(row: Row, collectors: Collectors) -> None:
+    """Entries that systemd-journal-remote ends with an error over, for a file that is there and for one that isn't: it
+    is tried again thrice; then they are kept and told, and all else goes on, also in these two files."""
+    collector, how = collectors.new(JOURNAL_REMOTE=str(PLAIN)), plain(collectors)
+    how["environment"] = {**how["environment"], "REFUSED": "REFUSED=yes"}  # type: ignore[dict-item]
+    collector.exported("2025-12-01T00-00", "a", 1, 3)
+    row.ends(collector.make(**how), 0, "~made 1 *with 3 entries*")
+    for number, letter in enumerate("ab", 1):
+        collector.exported(f"2025-12-01T00-{number}0", letter, 4, 6, TIME, "REFUSED=yes")
+    collector.exported("2025-12-01T00-30", "c", 1, 2)
+    day, told = collector.journals / "2025-12-01", "~journal-files: *ended with status 1: it is refused; "
+    for letter in "ab":
+        # a's last try is followed by b's first one
+        for number in range(3 - (letter == "b")):
+            row.ends(collector.make(**how), 3, "", f"{told}the next run tries again", f"try {number} of {letter}")
+        status, output, also = (3, "", "*tries again") if letter == "a" else (1, "~made 3 *; 0 wait", "")
+        row.ends(collector.make(**how), status, output, f"{told}it stays so*3 entries for * are in no journal file; "
+                 f"they are kept as */damaged/*.export{also}", f"the last try of {letter}")
+    row.same("entries", entries_of_headers(day), 3 + 2)
+    kept = sorted((collector.journals / ".state/damaged").iterdir())
+    row.same("what is kept", [file.read_bytes().count(b"REFUSED=yes\n") for file in kept], [3, 3])
+    row.ends(collector.make(**how), 0)
+    for number, letter in enumerate("ab", 4):
+        collector.exported(f"2025-12-01T00-{number}0", letter, 7, 8)
+    row.ends(collector.make(**how), 0, "~made 2 *with 4 entries*")
+    row.same("entries later", entries_of_headers(day), 3 + 2 + 4)
 
 
 def killed_before_the_plan_is_done() -> None:

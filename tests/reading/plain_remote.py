@@ -1,6 +1,7 @@
 #!/usr/bin/env -S python3 -ISB
 """Stands in for systemd-journal-remote and journalctl where only that matters which goes in and comes out. A file has a
-header, with the number of its entries, and then their text."""
+header, with the number of its entries, and then their text. If what comes in has the text in REFUSED, it ends with an
+error, and leaves the file open."""
 import os
 import struct
 import sys
@@ -25,13 +26,16 @@ def main() -> None:
     if "file" in options:
         sys.stdout.buffer.write(text_of(options["file"]))
         return
-    text = text_of(options["output"]) + sys.stdin.buffer.read()
+    old, new = text_of(options["output"]), sys.stdin.buffer.read()
+    text, is_refused = old + new, "REFUSED" in os.environ and os.environb[b"REFUSED"] in new
     head = bytearray(HEAD)
-    head[:8] = b"LPKSHHRH"
+    head[:8], head[16] = b"LPKSHHRH", is_refused
     for place, number in ((112, 1000), (152, entries(text)), (208, 10), (216, 10)):
         struct.pack_into("<Q", head, place, number)
     with open(options["output"], "wb") as file:
         file.write(head + text)
+    if is_refused:
+        sys.exit("it is refused")
 
 
 main()
