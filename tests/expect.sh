@@ -31,6 +31,21 @@ expect() {
     rm -f "$errors_file"
 }
 
+# files_in_memory: what `mktemp` makes lies in memory from now on, if there is room for it and programs may run there.
+files_in_memory() {
+    local room probe
+    room=$(stat --file-system --format='%a * %S' /dev/shm 2> /dev/null) && ((room >= 2 << 30)) || return 0
+    probe=$(mktemp /dev/shm/may-run.XXXXXX 2> /dev/null) || return 0
+    printf '#!/bin/sh\n' > "$probe" && chmod +x "$probe" && "$probe" 2> /dev/null && export TMPDIR=/dev/shm
+    rm -f "$probe"
+}
+
+# well_before_midnight: five minutes of this day (UTC) are left, or the next one is waited for.
+well_before_midnight() {
+    local left=$((86400 - $(date +%s) % 86400))
+    ((left > 300)) || sleep "$((left + 1))"
+}
+
 finish() {
     exit $((mistakes > 0))
 }

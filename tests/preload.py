@@ -36,7 +36,7 @@ def run(
         variables = {f"{prefix}_{name}": str(value) for name, value in {**settings, "NOTE": note.fileno()}.items()}
         environment = dict(os.environ, LD_PRELOAD=library, **variables)
         told = subprocess.run(words, input=stdin, stdout=subprocess.PIPE, stderr=subprocess.PIPE, check=False,
-                              timeout=60, env=environment, pass_fds=[note.fileno()], **options)
+                              timeout=600, env=environment, pass_fds=[note.fileno()], **options)
         note.seek(0)
         return Told(told.stdout, told.stderr.decode(errors="replace"), told.returncode, note.read())
 

@@ -5,9 +5,7 @@ set -uo pipefail
 . "$(dirname "$0")/expect.sh"
 
 umask 022
-if [[ -d /dev/shm && -w /dev/shm ]]; then
-    export TMPDIR=/dev/shm
-fi
+files_in_memory
 folder=$(mktemp -d)
 trap 'rm -rf "$folder"' EXIT
 deploy/install.sh "$folder/root" /usr || differs "the programs aren't installed"
@@ -58,7 +56,7 @@ unread() { SSH_ORIGINAL_COMMAND=answers exec "$library/serve" web "$conf" > "$fo
 for part in 1 2 3; do
     in_background "$part" unread
 done
-have_places() { [[ $(grep -c ":$(stat --format=%i "$collector/calls/web") " /proc/locks) -eq $1 ]]; }
+have_places() { [[ $(places_taken "$collector/calls/web") -eq $1 ]]; }
 wait_for have_places 3
 expect 75 "" "answers: 3 calls of web are under way" answers web
 expect 75 "" "receive: 3 calls of web are under way" receive web /dev/null
@@ -249,6 +247,7 @@ expect 0 "28 20" "" stored
 # Shares -------------------------------------------------------------------------------------------------------------
 
 # a machine that has had its share of a day waits for the next one, and that is told once; the others don't
+within_a_day
 begin DAY_BYTES=2000
 expect 0 "" "" receive web "$folder/five"
 expect 0 "" "" collect
@@ -311,8 +310,8 @@ fi
 # A machine that was broken into beside healthy ones -----------------------------------------------------------------
 
 # HEALTHY=20 SECONDS_MORE=5 in the nights: so much longer an answer may take than without it
-python3 -B tests/deploy/hostile_world.py "$library" --machines "${HEALTHY-4}" --seconds "${SECONDS_MORE-0}" ||
-    differs "tests/deploy/hostile_world.py"
+SEED=${SEED-7} python3 -B tests/deploy/hostile_world.py "$library" --machines "${HEALTHY-4}" \
+    --seconds "${SECONDS_MORE-0}" || differs "tests/deploy/hostile_world.py"
 
 # Units --------------------------------------------------------------------------------------------------------------
 

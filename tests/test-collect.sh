@@ -1,8 +1,8 @@
 #!/usr/bin/env bash
 # Collecting into a database, as only processes show it: many uploads in one run, a collector that is killed, a full
 # disk, several collectors at once, files that can't be read, databases of other programs, and of the first version of
-# the tables. What is stored is read by the stock sqlite3 too. The random choices come from a seed that each part
-# prints; SEED=N makes the same choices again.
+# the tables. What is stored is read by the stock sqlite3 too. The random choices are the same each time; SEED
+# chooses others, and each part prints it.
 set -uo pipefail
 . "$(dirname "$0")/expect.sh"
 
@@ -40,6 +40,16 @@ expect 3 "" "cannot open $folder/none" "$PROGRAM" collect "$folder/new" "$up" "$
 [[ ! -e $folder/new ]] || differs "a database was made before its uploads were opened"
 expect 3 "no - - 61 0" "" "$PROGRAM" collect "$folder/new" < "$folder/sub"
 
+# into_a_closed_pipe COMMAND..: nobody has the other end of its standard output any more.
+into_a_closed_pipe() {
+    python3 -c 'import os, signal, sys
+read, write = os.pipe()
+os.close(read)
+os.dup2(write, 1)
+signal.signal(signal.SIGPIPE, signal.SIG_DFL)
+os.execv(sys.argv[1], sys.argv[1:])' "$@"
+}
+
 # standard output that takes nothing: what its line was for is stored, and nothing after it is collected
 sed 's/__SEQNUM=1$/__SEQNUM=2/' "$up" > "$folder/second"
 rm -f "$db"*
@@ -47,8 +57,7 @@ expect 3 "" "write failed" bash -c "'$PROGRAM' collect '$db' '$up' '$folder/seco
 expect 0 "$sample" "" "$PROGRAM" export "$db"
 for command in export show check; do
     expect 3 "" "write failed" bash -c "'$PROGRAM' $command '$db' > /dev/full"
-    { sleep 0.2; "$PROGRAM" $command "$db" 2> "$folder/errors"; echo $? > "$folder/status"; } | :
-    [[ $(cat "$folder/status" "$folder/errors") == 3$'\n'"write failed" ]] || differs "$command into a closed pipe"
+    expect 3 "" "write failed" into_a_closed_pipe "$PROGRAM" $command "$db"
 done
 
 # a database without bytes, and files that are none; a refusal changes no byte

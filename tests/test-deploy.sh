@@ -7,9 +7,7 @@ set -uo pipefail
 
 # the usual one, which the programs have to do better than
 umask 022
-if [[ -d /dev/shm && -w /dev/shm ]]; then
-    export TMPDIR=/dev/shm
-fi
+files_in_memory
 folder=$(mktemp -d)
 trap 'rm -rf "$folder"' EXIT
 deploy/install.sh "$folder/root" /usr || differs "the programs aren't installed"

@@ -3,10 +3,8 @@
 set -uo pipefail
 . "$(dirname "$0")/expect.sh"
 
-# files in memory, if the system has some: each run makes its database anew
-if [[ -d /dev/shm && -w /dev/shm ]]; then
-    export TMPDIR=/dev/shm
-fi
+# each run makes its database anew
+files_in_memory
 # less memory than the largest journal file has bytes
 ulimit -v 1000000
 export CALLS=${CALLS:-crates/jc_test_calls/out/jc_test_calls}

@@ -4,9 +4,7 @@
 set -uo pipefail
 . "$(dirname "$0")/expect.sh"
 
-if [[ -d /dev/shm && -w /dev/shm ]]; then
-    export TMPDIR=/dev/shm
-fi
+files_in_memory
 folder=$(mktemp -d)
 trap 'rm -rf "$folder"' EXIT
 deploy/install.sh "$folder/root" /usr || differs "the programs aren't installed"
@@ -18,6 +16,7 @@ python=$(python3 -c 'import sys; print(sys.executable)')
 
 # rows NAME: the rows of tests/reading/NAME.py, in a folder of their own
 rows() {
+    well_before_midnight
     mkdir "$folder/$1"
     "$python" -B "tests/reading/$1.py" "$library" "$folder/$1" || differs "tests/reading/$1.py"
     rm -rf "${folder:?}/$1"

@@ -5,9 +5,7 @@
 set -uo pipefail
 . "$(dirname "$0")/expect.sh"
 
-if [[ -d /dev/shm && -w /dev/shm ]]; then
-    export TMPDIR=/dev/shm
-fi
+files_in_memory
 folder=$(mktemp -d)
 trap 'rm -rf "$folder"' EXIT
 # shellcheck source=tests/newcomer/computers.sh
@@ -89,10 +87,10 @@ does web "systemctl start journal-collect-send.service"
 units_are web "journal-collect-send.timer=enabled active"
 on web systemctl stop journal-collect-send.timer
 first='^collect-incoming: stored [0-9]* entries of web in databases/.*: its first$'
-wait_until 30 logs sh -c "journalctl --quiet --output=cat --unit=journal-collect-incoming | grep -q '$first'"
+wait_until 300 logs sh -c "journalctl --quiet --output=cat --unit=journal-collect-incoming | grep -q '$first'"
 says web journal-collect-send | grep -q '^send: sent [0-9]* entries in [0-9]* uploads, [0-9]* acknowledged$' ||
     differs "send doesn't say that it sent: $(says web journal-collect-send)"
-wait_until 60 web systemctl start journal-collect-send.service
+wait_until 300 web systemctl start journal-collect-send.service
 says web journal-collect-send | grep -q ', [1-9][0-9]* acknowledged$' ||
     differs "send doesn't say that it is acknowledged: $(says web journal-collect-send)"
 status_is 0 logs
@@ -117,7 +115,7 @@ on web systemctl reset-failed journal-collect-send.service
 # The first search ---------------------------------------------------------------------------------------------------
 
 on logs systemctl reload journal-collect-incoming
-wait_until 30 logs sh -c 'journal-collect-search --machine=web --since=-1h --word="the first entry" | grep -q newcomer'
+wait_until 300 logs sh -c 'journal-collect-search --machine=web --since=-1h --word="the first entry" | grep -q newcomer'
 
 # The first alarm ----------------------------------------------------------------------------------------------------
 
@@ -131,13 +129,13 @@ on web ln -s /root/mail /usr/bin/mail
 does web "cat > /etc/systemd/system/journal-collect-failed@.service"
 on logs systemctl stop ssh
 on web systemctl start journal-collect-send.service 2> "$folder/told" && differs "a run without a collector went well"
-wait_until 30 web grep -q '^journal-collect-send.service failed on web$' /root/mails
+wait_until 300 web grep -q '^journal-collect-send.service failed on web$' /root/mails
 on web systemctl status journal-collect-send.service > "$folder/said"
 grep -q 'status=3/NOTIMPLEMENTED' "$folder/said" || differs "systemctl's word: $(cat "$folder/said")"
 status_is 3 web
 on logs systemctl start ssh
 # a run that its timer began before is waited for, and fails as that does
-wait_until 60 web systemctl start journal-collect-send.service || on web journalctl -u journal-collect-send.service >&2
+wait_until 300 web systemctl start journal-collect-send.service || on web journalctl -u journal-collect-send.service >&2
 
 # An update, and an installation after a removal: timers and the service are as they were ----------------------------
 
@@ -152,7 +150,7 @@ units_are logs "journal-collect-incoming.service=enabled active"
 dpkg_on logs --remove journal-collect
 [[ ! -e $folder/logs/usr/bin/journal-collect ]] || differs "a removal leaves the program"
 dpkg_on logs --install "/root/$package"
-wait_until 30 logs systemctl is-active journal-collect-incoming.service
+wait_until 300 logs systemctl is-active journal-collect-incoming.service
 units_are logs "journal-collect-incoming.service=enabled active"
 dpkg_on web --remove journal-collect
 dpkg_on web --install "/root/$package"

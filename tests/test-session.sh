@@ -5,9 +5,7 @@ set -uo pipefail
 . "$(dirname "$0")/expect.sh"
 
 umask 022
-if [[ -d /dev/shm && -w /dev/shm ]]; then
-    export TMPDIR=/dev/shm
-fi
+files_in_memory
 folder=$(mktemp -d)
 trap 'rm -rf "$folder"' EXIT
 deploy/install.sh "$folder/root" /usr || differs "the programs aren't installed"

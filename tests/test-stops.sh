@@ -5,10 +5,8 @@
 set -uo pipefail
 . "$(dirname "$0")/expect.sh"
 
-# files in memory, if the system has some: each run makes its database anew
-if [[ -d /dev/shm && -w /dev/shm ]]; then
-    export TMPDIR=/dev/shm
-fi
+# each run makes its database anew
+files_in_memory
 # The store takes 8 MB as it opens a database; in large pages that takes the system half of the time.
 export GLIBC_TUNABLES=glibc.malloc.hugetlb=1
 export CALLS=${CALLS:-crates/jc_test_calls/out/jc_test_calls}

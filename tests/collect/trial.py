@@ -8,7 +8,6 @@ import shutil
 import subprocess
 import sys
 import tempfile
-import time
 from collections.abc import Iterable, Sequence
 from typing import Any
 
@@ -51,7 +50,7 @@ def start(*words: str, **options: Any) -> subprocess.Popen[bytes]:
 def run(*words: str, stdin: bytes = b"", **options: Any) -> tuple[bytes, str, int]:
     """The standard output, the standard error and the status of the program."""
     told = subprocess.run([PROGRAM, *words], input=stdin, stdout=subprocess.PIPE, stderr=subprocess.PIPE, check=False,
-                          timeout=120, **options)
+                          timeout=600, **options)
     return told.stdout, told.stderr.decode(), told.returncode
 
 
@@ -150,8 +149,8 @@ class Trial:
 
 
 def first_seed() -> int:
-    """SEED, or another one each time."""
-    return int(os.environ.get("SEED", time.time_ns() % 10**9))
+    """SEED, or the same one each time."""
+    return int(os.environ.get("SEED", "7"))
 
 
 def short(value: object) -> str:

@@ -36,13 +36,14 @@ class Service:
     def stop(self) -> str:
         """It is told to stop; what it has said."""
         self.process.send_signal(signal.SIGTERM)
-        _, said = self.process.communicate(timeout=60)
+        _, said = self.process.communicate(timeout=300)
         self.row.expect("SIGTERM", self.process.returncode, 0)
         return noticed(said.decode())
 
     def wait_for(self, what: Callable[[], object]) -> None:
         """Waits until something is so."""
-        for _ in range(200):
+        end = time.monotonic() + 300
+        while time.monotonic() < end:
             if what():
                 return
             time.sleep(0.05)
@@ -113,7 +114,7 @@ def what_comes_while_it_is_made(row: Row, case: Case) -> None:
     case.receive(upload(entries(6, 9), start=5))
     service.process.send_signal(signal.SIGCONT)
     service.wait_for(lambda: case.answers()[0].startswith(f"ack {SOURCE} 0 9 "))
-    _, told = making.communicate(timeout=60)
+    _, told = making.communicate(timeout=300)
     row.expect("backup", (making.returncode, told), (0, b""))
     service.store(upload(entries(10, 12), start=9), f"ack {SOURCE} 0 12 ")
     service.stop()

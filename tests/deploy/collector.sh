@@ -57,10 +57,10 @@ stored() {
 
 # The service --------------------------------------------------------------------------------------------------------
 
-# wait_for COMMAND..: until it succeeds, for 20 seconds.
+# wait_for COMMAND..: until it succeeds, for five minutes on the slowest machine.
 wait_for() {
-    local tries
-    for ((tries = 0; tries < 200; tries++)); do
+    local end=$((SECONDS + 300))
+    while ((SECONDS < end)); do
         if "$@" > "$folder/told" 2>&1; then return 0; fi
         sleep 0.1
     done
@@ -71,6 +71,25 @@ wait_for() {
 serve_in_background() {
     "$library/collect-incoming" "$conf" 2> "$folder/service" &
     service=$!
+}
+
+# places_taken FILE: how many of the first hundred places of a file of calls are, by any process. Asking takes none.
+places_taken() {
+    python3 -B - "$1" << 'END'
+import fcntl, os, struct, sys
+file, form = os.open(sys.argv[1], os.O_RDWR), "hhqqi4x"
+asked = (fcntl.fcntl(file, fcntl.F_GETLK, struct.pack(form, fcntl.F_WRLCK, os.SEEK_SET, place, 1, 0))
+         for place in range(100))
+print(sum(struct.unpack(form, told)[0] != fcntl.F_UNLCK for told in asked))
+END
+}
+
+# within_a_day: at least two minutes of a day of shares are left, which goes by the clock that counts while the machine
+# runs; or the next one is waited for.
+within_a_day() {
+    python3 -c 'import time
+left = 86400 - time.clock_gettime(time.CLOCK_MONOTONIC_RAW) % 86400
+time.sleep(left + 1 if left < 120 else 0)'
 }
 
 # stop: SIGTERM, and what it ends with.

@@ -102,7 +102,7 @@ class Case:
     def call(self, program: str, *words: str, given: bytes = b"", **more: str) -> Told:
         """A program's status, and what it said."""
         told = subprocess.run([f"{self.library}/{program}", *words], input=given, capture_output=True, check=False,
-                              env={**self.environment(), **more}, timeout=120)
+                              env={**self.environment(), **more}, timeout=600)
         return told.returncode, told.stdout.decode(), told.stderr.decode()
 
     def receive(self, given: bytes, machine: str = "web") -> Told:

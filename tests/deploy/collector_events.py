@@ -49,7 +49,7 @@ class CollectorEvents:
         deployment = self.world.deployment
         told = subprocess.run([f"{deployment.programs}/collect-incoming", *words, deployment.collector_conf],
                               env={**os.environ, **self.environment()}, stdin=subprocess.DEVNULL, capture_output=True,
-                              check=False, timeout=120)
+                              check=False, timeout=600)
         return told.returncode, told.stderr.decode()
 
     def expect_well(self, what: str, told: tuple[int, str]) -> bool:

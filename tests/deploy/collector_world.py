@@ -132,7 +132,7 @@ class World(Trial):
     def call(self, program: str, words: list[str], **options: Any) -> subprocess.CompletedProcess[bytes]:
         environment = {**os.environ, "LD_PRELOAD": self.library, "CLOCK_FILE": self.clock}
         return subprocess.run([os.path.join(self.programs, program), *words], env=environment, stdout=subprocess.PIPE,
-                              stderr=subprocess.PIPE, check=False, timeout=120, **options)
+                              stderr=subprocess.PIPE, check=False, timeout=600, **options)
 
     # Machines
 
@@ -208,7 +208,7 @@ class World(Trial):
             for child in children:
                 with contextlib.suppress(ProcessLookupError):
                     os.kill(child, signal.SIGKILL)
-        _, errors = run.communicate(timeout=120)
+        _, errors = run.communicate(timeout=600)
         errors = errors.decode()
         self.expect(f"{kind}: a mistake: {errors}", any(word in errors for word in BROKEN), False)
         # a signal may come before the program itself has begun
@@ -226,9 +226,12 @@ class World(Trial):
         return [] if names["batch"] else [tuple(name[:-7].split("@")[1:]) for name in names["incoming"]]
 
     def look_at_turns(self, waiting: list[tuple[str, str]]) -> None:
-        """Each machine had a turn before another one had its next."""
+        """Each machine had a turn before another one had its next. Answers that have one time, since a file's time goes
+        in steps, are in the order that is wanted."""
         path = os.path.join(self.collector, "sources")
-        order = sorted(waiting, key=lambda upload: os.stat(os.path.join(path, *upload)).st_mtime_ns)
+        turn = {upload: [machine for machine, _ in waiting[:place]].count(upload[0])
+                for place, upload in enumerate(waiting)}
+        order = sorted(waiting, key=lambda upload: (os.stat(os.path.join(path, *upload)).st_mtime_ns, turn[upload]))
         for collector in range(self.collectors):
             own = [machine for machine, _ in order if zlib.crc32(machine.encode()) % self.collectors == collector]
             turns = [own[:place].count(machine) for place, machine in enumerate(own)]

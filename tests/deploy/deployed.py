@@ -51,7 +51,7 @@ class Deployed(Machine):
     def end_service(self) -> None:
         if self.service:
             self.service.send_signal(signal.SIGTERM)
-            self.service.wait(30)
+            self.service.wait(300)
             self.service = None
 
     def store(self) -> None:
@@ -63,7 +63,7 @@ class Deployed(Machine):
             return
         if not self.service:
             self.begin_service()
-        end = time.monotonic() + 30
+        end = time.monotonic() + 300
         while self.waiting() and time.monotonic() < end:
             time.sleep(0.02)
 

@@ -62,7 +62,7 @@ class Run:
             (os.killpg if whole else os.kill)(self.process.pid, signal.SIGKILL)
 
     def wait(self) -> tuple[int, str]:
-        status = self.process.wait(timeout=120)
+        status = self.process.wait(timeout=600)
         said = b""
         try:
             while piece := os.read(self.errors, 1 << 20):

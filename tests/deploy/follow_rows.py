@@ -42,7 +42,7 @@ def stored(both: Both) -> list[int]:
 
 
 def all_come(both: Both) -> None:
-    wait_for(lambda: stored(both) == both.numbers(), 60)
+    wait_for(lambda: stored(both) == both.numbers())
 
 
 @ROWS.row
@@ -79,7 +79,7 @@ def lost_connections(row: Row, library: str) -> None:
         both.follow()
         for number in range(3):
             both.machine.journal.grow(2)
-            wait_for(lambda: len(both.connections()) > number, 60)
+            wait_for(lambda: len(both.connections()) > number)
             all_come(both)
             os.kill(both.connections()[-1], signal.SIGKILL)
         both.machine.journal.grow(2)
@@ -96,7 +96,7 @@ def no_collector(row: Row, library: str) -> None:
         open(both.down, "wb").close()
         both.machine.journal.grow(2)
         both.follow()
-        wait_for(lambda: "no answers came" in both.said(), 60)
+        wait_for(lambda: "no answers came" in both.said())
         both.machine.journal.grow(2)
         time.sleep(1)
         row.same("said", both.said().count("no answers came"), 1)
@@ -116,7 +116,7 @@ def killed(row: Row, library: str) -> None:
             both.machine.journal.grow(3)
             time.sleep(number * 0.13)
             both.end_following(signal.SIGKILL)
-        wait_for(lambda: both.send()[0] == 0, 60)
+        wait_for(lambda: both.send()[0] == 0)
         row.same("a run", both.send(), (0, ""))
         collector.stop()
         row.same("stored", collector.keys(), both.numbers())

@@ -112,7 +112,7 @@ class Collector:
         return sorted(found)
 
 
-def wait_for(holds: Callable[[], object], seconds: float = 20) -> None:
+def wait_for(holds: Callable[[], object], seconds: float = 300) -> None:
     """Waits until something holds; fails if it doesn't."""
     end = time.monotonic() + seconds
     while not holds():

@@ -2,6 +2,7 @@
 
 usage: python3 service_rows.py LIBRARY [ROW..]
 """
+import glob
 import os
 import pwd
 import shutil
@@ -15,35 +16,45 @@ from collector_case import SOURCE, Case, entries, noticed, source, upload
 from trial_rows import Row, Rows
 
 ROWS: Rows = Rows()
+# Nothing takes so long, on the slowest machine.
+PATIENCE = 300
 UNIT = os.path.join("..", "systemd", "system", "journal-collect-incoming.service")
 
 
 def begin(case: Case) -> subprocess.Popen[bytes]:
     """The service, running."""
     return subprocess.Popen([f"{case.library}/collect-incoming", case.conf], env=case.environment(),
-                            stderr=subprocess.PIPE)
+                            stderr=open(f"{case.base}/said", "wb"))
+
+
+def heard(case: Case) -> str:
+    """What it has said."""
+    with open(f"{case.base}/said", encoding="utf-8") as file:
+        return noticed(file.read())
 
 
 def wait_for(row: Row, what: Callable[[], object]) -> None:
     """Waits until something is so."""
-    for _ in range(200):
+    end = time.monotonic() + PATIENCE
+    while time.monotonic() < end:
         if what():
             return
         time.sleep(0.05)
     row.expect("waited in vain", True, False)
 
 
-def stop(row: Row, service: subprocess.Popen[bytes], seconds: float = 20) -> str:
-    """It is told to stop, and does so in time; what it has said."""
+def stop(row: Row, case: Case, service: subprocess.Popen[bytes], then: Callable[[], object] = lambda: None) -> str:
+    """It is told to stop, and something else is done; what it has said."""
     service.send_signal(signal.SIGTERM)
+    then()
     try:
-        _, said = service.communicate(timeout=seconds)
+        service.wait(PATIENCE)
     except subprocess.TimeoutExpired:
         service.kill()
-        _, said = service.communicate()
-        row.expect("it doesn't stop", said.decode(), "")
+        service.wait()
+        row.expect("it doesn't stop", heard(case), "")
     row.expect("its status", service.returncode, 0)
-    return noticed(said.decode())
+    return heard(case)
 
 
 @ROWS.once
@@ -111,7 +122,7 @@ def full_disk_is_told(row: Row, case: Case) -> None:
     for _ in range(5):
         service.send_signal(signal.SIGHUP)
         time.sleep(0.1)
-    row.expect("by the service", stop(row, service).count(said), 1)
+    row.expect("by the service", stop(row, case, service).count(said), 1)
 
 
 @ROWS.once
@@ -148,7 +159,12 @@ def stop_while_an_upload_is_stored(row: Row, case: Case) -> None:
     with open(slow, "w", encoding="ascii") as file:
         file.write(f"""#!/bin/bash
 if [[ $1 == collect ]]; then
-    while read -r name; do touch {case.base}/storing; sleep 0.5; echo "$name"; done | {os.environ["PROGRAM"]} "$@"
+    while read -r name; do
+        touch {case.base}/storing
+        until [[ -e {case.base}/go ]]; do sleep 0.05; done
+        sleep 0.5
+        echo "$name"
+    done | {os.environ["PROGRAM"]} "$@"
 else
     exec {os.environ["PROGRAM"]} "$@"
 fi
@@ -158,7 +174,7 @@ fi
         case.receive(upload(entries(1, 2, source(number)), name=source(number)))
     service = begin(case)
     wait_for(row, lambda: os.path.exists(f"{case.base}/storing"))
-    row.expect("what it says", stop(row, service, seconds=10), "")
+    row.expect("what it says", stop(row, case, service, then=lambda: open(f"{case.base}/go", "wb").close()), "")
     told = case.answers()
     row.expect("answers", {line.split()[0] for line in told} >= {"ack", "waits"}, True)
 
@@ -176,8 +192,8 @@ def stop_while_what_was_left_is_taken_up(row: Row, case: Case) -> None:
     for name in os.listdir(case.path("incoming")):
         os.rename(case.path("incoming", name), case.path("batch", "d", name))
     service = begin(case)
-    wait_for(row, lambda: len(os.listdir(case.path("batch", "d"))) < 19)
-    stop(row, service)
+    wait_for(row, lambda: len(glob.glob(case.path("batch", "d", "*"))) < 19)
+    stop(row, case, service)
     case.collect()
     case.collect()
     row.expect("databases", (case.names(), len(case.stored())), (["d"], 40))
@@ -195,12 +211,15 @@ def left_with_an_upload(case: Case, text: str = "text") -> None:
 
 
 def break_program(case: Case) -> None:
-    """The program can store nothing, as on a full disk."""
+    """The program can store nothing, as on a full disk, until its database is set aside."""
     broken = f"{case.base}/bin/journal-collect"
     os.unlink(broken)
     with open(broken, "w", encoding="ascii") as file:
-        file.write('#!/bin/sh\n[ "$1" = collect ] && { echo "store failed" >&2; exit 3; }\n'
-                   f'exec {os.environ["PROGRAM"]} "$@"\n')
+        file.write(f"""#!/bin/sh
+[ ! -e {case.path("databases", "d.db.refused")} ] || touch {case.base}/mended
+[ "$1" != collect ] || [ -e {case.base}/mended ] || {{ echo "store failed" >&2; exit 3; }}
+exec {os.environ["PROGRAM"]} "$@"
+""")
     os.chmod(broken, 0o755)
 
 
@@ -209,7 +228,7 @@ def begin_hurried(case: Case) -> subprocess.Popen[bytes]:
     text = ("import sys; sys.path.insert(0, sys.argv[1]); from collector import incoming, recovery, service; "
             "service.RECOVER_SECONDS, recovery.REFUSED_SECONDS = 0.1, 1.0; sys.exit(incoming.main([sys.argv[2]]))")
     return subprocess.Popen([sys.executable, "-BS", "-c", text, case.library, case.conf], env=case.environment(),
-                            stderr=subprocess.PIPE)
+                            stderr=open(f"{case.base}/said", "wb"))
 
 
 @ROWS.once
@@ -225,12 +244,9 @@ def full_disk_counts_as_a_try(row: Row, case: Case) -> None:
     os.link(f"{case.base}/d.db", case.path("databases", "d.db"))
     break_program(case)
     service = begin_hurried(case)
-    wait_for(row, lambda: os.path.exists(case.path("databases", "d.db.refused")))
-    os.unlink(f"{case.base}/bin/journal-collect")
-    os.symlink(os.environ["PROGRAM"], f"{case.base}/bin/journal-collect")
     wait_for(row, lambda: os.path.exists(case.path("databases", "d.db.sha256")))
     wait_for(row, lambda: case.answers()[0].startswith(f"ack {SOURCE} 0 4 "))
-    said = stop(row, service)
+    said = stop(row, case, service)
     row.expect("told", (said.count("d.db failed, and is tried again"), said.count("d.db can be opened again")), (2, 1))
     row.expect("what is set aside", os.path.exists(case.path("databases", "d.db.refused")), False)
     row.expect("entries", case.numbers(), [1, 2, 3, 4])
@@ -255,9 +271,11 @@ def no_room(row: Row, case: Case, free: int, text: str) -> None:
     case.free = free
     break_program(case)
     service = begin_hurried(case)
-    time.sleep(2)
+    wait_for(row, lambda: "databases/d.db isn't finished yet" in heard(case))
+    # some of its rounds go by
+    time.sleep(1)
     row.expect("set aside", os.path.exists(case.path("databases", "d.db.refused")), False)
-    said = stop(row, service)
+    said = stop(row, case, service)
     row.expect("told", (said.count("databases/d.db isn't finished yet"), said.count("is tried again")), (1, 0))
     case.free = 0
     os.unlink(f"{case.base}/bin/journal-collect")

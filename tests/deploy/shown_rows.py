@@ -200,7 +200,7 @@ def goes_on(row: Row, library: str) -> None:
 
 def damaged(row: Row, collector: Collector, state: str) -> None:
     with Follower(collector, "--state", state) as follower:
-        row.same("damaged", (follower.process.wait(20), "doesn't say what was shown" in follower.said()), (3, True))
+        row.same("damaged", (follower.process.wait(300), "doesn't say what was shown" in follower.said()), (3, True))
 
 
 @ROWS.row

@@ -24,7 +24,7 @@ import edits  # noqa: E402
 from collector_case import Case, entries, file_upload, source, upload  # noqa: E402
 from collector_machines import PROGRAM, entries_of  # noqa: E402
 
-SECONDS = 60
+SECONDS = 300
 SEQUENCES = {source(number): f"{number:032x}" for number in range(1, 6)}
 WRONG = ("Traceback", "Error(", "Exception")
 # Each try has an edit in each of these.
@@ -155,7 +155,7 @@ def main() -> int:
     parser.add_argument("library")
     parser.add_argument("--edits", type=int, default=200)
     arguments = parser.parse_args()
-    seed = int(os.environ.get("SEED", time.time_ns() % 10**9))
+    seed = int(os.environ.get("SEED", "7"))
     Case.library = os.path.abspath(arguments.library)
     sys.path.insert(0, Case.library)
     importlib.import_module("collector.calls")

@@ -66,7 +66,7 @@ class Watched(Machine):
         self.configure()
         environment = {**os.environ, "PATH": f"{self.base}/bin:{os.environ['PATH']}"}
         return subprocess.run([f"{self.library}/{program}", *words, self.collector_conf], input=given,
-                              env=environment, capture_output=True, check=False, timeout=60)
+                              env=environment, capture_output=True, check=False, timeout=300)
 
     def receive(self, name: str, count: int = 3, source: str = SOURCE, text: str = "text") -> None:
         """The collector takes an upload of a machine."""
@@ -93,7 +93,7 @@ class Watched(Machine):
         """A call; its status and both outputs."""
         all_of_it = {**os.environ, "PATH": f"{self.base}/bin:{os.environ['PATH']}", **environment}
         call = [f"{self.library}/status", "--journal-files", self.reading_conf, "--forward", self.forward_conf, *words]
-        told = subprocess.run(call, env=all_of_it, capture_output=True, check=False, timeout=60,
+        told = subprocess.run(call, env=all_of_it, capture_output=True, check=False, timeout=300,
                               stdin=subprocess.DEVNULL)
         return told.returncode, told.stdout.decode("utf-8", "replace"), told.stderr.decode("utf-8", "replace")
 

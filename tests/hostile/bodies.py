@@ -118,7 +118,7 @@ class Calls:
 
     def run(self) -> int:
         """Runs all that was added; answers how many lines were looked at."""
-        told = subprocess.run(self.words, stdout=subprocess.PIPE, stderr=subprocess.PIPE, check=False, timeout=120)
+        told = subprocess.run(self.words, stdout=subprocess.PIPE, stderr=subprocess.PIPE, check=False, timeout=600)
         shutil.rmtree(self.folder)
         self.trial.expect("the end of the program", (told.returncode, told.stderr), (0, b""))
         lines = told.stdout.decode().splitlines()

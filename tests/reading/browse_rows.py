@@ -3,6 +3,7 @@
 days. browse_rows.py LIBRARY FOLDER [ROW..]
 """
 import json
+import os
 import shutil
 import socket
 import subprocess
@@ -38,14 +39,16 @@ class Place:
 
     @contextmanager
     def served(self) -> Iterator[str]:
-        """The page's address, while it is served at a port of this machine alone."""
+        """The page's address, while it is served at a port of this machine alone, at an address that nobody else has:
+        so no other test takes the port meanwhile."""
+        host = f"127.{os.getpid() >> 16 & 127}.{os.getpid() >> 8 & 255}.{os.getpid() & 255 or 1}"
         with socket.socket() as free:
-            free.bind(("127.0.0.1", 0))
+            free.bind((host, 0))
             port = free.getsockname()[1]
-        with subprocess.Popen(["systemd-socket-activate", f"--listen=127.0.0.1:{port}", *self.call],
+        with subprocess.Popen(["systemd-socket-activate", f"--listen={host}:{port}", *self.call],
                               stderr=subprocess.DEVNULL) as process:
             try:
-                yield f"http://127.0.0.1:{port}"
+                yield f"http://{host}:{port}"
             finally:
                 process.terminate()
 
@@ -55,10 +58,10 @@ ROWS: Rows[Place] = Rows()
 
 def answer(address: str, **headers: str) -> str:
     """What is served there, once it is."""
-    for tries in range(200, -1, -1):
+    for tries in range(6000, -1, -1):
         try:
             request = urllib.request.Request(address, headers=headers)
-            with urllib.request.urlopen(request, timeout=30) as response:
+            with urllib.request.urlopen(request, timeout=300) as response:
                 return bytes(response.read()).decode()
         except (urllib.error.URLError, ConnectionError):
             if not tries:

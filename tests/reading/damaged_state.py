@@ -24,7 +24,7 @@ import forked  # noqa: E402
 import made  # noqa: E402
 from programs import Done, Main, call, killed_before, load  # noqa: E402
 
-SECONDS = 20
+SECONDS = 120
 WRONG = ("Traceback", "Error(", "Exception")
 NAMES = (".db", "..db", "a b.db", "a\nb.db", "x.db", "x.db.sha256", "x.db.refused", "x.export", "\udcff.db",
          "2025-99-99T00-00.db", "9999-99-99.json", "2025-12-01.json", "0-0-0.upload", "sequences", "\x1b[2J",

@@ -72,7 +72,7 @@ class InUse:
         call = ["journal-collect", "collect", "--files-from", str(self.names), str(self.database)]
         self.process = subprocess.Popen(call, stdout=subprocess.DEVNULL)
         self.pipe = self.names.open("wb")
-        for _ in range(400):
+        for _ in range(6000):
             if any(self.is_database(path) for path in Path(f"/proc/{self.process.pid}/fd").iterdir()):
                 return
             time.sleep(0.05)

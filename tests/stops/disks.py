@@ -95,7 +95,7 @@ class Case:
         return [journal.take(upload) for upload in self.uploads]
 
     def run(self, what: str, *words: str) -> Told:
-        told = subprocess.run([CALLS, *words], stdout=subprocess.PIPE, stderr=subprocess.PIPE, check=False, timeout=60)
+        told = subprocess.run([CALLS, *words], stdout=subprocess.PIPE, stderr=subprocess.PIPE, check=False, timeout=600)
         self.trial.expect(f"{what}: its end", (told.returncode, told.stderr), (0, b""))
         return Told(told.stdout)
 
