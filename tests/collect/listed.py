@@ -18,7 +18,7 @@ MANY = 3000
 OPEN_FILES = 64
 # How many names come one by one, and how long the answer to one is waited for, in seconds.
 ONE_BY_ONE = 20
-PATIENCE = 60
+PATIENCE = 600
 
 
 def few_files() -> None:

@@ -240,6 +240,49 @@ def what_systemd_refuses(row: Row, collectors: Collectors) -> None:
     row.same("entries later", entries_of_headers(day), 3 + 2 + 4)
 
 
+@ROWS.row
+def files_of_a_machine(row: Row, collectors: Collectors) -> None:
+    """Ever new field names, and ever new sequences, make no more files than one machine may have: the rest is in its
+    overflow file, which is told, and another machine isn't touched."""
+    collector, how = collectors.new(JOURNAL_REMOTE=str(PLAIN)), plain(collectors)
+    day, name = collector.journals / "2025-12-01", "2025-12-01T00-00"
+    for number in range(1, 101):
+        collector.exported(name, "a", number, number, TIME, *(f"F{number}X{field}=1" for field in range(140)))
+    collector.exported(name, "b", 1, 2)
+    row.ends(collector.make(**how), 0, "~made 1 *with 102 entries*",
+             f"~*: 96 entries are in overflow-{'a' * 32}, since their machine has so many journal files of 2025-12-01")
+    row.same("files", (len(list(day.iterdir())), entries_of_headers(day)), (4 + 1 + 1, 102))
+    collector, machine = collectors.new(JOURNAL_REMOTE=str(PLAIN)), "_MACHINE_ID=" + "1" * 32
+    for sequence in "0123456789":
+        collector.exported(name, sequence, 1, 2, TIME, machine, "_BOOT_ID=" + "2" * 32)
+    collector.exported(name, "a", 1, 2)
+    how["before"] = lambda: setattr(sys.modules["reading.overflow"], "MACHINE_SEQUENCES", 3)
+    row.ends(collector.make(**how), 0, "~made 1 *", f"~*: 14 entries are in overflow-{'1' * 32}, since *")
+    row.same("files of sequences", sorted(path.stem for path in (collector.journals / "2025-12-01").iterdir()),
+             [*(letter * 32 for letter in "012"), "a" * 32, "overflow-" + "1" * 32])
+
+
+@ROWS.row
+def no_room_for_another_file(row: Row, collectors: Collectors) -> None:
+    """The disk is looked at before files are begun: a file that is there takes more, and of a step that needs others
+    none is begun."""
+    collector, how = collectors.new(JOURNAL_REMOTE=str(PLAIN), FREE_BYTES=str(20 << 20)), plain(collectors)
+
+    def room() -> None:
+        sys.modules["shared.files"].free_bytes = lambda *_: 20 << 20  # type: ignore[attr-defined]
+
+    for first in (1, 4):
+        collector.exported(f"2025-12-01T00-{first}0", "a", first, first + 2)
+        row.ends(collector.make(**how | {"before": room}), 0, "~made 1 *")
+    for sequence in "bc":
+        collector.exported("2025-12-01T00-50", sequence, 1, 3)
+    row.ends(collector.make(**how | {"before": room}), 3, "", "journal-files: the disk has too little room for the "
+             "journal files that are to be begun")
+    row.same("files", len(list((collector.journals / "2025-12-01").iterdir())), 1)
+    row.ends(collector.make(**how), 0, "~made 1 *")
+    row.same("entries", entries_of_headers(collector.journals / "2025-12-01"), 12)
+
+
 def killed_before_the_plan_is_done() -> None:
     from reading import plan  # pylint: disable=import-outside-toplevel,import-error
     plan.Applying.run = lambda self: self.plan and os.kill(os.getpid(), signal.SIGKILL)
