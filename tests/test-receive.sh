@@ -238,9 +238,9 @@ serve_in_background
 wait_for answered z "ack $id 0 2 "
 wait_for answered c "ack $id 0 2 "
 stop
-# each database is told when it ends, in the order in which they do
+# a machine's first upload is told, and each database when it ends: one of each machine, and then more of a
 order=$(sed -n 's/^collect-incoming: stored 2 entries of \([acz]\) .*/\1/p' "$folder/service" | tr -d '\n')
-[[ $order == z*c* && ${order%%c*} != *a*a* ]] || differs "databases are of these machines: $order"
+[[ $order == aazzcc* ]] || differs "databases are of these machines: $order"
 
 # Databases ----------------------------------------------------------------------------------------------------------
 

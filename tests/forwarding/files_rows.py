@@ -295,7 +295,7 @@ def make_strange(path: Path, text: str) -> None:
 
 def in_time() -> None:
     """A program that waits for ever is ended."""
-    signal.alarm(10)
+    signal.alarm(300)
 
 
 @ROWS.row

@@ -69,7 +69,7 @@ def seen_of(command: list[str], errors: bool, environment: dict[str, str]) -> tu
         os.close(theirs)
         reader = threading.Thread(target=read_all, args=(ours, seen))
         reader.start()
-        status = process.wait(60)
+        status = process.wait(600)
         reader.join()
     os.close(ours)
     return status, seen.decode(errors="surrogateescape").replace("\r\n", "\n")
