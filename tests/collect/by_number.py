@@ -185,24 +185,84 @@ def is_migrated() -> None:
 
 
 def migrated_beside() -> None:
-    """From tables of version 1, beside a table of another program."""
+    """From tables of version 1, and by key, beside a table of another program."""
     changes = ("ANALYZE", "CREATE TABLE other(a, b)", "CREATE TABLE other(id INTEGER PRIMARY KEY)",
                "CREATE TABLE a(a); CREATE TABLE b(b); CREATE TABLE c(c)")
     for number, change in enumerate(changes):
-        for kind in ("2", "3"):
-            path = new(f"migrated-beside-{number}-{kind}")
+        for kind, of_version in (("2", 1), ("3", 1), ("3", 2)):
+            path = new(f"beside-{number}-{kind}-{of_version}")
             with stock(path) as connection:
                 connection.executescript(BY_ONE_VALUE)
-                connection.executescript(change)
-            what = f"to {kind}, {change}"
+                connection.executescript(change if of_version == 1 else "SELECT 1")
+            if of_version == 2:
+                expect("of version 1", run("migrate", path), (0, "ok 0\n"))
+                with stock(path) as connection:
+                    connection.executescript(change)
+            what = f"from {of_version} to {kind}, {change}"
             expect(what, run("migrate", "--tables", kind, path), (0, "ok 0\n"))
             expect(f"{what}: check", run("check", path), (0, "ok 0\n"))
             expect(f"{what}: collect", collect(path, E1, E2), (0, ACK.format(2, 2)))
             expect(f"{what}: export", run("export", path)[1].count("__SEQNUM="), 2)
 
 
+def made_by_key(name: str, of_version_1: bool) -> str:
+    """A database of three entries, whose tables are by key."""
+    path = new(name)
+    if of_version_1:
+        with stock(path) as connection:
+            connection.executescript(BY_ONE_VALUE)
+        expect("of version 1", run("migrate", path), (0, "ok 0\n"))
+    expect("collect", collect(path, E3, E1, E2, options=("--tables", "2")), (0, ACK.format(3, 3)))
+    return path
+
+
+def is_numbered() -> None:
+    """From tables by key, which were made so or came from version 1."""
+    for of_version_1 in (False, True):
+        path = made_by_key(f"key-{of_version_1}", of_version_1)
+        listed = [run("export", path), run("show", path)]
+        expect("by key again", run("migrate", path), (1, "bad 64 0\n"))
+        expect("by number", run("migrate", "--tables", "3", path), (0, "ok 3\n"))
+        expect("once more", run("migrate", "--tables", "3", path), (1, "bad 64 0\n"))
+        expect("what is listed", [run("export", path), run("show", path)], listed)
+        expect("its tables", schema(path), BY_NUMBER)
+        with stock(path) as connection:
+            expect("the version", connection.execute("SELECT * FROM journal").fetchall(), [(1, 3)])
+            expect("records", connection.execute("SELECT id, seqnum FROM record ORDER BY id").fetchall(),
+                   [(1, 1), (2, 2), (3, 3)])
+            expect("fields", connection.execute("SELECT * FROM field ORDER BY id").fetchall(),
+                   [(8192 * number, b"MESSAGE", b"hi") for number in (1, 2, 3)])
+            expect("the stock check", connection.execute("PRAGMA integrity_check").fetchall(), [("ok",)])
+        expect("collect", collect(path, E1, entry_text(4)), (0, ACK.format(2, 1)))
+
+
+# A change of a database of three entries by key, and what `migrate --tables 3` says then.
+NOT_NUMBERED = {
+    "a field that is left out": ("DELETE FROM field WHERE seqnum = 2", "ok 3"),
+    "a place that is wrong": ("UPDATE field SET pos = 1 WHERE seqnum = 2", "bad 65 1"),
+    "a name that is none": ("UPDATE field SET name = x'3d' WHERE seqnum = 3", "bad 65 2"),
+    "a negative time": ("UPDATE record SET realtime = -1 WHERE seqnum = 1", "bad 65 0"),
+    "version 9": ("UPDATE journal SET version = 9", "bad 64 0"),
+    "version 1": ("UPDATE journal SET version = 1", "bad 67 0"),
+}
+
+
+def is_refused() -> None:
+    """A database by key with a fault stays as it is."""
+    for number, (what, (change, says)) in enumerate(NOT_NUMBERED.items()):
+        path = made_by_key(f"refused-{number}", False)
+        with stock(path) as connection:
+            connection.execute(change)
+        before = schema(path)
+        good = says.startswith("ok")
+        expect(what, run("migrate", "--tables", "3", path), (0 if good else 1, says + "\n"))
+        expect(f"{what}: its tables", schema(path), BY_NUMBER if good else before)
+        with stock(path) as connection:
+            expect(f"{what}: its rows", connection.execute("SELECT count(*) FROM record").fetchone(), (3,))
+
+
 def main() -> None:
-    for part in (is_made, goes_on, beside_others, hostile, is_migrated, migrated_beside):
+    for part in (is_made, goes_on, beside_others, hostile, is_migrated, migrated_beside, is_numbered, is_refused):
         part()
     print(f"{rows} rows, {mistakes} mistakes")
     sys.exit(mistakes > 0)

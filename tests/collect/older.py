@@ -12,6 +12,7 @@ import shutil
 import signal
 import time
 
+import samples
 from make import Machine
 from model import Journal, read_stream
 from stock import IS_HERE, stock
@@ -53,6 +54,21 @@ def earlier(trial: Trial, name: str) -> str:
         if os.path.exists(packed):
             with gzip.open(packed) as old, open(database + end, "wb") as new:
                 shutil.copyfileobj(old, new)
+    return database
+
+
+def migrated(trial: Trial) -> str:
+    """The same journal in tables by key, beside those that it came from."""
+    database = earlier(trial, "closed")
+    trial.expect("a journal goes over", run("migrate", database), usual(earlier_journal()))
+    return database
+
+
+def by_key(trial: Trial) -> str:
+    """The same journal in tables by key, which were made so."""
+    database = trial.database()
+    upload = samples.stream(earlier_journal().text())
+    trial.expect("collected", run("collect", "--tables", "2", database, stdin=upload)[1:], ("", 0))
     return database
 
 

@@ -15,11 +15,10 @@ from concurrent.futures import Executor, ThreadPoolExecutor
 from random import Random
 
 import device
-import older
 import samples
 from collecting import Collecting
 from make import Machine
-from migrating import Migrating
+from migrating import Migrating, migrations
 from trial import Trial
 
 # How often power is lost at one place, each time with other changes kept.
@@ -83,7 +82,7 @@ def main() -> None:
             Collecting(trial, "two uploads", [row, rest]),
             Collecting(trial, "two uploads into a journal", [rest, samples.head(2) + samples.FILE], [row]),
             Collecting(trial, "many entries", [machine.stream(0, 40), machine.file(50), machine.stream(30, 60)]),
-            *(Migrating(trial, f"migrate, {name}", name) for name in older.EARLIER),
+            *migrations(trial),
         ]
         trial.finish(f"{sum(sweep(scenario, pool) for scenario in scenarios)} losses of power")
 

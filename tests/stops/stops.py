@@ -16,12 +16,11 @@ from collections.abc import Callable
 from concurrent.futures import Executor, ThreadPoolExecutor
 
 import device
-import older
 import samples
 from collecting import NEVER, Collecting
 from exporting import Exporting
 from make import Machine
-from migrating import Migrating
+from migrating import Migrating, migrations
 from trial import PROGRAM, Trial, run
 
 KILLED = ("", -signal.SIGKILL)
@@ -139,7 +138,7 @@ def main() -> None:
             (Collecting(trial, "two uploads", [row, rest]), 1),
             (Collecting(trial, "two uploads into a journal", [rest, samples.head(2) + samples.FILE], [row]), 1),
             (Collecting(trial, "many entries", [machine.stream(0, 40), machine.file(50), machine.stream(30, 60)]), 3),
-            *((Migrating(trial, f"migrate, {name}", name), 1) for name in older.EARLIER),
+            *((migration, 1) for migration in migrations(trial)),
         ]
         tried = sum(sweep(trial, pool, *scenario) for scenario in scenarios)
         tried += Acks(trial).sweep(pool) + Exporting(trial).sweep(pool, upwards)

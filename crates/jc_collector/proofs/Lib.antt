@@ -4,6 +4,7 @@ pub mod Fronts
 pub mod Inspections
 pub mod Results
 pub mod Found
+pub mod Older
 pub mod OverFiles
 pub mod Causes
 pub mod Open

@@ -4,5 +4,6 @@ pub mod Listed
 pub mod Checked
 pub mod Inspected
 pub mod Kinds
+pub mod Earlier
 pub mod OverFiles
 pub mod Open

@@ -6,6 +6,7 @@ mod answered;
 mod closing;
 mod collecting;
 mod database;
+mod earlier;
 mod failures;
 mod health;
 mod inspecting;

@@ -7,8 +7,6 @@ use Rattle.sqlite_disk.specs.declared.Files.{Files}
 use Rattle.sqlite.specs.Recovery.{Image}
 use Rattle.jc_base.specs.Journal.{Journal}
 use Rattle.jc_keeper.specs.Listing.{export_text}
-use Rattle.jc_schema_one.specs.Tables.{one}
-use Rattle.jc_database.specs.Files.{LeadsOver}
 use Rattle.jc_collector.specs.declared.health.Health.{Health}
 use Rattle.jc_command_shared.specs.declared.failure.Failure.{Failure}
 use Rattle.jc_command_shared.specs.declared.failure.Failure.TheVariants.{CannotOpen, OutOfMemory, ReadFailed, WriteFailed}
@@ -24,7 +22,8 @@ use Rattle.jc_collector.specs.Database.{CheckFailsBy, CollectFailsBy, DatabaseFa
 use Rattle.jc_command_shared.specs.Failure.{status_of}
 use Rattle.jc_collector.specs.Inspected.{PrintsSomeInspected}
 use Rattle.jc_collector.specs.Listed.{PrintsListed}
-use Rattle.jc_collector.specs.Kinds.{LeadsIn, LeadsThere, meaning_of}
+use Rattle.jc_collector.specs.Earlier.{LeadsFrom}
+use Rattle.jc_collector.specs.Kinds.{LeadsIn, LeadsThere}
 use Rattle.jc_collector.specs.OverFiles.{CollectsAll, KeepsStored, Prints, PrintsAsked, StoresListed, StoresPrinted}
 use Rattle.jc_sender.specs.Sent.{PrintsSomeUpload}
 use Rattle.jc_sender.specs.Failing.{AckFailsBy, UploadFailsBy}
@@ -66,12 +65,12 @@ module _ {D : Type 0} (image : Image) (g : disk.Ghosts D) (files : Option (Files
     pub printed : PrintsHealth health status old new
     pub counted : MatchOption files (status ≡ Refused) (λ closed. LeadsThere image g closed (Prints count_line old new))
 
-  -- The same of a journal in tables of schema 1, which the files then have in these.
+  -- The same of a journal in tables of an earlier kind, which the files then have in these.
   pub record Migrates (tables : Tables) (old new : Option (List ℕ)) (status : Status) : Type 0 where
     pub health : Health
     pub is : IsHealth health
     pub printed : PrintsHealth health status old new
-    pub moved : MatchOption files (status ≡ Refused) (λ closed. LeadsOver one (meaning_of tables) image g closed (Prints count_line old new))
+    pub moved : MatchOption files (status ≡ Refused) (λ closed. LeadsFrom tables image g closed (Prints count_line old new))
 
   -- What standard output gains when a request is performed, over what standard input gives, the status, and what becomes of
   -- the files of its database: from `verify` a reading, from `inspect` what an upload says, from `upload` an upload, from

@@ -92,11 +92,11 @@ Example: a database of one entry prints `ok 1`
   journal-collect check logs.db";
 
 pub(crate) const MIGRATE: &str =
-    "Puts the entries of a database with tables of version 1 into newer ones";
+    "Puts the entries of a database with older tables into newer ones";
 
 pub(crate) const MIGRATE_MORE: &str = "Prints one line:
   ok COUNT    the database has those tables now, with the same COUNT entries
-  bad 64 0    it isn't a database with tables of version 1, or it is damaged
+  bad 64 0    it isn't a database with older tables, or it is damaged
   bad 65 ROW  the row with this number, counted from 0, isn't an entry
 If it is refused or fails, and also if it is stopped, the database has all its entries, in tables of either version.
 

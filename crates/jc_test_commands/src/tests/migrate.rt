@@ -95,6 +95,48 @@ run migrate @later
 > bad 64 0
 status 1
 
+case tables by key go over to tables by number alone
+input head:1:0 ENTRY_3 ENTRY
+run collect @db
+> ack SOURCE 0 2 2 0
+run migrate @db
+> bad 64 0
+status 1
+run migrate --tables 3 @db
+> ok 2
+run export @db
+prints ENTRY ENTRY_3
+run migrate --tables 3 @db
+> bad 64 0
+status 1
+input head:1:0 ENTRY_2 ENTRY
+run collect @db
+> ack SOURCE 0 2 1 0
+run check @db
+> ok 3
+
+case so do those that came from older ones
+older @db
+statement @db INSERT INTO entry VALUES (x'000102030405060708090a0b0c0d0e0f', 1, 1000000, 5, x'4d4553534147453d68690a')
+run migrate @db
+> ok 1
+run migrate @db --tables 3
+> ok 1
+run export @db
+prints ENTRY
+
+case a row that is no entry's keeps them where they are
+input head:1:0 ENTRY ENTRY_2
+run collect @db
+> ack SOURCE 0 2 2 0
+statement @db UPDATE record SET realtime = -1 WHERE seqnum = 2
+run migrate --tables 3 @db
+> bad 65 1
+status 1
+statement @db UPDATE record SET realtime = 1000000 WHERE seqnum = 2
+run export @db
+prints ENTRY ENTRY_2
+
 case what became of it cannot be written
 older @db
 statement @db INSERT INTO entry VALUES (x'000102030405060708090a0b0c0d0e0f', 1, 1000000, 5, x'4d4553534147453d68690a')

@@ -10,6 +10,6 @@ returns-clause-moved g c =
     let health = c.in_ok-value.field-0.value in
     let prints = c.in_ok-value-2.ensures.printed in
     match_each c.in_ok-value.field-0.files _ _ _ _ c.in_ok-value.ensures.moved (λ refused. prints.judged ∙ refused)
-    (λ files leads clean before begin.
-    let it = leads clean before begin in
+    (λ files leads kind becomes clean before begin.
+    let it = leads kind becomes clean before begin in
     record { found = it.found; is = prints_counted health c.in_ok-value-2.value old new prints before it.found it.is; keeps = it.keeps })

@@ -1,0 +1,15 @@
+-- The keeper has the journal that the files had.
+use Rattle.sqlite.specs.WalFiles.{image_at}
+use Rattle.jc_collector.proofs.Causes.{no_tables}
+use Rattle.jc_collector.proofs.Older.{earlier_found}
+use Rattle.jc_collector.proofs.Results.{IfErr-each, IfOk-each}
+use Rattle.jc_collector.proofs.earlier.open_earlier.Goals as goal
+
+pub returns-clause-found : goal.returns-clause-found
+returns-clause-found g c =
+    IfOk-each c.adopt_earlier.result _ _
+    (λ taken adopted. earlier_found (image_at g.S.Start) c.in_ok-conn.conn c.in_ok-conn.ensures.found c.in_ok-conn.ensures.tables taken adopted)
+    c.adopt_earlier.ensures.adopted
+
+pub returns-clause-failed : goal.returns-clause-failed
+returns-clause-failed g c = IfErr-each c.adopt_earlier.result _ _ (no_tables c.args.path.now) c.adopt_earlier.ensures.failed
