@@ -27,12 +27,13 @@ use jc_file::ByteSpace;
 use sqlite::{FileFrom, FileStore, Start};
 use sqlite_disk::Disk;
 use std::io::{BufRead, Write};
+use std::snapshot::Snapshot;
 
-/// What a run had answered when it was stopped, and what it has of its database's files.
+/// What a run had answered when it was stopped, and what it left of its database's files, which proofs alone see.
 #[derive(Drop)]
 pub struct Stopped<'a, D: Disk> {
     pub answered: Result<Status, Failure<'a>>,
-    pub files: FileStore<D>,
+    pub files: Snapshot<FileStore<D>>,
 }
 
 /// Does what `collect` does of deliveries up to where it closes its database, and then is stopped: what a crash may leave
@@ -47,19 +48,19 @@ pub fn collect_and_stop<'a, S: Start, R: ByteStream, B: ByteSpace, O: Write>(
     deliveries: &mut [Delivery<R, B>],
     output: &mut O,
 ) -> Result<Stopped<'a, FileFrom<S>>, Failure<'a>>
-    ensures each { IfOk result (λ run. WhenBegun tables (image_at S.Start) run.files (λ kind before. IfOk run.answered (λ status.
-        PrintsWith (λ answers. AnyLeft run.files (LeavesEach kind before answers)) (length deliveries.old) status
+    ensures each { IfOk result (λ run. WhenBegun tables (image_at S.Start) run.files.value (λ kind before. IfOk run.answered (λ status.
+        PrintsWith (λ answers. AnyLeft run.files.value (LeavesEach kind before answers)) (length deliveries.old) status
         (O.contents output.old) (O.contents output.new)))) }
-    ensures each_failed { IfOk result (λ run. WhenBegun tables (image_at S.Start) run.files (λ kind before. IfErr run.answered (λ _.
-        PrintsFront (λ answers. AnyLeft run.files (LeavesEach kind before answers))
+    ensures each_failed { IfOk result (λ run. WhenBegun tables (image_at S.Start) run.files.value (λ kind before. IfErr run.answered (λ _.
+        PrintsFront (λ answers. AnyLeft run.files.value (LeavesEach kind before answers))
         (O.contents output.old) (O.contents output.new)))) }
     // If the deliveries' bytes are known, these are the uploads that it says.
     ensures printed { IfOk result (λ run.
-        WhenStopped tables (image_at S.Start) (map (of_delivery R.remaining B.bytes) deliveries.old) run.files
+        WhenStopped tables (image_at S.Start) (map (of_delivery R.remaining B.bytes) deliveries.old) run.files.value
         (λ kind uploads before left. OnOk run.answered
         (∥ LeavesPrinted kind uploads before (O.contents output.old) (O.contents output.new) left ∥₁))) }
     ensures unprinted { IfOk result (λ run.
-        WhenStopped tables (image_at S.Start) (map (of_delivery R.remaining B.bytes) deliveries.old) run.files
+        WhenStopped tables (image_at S.Start) (map (of_delivery R.remaining B.bytes) deliveries.old) run.files.value
         (λ kind uploads before left. run.answered ≡ Err Failure.WriteFailed
         → ∥ LeavesFirst kind uploads before (O.contents output.old) (O.contents output.new) left ∥₁)) }
 {
@@ -90,11 +91,11 @@ pub fn collect_lines_and_stop<'a, S: Start, L: BufRead, O: Write, E: Write>(
     output: &mut O,
     errors: &mut E,
 ) -> Result<Stopped<'a, FileFrom<S>>, Failure<'a>>
-    ensures each { IfOk result (λ run. WhenBegun tables (image_at S.Start) run.files (λ kind before. IfOk run.answered (λ status.
-        NamedWith (λ answers. AnyLeft run.files (LeavesEach kind before answers)) (L.remaining names.old) status
+    ensures each { IfOk result (λ run. WhenBegun tables (image_at S.Start) run.files.value (λ kind before. IfOk run.answered (λ status.
+        NamedWith (λ answers. AnyLeft run.files.value (LeavesEach kind before answers)) (L.remaining names.old) status
         (O.contents output.old) (O.contents output.new)))) }
-    ensures each_failed { IfOk result (λ run. WhenBegun tables (image_at S.Start) run.files (λ kind before. IfErr run.answered (λ _.
-        PrintsFront (λ answers. AnyLeft run.files (LeavesEach kind before answers))
+    ensures each_failed { IfOk result (λ run. WhenBegun tables (image_at S.Start) run.files.value (λ kind before. IfErr run.answered (λ _.
+        PrintsFront (λ answers. AnyLeft run.files.value (LeavesEach kind before answers))
         (O.contents output.old) (O.contents output.new)))) }
 {
     let Answered { done, keeper } = answer_lines(
@@ -132,10 +133,10 @@ pub fn open_after_stop<'a, S: Start, T: Start, R: ByteStream, B: ByteSpace, O: W
     ),
     Failure<'a>,
 >
-    ensures each { IfOk result (λ runs. WhenBegun tables (image_at S.Start) runs.0.files (λ kind before. IfOk runs.0.answered (λ status.
-        PrintsWith (λ answers. AnyLeft runs.0.files (λ left. left ≡ image_at T.Start → IfOk runs.1 (FindsEach before answers)))
+    ensures each { IfOk result (λ runs. WhenBegun tables (image_at S.Start) runs.0.files.value (λ kind before. IfOk runs.0.answered (λ status.
+        PrintsWith (λ answers. AnyLeft runs.0.files.value (λ left. left ≡ image_at T.Start → IfOk runs.1 (FindsEach before answers)))
         (length deliveries.old) status (O.contents output.old) (O.contents output.new)))) }
-    ensures found { IfOk result (λ runs. WhenStopped tables (image_at S.Start) (map (of_delivery R.remaining B.bytes) deliveries.old) runs.0.files
+    ensures found { IfOk result (λ runs. WhenStopped tables (image_at S.Start) (map (of_delivery R.remaining B.bytes) deliveries.old) runs.0.files.value
         (λ kind uploads before left. left ≡ image_at T.Start → OnOk runs.0.answered
         (IfOk runs.1 (λ opened. HasCleanDisk (file_state (conn_of opened))
         → ∥ KeepsPrinted uploads before (O.contents output.old) (O.contents output.new) (journal_in opened) ∥₁)))) }
@@ -162,8 +163,8 @@ pub fn open_after_lines<'a, S: Start, T: Start, L: BufRead, O: Write, E: Write>(
     ),
     Failure<'a>,
 >
-    ensures { IfOk result (λ runs. WhenBegun tables (image_at S.Start) runs.0.files (λ kind before. IfOk runs.0.answered (λ status.
-        NamedWith (λ answers. AnyLeft runs.0.files (λ left. left ≡ image_at T.Start → IfOk runs.1 (FindsEach before answers)))
+    ensures { IfOk result (λ runs. WhenBegun tables (image_at S.Start) runs.0.files.value (λ kind before. IfOk runs.0.answered (λ status.
+        NamedWith (λ answers. AnyLeft runs.0.files.value (λ left. left ≡ image_at T.Start → IfOk runs.1 (FindsEach before answers)))
         (L.remaining names.old) status (O.contents output.old) (O.contents output.new)))) }
 {
     let stopped = collect_lines_and_stop(
@@ -179,16 +180,24 @@ pub fn open_after_lines<'a, S: Start, T: Start, L: BufRead, O: Write, E: Write>(
     Ok((stopped, open_or_make(rt, database, next, tables)))
 }
 
-/// What is left of the database of a keeper whose run is stopped.
-fn stop_opened<S: Start>(opened: OpenedFiles<S>) -> FileStore<FileFrom<S>>
-    ensures left { IsClean (view result) → LeavesJournals (meaning_of (kind_of opened)) over_files (conn_of opened)
-        → (left : Image) → (state result).may_leave left
+/// What is left of the database of a keeper whose run is stopped. The files are let go as they are: while they are held, no
+/// other run can open them.
+fn stop_opened<S: Start>(opened: OpenedFiles<S>) -> Snapshot<FileStore<FileFrom<S>>>
+    ensures left { IsClean (view result.value) → LeavesJournals (meaning_of (kind_of opened)) over_files (conn_of opened)
+        → (left : Image) → (state result.value).may_leave left
         → ∥ ((found : Journal) × MayLeave (meaning_of (kind_of opened)) over_files (conn_of opened) found
         × HoldsJournal (meaning_of (kind_of opened)) left found) ∥₁ }
-    ensures clean { IsClean (view result) → HasCleanDisk (file_state (conn_of opened)) }
+    ensures clean { IsClean (view result.value) → HasCleanDisk (file_state (conn_of opened)) }
 {
     match opened {
-        Opened::ByKey(keeper) => stop_keeper(keeper),
-        Opened::ByNumber(keeper) => stop_keeper(keeper),
+        Opened::ByKey(keeper) => let_go(stop_keeper(keeper)),
+        Opened::ByNumber(keeper) => let_go(stop_keeper(keeper)),
     }
+}
+
+/// Closes files as they are, and keeps for proofs what they were.
+fn let_go<D: Disk + Drop>(files: FileStore<D>) -> Snapshot<FileStore<D>>
+    ensures { result.value ≡ files }
+{
+    Snapshot::of(&files)
 }

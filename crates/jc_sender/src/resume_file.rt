@@ -49,18 +49,22 @@ pub fn write_resume<'a, R: Files + AllocGlobal>(
 ) -> Result<(), Failure<'a>>
     ensures { IfErr result (λ failure. (failure ≡ Failure.WriteFailed) ⊎ (failure ≡ Failure.OutOfMemory)) }
 {
-    let alloc = rt.alloc();
-    let text = resume.text(alloc)?;
-    let beside = name_beside(alloc, path)?;
+    let beside = name_beside(rt.alloc(), path)?;
     let mut file = create_file(rt, beside.as_str())?;
-    let written = put_text(&mut file, &text);
+    let written = put_point(rt.alloc(), &mut file, resume);
     put_in_place(rt, &file, beside.as_str(), path, written)
 }
 
-fn put_text<'a, W: Write>(file: &mut W, text: &[u8]) -> Result<(), Failure<'a>>
-    ensures whole { OnOk result (Appends (W.contents file.old) (W.contents file.new) text.now) }
-    ensures failed { IfErr result (λ failure. failure ≡ Failure.WriteFailed) }
+/// Writes the text of a resume point, and all of it.
+fn put_point<'a, W: Write>(
+    alloc: Global,
+    file: &mut W,
+    resume: &Resume,
+) -> Result<(), Failure<'a>>
+    ensures whole { OnOk result (Appends (W.contents file.old) (W.contents file.new) (resume_text resume.now)) }
+    ensures failed { IfErr result (λ failure. (failure ≡ Failure.WriteFailed) ⊎ (failure ≡ Failure.OutOfMemory)) }
 {
-    let written = file.write_all(text);
+    let text = resume.text(alloc)?;
+    let written = file.write_all(&text);
     printed(written, file)
 }

@@ -20,7 +20,7 @@ returns-clause-each g c = λ clean.
     let new = g.O.Write.contents c.answer_deliveries.new.output in
     let run = c.in_ok-done.ensures in
     let it = c.in_ok-done.field-0 in
-    let files = c.stop_opened-files.result in
+    let files = c.stop_opened-files.result.value in
     at_kind c.args.tables (image_at g.S.Start) it.keeper run.kind
     (λ kind before. IfOk it.done (λ status. PrintsWith (λ answers. AnyLeft files (LeavesEach kind before answers)) (length c.args.deliveries.now) status old new))
     (c.stop_opened-files.ensures.clean clean)
@@ -38,7 +38,7 @@ returns-clause-each_failed g c = λ clean.
     let new = g.O.Write.contents c.answer_deliveries.new.output in
     let run = c.in_ok-done.ensures in
     let it = c.in_ok-done.field-0 in
-    let files = c.stop_opened-files.result in
+    let files = c.stop_opened-files.result.value in
     at_kind c.args.tables (image_at g.S.Start) it.keeper run.kind
     (λ kind before. IfErr it.done (λ _. PrintsFront (λ answers. AnyLeft files (LeavesEach kind before answers)) old new))
     (c.stop_opened-files.ensures.clean clean)
@@ -58,7 +58,7 @@ returns-clause-printed g c = λ clean kind before begin uploads are.
     let it = c.in_ok-done.field-0 in
     let early = c.stop_opened-files.ensures.clean clean in
     at_kind c.args.tables (image_at g.S.Start) it.keeper run.kind
-    (λ kind before. (left : Image) → (state c.stop_opened-files.result).may_leave left → OnOk it.done (∥ LeavesPrinted kind uploads before old new left ∥₁))
+    (λ kind before. (left : Image) → (state c.stop_opened-files.result.value).may_leave left → OnOk it.done (∥ LeavesPrinted kind uploads before old new left ∥₁))
     early
     (λ before begin left may. on_ok_if it.done _
     (λ status is. ∥∥₁_map
@@ -78,7 +78,7 @@ returns-clause-unprinted g c = λ clean kind before begin uploads are.
     let it = c.in_ok-done.field-0 in
     let early = c.stop_opened-files.ensures.clean clean in
     at_kind c.args.tables (image_at g.S.Start) it.keeper run.kind
-    (λ kind before. (left : Image) → (state c.stop_opened-files.result).may_leave left → it.done ≡ Err WriteFailed
+    (λ kind before. (left : Image) → (state c.stop_opened-files.result.value).may_leave left → it.done ≡ Err WriteFailed
     → ∥ LeavesFirst kind uploads before old new left ∥₁)
     early
     (λ before begin left may failed. ∥∥₁_map

@@ -16,7 +16,7 @@ returns-clause-each g c = λ clean.
     let new = g.O.Write.contents c.answer_lines.new.output in
     let run = c.in_ok-done.ensures in
     let it = c.in_ok-done.field-0 in
-    let files = c.stop_opened-files.result in
+    let files = c.stop_opened-files.result.value in
     at_kind c.args.tables (image_at g.S.Start) it.keeper run.kind
     (λ kind before. IfOk it.done (λ status. NamedWith (λ answers. AnyLeft files (LeavesEach kind before answers)) (g.L.Read.remaining c.args.names.now) status old new))
     (c.stop_opened-files.ensures.clean clean)
@@ -34,7 +34,7 @@ returns-clause-each_failed g c = λ clean.
     let new = g.O.Write.contents c.answer_lines.new.output in
     let run = c.in_ok-done.ensures in
     let it = c.in_ok-done.field-0 in
-    let files = c.stop_opened-files.result in
+    let files = c.stop_opened-files.result.value in
     at_kind c.args.tables (image_at g.S.Start) it.keeper run.kind
     (λ kind before. IfErr it.done (λ _. PrintsFront (λ answers. AnyLeft files (LeavesEach kind before answers)) old new))
     (c.stop_opened-files.ensures.clean clean)

@@ -17,9 +17,9 @@ returns-clause-each g c = λ clean kind before begin.
     let new = g.O.Write.contents c.collect_and_stop.new.output in
     let stopped = c.in_ok-stopped.stopped in
     let Finds : List Answer → Type 0
-    = λ answers. AnyLeft stopped.files (λ left. left ≡ image_at g.T.Start → IfOk c.open_or_make.result (FindsEach before answers)) in
+    = λ answers. AnyLeft stopped.files.value (λ left. left ≡ image_at g.T.Start → IfOk c.open_or_make.result (FindsEach before answers)) in
     IfOk-each stopped.answered _ (λ status. PrintsWith Finds (length c.args.deliveries.now) status old new)
-    (λ status p. with_other (λ answers. AnyLeft stopped.files (LeavesEach kind before answers)) Finds
+    (λ status p. with_other (λ answers. AnyLeft stopped.files.value (LeavesEach kind before answers)) Finds
     (λ answers any left may. ∥∥₁_map (any left may) (λ it same. IfOk-each c.open_or_make.result _ _
     (λ opened found late. found_each c.args.tables (image_at g.T.Start) opened found late kind before answers
     (subst (λ (image : Image). LeavesEach kind before answers image) same it))

@@ -1,0 +1,191 @@
+//! The four runs that are stopped, over tables of either kind.
+
+use jc_base::FromRead;
+use jc_collect::Delivery;
+use jc_collector::{
+    Opened, OpenedFiles, Stopped, collect_and_stop, collect_lines_and_stop, open_after_lines,
+    open_after_stop,
+};
+use jc_command_args::Tables;
+use jc_command_shared::{Failure, Status};
+use jc_file::SliceSpace;
+use jc_test_samples::{add_pieces, answer_lines};
+use sqlite::{FileFrom, Unknown};
+use std::alloc::Global;
+use std::test::Fail;
+use std::{env, fs, io, process};
+
+type Upload<'a> = Delivery<FromRead<&'a [u8]>, SliceSpace<'static>>;
+
+/// The bytes of three uploads, each with one entry, and the names of files that have them, one a line.
+#[derive(Drop)]
+struct Uploads {
+    first: Vec<u8>,
+    second: Vec<u8>,
+    third: Vec<u8>,
+    names: String,
+}
+
+#[test]
+fn what_the_next_run_has(rt: HostRuntime) -> Result<(), Fail> {
+    let folder = new_folder(&rt)?;
+    let uploads = uploads(&rt, folder.as_str())?;
+    let by_key = stops(&rt, folder.as_str(), "key", Tables::ByKey, &uploads);
+    let by_number = stops(&rt, folder.as_str(), "number", Tables::ByNumber, &uploads);
+    fs::remove_dir_all(&rt, folder.as_str())?;
+    by_key?;
+    by_number
+}
+
+/// Each run goes on from what the one before it acknowledged, although that one didn't close the database.
+fn stops(
+    rt: &HostRuntime,
+    folder: &str,
+    name: &str,
+    tables: Tables,
+    uploads: &Uploads,
+) -> Result<(), Fail> {
+    let alloc = rt.alloc();
+    let database = format!(in alloc; "{folder}{name}.db")?;
+    let path = database.as_str();
+    let mut output = Vec::new(alloc);
+    let mut one = [stream(&uploads.first)];
+    let run = collect_and_stop(rt, Unknown, path, tables, None, &mut one, &mut output);
+    answered(alloc, opened(run)?, &output, &["ack S 0 1 1 0"])?;
+
+    let mut output = Vec::new(alloc);
+    let mut errors = Vec::new(alloc);
+    let mut names = uploads.names.as_bytes();
+    let run = collect_lines_and_stop(
+        rt,
+        Unknown,
+        path,
+        tables,
+        None,
+        &mut names,
+        &mut output,
+        &mut errors,
+    );
+    answered(
+        alloc,
+        opened(run)?,
+        &output,
+        &["ack S 0 1 0 0", "ack S 0 1 1 0"],
+    )?;
+
+    let mut output = Vec::new(alloc);
+    let mut two = [stream(&uploads.second), stream(&uploads.third)];
+    let runs = open_after_stop(
+        rt,
+        Unknown,
+        Unknown,
+        path,
+        tables,
+        None,
+        &mut two,
+        &mut output,
+    );
+    let (run, next) = opened(runs)?;
+    answered(
+        alloc,
+        run,
+        &output,
+        &["ack S 0 1 0 0", "ack S 0 1 1 0"],
+    )?;
+    has_entries(next, 3)?;
+
+    let mut output = Vec::new(alloc);
+    let mut names = uploads.names.as_bytes();
+    let runs = open_after_lines(
+        rt,
+        Unknown,
+        Unknown,
+        path,
+        tables,
+        None,
+        &mut names,
+        &mut output,
+        &mut errors,
+    );
+    let (run, next) = opened(runs)?;
+    answered(
+        alloc,
+        run,
+        &output,
+        &["ack S 0 1 0 0", "ack S 0 1 0 0"],
+    )?;
+    has_entries(next, 3)
+}
+
+fn opened<T: Drop>(run: Result<T, Failure<'_>>) -> Result<T, Fail> {
+    match run {
+        Ok(run) => Ok(run),
+        Err(_) => Err(Fail::from("the database wasn't opened")),
+    }
+}
+
+/// Whether a run printed these answers.
+fn answered(
+    alloc: Global,
+    run: Stopped<'_, FileFrom<Unknown>>,
+    output: &[u8],
+    answers: &[&str],
+) -> Result<(), Fail> {
+    let wanted = answer_lines(alloc, answers)?;
+    match run.answered {
+        Ok(Status::Success) if output == wanted.as_bytes() => Ok(()),
+        _ => Err(Fail::from("other answers")),
+    }
+}
+
+/// Whether the next run has opened a journal of so many entries.
+fn has_entries(next: Result<OpenedFiles<Unknown>, Failure<'_>>, count: u64) -> Result<(), Fail> {
+    let found = match next {
+        Ok(Opened::ByKey(mut keeper)) => keeper.count().ok(),
+        Ok(Opened::ByNumber(mut keeper)) => keeper.count().ok(),
+        Err(_) => return Err(Fail::from("the next run opened nothing")),
+    };
+    if found == Some(count) {
+        Ok(())
+    } else {
+        Err(Fail::from("other entries"))
+    }
+}
+
+fn stream(bytes: &[u8]) -> Upload<'_> {
+    Delivery::Stream(FromRead::new(bytes))
+}
+
+fn uploads(rt: &HostRuntime, folder: &str) -> io::Result<Uploads> {
+    let alloc = rt.alloc();
+    let first = upload(alloc, "head:1:0 ENTRY")?;
+    let second = upload(alloc, "head:1:0 ENTRY_2")?;
+    let third = upload(alloc, "head:1:0 ENTRY_3")?;
+    let one = format!(in alloc; "{folder}first")?;
+    let two = format!(in alloc; "{folder}second")?;
+    fs::write(rt, one.as_str(), &first)?;
+    fs::write(rt, two.as_str(), &second)?;
+    let names = format!(in alloc; "{one}\n{two}\n")?;
+    Ok(Uploads {
+        first,
+        second,
+        third,
+        names,
+    })
+}
+
+fn upload(alloc: Global, pieces: &str) -> io::Result<Vec<u8>> {
+    let mut bytes = Vec::new(alloc);
+    add_pieces(alloc, pieces, &mut bytes)?;
+    Ok(bytes)
+}
+
+/// The path of a new folder of this process, with a `/` at its end.
+fn new_folder(rt: &HostRuntime) -> io::Result<String> {
+    let id = process::id(rt.process());
+    let path = env::temp_dir(rt)?;
+    let all = path.as_str();
+    let folder = format!(in rt.alloc(); "{all}/journal-collect-{id}-stops/")?;
+    fs::create_dir(rt, folder.as_str())?;
+    Ok(folder)
+}
