@@ -55,7 +55,9 @@ def versions(program: str) -> dict[str, str | None]:
 
 def codes_of_sources() -> set[tuple[int, str]]:
     text = text_of("crates/jc_base/specs/Fault.antt")
-    return {(int(number), name) for name, number in re.findall(r"^number_of (\w+) = (\d+)$", text, re.MULTILINE)}
+    codes = {(int(number), name) for name, number in re.findall(r"^number_of (\w+) = (\d+)$", text, re.MULTILINE)}
+    over = found(r"^over_bounds = (\d+)$", "crates/jc_collector/specs/Inspected.antt")
+    return codes | ({(int(over), "OverBounds")} if over else set())
 
 
 def codes_of_table() -> set[tuple[int, str]]:

@@ -26,6 +26,7 @@ changed() {
     cp deploy/*.conf "$folder/tree/deploy/"
     cp --parents crates/*/refused/*.edit "$folder/tree/"
     cp crates/jc_base/specs/Fault.antt "$folder/tree/crates/jc_base/specs/"
+    cp --parents crates/jc_collector/specs/Inspected.antt "$folder/tree/"
     cp tests/test-*.sh "$folder/tree/tests/"
     cp tools/kit.py "$folder/tree/tools/"
     sed -i -E "$change" "$folder/tree/$file"

@@ -394,14 +394,20 @@ grep -qx After=time-sync.target "$folder/root/usr/lib/systemd/system/journal-col
 
 # what an upload costs: its entries and its fields are counted, and a line within a value isn't a field
 begin UPLOAD_ENTRIES=5 UPLOAD_FIELDS=45
-expect 1 "" "receive: the upload has 10 entries, over 5" receive web "$folder/all"
+over="receive: the upload has over 5 entries, 45 fields or 268435456 bytes of values, with its entry"
+expect 1 "" "$over 5" receive web "$folder/all"
 expect 0 "" "" receive web "$folder/early"
 { entry 1 x | head -n -1 && printf 'TEXT%s=\n' {1..60} && echo; } > "$folder/stream"
 journal-collect upload --source "$id" --resume "$folder/none" export "$folder/stream" > "$folder/fields"
-expect 1 "" "receive: the upload has over 45 fields" receive web "$folder/fields"
+expect 1 "" "$over 0" receive web "$folder/fields"
 { entry 1 x | head -n -1 && printf 'TEXT\n\100\0\0\0\0\0\0\0%064d\n' 0 | sed 's/0/\n/g' && echo; } > "$folder/stream"
 journal-collect upload --source "$id" --resume "$folder/none" export "$folder/stream" > "$folder/fields"
 expect 0 "" "" receive web "$folder/fields"
+python3 -B tests/deploy/costly.py shared "$id" 100 > "$folder/shared"
+begin TAKE_JOURNAL_FILES=yes UPLOAD_BYTES=200000
+expect 1 "" "receive: the upload has over 100000 entries, 2000000 fields or 800000 bytes of values, with its entry 6" \
+    receive web "$folder/shared"
+begin UPLOAD_ENTRIES=5 UPLOAD_FIELDS=45
 expect 1 "" "receive: the upload begins at entry 18446744073709551615" \
     receive web <(head -c 32 "$folder/early" && printf '\377%.0s' {1..8} && tail -c +41 "$folder/early")
 

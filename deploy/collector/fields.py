@@ -1,8 +1,6 @@
 """The fields of an upload of a stream."""
 from __future__ import annotations
 
-from .program import HEAD
-
 TYPE_CHECKING = False
 if TYPE_CHECKING:
     from collections.abc import Iterator
@@ -29,22 +27,3 @@ def read(file: BinaryIO) -> Iterator[tuple[bytes, bytes] | None]:
         if end != b"\n":
             return
         yield name, value
-
-
-def count(path: str, most: int) -> int:
-    """How many fields an upload's stream has, or some number over `most`. Each has a newline, so most uploads needn't
-    be read field by field."""
-    lines = 0
-    with open(path, "rb") as file:
-        file.seek(HEAD)
-        while piece := file.read(1 << 20):
-            lines += piece.count(b"\n")
-        if lines <= most:
-            return lines
-        file.seek(HEAD)
-        lines = 0
-        for field in read(file):
-            lines += field is not None
-            if lines > most:
-                break
-    return lines

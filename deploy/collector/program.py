@@ -16,7 +16,11 @@ MOST_SECONDS = 1800
 HEAD = 48
 START = 32
 MAGIC = b"JCUPLD"
-STREAM, JOURNAL_FILE = 1, 2
+JOURNAL_FILE = 2
+# The greatest number that an option of the program takes.
+GREATEST = 2**63 - 1
+# The code of an upload that has more than it may have.
+OVER_BOUNDS = 6
 PIECE = 1 << 20
 CUT = ".cut"
 
@@ -52,6 +56,18 @@ class Fault(NamedTuple):
     place: int
 
 
+class Most(NamedTuple):
+    """What an upload may have: entries, fields of all of them, and bytes of these fields' names and values."""
+    entries: int
+    fields: int
+    bytes: int
+
+    def options(self) -> list[str]:
+        """The options of `inspect` that bound it."""
+        entries, fields, most_bytes = (str(min(number, GREATEST)) for number in self)
+        return ["--most-entries", entries, "--most-fields", fields, "--most-bytes", most_bytes]
+
+
 def path_of_program() -> str:
     """The program on the PATH, or beside the library that this module is in."""
     for folder in os.environ.get("PATH", os.defpath).split(os.pathsep):
@@ -62,9 +78,11 @@ def path_of_program() -> str:
     return os.path.join(here, "..", "..", "..", "bin", "journal-collect")
 
 
-def inspect(path: str, seconds: int = 0) -> Upload | Fault:
-    """What an upload has, or its fault; Stopped if the program takes over so many seconds of a processor."""
-    status, said, errors = processes.run([path_of_program(), "inspect", path], seconds=seconds or MOST_SECONDS)
+def inspect(path: str, seconds: int = 0, most: Most | None = None) -> Upload | Fault:
+    """What an upload has, or its fault, also that it has more than it may have; Stopped if the program takes over so
+    many seconds of a processor."""
+    words = [path_of_program(), "inspect", *(most.options() if most else ()), path]
+    status, said, errors = processes.run(words, seconds=seconds or MOST_SECONDS)
     words = said.decode(errors="replace").split()
     try:
         if status == 0 and words[0] == "upload":

@@ -9,7 +9,7 @@ import time
 from shared import files
 from shared.records import NamedTuple
 
-from . import aside, bounds, fields, program, shares, spool
+from . import aside, bounds, costs, program, shares, spool
 from .report import tell
 from .settings import Settings
 
@@ -152,7 +152,7 @@ def look_at_size(settings: Settings, machine: str, size: int) -> None:
 def look_at(settings: Settings, machine: str, part: str) -> str:
     """The source of an upload that may wait."""
     try:
-        told = program.inspect(part, settings.upload_cpu_seconds)
+        told = program.inspect(part, settings.upload_cpu_seconds, most_of(settings))
     except program.Stopped:
         refuse(f"an upload of {machine} takes over {settings.upload_cpu_seconds} seconds of a processor", bound="cost")
     if isinstance(told, program.Fault) and told.code in (3, 4):
@@ -161,18 +161,23 @@ def look_at(settings: Settings, machine: str, part: str) -> str:
         refuse("that is no upload")
     if isinstance(told, program.Fault) and told.code == 5:
         refuse(f"the upload isn't whole: {told.place} of its entries came")
-    kind, source, start = program.header(part)
+    if isinstance(told, program.Fault) and told.code == program.OVER_BOUNDS:
+        refuse(f"the upload has over {settings.upload_entries} entries, {settings.upload_fields} fields or "
+               f"{most_of(settings).bytes} bytes of values, with its entry {told.place}", bound="large")
+    _, source, start = program.header(part)
     smallest = aside.least_size(machine, source)
     if smallest is not None and files.size(part) >= smallest:
         refuse(f"an upload of {source} was set aside, since it cost too much; this one has over {smallest - 1} bytes",
                bound="cost")
     if start > LAST_START:
         refuse(f"the upload begins at entry {start}")
-    if isinstance(told, program.Upload) and told.count > settings.upload_entries:
-        refuse(f"the upload has {told.count} entries, over {settings.upload_entries}", bound="large")
-    if kind == program.STREAM and fields.count(part, settings.upload_fields) > settings.upload_fields:
-        refuse(f"the upload has over {settings.upload_fields} fields", bound="large")
     return source
+
+
+def most_of(settings: Settings) -> program.Most:
+    """What an upload may have. Entries of a journal file may share values, but may have no more of them than a database
+    may grow by."""
+    return program.Most(settings.upload_entries, settings.upload_fields, costs.OF_UPLOAD_BYTES * settings.upload_bytes)
 
 
 class Told(NamedTuple):

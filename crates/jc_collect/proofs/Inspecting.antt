@@ -14,7 +14,7 @@ use Rattle.jc_base.specs.Reading.{Reading, reading}
 use Rattle.jc_base.specs.Source.{Gives}
 use Rattle.jc_base.specs.declared.source.Stop.{Stop}
 use Rattle.jc_base.specs.declared.source.Step.{Step}
-use Rattle.jc_base.specs.declared.source.Step.TheVariants.{Entry, End as Ended, Bad as Faulty}
+use Rattle.jc_base.specs.declared.source.Step.TheVariants.{Entry, End as Finished, Bad as Faulty}
 use Rattle.jc_stream.specs.Streaming.{ReadsKnown}
 use Rattle.jc_file.specs.FileReading.{IsFileReading}
 use Rattle.jc_upload.specs.declared.head.Kind.{Kind}
@@ -22,40 +22,49 @@ use Rattle.jc_upload.specs.declared.head.Kind.TheVariants.{Export, File}
 use Rattle.jc_upload.specs.declared.head.UploadHead.{UploadHead}
 use Rattle.jc_upload.specs.declared.head.Version.{Version}
 use Rattle.jc_upload.specs.Head.{IsHeadFault, head_text}
-use Rattle.jc_upload.specs.Says.{BodySays, HasHead, reading_under}
+use Rattle.jc_upload.specs.Says.{BodySays, HasHead, SaysBehind, reading_under}
 use Rattle.jc_upload.proofs.Excerpts.{key_last}
-use Rattle.jc_collect.specs.Inspected.{FormatEnding, HasBody, HasFormatCode, IsBody, IsInspected, SaysBodyOf, inspected_by, inspected_of, inspected_unread, last_key}
+use Rattle.jc_collect.specs.Bounds.{AreWithin, IsLeft, PassesAt}
+use Rattle.jc_collect.specs.Inspected.{FormatEnding, HasBody, HasFormatCode, IsInspected, IsRead, IsReadTo, SaysBodyOf, inspected_by, inspected_of, inspected_unread, last_key}
+use Rattle.jc_collect.specs.declared.bounds.Bounds.{Bounds}
 use Rattle.jc_collect.specs.Begun.{BeginsUpload}
 use Rattle.jc_collect.specs.declared.head.Unread.{Unread}
 use Rattle.jc_collect.specs.declared.head.Unread.TheVariants.{Fault as Unreadable, ReadFailed}
 use Rattle.jc_collect.specs.declared.inspect.Body.{Body}
+use Rattle.jc_collect.specs.declared.inspect.BodyEnding.{BodyEnding}
+use Rattle.jc_collect.specs.declared.inspect.BodyEnding.TheVariants.{Ended, OverBounds}
 use Rattle.jc_collect.specs.declared.inspect.Inspected.{Inspected}
+use Rattle.jc_collect.proofs.Bounding.{all_left, left_behind, none_within, passes_behind, within}
 use Rattle.jc_collect.proofs.Bodies.{gathered}
 
 -- ---- the entries of a source
 
--- So many entries of a reading were given, the last of them with this key, and this reading is still to come.
-pub record HasGiven (whole : Reading) (count : ℕ) (last : Option Key) (now : Reading) : Type 0 where
+-- So many entries of a reading were given, the last of them with this key, this reading is still to come, and so much room
+-- is left of the bounds.
+pub record HasGiven (bounds : Bounds) (whole : Reading) (count : ℕ) (last : Option Key) (room : Bounds) (now : Reading) : Type 0 where
   pub given : List LogEntry
   pub follows : whole.entries ≡ given ++ now.entries
   pub counted : count ≡ length given
   pub key : last ≡ last_key given
   pub ended : now.ending ≡ whole.ending
+  pub left : IsLeft bounds given room
 
 -- ... of a reading that may not be known
-abbrev pub GivesOn : Option Reading → ℕ → Option Key → Option Reading → Type 0
-GivesOn None count last now = ⊤
-GivesOn (Some whole) count last None = ⊥
-GivesOn (Some whole) count last (Some now) = HasGiven whole count last now
+abbrev pub GivesOn : Bounds → Option Reading → ℕ → Option Key → (room : Bounds) → Option Reading → Type 0
+GivesOn bounds None count last room now = ⊤
+GivesOn bounds (Some whole) count last room None = ⊥
+GivesOn bounds (Some whole) count last room (Some now) = HasGiven bounds whole count last room now
 
-pub none_given : (whole : Option Reading) → GivesOn whole 0 None whole
-none_given None = tt
-none_given (Some whole) = record { given = []; follows = refl; counted = refl; key = refl; ended = refl }
+pub none_given : (bounds : Bounds) (whole : Option Reading) → GivesOn bounds whole 0 None bounds whole
+none_given bounds None = tt
+none_given bounds (Some whole) =
+    record { given = []; follows = refl; counted = refl; key = refl; ended = refl; left = all_left bounds }
 
 -- one more entry
-next_given : (whole was now : Reading) (count : ℕ) (last : Option Key) (e : LogEntry) → HasGiven whole count last was
-    → was.entries ≡ e ∷ now.entries → now.ending ≡ was.ending → HasGiven whole (count + 1) (Some e.key) now
-next_given whole was now count last e has first ended =
+next_given : (bounds : Bounds) (whole was now : Reading) (count : ℕ) (last : Option Key) (room less : Bounds) (e : LogEntry)
+    → HasGiven bounds whole count last room was → was.entries ≡ e ∷ now.entries → now.ending ≡ was.ending
+    → IsLeft room (e ∷ []) less → HasGiven bounds whole (count + 1) (Some e.key) less now
+next_given bounds whole was now count last room less e has first ended behind =
     let counted : length (has.given ++ e ∷ []) ≡ length has.given + 1 = length-append has.given (e ∷ []) in
     record {
       given = has.given ++ e ∷ [];
@@ -63,115 +72,152 @@ next_given whole was now count last e has first ended =
       counted = ap (λ n. n + 1) has.counted ∙ sym counted;
       key = sym (key_last has.given e (length (has.given ++ e ∷ [])) counted);
       ended = ended ∙ has.ended;
+      left = left_behind bounds room less has.given e has.left behind;
     }
 
-pub entry_given : (whole was now : Option Reading) (count : ℕ) (last : Option Key) (e : LogEntry) (step : Step) → GivesOn whole count last was
-    → step ≡ Entry e → Gives was now (Ok step) → GivesOn whole (count + 1) (Some e.key) now
-entry_given whole was now count last e step has is gives =
+pub entry_given : (bounds : Bounds) (whole was now : Option Reading) (count : ℕ) (last : Option Key) (room less : Bounds)
+    (e : LogEntry) (step : Step) → GivesOn bounds whole count last room was → step ≡ Entry e → Gives was now (Ok step)
+    → IsLeft room (e ∷ []) less → GivesOn bounds whole (count + 1) (Some e.key) less now
+entry_given bounds whole was now count last room less e step has is gives behind =
     go whole was now has (subst (λ (s : Step). Gives was now (Ok s)) is gives)
   where
-    go : (whole was now : Option Reading) → GivesOn whole count last was → Gives was now (Ok (Entry e)) → GivesOn whole (count + 1) (Some e.key) now
+    go : (whole was now : Option Reading) → GivesOn bounds whole count last room was → Gives was now (Ok (Entry e))
+        → GivesOn bounds whole (count + 1) (Some e.key) less now
     go None was now has gives = tt
     go (Some whole) None now has gives = absurd has
     go (Some whole) (Some was) None has gives = absurd gives
-    go (Some whole) (Some was) (Some now) has gives = next_given whole was now count last e has gives.0 gives.1
+    go (Some whole) (Some was) (Some now) has gives =
+        next_given bounds whole was now count last room less e has gives.0 gives.1 behind
+
+-- an entry that passes a bound
+pub entry_passes : (bounds : Bounds) (whole was now : Option Reading) (count : ℕ) (last : Option Key) (room : Bounds)
+    (e : LogEntry) (step : Step) → GivesOn bounds whole count last room was → step ≡ Entry e → Gives was now (Ok step)
+    → ¬ AreWithin room (e ∷ []) → HasBody bounds whole (record { count = count; last = last; ending = OverBounds })
+entry_passes bounds whole was now count last room e step has is gives passes =
+    go whole was now has (subst (λ (s : Step). Gives was now (Ok s)) is gives)
+  where
+    go : (whole was now : Option Reading) → GivesOn bounds whole count last room was → Gives was now (Ok (Entry e))
+        → HasBody bounds whole (record { count = count; last = last; ending = OverBounds })
+    go None was now has gives = tt
+    go (Some whole) None now has gives = absurd has
+    go (Some whole) (Some was) None has gives = absurd gives
+    go (Some whole) (Some was) (Some now) has gives = record {
+      before = has.given;
+      entry = e;
+      behind = now.entries;
+      split = has.follows ∙ ap (λ rest. has.given ++ rest) gives.0;
+      placed = has.counted;
+      within = within bounds room has.given has.left;
+      passes = passes_behind bounds room has.given e has.left passes;
+    }
 
 -- no more entry
-all_given : (whole was : Reading) (count : ℕ) (last : Option Key) (ending : Ending) → HasGiven whole count last was
-    → was.entries ≡ [] → was.ending ≡ ending → IsBody whole (record { count = count; last = last; ending = ending })
-all_given whole was count last ending has none ended =
+all_given : (bounds : Bounds) (whole was : Reading) (count : ℕ) (last : Option Key) (room : Bounds) (ending : Ending)
+    → HasGiven bounds whole count last room was → was.entries ≡ [] → was.ending ≡ ending → IsRead bounds whole count last ending
+all_given bounds whole was count last room ending has none ended =
     let all : whole.entries ≡ has.given = has.follows ∙ ap (λ rest. has.given ++ rest) none ∙ append-nil has.given in
     record {
       counted = has.counted ∙ ap length (sym all);
       key = has.key ∙ ap last_key (sym all);
       ended = sym ended ∙ has.ended;
+      within = subst (AreWithin bounds) (sym all) (within bounds room has.given has.left);
     }
 
-pub end_given : (whole was now : Option Reading) (count : ℕ) (last : Option Key) (left : ℕ) → GivesOn whole count last was
-    → Gives was now (Ok (Ended left)) → HasBody whole (record { count = count; last = last; ending = End left })
-end_given None was now count last left has gives = tt
-end_given (Some whole) None now count last left has gives = absurd has
-end_given (Some whole) (Some was) None count last left has gives = absurd gives
-end_given (Some whole) (Some was) (Some now) count last left has gives = all_given whole was count last (End left) has gives.0 gives.1
+pub end_given : (bounds : Bounds) (whole was now : Option Reading) (count : ℕ) (last : Option Key) (room : Bounds) (left : ℕ)
+    → GivesOn bounds whole count last room was → Gives was now (Ok (Finished left))
+    → HasBody bounds whole (record { count = count; last = last; ending = Ended (End left) })
+end_given bounds None was now count last room left has gives = tt
+end_given bounds (Some whole) None now count last room left has gives = absurd has
+end_given bounds (Some whole) (Some was) None count last room left has gives = absurd gives
+end_given bounds (Some whole) (Some was) (Some now) count last room left has gives =
+    all_given bounds whole was count last room (End left) has gives.0 gives.1
 
-pub fault_given : (whole was now : Option Reading) (count : ℕ) (last : Option Key) (fault : Fault) → GivesOn whole count last was
-    → Gives was now (Ok (Faulty fault)) → HasBody whole (record { count = count; last = last; ending = Bad fault })
-fault_given None was now count last fault has gives = tt
-fault_given (Some whole) None now count last fault has gives = absurd has
-fault_given (Some whole) (Some was) None count last fault has gives = absurd gives
-fault_given (Some whole) (Some was) (Some now) count last fault has gives = all_given whole was count last (Bad fault) has gives.0 gives.1
+pub fault_given : (bounds : Bounds) (whole was now : Option Reading) (count : ℕ) (last : Option Key) (room : Bounds) (fault : Fault)
+    → GivesOn bounds whole count last room was → Gives was now (Ok (Faulty fault))
+    → HasBody bounds whole (record { count = count; last = last; ending = Ended (Bad fault) })
+fault_given bounds None was now count last room fault has gives = tt
+fault_given bounds (Some whole) None now count last room fault has gives = absurd has
+fault_given bounds (Some whole) (Some was) None count last room fault has gives = absurd gives
+fault_given bounds (Some whole) (Some was) (Some now) count last room fault has gives =
+    all_given bounds whole was count last room (Bad fault) has gives.0 gives.1
 
 -- ---- bodies
 
 -- what a source over a stream gave is what the stream's bytes say
-pub stream_says : (limits : Limits) (version : Version) (known : Option (List ℕ)) (answered : Option Reading) (body : Body)
-    → ReadsKnown limits known answered → HasBody (option_map (reading_under version) answered) body → SaysBodyOf limits version Export known body
-stream_says limits version None answered body reads has = tt
-stream_says limits version (Some bytes) None body reads has = absurd reads
-stream_says limits version (Some bytes) (Some read) body reads has =
+pub stream_says : (limits : Limits) (bounds : Bounds) (version : Version) (known : Option (List ℕ)) (answered : Option Reading) (body : Body)
+    → ReadsKnown limits known answered → HasBody bounds (option_map (reading_under version) answered) body → SaysBodyOf limits bounds version Export known body
+stream_says limits bounds version None answered body reads has = tt
+stream_says limits bounds version (Some bytes) None body reads has = absurd reads
+stream_says limits bounds version (Some bytes) (Some read) body reads has =
     (reading_under version read, record { read = read; reads = reads; under = refl }, has)
 
 -- ... and over a file, the file's
-pub file_says : (limits : Limits) (version : Version) (known : Option (List ℕ)) (answered : Option Reading) (body : Body)
-    → ((b : List ℕ) → known ≡ Some b → IsSomeAnd answered (IsFileReading limits b)) → HasBody (option_map (reading_under version) answered) body
-    → SaysBodyOf limits version File known body
-file_says limits version None answered body reads has = tt
-file_says limits version (Some bytes) None body reads has = absurd (reads bytes refl)
-file_says limits version (Some bytes) (Some read) body reads has =
+pub file_says : (limits : Limits) (bounds : Bounds) (version : Version) (known : Option (List ℕ)) (answered : Option Reading) (body : Body)
+    → ((b : List ℕ) → known ≡ Some b → IsSomeAnd answered (IsFileReading limits b)) → HasBody bounds (option_map (reading_under version) answered) body
+    → SaysBodyOf limits bounds version File known body
+file_says limits bounds version None answered body reads has = tt
+file_says limits bounds version (Some bytes) None body reads has = absurd (reads bytes refl)
+file_says limits bounds version (Some bytes) (Some read) body reads has =
     (reading_under version read, record { read = read; reads = reads bytes refl; under = refl }, has)
 
 -- a file that is read whole first
-pub gathered_says : (limits : Limits) (version : Version) (known rest : Option (List ℕ)) (bytes : List ℕ) (body : Body)
+pub gathered_says : (limits : Limits) (bounds : Bounds) (version : Version) (known rest : Option (List ℕ)) (bytes : List ℕ) (body : Body)
     → Consumes known rest bytes → (length bytes < limits.file + 1 → IsAtEnd rest)
-    → SaysBodyOf limits version File (Some bytes) body → SaysBodyOf limits version File known body
-gathered_says limits version None rest bytes body came ended says = tt
-gathered_says limits version (Some all) None bytes body came ended says = absurd came
-gathered_says limits version (Some all) (Some rest) bytes body came ended says =
+    → SaysBodyOf limits bounds version File (Some bytes) body → SaysBodyOf limits bounds version File known body
+gathered_says limits bounds version None rest bytes body came ended says = tt
+gathered_says limits bounds version (Some all) None bytes body came ended says = absurd came
+gathered_says limits bounds version (Some all) (Some rest) bytes body came ended says =
     (says.0, gathered limits version all rest bytes says.0 came ended says.1, says.2)
 
 -- ---- uploads
 
-module _ (limits : Limits) (upload body : List ℕ) (head : UploadHead) (has : HasHead upload head body) (r : Reading) (says : BodySays limits head.version head.kind body r) where
-  by_ending : (count : ℕ) (last : Option Key) (ending : Ending) → count ≡ length r.entries → last ≡ last_key r.entries → ending ≡ r.ending
-      → IsInspected limits upload (inspected_by head count last ending)
-  by_ending count last (End left) counted key ended = record {
+module _ (limits : Limits) (bounds : Bounds) (upload body : List ℕ) (head : UploadHead) (has : HasHead upload head body) (r : Reading) (says : BodySays limits head.version head.kind body r) where
+  reads : SaysBehind limits upload head r
+  reads = record { body = body; has = has; reads = says }
+
+  by_ending : (count : ℕ) (last : Option Key) (ending : BodyEnding) → IsReadTo bounds r count last ending
+      → IsInspected limits bounds upload (inspected_by head count last ending)
+  by_ending count last (Ended (End left)) read = record {
     head = head;
     reading = r;
-    says = record { body = body; has = has; reads = says };
+    says = reads;
     named = refl;
-    ended = sym ended;
-    counted = counted;
-    key = key;
+    ended = sym read.ended;
+    counted = read.counted;
+    key = read.key;
+    within = read.within;
   }
-  by_ending count last (Bad fault) counted key ended = record {
+  by_ending count last (Ended (Bad fault)) read = record {
     reading = r;
-    says = inr (head, record { body = body; has = has; reads = says });
-    ended = sym ended;
+    says = inr (head, reads);
+    ended = sym read.ended;
+    within = read.within;
   }
+  by_ending count last OverBounds passes = record { reading = r; says = inr (head, reads); passes = passes }
 
 -- what an upload with this header says, by what is answered of its body
-pub upload_says : (limits : Limits) (upload : List ℕ) (before behind bytes : Option (List ℕ)) (head : UploadHead) (kind : Kind)
+pub upload_says : (limits : Limits) (bounds : Bounds) (upload : List ℕ) (before behind bytes : Option (List ℕ)) (head : UploadHead) (kind : Kind)
     (body : Body) (inspected : Inspected) → before ≡ Some upload → BeginsUpload before behind (Ok head) → head.kind ≡ kind
-    → bytes ≡ behind → SaysBodyOf limits head.version kind bytes body → inspected ≡ inspected_of head body
-    → IsInspected limits upload inspected
-upload_says limits upload before behind bytes head kind body inspected known begins is same says is_inspected =
-    subst (IsInspected limits upload) (sym is_inspected)
+    → bytes ≡ behind → SaysBodyOf limits bounds head.version kind bytes body → inspected ≡ inspected_of head body
+    → IsInspected limits bounds upload inspected
+upload_says limits bounds upload before behind bytes head kind body inspected known begins is same says is_inspected =
+    subst (IsInspected limits bounds upload) (sym is_inspected)
     (go behind (subst (λ (b : Option (List ℕ)). Consumes b behind (head_text head)) known begins.1)
-    (subst (λ (b : Option (List ℕ)). SaysBodyOf limits head.version head.kind b body) same
-    (subst (λ (k : Kind). SaysBodyOf limits head.version k bytes body) (sym is) says)))
+    (subst (λ (b : Option (List ℕ)). SaysBodyOf limits bounds head.version head.kind b body) same
+    (subst (λ (k : Kind). SaysBodyOf limits bounds head.version k bytes body) (sym is) says)))
   where
-    go : (behind : Option (List ℕ)) → Consumes (Some upload) behind (head_text head) → SaysBodyOf limits head.version head.kind behind body
-        → IsInspected limits upload (inspected_of head body)
+    go : (behind : Option (List ℕ)) → Consumes (Some upload) behind (head_text head) → SaysBodyOf limits bounds head.version head.kind behind body
+        → IsInspected limits bounds upload (inspected_of head body)
     go None came says = absurd came
     go (Some rest) came says =
-        by_ending limits upload rest head (record { lawful = begins.0; whole = came }) says.0 says.1 body.count body.last body.ending
-        says.2.counted says.2.key says.2.ended
+        by_ending limits bounds upload rest head (record { lawful = begins.0; whole = came }) says.0 says.1 body.count body.last body.ending
+        says.2
 
 -- ... and one whose header can't be read
-unreadable : (limits : Limits) (upload : List ℕ) (before behind : Option (List ℕ)) (unread : Unread) → before ≡ Some upload
-    → BeginsUpload before behind (Err unread) → IfOk (inspected_unread unread) (IsInspected limits upload)
-unreadable limits upload before behind ReadFailed known begins = tt
-unreadable limits upload before behind (Unreadable fault) known begins = record {
+unreadable : (limits : Limits) (bounds : Bounds) (upload : List ℕ) (before behind : Option (List ℕ)) (unread : Unread) → before ≡ Some upload
+    → BeginsUpload before behind (Err unread) → IfOk (inspected_unread unread) (IsInspected limits bounds upload)
+unreadable limits bounds upload before behind ReadFailed known begins = tt
+unreadable limits bounds upload before behind (Unreadable fault) known begins = record {
   reading = reading [] (Bad fault);
   says = inl (record {
     fault = fault;
@@ -179,20 +225,22 @@ unreadable limits upload before behind (Unreadable fault) known begins = record 
     nothing = refl;
   });
   ended = refl;
+  within = none_within bounds;
 }
 
-pub unread_says : (limits : Limits) (upload : List ℕ) (before behind : Option (List ℕ)) (unread : Unread) (result : Result Inspected Stop)
+pub unread_says : (limits : Limits) (bounds : Bounds) (upload : List ℕ) (before behind : Option (List ℕ)) (unread : Unread) (result : Result Inspected Stop)
     → before ≡ Some upload → BeginsUpload before behind (Err unread) → result ≡ inspected_unread unread
-    → IfOk result (IsInspected limits upload)
-unread_says limits upload before behind unread result known begins is_unread =
-    subst (λ (r : Result Inspected Stop). IfOk r (IsInspected limits upload)) (sym is_unread)
-    (unreadable limits upload before behind unread known begins)
+    → IfOk result (IsInspected limits bounds upload)
+unread_says limits bounds upload before behind unread result known begins is_unread =
+    subst (λ (r : Result Inspected Stop). IfOk r (IsInspected limits bounds upload)) (sym is_unread)
+    (unreadable limits bounds upload before behind unread known begins)
 
 -- a fault that is answered is one of an upload
-pub body_format : (head : UploadHead) (count : ℕ) (last : Option Key) (ending : Ending) → FormatEnding ending
+pub body_format : (head : UploadHead) (count : ℕ) (last : Option Key) (ending : BodyEnding) → FormatEnding ending
     → HasFormatCode (inspected_by head count last ending)
-body_format head count last (End left) format = tt
-body_format head count last (Bad fault) format = format
+body_format head count last (Ended (End left)) format = tt
+body_format head count last (Ended (Bad fault)) format = format
+body_format head count last OverBounds format = tt
 
 pub unread_format : (before behind : Option (List ℕ)) (unread : Unread) → BeginsUpload before behind (Err unread)
     → IfOk (inspected_unread unread) HasFormatCode

@@ -16,6 +16,7 @@ pub mod Bodies
 pub mod Answering
 pub mod Crashed
 pub mod Chains
+pub mod Bounding
 pub mod Inspecting
 pub mod Losing
 pub mod Each

@@ -9,6 +9,7 @@ pub mod Whole
 pub mod Begun
 pub mod Body
 pub mod Chain
+pub mod Bounds
 pub mod Inspected
 pub mod Each
 pub mod EachLaws

@@ -12,7 +12,7 @@ use crate::borrowed_device::BorrowedPart;
 use crate::gather::read_whole;
 use crate::head::{HEAD_LENGTH, Unread, read_head, read_head_at};
 use crate::space_stream::SpaceStream;
-use crate::{Delivery, Whole};
+use crate::{Bounds, Delivery, Whole};
 use jc_base::{ByteStream, Ending, EntrySource, Fault, Id128, Key, Limits, Step, Stop};
 use jc_file::{ByteSpace, FileEntries, SliceSpace};
 use jc_stream::Stream;
@@ -35,30 +35,42 @@ pub enum Inspected {
     },
     /// What is wrong with its header or its body.
     Bad(Fault),
+    /// The place, from 0, of the first of its entries with which it passes a bound.
+    Over(u64),
 }
 
-/// What the body of an upload says.
+/// What the body of an upload says, as far as it is read.
 #[derive(Clone, Copy)]
 struct Body {
     count: u64,
     last: Option<Key>,
-    ending: Ending,
+    ending: BodyEnding,
 }
 
-/// Reads an upload to its end, and keeps no more than one of its entries.
+/// Why a body isn't read further.
+#[derive(Clone, Copy)]
+enum BodyEnding {
+    Ended(Ending),
+    /// The next entry passes a bound.
+    OverBounds,
+}
+
+/// Reads an upload to its end, or up to the first entry with which it passes a bound, and keeps no more than one of its
+/// entries.
 pub fn inspect_one<R: ByteStream + Drop, B: ByteSpace + Drop>(
     alloc: Global,
     delivery: Delivery<R, B>,
     limits: &Limits,
+    bounds: &Bounds,
 ) -> Result<Inspected, Stop>
     ensures says { (upload : List ℕ) → of_delivery R.remaining B.bytes delivery ≡ Some upload
-        → IfOk result (IsInspected limits.now upload) }
+        → IfOk result (IsInspected limits.now bounds.now upload) }
     // If its bytes aren't known, a fault is one that some upload has.
     ensures format { IfOk result HasFormatCode }
 {
     match delivery {
-        Delivery::Stream(device) => inspect_stream(alloc, device, limits),
-        Delivery::Space(space) => inspect_space(alloc, space, limits),
+        Delivery::Stream(device) => inspect_stream(alloc, device, limits, bounds),
+        Delivery::Space(space) => inspect_space(alloc, space, limits, bounds),
     }
 }
 
@@ -66,8 +78,9 @@ fn inspect_stream<R: ByteStream + Drop>(
     alloc: Global,
     mut device: R,
     limits: &Limits,
+    bounds: &Bounds,
 ) -> Result<Inspected, Stop>
-    ensures says { (upload : List ℕ) → R.remaining device ≡ Some upload → IfOk result (IsInspected limits.now upload) }
+    ensures says { (upload : List ℕ) → R.remaining device ≡ Some upload → IfOk result (IsInspected limits.now bounds.now upload) }
     ensures format { IfOk result HasFormatCode }
 {
     let head = match read_head(&mut device) {
@@ -76,11 +89,11 @@ fn inspect_stream<R: ByteStream + Drop>(
     };
     match head.kind {
         Kind::Export => {
-            let body = export_body(alloc, device, limits, head.version)?;
+            let body = export_body(alloc, device, limits, bounds, head.version)?;
             Ok(as_inspected(head, body))
         }
         Kind::File => {
-            let body = gathered_body(alloc, device, limits, head.version)?;
+            let body = gathered_body(alloc, device, limits, bounds, head.version)?;
             Ok(as_inspected(head, body))
         }
     }
@@ -90,8 +103,9 @@ fn inspect_space<B: ByteSpace + Drop>(
     alloc: Global,
     mut space: B,
     limits: &Limits,
+    bounds: &Bounds,
 ) -> Result<Inspected, Stop>
-    ensures says { (upload : List ℕ) → B.bytes space ≡ Some upload → IfOk result (IsInspected limits.now upload) }
+    ensures says { (upload : List ℕ) → B.bytes space ≡ Some upload → IfOk result (IsInspected limits.now bounds.now upload) }
     ensures format { IfOk result HasFormatCode }
 {
     let head = match read_head_at(&mut space) {
@@ -101,11 +115,11 @@ fn inspect_space<B: ByteSpace + Drop>(
     let part = BorrowedPart::new(&mut space, HEAD_LENGTH);
     match head.kind {
         Kind::Export => {
-            let body = export_body(alloc, SpaceStream::new(part), limits, head.version)?;
+            let body = export_body(alloc, SpaceStream::new(part), limits, bounds, head.version)?;
             Ok(as_inspected(head, body))
         }
         Kind::File => {
-            let body = file_body(alloc, part, limits, head.version)?;
+            let body = file_body(alloc, part, limits, bounds, head.version)?;
             Ok(as_inspected(head, body))
         }
     }
@@ -132,14 +146,15 @@ fn as_inspected(head: UploadHead, body: Body) -> Inspected
         ending,
     } = body;
     match ending {
-        Ending::End { left } => Inspected::Upload {
+        BodyEnding::Ended(Ending::End { left }) => Inspected::Upload {
             source,
             start,
             count,
             left,
             last,
         },
-        Ending::Bad(fault) => Inspected::Bad(fault),
+        BodyEnding::Ended(Ending::Bad(fault)) => Inspected::Bad(fault),
+        BodyEnding::OverBounds => Inspected::Over(count),
     }
 }
 
@@ -148,13 +163,14 @@ fn export_body<R: ByteStream + Drop>(
     alloc: Global,
     device: R,
     limits: &Limits,
+    bounds: &Bounds,
     version: Version,
 ) -> Result<Body, Stop>
-    ensures says { IfOk result (SaysBodyOf limits.now version Export (R.remaining device)) }
+    ensures says { IfOk result (SaysBodyOf limits.now bounds.now version Export (R.remaining device)) }
     ensures format { IfOk result EndsInFormat }
 {
     let stream = Stream::new(alloc, device, *limits)?;
-    read_body(stream, version)
+    read_body(stream, bounds, version)
 }
 
 /// What a space has, as the journal file of an upload of this version.
@@ -162,12 +178,13 @@ fn file_body<B: ByteSpace + Drop>(
     alloc: Global,
     space: B,
     limits: &Limits,
+    bounds: &Bounds,
     version: Version,
 ) -> Result<Body, Stop>
-    ensures says { IfOk result (SaysBodyOf limits.now version File (B.bytes space)) }
+    ensures says { IfOk result (SaysBodyOf limits.now bounds.now version File (B.bytes space)) }
     ensures format { IfOk result EndsInFormat }
 {
-    read_body(FileEntries::new(alloc, space, *limits), version)
+    read_body(FileEntries::new(alloc, space, *limits), bounds, version)
 }
 
 /// What a stream gives from here on, as the journal file of an upload of this version. It is read whole first, up to one
@@ -176,43 +193,53 @@ fn gathered_body<R: ByteStream + Drop>(
     alloc: Global,
     mut device: R,
     limits: &Limits,
+    bounds: &Bounds,
     version: Version,
 ) -> Result<Body, Stop>
-    ensures says { IfOk result (SaysBodyOf limits.now version File (R.remaining device)) }
+    ensures says { IfOk result (SaysBodyOf limits.now bounds.now version File (R.remaining device)) }
     ensures format { IfOk result EndsInFormat }
 {
     let bytes = read_whole(alloc, &mut device, limits.file + 1)?;
-    file_body(alloc, SliceSpace { bytes: &bytes }, limits, version)
+    file_body(alloc, SliceSpace { bytes: &bytes }, limits, bounds, version)
 }
 
 /// What a source gives, as the body of an upload of this version.
-fn read_body<S: EntrySource + Drop>(mut source: S, version: Version) -> Result<Body, Stop>
-    ensures has { IfOk result (HasBody (option_map (reading_under version) (S.remaining source))) }
+fn read_body<S: EntrySource + Drop>(
+    mut source: S,
+    bounds: &Bounds,
+    version: Version,
+) -> Result<Body, Stop>
+    ensures has { IfOk result (HasBody bounds.now (option_map (reading_under version) (S.remaining source))) }
     ensures format { IfOk result EndsInFormat }
 {
     match version.whole_entries() {
-        Some(entries) => body_of(&mut Whole::new(source, entries)),
-        None => body_of(&mut source),
+        Some(entries) => body_of(&mut Whole::new(source, entries), bounds),
+        None => body_of(&mut source, bounds),
     }
 }
 
-/// How many entries a source gives, the last of them, and how they end.
-fn body_of<S: EntrySource>(source: &mut S) -> Result<Body, Stop>
-    ensures has { IfOk result (HasBody (S.remaining source.old)) }
+/// How many entries a source gives, the last of them, and how they end, up to the first one that passes a bound.
+fn body_of<S: EntrySource>(source: &mut S, bounds: &Bounds) -> Result<Body, Stop>
+    ensures has { IfOk result (HasBody bounds.now (S.remaining source.old)) }
     ensures format { IfOk result EndsInFormat }
 {
+    let mut room = *bounds;
     let mut count = 0;
     let mut last = None;
     'entries: loop {
         let step = source.next()?;
         let ending = match step {
-            Step::Entry(entry) => {
-                count += 1;
-                last = Some(entry.key());
-                continue 'entries;
-            }
-            Step::End { left } => Ending::End { left },
-            Step::Bad(fault) => Ending::Bad(fault),
+            Step::Entry(entry) => match room.behind(&entry) {
+                Some(less) => {
+                    room = less;
+                    count += 1;
+                    last = Some(entry.key());
+                    continue 'entries;
+                }
+                None => BodyEnding::OverBounds,
+            },
+            Step::End { left } => BodyEnding::Ended(Ending::End { left }),
+            Step::Bad(fault) => BodyEnding::Ended(Ending::Bad(fault)),
         };
         return Ok(Body {
             count,

@@ -3,6 +3,7 @@
 
 mod body;
 mod borrowed_device;
+mod bounds;
 mod chain;
 mod collect;
 mod complete;
@@ -14,6 +15,7 @@ mod law;
 mod runs;
 mod space_stream;
 
+pub use bounds::Bounds;
 pub use chain::{acknowledged_stored, chain_stored, each_stored, known_chain};
 pub use collect::collect_one;
 pub use complete::Whole;

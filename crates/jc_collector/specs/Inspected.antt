@@ -7,8 +7,9 @@ use Rattle.jc_base.specs.LimitBounds.{AreDefaults}
 use Rattle.jc_base.specs.declared.id.Key.{Key}
 use Rattle.jc_base.specs.declared.limits.Limits.{Limits}
 use Rattle.jc_collect.specs.Inspected.{HasFormatCode, IsInspected}
+use Rattle.jc_collect.specs.declared.bounds.Bounds.{Bounds}
 use Rattle.jc_collect.specs.declared.inspect.Inspected.{Inspected}
-use Rattle.jc_collect.specs.declared.inspect.Inspected.TheVariants.{Bad, Upload}
+use Rattle.jc_collect.specs.declared.inspect.Inspected.TheVariants.{Bad, Over, Upload}
 use Rattle.jc_command_shared.specs.declared.status.Status.{Status}
 use Rattle.jc_command_shared.specs.declared.status.Status.TheVariants.{Success, Refused}
 
@@ -17,6 +18,10 @@ abbrev pub key_end : Option Key → List ℕ
 key_end None = codes "- -" ++ 10 ∷ []
 key_end (Some key) = encode_lower key.seqnum_id.0 ++ (codes " " ++ decimal key.seqnum ++ 10 ∷ [])
 
+-- the code of an upload that passes a bound
+abbrev pub over_bounds : ℕ
+over_bounds = 6
+
 -- `upload <source> <start> <count> <left> <id> <number>`, where the key is that of the last complete entry, or
 -- `bad <code> <place>`, and the newline
 abbrev pub inspected_line : Inspected → List ℕ
@@ -24,10 +29,12 @@ inspected_line (Upload source start count left last) =
     codes "upload " ++ (encode_lower source.0
     ++ ((codes " " ++ decimal start ++ codes " " ++ decimal count ++ codes " " ++ decimal left ++ codes " ") ++ key_end last))
 inspected_line (Bad fault) = codes "bad " ++ decimal (number_of fault.code) ++ codes " " ++ decimal fault.place ++ 10 ∷ []
+inspected_line (Over place) = codes "bad " ++ decimal over_bounds ++ codes " " ++ decimal place ++ 10 ∷ []
 
 abbrev pub inspected_status : Inspected → Status
 inspected_status (Upload source start count left last) = Success
 inspected_status (Bad fault) = Refused
+inspected_status (Over place) = Refused
 
 -- The output gained the line, and the status is its own.
 pub record PrintsInspected (inspected : Inspected) (status : Status) (old new : Option (List ℕ)) : Type 0 where
@@ -40,10 +47,10 @@ pub record PrintsSomeInspected (status : Status) (old new : Option (List ℕ)) :
   pub format : HasFormatCode inspected
   pub printed : PrintsInspected inspected status old new
 
--- The output gained the line of what the upload says under the default limits.
-pub record PrintsInspectedOf (upload : List ℕ) (status : Status) (old new : Option (List ℕ)) : Type 0 where
+-- The output gained the line of what the upload says under the default limits and within the bounds.
+pub record PrintsInspectedOf (bounds : Bounds) (upload : List ℕ) (status : Status) (old new : Option (List ℕ)) : Type 0 where
   pub limits : Limits
   pub defaults : AreDefaults limits.name limits.value limits.fields limits.entry limits.file
   pub inspected : Inspected
-  pub says : IsInspected limits upload inspected
+  pub says : IsInspected limits bounds upload inspected
   pub printed : PrintsInspected inspected status old new

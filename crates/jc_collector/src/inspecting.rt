@@ -6,7 +6,7 @@ ghost use Rattle.jc_collect.specs.Delivered.{of_delivery};
 ghost use Rattle.jc_collector.specs.Inspected.{PrintsInspected, PrintsSomeInspected, PrintsInspectedOf, inspected_line, inspected_status, key_end};
 
 use jc_base::{ByteStream, Key, Limits};
-use jc_collect::{Delivery, Inspected, inspect_one};
+use jc_collect::{Bounds, Delivery, Inspected, inspect_one};
 use jc_collector_answers::open_upload;
 use jc_command_shared::{Failure, Status, printed};
 use jc_file::ByteSpace;
@@ -15,10 +15,14 @@ use std::io;
 use std::io::Write;
 use std::rt::Files;
 
-/// Prints what the upload in a file says, under the default limits.
+/// The code of an upload that passes a bound. It is no fault of a format.
+const OVER_BOUNDS: u16 = 6;
+
+/// Prints what the upload in a file says, under the default limits and within these bounds.
 pub fn inspect<'a, R: Files + AllocGlobal, O: Write>(
     rt: &R,
     file: &'a str,
+    bounds: &Bounds,
     output: &mut O,
 ) -> Result<Status, Failure<'a>>
     ensures printed { IfOk result (λ status. PrintsSomeInspected status (O.contents output.old) (O.contents output.new)) }
@@ -28,25 +32,26 @@ pub fn inspect<'a, R: Files + AllocGlobal, O: Write>(
         → Keeps (O.contents output.old) (O.contents output.new)) }
 {
     let upload = open_upload(rt, file)?;
-    inspect_delivery(rt.alloc(), upload, output)
+    inspect_delivery(rt.alloc(), upload, bounds, output)
 }
 
 /// Prints what a delivery says.
 fn inspect_delivery<'a, S: ByteStream + Drop, B: ByteSpace + Drop, O: Write>(
     alloc: Global,
     delivery: Delivery<S, B>,
+    bounds: &Bounds,
     output: &mut O,
 ) -> Result<Status, Failure<'a>>
     ensures printed { IfOk result (λ status. PrintsSomeInspected status (O.contents output.old) (O.contents output.new)) }
     // If its bytes are known, the line is what they say.
     ensures says { (upload : List ℕ) → of_delivery S.remaining B.bytes delivery ≡ Some upload
-        → IfOk result (λ status. PrintsInspectedOf upload status (O.contents output.old) (O.contents output.new)) }
+        → IfOk result (λ status. PrintsInspectedOf bounds.now upload status (O.contents output.old) (O.contents output.new)) }
     ensures failed { IfErr result (λ failure. (failure ≡ Failure.ReadFailed) ⊎ (failure ≡ Failure.WriteFailed)
         ⊎ (failure ≡ Failure.OutOfMemory)) }
     ensures untouched { IfErr result (λ failure. failure ≢ Failure.WriteFailed
         → Keeps (O.contents output.old) (O.contents output.new)) }
 {
-    let inspected = inspect_one(alloc, delivery, &Limits::default())?;
+    let inspected = inspect_one(alloc, delivery, &Limits::default(), bounds)?;
     print_inspected(&inspected, output)
 }
 
@@ -68,7 +73,7 @@ fn status_of_inspected(inspected: &Inspected) -> Status
 {
     match inspected {
         Inspected::Upload { .. } => Status::Success,
-        Inspected::Bad(_) => Status::Refused,
+        Inspected::Bad(_) | Inspected::Over(_) => Status::Refused,
     }
 }
 
@@ -89,6 +94,7 @@ fn put_inspected<O: Write>(inspected: &Inspected, output: &mut O) -> io::Result<
             put_key(last, output)
         }
         Inspected::Bad(fault) => writeln!(output, "bad {} {}", fault.code, fault.place),
+        Inspected::Over(place) => writeln!(output, "bad {OVER_BOUNDS} {place}"),
     }
 }
 

@@ -41,6 +41,7 @@ not_misused (Bad fault) same = cc
 inspected_not_misused : (inspected : Inspected) → Misused ≡ inspected_status inspected → ⊥
 inspected_not_misused (inspected.Upload source start count left last) same = cc
 inspected_not_misused (inspected.Bad fault) same = cc
+inspected_not_misused (inspected.Over place) same = cc
 
 health_not_misused : (health : Health) → Misused ≡ health_status health → ⊥
 health_not_misused (health.Whole count) same = cc
@@ -61,7 +62,7 @@ performed image g files words request given output output' errors errors' Failed
 performed image g files words (Verify k file) given output output' errors errors' Misused asks does quiet = absurd (not_misused does.ending does.printed.judged)
 performed image g files words (Upload source limit whole) given output output' errors errors' Misused asks does quiet = let same : Misused ≡ Success = does.0 in cc
 performed image g files words (Ack source) given output output' errors errors' Misused asks does quiet = let same : Misused ≡ Success = does.0 in cc
-performed image g files words (requests.Inspect file) given output output' errors errors' Misused asks does quiet =
+performed image g files words (requests.Inspect file most_entries most_fields most_bytes) given output output' errors errors' Misused asks does quiet =
     absurd (inspected_not_misused does.inspected does.printed.judged)
 performed image g files words (requests.Collect database tables uploads then_export) given output output' errors errors' Misused asks does quiet =
     absurd (judged_not_misused (list_any is_failure does.printed.answers) (list_any is_refusal does.printed.answers) does.printed.is)

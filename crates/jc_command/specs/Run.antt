@@ -78,7 +78,7 @@ module _ {D : Type 0} (image : Image) (g : disk.Ghosts D) (files : Option (Files
   -- `migrate` what there is of a journal.
   abbrev pub Performs : Request → (given old new : Option (List ℕ)) → Status → Type 0
   Performs (Verify kind file) given old new status = PrintsSomeReading kind status old new
-  Performs (Inspect file) given old new status = PrintsSomeInspected status old new
+  Performs (Inspect file most_entries most_fields most_bytes) given old new status = PrintsSomeInspected status old new
   Performs (Upload source limit whole) given old new status = (status ≡ Success) × PrintsSomeUpload source limit whole old new
   Performs (Ack source) given old new status = (status ≡ Success) × PrintsSomePoint source given old new
   Performs (Collect database tables uploads then_export) given old new status = Collects tables (length uploads.items) given old new status
@@ -104,7 +104,7 @@ FileFailsBy file _ = ⊥
 -- Why a request fails: its own file can't be opened, what it names is refused, or a device or memory fails.
 abbrev pub FailsBy : Request → (given : Option (List ℕ)) → Failure → Type 0
 FailsBy (Verify kind file) given failure = FileFailsBy file.now failure
-FailsBy (Inspect file) given failure = FileFailsBy file.now failure
+FailsBy (Inspect file most_entries most_fields most_bytes) given failure = FileFailsBy file.now failure
 FailsBy (Upload source limit whole) given failure = UploadFailsBy source failure
 FailsBy (Ack source) given failure = AckFailsBy source given failure
 FailsBy (Collect database tables uploads then_export) given failure = CollectFailsBy database.now (map (λ path. path.now) uploads.items) failure

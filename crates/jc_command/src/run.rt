@@ -9,6 +9,7 @@ ghost use Rattle.jc_command_shared.specs.Failure.{status_of};
 ghost use Rattle.jc_command.specs.Run.{Ends, EndsWithin, FailsBy, Performs, Stops};
 
 use clap::error::ErrorKind;
+use jc_collect::Bounds;
 use jc_collector::{
     Closed, Examined, check, collect, collect_listed, export, inspect, migrate, show,
 };
@@ -174,7 +175,19 @@ fn perform<'a, S: Start, I: Read, O: Write, E: Write>(
 {
     match request {
         Request::Verify { kind, file } => Ok(Done::without(verify(rt, kind, file, output)?)),
-        Request::Inspect { file } => Ok(Done::without(inspect(rt, file, output)?)),
+        Request::Inspect {
+            file,
+            most_entries,
+            most_fields,
+            most_bytes,
+        } => {
+            let bounds = Bounds {
+                entries: most_entries,
+                fields: most_fields,
+                bytes: most_bytes,
+            };
+            Ok(Done::without(inspect(rt, file, &bounds, output)?))
+        }
         Request::Upload {
             source,
             limit,

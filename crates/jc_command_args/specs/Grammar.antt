@@ -77,9 +77,11 @@ migrate_grammar tables = with_rule (database_grammar (codes "migrate")) (tables_
 abbrev pub verify_grammar : ValueParser → App
 verify_grammar kinds = with_rule (with_rule (new_app (codes "verify")) (kind_rule kinds)) (place_rule (codes "FILE"))
 
--- `inspect FILE`
+-- `inspect FILE [--most-entries N] [--most-fields N] [--most-bytes N]`
 abbrev pub inspect_grammar : App
-inspect_grammar = with_rule (new_app (codes "inspect")) (place_rule (codes "FILE"))
+inspect_grammar =
+    with_rule (with_rule (with_rule (with_rule (new_app (codes "inspect")) (place_rule (codes "FILE")))
+    (number_rule (codes "most-entries"))) (number_rule (codes "most-fields"))) (number_rule (codes "most-bytes"))
 
 -- `--source HEX --resume FILE KIND IN`
 abbrev pub with_source : ValueParser → App → App

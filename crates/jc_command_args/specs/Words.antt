@@ -21,7 +21,7 @@ command_name (Show database field id first last) = codes "show"
 command_name (Check database) = codes "check"
 command_name (Migrate database tables) = codes "migrate"
 command_name (Verify kind file) = codes "verify"
-command_name (Inspect file) = codes "inspect"
+command_name (Inspect file most_entries most_fields most_bytes) = codes "inspect"
 command_name (Upload source limit whole) = codes "upload"
 command_name (Ack source) = codes "ack"
 command_name ListCodes = codes "codes"
@@ -53,7 +53,7 @@ AreTablesOr unless_given None tables = tables ≡ unless_given
 AreTablesOr unless_given (Some text) tables = tables_name tables ≡ text
 
 -- The values of a command's arguments ask for this. Without `--tables` they are by key, without `--limit` it is 1,000, and
--- without `--from` and `--to` the range is that of all numbers. clap's value of `--whole` is `true` where it is given.
+-- without `--from` and `--to` the range is that of all numbers. Without `--most-..` a bound is 2^63 - 1. clap's value of `--whole` is `true` where it is given.
 abbrev pub AskBy : List Row → Request → Type 0
 AskBy rows (Collect database tables uploads then_export) =
     IsGiven rows (codes "DB") database.now × AreTablesOr ByKey (first_of (codes "tables") rows) tables
@@ -72,7 +72,10 @@ AskBy rows (Check database) = IsGiven rows (codes "DB") database.now
 AskBy rows (Migrate database tables) =
     IsGiven rows (codes "DB") database.now × AreTablesOr ByKey (first_of (codes "tables") rows) tables
 AskBy rows (Verify kind file) = IsGiven rows (codes "KIND") (kind_name kind) × IsGiven rows (codes "FILE") file.now
-AskBy rows (Inspect file) = IsGiven rows (codes "FILE") file.now
+AskBy rows (Inspect file most_entries most_fields most_bytes) =
+    IsGiven rows (codes "FILE") file.now × IsNumberOr (2 ^ 63 - 1) (first_of (codes "most-entries") rows) most_entries
+    × IsNumberOr (2 ^ 63 - 1) (first_of (codes "most-fields") rows) most_fields
+    × IsNumberOr (2 ^ 63 - 1) (first_of (codes "most-bytes") rows) most_bytes
 AskBy rows (Upload source limit whole) =
     NameSource rows source × IsNumberOr 1000 (first_of (codes "limit") rows) limit
     × (IsTrue whole ↔ IsGiven rows (codes "whole") (codes "true"))

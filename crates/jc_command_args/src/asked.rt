@@ -126,8 +126,16 @@ fn inspect_request<'a>(given: &ArgMatches<'a>) -> Option<Request<'a>>
     ensures { MatchOption result (AsksNone (given_rows given.now) (codes "inspect"))
         (λ request. (command_name request ≡ codes "inspect") × AskBy (given_rows given.now) request) }
 {
+    let most_entries = number_given(given, "most-entries", MOST)?;
+    let most_fields = number_given(given, "most-fields", MOST)?;
+    let most_bytes = number_given(given, "most-bytes", MOST)?;
     let file = text_given(given, "FILE")?;
-    Some(Request::Inspect { file })
+    Some(Request::Inspect {
+        file,
+        most_entries,
+        most_fields,
+        most_bytes,
+    })
 }
 
 fn upload_request<'a>(given: &ArgMatches<'a>) -> Option<Request<'a>>

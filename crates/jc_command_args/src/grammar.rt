@@ -106,11 +106,11 @@ fn verify_command<'a>(alloc: Global) -> Making<'a>
 fn inspect_command<'a>(alloc: Global) -> Making<'a>
     ensures { Makes result inspect_grammar }
 {
-    new_command(alloc, "inspect", texts::INSPECT, texts::INSPECT_MORE).arg(place_arg(
-        alloc,
-        "FILE",
-        texts::UPLOAD_FILE_HELP,
-    ))
+    new_command(alloc, "inspect", texts::INSPECT, texts::INSPECT_MORE)
+        .arg(place_arg(alloc, "FILE", texts::UPLOAD_FILE_HELP))
+        .arg(number_arg(alloc, "most-entries", texts::MOST_ENTRIES_HELP))
+        .arg(number_arg(alloc, "most-fields", texts::MOST_FIELDS_HELP))
+        .arg(number_arg(alloc, "most-bytes", texts::MOST_BYTES_HELP))
 }
 
 fn upload_command<'a>(alloc: Global) -> Making<'a>

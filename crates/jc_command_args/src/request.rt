@@ -48,9 +48,13 @@ pub enum Request<'a> {
         kind: InputKind,
         file: &'a str,
     },
-    /// What the file says as an upload.
+    /// What the file says as an upload, up to the first entry with which it has more than this many entries, fields of
+    /// all of them, or bytes of these fields' names and values.
     Inspect {
         file: &'a str,
+        most_entries: u64,
+        most_fields: u64,
+        most_bytes: u64,
     },
     /// The next upload of a source, of at most this many entries; if it is to be whole, a collector takes all of it or
     /// nothing.

@@ -122,7 +122,8 @@ pub(crate) const INSPECT_MORE: &str = "Prints one line:
                                             of them has the sequence id ID and the number NUMBER, each `-` if COUNT is 0;
                                             the last LEFT bytes are an unfinished entry
   bad CODE PLACE                            what is wrong, and at which byte of its entries; with the codes 1 to 4, at
-                                            which byte of its header, and with 5, how many entries are complete
+                                            which byte of its header; with 5, how many entries are complete, and with 6,
+                                            which of them, counted from 0, is the first over a bound
 `journal-collect help codes` lists the codes. No database is read: `collect` may still refuse the upload for an entry
 that differs from a stored one.
 
@@ -158,6 +159,7 @@ pub const CODES: &str = "1   ShortHeader         an upload has fewer bytes than 
 3   BadKind             the kind of an upload is unknown
 4   BadReserved         reserved bytes in an upload's header aren't as they have to be
 5   Incomplete          an upload that is to be whole has another number of entries, or ends within one
+6   OverBounds          an upload passes a bound; the place is the number of the first entry that does, from 0
 10  EmptyName           a field begins with `=`
 11  NameTooLong         a name is over its limit
 12  ValueTooLong        a value is over its limit
@@ -230,6 +232,14 @@ pub(crate) const KIND_HELP: &str = "What the file holds: an export stream, or a 
 pub(crate) const FILE_HELP: &str = "The file to read";
 
 pub(crate) const UPLOAD_FILE_HELP: &str = "The file with the upload";
+
+pub(crate) const MOST_ENTRIES_HELP: &str = "Refuse the upload at the first entry over N of them";
+
+pub(crate) const MOST_FIELDS_HELP: &str =
+    "Refuse it at the first entry with which all entries have over N fields";
+
+pub(crate) const MOST_BYTES_HELP: &str =
+    "Refuse it at the first entry with which names and values of all fields have over N bytes";
 
 pub(crate) const SOURCE_HELP: &str =
     "The id of this stream or journal file, 32 hexadecimal digits; each has one id for good";

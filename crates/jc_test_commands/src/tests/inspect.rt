@@ -130,6 +130,61 @@ run inspect @in
 > bad 5 0
 status 1
 
+case bounds on what an upload has
+file @in head:1:0 ENTRY ENTRY_2 ENTRY_3
+run inspect @in --most-entries 3 --most-fields 3 --most-bytes 27
+> upload SOURCE 0 3 0 000102030405060708090a0b0c0d0e0f 3
+run inspect @in --most-entries 2
+> bad 6 2
+status 1
+run inspect @in --most-fields 2
+> bad 6 2
+status 1
+run inspect @in --most-bytes 26
+> bad 6 2
+status 1
+run inspect --most-bytes 9 @in
+> bad 6 1
+status 1
+run inspect @in --most-bytes 8
+> bad 6 0
+status 1
+run inspect @in --most-entries 0
+> bad 6 0
+status 1
+run inspect @in --most-entries 9223372036854775807 --most-fields 9223372036854775807 --most-bytes 9223372036854775807
+> upload SOURCE 0 3 0 000102030405060708090a0b0c0d0e0f 3
+# of a bound and a fault, what comes first
+file @in head:1:0 ENTRY ENTRY_2 "=x"
+run inspect @in --most-entries 1
+> bad 6 1
+status 1
+run inspect @in --most-entries 2
+> bad 10 242
+status 1
+# the same field twice counts once, and what is unfinished doesn't
+file @in head:1:0 METADATA "MESSAGE=hi\nMESSAGE=hi\n\n" METADATA_2 "A=\nB=\n"
+run inspect @in --most-entries 1 --most-fields 1 --most-bytes 9
+has "upload SOURCE 0 1 "
+# one that is to be whole
+file @in head:1:3 set:7:50 set:9:1 put:40:3 ENTRY ENTRY_2
+run inspect @in --most-entries 1
+> bad 6 1
+status 1
+run inspect @in --most-entries 2
+> bad 5 2
+status 1
+# a journal file, whose entries have the boot, too
+file @in head:2:0 JOURNAL_FILE
+run inspect @in --most-fields 2 --most-bytes 49
+> upload SOURCE 0 1 0 000102030405060708090a0b0c0d0e0f 1
+run inspect @in --most-fields 1
+> bad 6 0
+status 1
+run inspect @in --most-bytes 48
+> bad 6 0
+status 1
+
 case a folder and a missing file
 directory @folder
 run inspect @folder

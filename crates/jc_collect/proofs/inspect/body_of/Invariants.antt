@@ -6,7 +6,7 @@ abbrev pub invariant-entries : goal.invariant-entries
 invariant-entries g l =
     let source = g.S.EntrySource in
     record {
-      given : GivesOn (source.remaining l.fn.source) l.count l.last (source.remaining l.source);
+      given : GivesOn l.fn.bounds (source.remaining l.fn.source) l.count l.last l.room (source.remaining l.source);
       bound : l.count + source.bound l.source ≤ source.bound l.fn.source;
     }
 

@@ -11,7 +11,7 @@ returns-clause-says g c =
     let bytes = c.in_ok-bytes.bytes.items in
     let read = c.in_ok-bytes.ensures in
     IfOk-weaker c.file_body.result _ _
-    (λ body says. gathered_says c.args.limits.now c.args.version (g.R.ByteStream.remaining c.args.device)
+    (λ body says. gathered_says c.args.limits.now c.args.bounds.now c.args.version (g.R.ByteStream.remaining c.args.device)
     (g.R.ByteStream.remaining c.read_whole.new.device) bytes body read.came read.end
-    (subst (λ (b : List ℕ). SaysBodyOf c.args.limits.now c.args.version File (Some b) body) c.deref.ensures.value says))
+    (subst (λ (b : List ℕ). SaysBodyOf c.args.limits.now c.args.bounds.now c.args.version File (Some b) body) c.deref.ensures.value says))
     c.file_body.ensures.says

@@ -7,19 +7,19 @@ use Rattle.jc_collect.proofs.inspect.inspect_space.Goals as goal
 
 pub returns-in-Err-clause-says : goal.returns-in-Err-clause-says
 returns-in-Err-clause-says g c = λ upload known.
-    unread_says c.args.limits.now upload (g.B.ByteSpace.bytes c.args.space) (known_from 48 (g.B.ByteSpace.bytes c.args.space))
+    unread_says c.args.limits.now c.args.bounds.now upload (g.B.ByteSpace.bytes c.args.space) (known_from 48 (g.B.ByteSpace.bytes c.args.space))
     c.in-Err.unread c.inspect_unread.result known c.in-Err.ensures.begins
     c.inspect_unread.ensures
 
 pub returns-in-Export-clause-says : goal.returns-in-Export-clause-says
 returns-in-Export-clause-says g c = λ upload known.
-    upload_says c.args.limits.now upload (g.B.ByteSpace.bytes c.args.space) (known_from 48 (g.B.ByteSpace.bytes c.args.space)) _ c.in-Ok.head
+    upload_says c.args.limits.now c.args.bounds.now upload (g.B.ByteSpace.bytes c.args.space) (known_from 48 (g.B.ByteSpace.bytes c.args.space)) _ c.in-Ok.head
     Export c.in_ok-body-in-Export.body c.as_inspected.result known c.in-Ok.ensures.begins c.in-Export.is
     (c.new.ensures.remaining ∙ c.new-part.ensures.bytes ∙ ap (known_from 48) c.in-Ok.ensures.bytes) c.in_ok-body-in-Export.ensures.says
     c.as_inspected.ensures
 
 pub returns-clause-says : goal.returns-clause-says
 returns-clause-says g c = λ upload known.
-    upload_says c.args.limits.now upload (g.B.ByteSpace.bytes c.args.space) (known_from 48 (g.B.ByteSpace.bytes c.args.space)) _ c.in-Ok.head
+    upload_says c.args.limits.now c.args.bounds.now upload (g.B.ByteSpace.bytes c.args.space) (known_from 48 (g.B.ByteSpace.bytes c.args.space)) _ c.in-Ok.head
     File c.in_ok-body-in-File.body c.as_inspected-in-File.result known c.in-Ok.ensures.begins c.in-File.is
     (c.new-part.ensures.bytes ∙ ap (known_from 48) c.in-Ok.ensures.bytes) c.in_ok-body-in-File.ensures.says c.as_inspected-in-File.ensures

@@ -9,6 +9,6 @@ returns-clause-printed g c =
 
 pub returns-clause-says : goal.returns-clause-says
 returns-clause-says g c = λ upload known.
-    upload_printed upload c.default.result c.in_ok-inspected.inspected c.print_inspected.result (g.O.Write.contents c.args.output.now)
+    upload_printed c.args.bounds.now upload c.default.result c.in_ok-inspected.inspected c.print_inspected.result (g.O.Write.contents c.args.output.now)
     (g.O.Write.contents c.print_inspected.new.output) c.default.ensures (c.in_ok-inspected.ensures.says upload known)
     c.print_inspected.ensures.printed
