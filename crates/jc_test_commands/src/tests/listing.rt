@@ -90,6 +90,84 @@ run show @db --from 2 --field UNIT
 run show @db --to 1 --field UNIT
 > 000102030405060708090a0b0c0d0e0f 1 1000000 5 -
 
+case show prints nothing that a terminal obeys, or that turns a line or ends it
+input head:1:0 METADATA "A=" byte:127 "\n" "B=" byte:194 byte:128 "\n" "C=" byte:194 byte:155 "\n" "D=" byte:194 byte:159 "\n" "E=" byte:194 byte:160 "\n" "F=" byte:216 byte:156 "\n" "G=" byte:226 byte:128 byte:141 "\n" "H=" byte:226 byte:128 byte:142 "\n" "I=" byte:226 byte:128 byte:143 "\n" "J=" byte:226 byte:128 byte:167 "\n" "K=" byte:226 byte:128 byte:168 "\n" "L=" byte:226 byte:128 byte:169 "\n" "M=" byte:226 byte:128 byte:170 "\n" "N=" byte:226 byte:128 byte:174 "\n" "O=" byte:226 byte:128 byte:175 "\n" "P=" byte:226 byte:129 byte:166 "\n" "Q=" byte:226 byte:129 byte:169 "\n" "R=" byte:226 byte:129 byte:170 "\n" "S=" byte:239 byte:183 byte:143 "\n" "T=" byte:239 byte:183 byte:144 "\n" "U=" byte:239 byte:183 byte:175 "\n" "V=" byte:239 byte:183 byte:176 "\n" "W=" byte:239 byte:191 byte:189 "\n" "X=" byte:239 byte:191 byte:190 "\n" "Y=" byte:240 byte:159 byte:191 byte:191 "\n" "Z=" byte:240 byte:160 byte:128 byte:128 "\n" "TAB=" byte:9 "\n" "\n"
+run collect @db
+> ack SOURCE 0 1 1 0
+run show @db --field A
+> 000102030405060708090a0b0c0d0e0f 1 1000000 5 [1 bytes]
+run show @db --field B
+> 000102030405060708090a0b0c0d0e0f 1 1000000 5 [2 bytes]
+run show @db --field C
+> 000102030405060708090a0b0c0d0e0f 1 1000000 5 [2 bytes]
+run show @db --field D
+> 000102030405060708090a0b0c0d0e0f 1 1000000 5 [2 bytes]
+run show @db --field E
+prints "000102030405060708090a0b0c0d0e0f 1 1000000 5 " byte:194 byte:160 "\n"
+run show @db --field F
+> 000102030405060708090a0b0c0d0e0f 1 1000000 5 [2 bytes]
+run show @db --field G
+prints "000102030405060708090a0b0c0d0e0f 1 1000000 5 " byte:226 byte:128 byte:141 "\n"
+run show @db --field H
+> 000102030405060708090a0b0c0d0e0f 1 1000000 5 [3 bytes]
+run show @db --field I
+> 000102030405060708090a0b0c0d0e0f 1 1000000 5 [3 bytes]
+run show @db --field J
+prints "000102030405060708090a0b0c0d0e0f 1 1000000 5 " byte:226 byte:128 byte:167 "\n"
+run show @db --field K
+> 000102030405060708090a0b0c0d0e0f 1 1000000 5 [3 bytes]
+run show @db --field L
+> 000102030405060708090a0b0c0d0e0f 1 1000000 5 [3 bytes]
+run show @db --field M
+> 000102030405060708090a0b0c0d0e0f 1 1000000 5 [3 bytes]
+run show @db --field N
+> 000102030405060708090a0b0c0d0e0f 1 1000000 5 [3 bytes]
+run show @db --field O
+prints "000102030405060708090a0b0c0d0e0f 1 1000000 5 " byte:226 byte:128 byte:175 "\n"
+run show @db --field P
+> 000102030405060708090a0b0c0d0e0f 1 1000000 5 [3 bytes]
+run show @db --field Q
+> 000102030405060708090a0b0c0d0e0f 1 1000000 5 [3 bytes]
+run show @db --field R
+prints "000102030405060708090a0b0c0d0e0f 1 1000000 5 " byte:226 byte:129 byte:170 "\n"
+run show @db --field S
+prints "000102030405060708090a0b0c0d0e0f 1 1000000 5 " byte:239 byte:183 byte:143 "\n"
+run show @db --field T
+> 000102030405060708090a0b0c0d0e0f 1 1000000 5 [3 bytes]
+run show @db --field U
+> 000102030405060708090a0b0c0d0e0f 1 1000000 5 [3 bytes]
+run show @db --field V
+prints "000102030405060708090a0b0c0d0e0f 1 1000000 5 " byte:239 byte:183 byte:176 "\n"
+run show @db --field W
+prints "000102030405060708090a0b0c0d0e0f 1 1000000 5 " byte:239 byte:191 byte:189 "\n"
+run show @db --field X
+> 000102030405060708090a0b0c0d0e0f 1 1000000 5 [3 bytes]
+run show @db --field Y
+> 000102030405060708090a0b0c0d0e0f 1 1000000 5 [4 bytes]
+run show @db --field Z
+prints "000102030405060708090a0b0c0d0e0f 1 1000000 5 " byte:240 byte:160 byte:128 byte:128 "\n"
+run show @db --field TAB
+prints "000102030405060708090a0b0c0d0e0f 1 1000000 5 " byte:9 "\n"
+run export @db
+has "B=" byte:194 byte:128 "\n"
+
+case a file that is no database is read, and nothing stands beside it
+file @text "PRETTY_NAME=hezborun\n"
+run export @text
+fails 1 bad 64 0
+run show @text
+fails 1 bad 64 0
+run check @text
+> bad 64 0
+status 1
+run migrate @text
+> bad 64 0
+status 1
+missing @text-wal
+missing @text-shm
+missing @text-journal
+holds @text "PRETTY_NAME=hezborun\n"
+
 case what is asked for is refused before a database is opened
 run show @none --id ""
 fails 2 bad id
