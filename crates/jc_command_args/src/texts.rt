@@ -91,8 +91,7 @@ pub(crate) const CHECK_MORE: &str = "Prints one line:
 Example: a database of one entry prints `ok 1`
   journal-collect check logs.db";
 
-pub(crate) const MIGRATE: &str =
-    "Puts the entries of a database with older tables into newer ones";
+pub(crate) const MIGRATE: &str = "Puts the entries of a database with older tables into newer ones";
 
 pub(crate) const MIGRATE_MORE: &str = "Prints one line:
   ok COUNT    the database has those tables now, with the same COUNT entries

@@ -56,11 +56,7 @@ pub fn write_resume<'a, R: Files + AllocGlobal>(
 }
 
 /// Writes the text of a resume point, and all of it.
-fn put_point<'a, W: Write>(
-    alloc: Global,
-    file: &mut W,
-    resume: &Resume,
-) -> Result<(), Failure<'a>>
+fn put_point<'a, W: Write>(alloc: Global, file: &mut W, resume: &Resume) -> Result<(), Failure<'a>>
     ensures whole { OnOk result (Appends (W.contents file.old) (W.contents file.new) (resume_text resume.now)) }
     ensures failed { IfErr result (λ failure. (failure ≡ Failure.WriteFailed) ⊎ (failure ≡ Failure.OutOfMemory)) }
 {

@@ -85,12 +85,7 @@ fn stops(
         &mut output,
     );
     let (run, next) = opened(runs)?;
-    answered(
-        alloc,
-        run,
-        &output,
-        &["ack S 0 1 0 0", "ack S 0 1 1 0"],
-    )?;
+    answered(alloc, run, &output, &["ack S 0 1 0 0", "ack S 0 1 1 0"])?;
     has_entries(next, 3)?;
 
     let mut output = Vec::new(alloc);
@@ -107,12 +102,7 @@ fn stops(
         &mut errors,
     );
     let (run, next) = opened(runs)?;
-    answered(
-        alloc,
-        run,
-        &output,
-        &["ack S 0 1 0 0", "ack S 0 1 0 0"],
-    )?;
+    answered(alloc, run, &output, &["ack S 0 1 0 0", "ack S 0 1 0 0"])?;
     has_entries(next, 3)
 }
 
