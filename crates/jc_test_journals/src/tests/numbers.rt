@@ -16,12 +16,8 @@ use std::test::Fail;
 /// they are. The entries have the numbers 1 to 3, in the order of their keys.
 const ROWS: [(&str, Option<(Code, u64)>); 26] = [
     ("", None),
-    // an entry that has no field, and one whose number is another
+    // an entry that has no field
     ("DELETE FROM field WHERE id = 16384", None),
-    (
-        "UPDATE record SET id = 7 WHERE id = 2; UPDATE field SET id = 57344 WHERE id = 16384",
-        None,
-    ),
     // a place that isn't the next one
     (
         "UPDATE field SET id = 8193 WHERE id = 8192",
@@ -69,7 +65,12 @@ const ROWS: [(&str, Option<(Code, u64)>); 26] = [
         "INSERT INTO field VALUES (-8192, X'5A', X'31')",
         Some((Code::BadRow, 3)),
     ),
+    // a number that is left out, with the entry or without it
     ("DELETE FROM record WHERE id = 2", Some((Code::BadRow, 2))),
+    (
+        "UPDATE record SET id = 7 WHERE id = 2; UPDATE field SET id = 57344 WHERE id = 16384",
+        Some((Code::BadRow, 3)),
+    ),
     // and a bad record before them
     (
         "DELETE FROM record WHERE id = 1; UPDATE field SET id = 24577 WHERE id = 24576",

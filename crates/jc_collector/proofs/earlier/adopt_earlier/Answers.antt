@@ -6,14 +6,14 @@ use Rattle.jc_collector.proofs.earlier.adopt_earlier.Goals as goal
 
 pub returns-in-Ok-clause-adopted : goal.returns-in-Ok-clause-adopted
 returns-in-Ok-clause-adopted g c = record {
-  kind = (λ same. cc, λ has. absurd (true≢false (sym (c.has_fields.ensures.1 has) ∙ c.if-not-has_fields.false)));
+  kind = (λ same. cc, λ has. absurd (true≢false (sym (c.has_fields.ensures.1 has) ∙ c.if-not-has_fields.true)));
   was_sound = c.in-Ok.ensures.before;
   keeps = c.in-Ok.ensures.keeps;
 }
 
 pub returns-in-Ok-adopt-clause-adopted : goal.returns-in-Ok-adopt-clause-adopted
 returns-in-Ok-adopt-clause-adopted g c = record {
-  kind = (λ _. c.has_fields.ensures.0 c.if-not-has_fields.true, λ _. refl);
+  kind = (λ _. c.has_fields.ensures.0 c.if-not-has_fields.false, λ _. refl);
   was_sound = c.in-Ok-adopt.ensures.before;
   keeps = c.in-Ok-adopt.ensures.keeps;
 }
