@@ -29,7 +29,7 @@ struct Uploads {
 #[test]
 fn what_the_next_run_has(rt: HostRuntime) -> Result<(), Fail> {
     let folder = new_folder(&rt)?;
-    let uploads = uploads(&rt, folder.as_str())?;
+    let uploads = make_uploads(&rt, folder.as_str())?;
     stops(&rt, folder.as_str(), "key", Tables::ByKey, &uploads)?;
     stops(&rt, folder.as_str(), "number", Tables::ByNumber, &uploads)?;
     fs::remove_dir_all(&rt, folder.as_str())?;
@@ -145,11 +145,11 @@ fn stream(bytes: &[u8]) -> Upload<'_> {
     Delivery::Stream(FromRead::new(bytes))
 }
 
-fn uploads(rt: &HostRuntime, folder: &str) -> io::Result<Uploads> {
+fn make_uploads(rt: &HostRuntime, folder: &str) -> io::Result<Uploads> {
     let alloc = rt.alloc();
-    let first = upload(alloc, "head:1:0 ENTRY")?;
-    let second = upload(alloc, "head:1:0 ENTRY_2")?;
-    let third = upload(alloc, "head:1:0 ENTRY_3")?;
+    let first = make_upload(alloc, "head:1:0 ENTRY")?;
+    let second = make_upload(alloc, "head:1:0 ENTRY_2")?;
+    let third = make_upload(alloc, "head:1:0 ENTRY_3")?;
     let one = format!(in alloc; "{folder}first")?;
     let two = format!(in alloc; "{folder}second")?;
     fs::write(rt, one.as_str(), &first)?;
@@ -163,7 +163,7 @@ fn uploads(rt: &HostRuntime, folder: &str) -> io::Result<Uploads> {
     })
 }
 
-fn upload(alloc: Global, pieces: &str) -> io::Result<Vec<u8>> {
+fn make_upload(alloc: Global, pieces: &str) -> io::Result<Vec<u8>> {
     let mut bytes = Vec::new(alloc);
     add_pieces(alloc, pieces, &mut bytes)?;
     Ok(bytes)
