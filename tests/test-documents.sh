@@ -50,7 +50,8 @@ changed deploy/collector.conf '$a # 1,234 bytes for each entry, and 7.5 million 
 deploy/collector.conf: the figure '7.5 million' isn't in the table of docs/PERFORMANCE.md"
 changed docs/PERFORMANCE.md 's/^## Figures to plan with$/## Others/' \
     "~docs/PERFORMANCE.md has no figures under 'Figures to plan with'*"
-changed docs/GUIDE.md 's/^## Sizing$/## Size/' "docs/LIMITS.md: there is no GUIDE.md#sizing"
+changed docs/GUIDE.md 's/^## Sizing$/## Size/' \
+    $'docs/LIMITS.md: there is no GUIDE.md#sizing\ndocs/LIMITS.md: there is no GUIDE.md#sizing'
 changed docs/GUIDE.md 's/\]\(#an-engine\)/](#engine)/' "docs/GUIDE.md: there is no #engine"
 changed docs/GATE.md 's/^There are [0-9]+\.$/There are 7./' "~docs/GATE.md tells of 7 edits, and there are *"
 changed docs/FAULTS.md '/^- .*: 380 =/s/ 40$/ 47/' \

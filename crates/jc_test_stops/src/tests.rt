@@ -44,18 +44,31 @@ fn stops(
     tables: Tables,
     uploads: &Uploads,
 ) -> Result<(), Fail> {
-    let alloc = rt.alloc();
-    let database = format!(in alloc; "{folder}{name}.db")?;
+    let database = format!(in rt.alloc(); "{folder}{name}.db")?;
     let path = database.as_str();
-    let mut output = Vec::new(alloc);
-    let mut one = [stream(&uploads.first)];
-    let run = collect_and_stop(rt, Unknown, path, tables, None, &mut one, &mut output);
-    answered(alloc, opened(run)?, &output, &["ack S 0 1 1 0"])?;
+    deliveries_stop(rt, path, tables, uploads)?;
+    lines_stop(rt, path, tables, uploads)?;
+    deliveries_stop_and_open(rt, path, tables, uploads)?;
+    lines_stop_and_open(rt, path, tables, uploads)
+}
 
-    let mut output = Vec::new(alloc);
-    let mut errors = Vec::new(alloc);
+fn deliveries_stop(
+    rt: &HostRuntime,
+    path: &str,
+    tables: Tables,
+    uploads: &Uploads,
+) -> Result<(), Fail> {
+    let mut output = Vec::new(rt.alloc());
+    let mut one = [stream(&uploads.first)];
+    let run = opened(collect_and_stop(rt, Unknown, path, tables, None, &mut one, &mut output))?;
+    answered(rt.alloc(), run, &output, &["ack S 0 1 1 0"])
+}
+
+fn lines_stop(rt: &HostRuntime, path: &str, tables: Tables, uploads: &Uploads) -> Result<(), Fail> {
+    let mut output = Vec::new(rt.alloc());
+    let mut errors = Vec::new(rt.alloc());
     let mut names = uploads.names.as_bytes();
-    let run = collect_lines_and_stop(
+    let run = opened(collect_lines_and_stop(
         rt,
         Unknown,
         path,
@@ -64,17 +77,20 @@ fn stops(
         &mut names,
         &mut output,
         &mut errors,
-    );
-    answered(
-        alloc,
-        opened(run)?,
-        &output,
-        &["ack S 0 1 0 0", "ack S 0 1 1 0"],
-    )?;
+    ))?;
+    let answers = ["ack S 0 1 0 0", "ack S 0 1 1 0"];
+    answered(rt.alloc(), run, &output, &answers)
+}
 
-    let mut output = Vec::new(alloc);
+fn deliveries_stop_and_open(
+    rt: &HostRuntime,
+    path: &str,
+    tables: Tables,
+    uploads: &Uploads,
+) -> Result<(), Fail> {
+    let mut output = Vec::new(rt.alloc());
     let mut two = [stream(&uploads.second), stream(&uploads.third)];
-    let runs = open_after_stop(
+    let (run, next) = opened(open_after_stop(
         rt,
         Unknown,
         Unknown,
@@ -83,14 +99,22 @@ fn stops(
         None,
         &mut two,
         &mut output,
-    );
-    let (run, next) = opened(runs)?;
-    answered(alloc, run, &output, &["ack S 0 1 0 0", "ack S 0 1 1 0"])?;
+    ))?;
     has_entries(next, 3)?;
+    let answers = ["ack S 0 1 0 0", "ack S 0 1 1 0"];
+    answered(rt.alloc(), run, &output, &answers)
+}
 
-    let mut output = Vec::new(alloc);
+fn lines_stop_and_open(
+    rt: &HostRuntime,
+    path: &str,
+    tables: Tables,
+    uploads: &Uploads,
+) -> Result<(), Fail> {
+    let mut output = Vec::new(rt.alloc());
+    let mut errors = Vec::new(rt.alloc());
     let mut names = uploads.names.as_bytes();
-    let runs = open_after_lines(
+    let (run, next) = opened(open_after_lines(
         rt,
         Unknown,
         Unknown,
@@ -100,10 +124,10 @@ fn stops(
         &mut names,
         &mut output,
         &mut errors,
-    );
-    let (run, next) = opened(runs)?;
-    answered(alloc, run, &output, &["ack S 0 1 0 0", "ack S 0 1 0 0"])?;
-    has_entries(next, 3)
+    ))?;
+    has_entries(next, 3)?;
+    let answers = ["ack S 0 1 0 0", "ack S 0 1 0 0"];
+    answered(rt.alloc(), run, &output, &answers)
 }
 
 fn opened<T: Drop>(run: Result<T, Failure<'_>>) -> Result<T, Fail> {
