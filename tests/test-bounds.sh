@@ -179,9 +179,10 @@ expect 0 "" "" "$library/collect-incoming" --forget web "$id" "$conf"
 expect 0 "" "" collect
 expect 0 "10 5" "" stored
 
-# the same by the time on a processor; and an upload that takes so long to read is refused
-begin
-costly dense 1900 > "$folder/dense"
+# the same by the time on a processor, of which it needs more on the fastest one; and an upload that takes so long to
+# read is refused
+begin UPLOAD_FIELDS=5000000
+costly dense 4000 > "$folder/dense"
 expect 0 "" "" receive web "$folder/dense"
 echo UPLOAD_CPU_SECONDS=1 >> "$conf"
 expect 1 "" "~collect-incoming: set aside: web@$id: it takes over * seconds*; it is kept as *" collect
