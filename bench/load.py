@@ -216,8 +216,9 @@ def busy() -> float:
 
 
 def measure(place: Place, way: str, entries: int, asked: argparse.Namespace) -> str:
-    figures, begin, machines = Figures(), time.monotonic() + 1, place.machines
-    before, was_busy = place.used(), busy()
+    figures, machines, before, was_busy = Figures(), place.machines, place.used(), busy()
+    started = time.monotonic()
+    begin = started + 1
     threads = [threading.Thread(target=serve, args=(
         machine, way, entries, begin + asked.every * number / len(machines), begin + asked.seconds, asked.every,
         figures)) for number, machine in enumerate(machines)]
@@ -226,7 +227,7 @@ def measure(place: Place, way: str, entries: int, asked: argparse.Namespace) -> 
     for thread in threads:
         thread.join()
     time.sleep(3)
-    took = time.monotonic() - begin
+    took = time.monotonic() - started
     used = {name: value - before[name] for name, value in place.used().items()}
     share = (busy() - was_busy) / took / (os.cpu_count() or 1)
     return text_of(figures, way, entries, used, share)
