@@ -3,13 +3,14 @@
 usage: python3 ack_rows.py LIBRARY [ROW..]
 """
 import gzip
+import hashlib
 import os
 import shutil
 import struct
 import sys
 import zlib
 
-from collector_case import HERE, SOURCE, Case, entries, file_upload, upload
+from collector_case import HERE, SEQUENCE, SOURCE, Case, entries, file_upload, upload
 from trial_rows import Row, Rows
 
 ROWS: Rows = Rows()
@@ -139,6 +140,34 @@ def record_of_another_position(row: Row, case: Case) -> None:
         file.write(text + b"sum %08x\n" % zlib.crc32(text))
     case.store(upload(entries(3, 3), start=2))
     row.expect("entry 3", case.numbers().count(3), 2)
+
+
+def identity(number: int, pairs: list[tuple[bytes, bytes]]) -> bytes:
+    """What every version has noted of an entry: of its key, and of its times with its pairs in their order."""
+    key = hashlib.blake2b(f"{SEQUENCE} {number}".encode(), digest_size=8)
+    content = hashlib.blake2b(b"%d %d" % (1_700_000_000_000_000 + number, number), digest_size=8)
+    for name, value in pairs:
+        content.update(b" %d %d %s%s" % (len(name), len(value), name, value))
+    return key.digest() + content.digest()
+
+
+@ROWS.once
+def what_is_noted_of_entries(row: Row, case: Case) -> None:
+    """A version that noted something else of an entry would store again what an earlier one has acknowledged. Neither
+    the order of fields, nor their spelling, nor one that comes twice changes it."""
+    texts = [b"__SEQNUM=%d\n__SEQNUM_ID=%s\n__MONOTONIC_TIMESTAMP=%d\n__REALTIME_TIMESTAMP=%d\n" % (
+        number, SEQUENCE.encode(), number, 1_700_000_000_000_000 + number) for number in (1, 2, 3)]
+    long = b"MESSAGE\n" + (3).to_bytes(8, "little") + b"a\nb\n"
+    spelled = b"PRIORITY\n" + (1).to_bytes(8, "little") + b"6\n"
+    case.store(upload([texts[0] + b"PRIORITY=6\nMESSAGE=a=b\n\n", b"\n" + long + texts[1] + b"PRIORITY=6\n\n",
+                       b"PRIORITY=6\nA=\n" + texts[2] + spelled + b"\n"]))
+    wanted = [identity(1, [(b"MESSAGE", b"a=b"), (b"PRIORITY", b"6")]),
+              identity(2, [(b"MESSAGE", b"a\nb"), (b"PRIORITY", b"6")]),
+              identity(3, [(b"A", b""), (b"PRIORITY", b"6")])]
+    with open(case.path("sources", "web", f"{SOURCE}.entries"), "rb") as file:
+        records = file.read()
+    row.expect("records", [record.hex() for record in struct.unpack("24s" * 3, records)], [
+        (at.to_bytes(8, "little") + each).hex() for at, each in enumerate(wanted)])
 
 
 @ROWS.once
