@@ -24,8 +24,9 @@ class Moment(NamedTuple):
 
 def now() -> Moment:
     """What the clocks say now."""
-    with open(BOOT_ID, encoding="ascii") as file:
-        boot = file.read().strip()
+    # As text it would be read by a module that takes longer to load than a call does.
+    with open(BOOT_ID, "rb") as file:
+        boot = file.read().decode("ascii").strip()
     return Moment(boot, time.clock_gettime(time.CLOCK_MONOTONIC_RAW), time.time())
 
 

@@ -2,7 +2,6 @@
 from __future__ import annotations
 
 import os
-import struct
 
 from shared import processes
 from shared.records import NamedTuple
@@ -116,7 +115,7 @@ def header(path: str) -> tuple[int, str, int]:
         head = file.read(HEAD)
     if len(head) < HEAD:
         raise Failed(f"{path} has no whole header")
-    return head[8], head[16:32].hex(), struct.unpack_from("<Q", head, START)[0]
+    return head[8], head[16:32].hex(), int.from_bytes(head[START:START + 8], "little")
 
 
 def copy_body(path: str, body: str) -> None:
@@ -141,7 +140,7 @@ def cut(path: str, upload: Upload, skipped: int, before: Key | None, count: int)
         raise Failed(f"{path} can't be cut: {errors.decode(errors='replace').strip()}")
     with open(made, "r+b") as file:
         file.seek(START)
-        file.write(struct.pack("<Q", upload.start + skipped))
+        file.write((upload.start + skipped).to_bytes(8, "little"))
     return made
 
 
