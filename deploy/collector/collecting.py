@@ -1,6 +1,7 @@
 """The process of the program that stores uploads in one database."""
 import select
 import subprocess
+import time
 from collections.abc import Sequence
 
 from shared import files
@@ -23,6 +24,8 @@ class Collecting:
         self.process = subprocess.Popen(
             [program.path_of_program(), "collect", "--files-from", "-", *options, database], stdin=subprocess.PIPE,
             stdout=subprocess.PIPE, stderr=subprocess.PIPE, pass_fds=held, start_new_session=True)
+        self.bounds, self.until = costs.Bounds(0, 0.0, 0, False), 0.0
+        self.is_broken = False
         self.errors = ""
         self.status = 0
         self.gave_up = False
@@ -30,16 +33,26 @@ class Collecting:
 
     def ask(self, path: str) -> Answer:
         """Has an upload stored. If the database failed, or the upload costs too much, that is the process's end."""
-        bounds = costs.of_upload(self.settings, path)
+        self.hand(path)
+        return self.answer()
+
+    def hand(self, path: str) -> None:
+        """Hands an upload to the process, which has answered the one before."""
+        bounds = self.bounds = costs.of_upload(self.settings, path)
         largest = max(files.size(self.database), files.size(self.database + "-wal"))
         self.largest_file = largest + bounds.growth
         costs.impose(self.process.pid, bounds.seconds + self.opening, self.largest_file)
+        self.until = time.monotonic() + bounds.clock + self.opening
         try:
             self.process.stdin.write(path.encode() + b"\n")
             self.process.stdin.flush()
-            line = self.next_line(bounds.clock + self.opening)
         except BrokenPipeError:
-            line = b""
+            self.is_broken = True
+
+    def answer(self) -> Answer:
+        """What it answers to the upload that was handed to it."""
+        bounds = self.bounds
+        line = b"" if self.is_broken else self.next_line(bounds)
         if not line.endswith(b"\n"):
             raise self.why(bounds)
         self.opening = 0
@@ -52,12 +65,12 @@ class Collecting:
         self.gave_up = self.gave_up or answer.code in (UNREAD, NO_MEMORY)
         return answer
 
-    def next_line(self, seconds: float) -> bytes:
+    def next_line(self, bounds: costs.Bounds) -> bytes:
         """What it answers, if that comes in time."""
-        ready, _, _ = select.select([self.process.stdout], [], [], seconds)
+        ready, _, _ = select.select([self.process.stdout], [], [], max(0.0, self.until - time.monotonic()))
         if not ready:
             self.process.kill()
-            raise program.TooCostly(f"it takes over {int(seconds)} seconds")
+            raise program.TooCostly(f"it takes over {int(bounds.clock + self.opening)} seconds")
         return self.process.stdout.readline()
 
     def why(self, bounds: costs.Bounds, text: str = "it ended without an answer") -> program.Ended:

@@ -8,12 +8,13 @@ import time
 from shared import files
 
 from . import aside, costs, databases, program, shares, spool, storing
-from .answer import Answer
+from .answer import NO_MEMORY, UNREAD
 from .collecting import Collecting
 from .report import report
 from .settings import Settings
 from .spool import Waiting
 from .tally import Tally
+from .turn import Turn
 
 # An upload that can't be read, and a database that can't be begun, are tried again after so many seconds.
 AGAIN = 300.0
@@ -127,7 +128,10 @@ class Collector:
         self.shared, self.number, self.once = shared, number, once
         self.name = ""
         self.process: Collecting | None = None
-        self.tally, self.new = Tally(), 0
+        self.tally = Tally()
+        # The upload that the program stores, and the one that is read meanwhile.
+        self.asked: Turn | None = None
+        self.following: Turn | None = None
         self.began = 0.0
         self.turns = 0
         self.later: dict[str, float] = {}
@@ -178,48 +182,113 @@ class Collector:
             if self.shared.stops or time.monotonic() < self.not_before:
                 break
             taken += self.take(upload)
-            self.finish_if_due()
+            if not self.asked:
+                self.finish_if_due()
+        self.settle()
         if not self.process:
             self.let_go()
         self.finish_if_due()
         return taken
 
     def take(self, upload: Waiting) -> bool:
-        """Takes an upload that waits. Whether it was there, and nobody is at work for its machine."""
+        """Takes an upload that waits, and reads it while the program stores the one before. Whether it was there, and
+        nobody is at work for its machine."""
         if not self.shared.begin(upload.machine):
             return False
+        turn = None
         try:
-            return self.take_alone(upload)
+            turn = self.begun(upload)
         finally:
-            self.shared.end(upload.machine)
+            if not turn or turn.outcome:
+                self.shared.end(upload.machine)
+        self.settle(turn if turn and not turn.outcome else None)
+        if turn and turn.waits_again and self.is_due() and not self.shared.stops:
+            self.finish()
+            return self.take(upload)
+        if self.number == self.shared.settings.collectors:
+            # Of what is long, one is in hand at a time.
+            self.settle()
+        return turn is not None
 
-    def take_alone(self, upload: Waiting) -> bool:
-        """Takes an upload that waits, of a machine that nobody else is at work for. Whether it was there."""
+    def begun(self, upload: Waiting) -> Turn | None:
+        """An upload that belongs to the present database from now on, and is read; nothing if it isn't there. If the
+        program needn't be asked, it is at its end."""
         if not self.name:
             self.name = self.shared.reserve()
         if not spool.take(upload, self.name):
-            return False
-        is_first, self.new = self.tally.is_first(upload.machine), 0
-        path = os.path.join("batch", self.name, upload.name)
-        meter = costs.Meter(path, self.process and self.process.process.pid, databases.bytes_of(self.name))
+            return None
+        turn = Turn(upload, self.name, self.shared.age, self.tally.is_first(upload.machine))
+        turn.go_on()
+        if turn.outcome:
+            self.end(turn)
+        return turn
+
+    def settle(self, following: Turn | None = None) -> None:
+        """Waits for the answer to what the program stores, and keeps it, while the program stores what follows."""
+        self.following = following
+        if self.asked and self.process:
+            self.settle_asked(self.asked, self.process)
+            if self.following and (self.shared.stops or self.is_due()):
+                self.drop()
+        if self.following:
+            self.hand(self.following)
+
+    def settle_asked(self, turn: Turn, process: Collecting) -> None:
+        """The answer to an upload. It is kept once the program has what follows, unless the answer is a failure."""
+        self.asked = None
         try:
-            outcome = storing.store(upload, self.name, self.shared.age, self.ask)
+            answer = process.answer()
+            turn.new += answer.new
+            turn.meter.end(process.process.pid, databases.bytes_of(self.name))
+            is_well = answer.code not in (UNREAD, NO_MEMORY)
+            if self.following and is_well and not self.shared.stops and not self.is_due():
+                self.hand(self.following)
+            turn.go_on(answer)
+            self.end(turn)
         except program.TooCostly as error:
-            self.set_aside(upload, error)
-            return True
+            self.set_aside(turn.upload, error)
         except program.Ended as error:
             report(3, f"collecting into {databases.path_of(self.name)} ended: {error}")
             self.leave()
-            return True
-        if outcome == storing.Outcome.LATER:
+        finally:
+            turn.close()
+            self.shared.end(turn.upload.machine)
+
+    def hand(self, turn: Turn) -> None:
+        """Has the program store an upload in the present database, which is begun if there is none yet."""
+        if not self.process:
+            self.process = self.shared.collecting(self.name)
+            self.began, self.turns = time.monotonic(), self.shared.turns
+        turn.meter.begin(self.process.process.pid, databases.bytes_of(self.name))
+        turn.is_handed = True
+        self.process.hand(turn.path)
+        self.asked, self.following = turn, None
+
+    def end(self, turn: Turn) -> None:
+        """What is to be done once an upload's answer is kept, or there is none."""
+        upload = turn.upload
+        if turn.outcome == storing.Outcome.LATER:
             self.later[upload.name] = time.monotonic() + AGAIN
-            spool.give_back(self.name, upload)
-        self.tally.add(upload.machine, self.new, self.name, is_first)
-        meter.charge(upload.machine, self.process and self.process.process.pid, databases.bytes_of(self.name))
-        if outcome == storing.Outcome.UNSURE:
+            spool.give_back(turn.database, upload)
+        self.tally.add(upload.machine, turn.new, turn.database, turn.is_first)
+        turn.meter.charge(upload.machine)
+        if turn.outcome == storing.Outcome.UNSURE:
             self.close_without(upload)
         self.pause = 0.0
-        return True
+
+    def drop(self) -> None:
+        """Nothing is in hand any more. What the program may have stays with the database, and else it waits again."""
+        turns = [turn for turn in (self.following, self.asked) if turn]
+        self.following = self.asked = None
+        with contextlib.ExitStack() as ends:
+            for turn in turns:
+                ends.callback(self.shared.end, turn.upload.machine)
+                turn.close()
+            for turn in turns:
+                turn.waits_again = not turn.is_handed
+                if turn.waits_again:
+                    self.tally.forget(turn.upload.machine, turn.is_first)
+                    spool.give_back(turn.database, turn.upload)
 
     def close_without(self, upload: Waiting) -> None:
         """Closes the present database after its program had no memory for an upload. If it is closed well it doesn't
@@ -249,22 +318,16 @@ class Collector:
         self.is_short = is_short
         return found
 
-    def ask(self, path: str) -> Answer:
-        """Has an upload stored in the present database, which is begun if there is none yet."""
-        if not self.process:
-            self.process = self.shared.collecting(self.name)
-            self.began, self.turns = time.monotonic(), self.shared.turns
-        answer = self.process.ask(path)
-        self.new += answer.new
-        return answer
+    def is_due(self) -> bool:
+        """Whether the present database is old or large enough, or somebody asked for its end."""
+        settings = self.shared.settings
+        return self.process is not None and (
+            time.monotonic() - self.began >= settings.database_seconds or self.turns != self.shared.turns
+            or databases.bytes_of(self.name) >= settings.database_bytes)
 
     def finish_if_due(self) -> None:
-        """Finishes a database that is old or large enough, or if somebody asked for it."""
-        settings = self.shared.settings
-        if not self.process:
-            return
-        is_old = time.monotonic() - self.began >= settings.database_seconds
-        if is_old or self.turns != self.shared.turns or databases.bytes_of(self.name) >= settings.database_bytes:
+        """Ends a database whose end is due."""
+        if self.is_due():
             self.finish()
 
     def finish(self) -> None:
@@ -295,14 +358,18 @@ class Collector:
         self.shared.wake()
 
     def leave_process(self) -> Collecting | None:
-        """Ends the present process, whatever it says; which one that was."""
+        """Ends the present process, whatever it says; which one that was. What it is at stays within its bounds."""
         process, self.process = self.process, None
+        if process and self.asked:
+            with contextlib.suppress(program.Ended):
+                process.answer()
         if process:
             process.end()
         return process
 
     def let_go(self) -> None:
         """Has no database any more."""
+        self.drop()
         self.tally.entries.clear()
         if self.name:
             databases.release(self.name)

@@ -1,7 +1,9 @@
 """What one upload may cost the process that stores it: the kernel ends the process if it costs more."""
+import contextlib
 import os
 import resource
 import time
+from collections.abc import Iterator
 from typing import NamedTuple
 
 from shared import files
@@ -55,19 +57,33 @@ def of_upload(settings: Settings, path: str) -> Bounds:
 
 
 class Meter:
-    """What an upload uses from now on: of the disk, of this thread, and of the process that stores it."""
+    """What an upload uses: of the disk, of this thread while it is at it, and of the process that stores it."""
 
-    def __init__(self, path: str, process: int | None, stored: int) -> None:
-        self.size, self.stored = files.size(path), stored
-        self.thread = time.thread_time()
-        self.process = processor_seconds(process) if process else 0.0
+    def __init__(self, path: str) -> None:
+        self.size, self.seconds = files.size(path), 0.0
+        self.stored, self.process = 0, 0.0
 
-    def charge(self, machine: str, process: int | None, stored: int) -> None:
+    @contextlib.contextmanager
+    def thread(self) -> Iterator[None]:
+        """What this thread does meanwhile is for the upload."""
+        begun = time.thread_time()
+        try:
+            yield
+        finally:
+            self.seconds += time.thread_time() - begun
+
+    def begin(self, process: int, stored: int) -> None:
+        """The process has the upload from now on; the bytes of the database."""
+        self.stored, self.process = stored, processor_seconds(process)
+
+    def end(self, process: int, stored: int) -> None:
+        """The process has stored it."""
+        self.size += max(0, stored - self.stored)
+        self.seconds += max(0.0, processor_seconds(process) - self.process)
+
+    def charge(self, machine: str) -> None:
         """Adds it to what its machine has used today."""
-        seconds = time.thread_time() - self.thread
-        if process:
-            seconds += max(0.0, processor_seconds(process) - self.process)
-        shares.use(machine, self.size + max(0, stored - self.stored), seconds)
+        shares.use(machine, self.size, self.seconds)
 
 
 def processor_seconds(process: int) -> float:

@@ -3,10 +3,11 @@
 An upload lies in batch/DATABASE before it is stored, and stays there until its answer is kept. So whatever stops a run,
 it is stored in that database and in no other.
 """
+import contextlib
 import enum
 import os
-from collections.abc import Callable
-from typing import NamedTuple
+from collections.abc import Callable, Generator
+from typing import NamedTuple, TypeVar
 
 from shared import files
 
@@ -21,6 +22,10 @@ BAD_HEADER = (1, 2, 3, 4)
 
 Ask = Callable[[str], Answer]
 Found = list[tuple[Key, bytes]]
+T = TypeVar("T")
+# What stores an upload stops where the program is to be asked: it gives the path of what is to be stored, and goes on
+# with the answer.
+Asking = Generator[str, Answer, T]
 
 
 class Outcome(enum.Enum):
@@ -40,31 +45,41 @@ class Spoiled(Exception):
 
 
 class Step(NamedTuple):
-    """An upload, what is known of its source, and what is asked for."""
+    """An upload, and what is known of its source."""
     upload: Waiting
     database: str
     path: str
     kept: str
     known: source.Source
-    ask: Ask
 
 
 def store(upload: Waiting, folder: str, age: float, ask: Ask) -> Outcome:
-    """Has an upload stored by what `ask` asks, and keeps its answer. Raises program.Ended if the database failed; one
-    that the collector failed to read is to be tried later, and one that it had no memory for once its database is
-    closed."""
+    """Has an upload stored by what `ask` asks, and keeps its answer; see `begun`."""
+    with contextlib.closing(begun(upload, folder, age)) as asking:
+        try:
+            path = next(asking)
+            while True:
+                path = asking.send(ask(path))
+        except StopIteration as end:
+            outcome: Outcome = end.value
+    return outcome
+
+
+def begun(upload: Waiting, folder: str, age: float) -> Asking[Outcome]:
+    """Stores an upload, and keeps its answer. Raises program.Ended if the database failed; one that the collector
+    failed to read is to be tried later, and one that it had no memory for once its database is closed."""
     path = os.path.join("batch", folder, upload.name)
     kept = os.path.join("sources", upload.machine, upload.source)
     with source.locked(upload.machine):
-        return keep(Step(upload, folder, path, kept, read_source(kept), ask), age)
+        return (yield from keep(Step(upload, folder, path, kept, read_source(kept)), age))
 
 
-def keep(step: Step, age: float) -> Outcome:
+def keep(step: Step, age: float) -> Asking[Outcome]:
     """Has an upload stored, and keeps its answer."""
     upload, path = step.upload, step.path
     program.remove_parts(path)
     try:
-        step, answer = answered(step)
+        step, answer = yield from answered(step)
     except Spoiled as error:
         kept_as = spool.put_aside(path)
         report(3, f"{upload.of}: {error}: it is put aside as {kept_as}; its machine sends it again")
@@ -115,16 +130,16 @@ def forgotten(kept: str, error: source.Damaged) -> source.Source:
     return source.Source()
 
 
-def answered(step: Step) -> tuple[Step, Answer | None]:
+def answered(step: Step) -> Asking[tuple[Step, Answer | None]]:
     """The answer to an upload; records that aren't right are found out by the way."""
     try:
-        return step, answer_to(step)
+        return step, (yield from answer_to(step))
     except source.Damaged as error:
         step = step._replace(known=forgotten(step.kept, error))
-        return step, answer_to(step)
+        return step, (yield from answer_to(step))
 
 
-def answer_to(step: Step) -> Answer | None:
+def answer_to(step: Step) -> Asking[Answer | None]:
     """The answer to an upload, which is stored first; None if that is to be tried later."""
     told = program.inspect(step.path)
     if isinstance(told, program.Fault) and told.code in BAD_HEADER:
@@ -133,21 +148,21 @@ def answer_to(step: Step) -> Answer | None:
     if name != step.upload.source:
         raise Spoiled(f"it is one of the source {name}")
     if isinstance(told, program.Fault):
-        return asked(step, step.path)
+        return (yield from asked(step, step.path))
     if kind == program.JOURNAL_FILE:
-        return answer_to_file(step, told)
+        return (yield from answer_to_file(step, told))
     try:
         found = list(entries.entries(step.path))
     except (KeyError, ValueError) as error:
         raise program.Failed(f"{step.path} isn't read as the program reads it: {error!r}") from error
     if len(found) != told.count or (found and found[-1][0] != told.last):
         raise program.Failed(f"{step.path} isn't read as the program reads it")
-    return answer_to_stream(step, told, start, found)
+    return (yield from answer_to_stream(step, told, start, found))
 
 
-def asked(step: Step, path: str) -> Answer | None:
+def asked(step: Step, path: str) -> Asking[Answer | None]:
     """The program's answer, if it says something of the upload."""
-    answer = step.ask(path)
+    answer = yield path
     if answer.code == NO_MEMORY:
         raise NoMemory(answer.text)
     if answer.code == UNREAD:
@@ -173,7 +188,7 @@ def acknowledged(step: Step, told: program.Upload, answer: Answer, begin: int, e
     return known.joined_answer(name, run, answer.new, told.left if end == told.start + told.count else 0)
 
 
-def answer_to_file(step: Step, told: program.Upload) -> Answer | None:
+def answer_to_file(step: Step, told: program.Upload) -> Asking[Answer | None]:
     """The answer to a journal file. It can't be cut, so one that changed is stored whole. Its positions say nothing of
     another file or of a stream under the same id, so they aren't kept, and no answer is joined with theirs."""
     digest, known = databases.digest_of(step.path), step.known
@@ -183,7 +198,7 @@ def answer_to_file(step: Step, told: program.Upload) -> Answer | None:
         return refused(told.source, told.start, CONFLICT, known.refused_files[digest])
     if known.files:
         report(1, f"{step.upload.of}: the journal file isn't the one that came before; it is stored again")
-    answer = asked(step, step.path)
+    answer = yield from asked(step, step.path)
     if answer and answer.is_ack:
         known.files[digest] = step.database
         sequences.add(step.upload.machine, {told.last.sequence} if told.last else ())
@@ -192,7 +207,7 @@ def answer_to_file(step: Step, told: program.Upload) -> Answer | None:
     return answer
 
 
-def answer_to_stream(step: Step, told: program.Upload, start: int, found: Found) -> Answer | None:
+def answer_to_stream(step: Step, told: program.Upload, start: int, found: Found) -> Asking[Answer | None]:
     """The answer to a stream. What of it is acknowledged isn't stored again."""
     identities = [identity for _, identity in found]
     known_of = records.known_of(step.kept, step.known, start, identities)
@@ -201,7 +216,7 @@ def answer_to_stream(step: Step, told: program.Upload, start: int, found: Found)
         return refused(told.source, start, planned.code, planned.place)
     answer: Answer | None = acked(told.source, start, 0, 0, told.left)
     if planned.begin < planned.end or not found:
-        answer = stored(step, told, planned, found)
+        answer = yield from stored(step, told, planned, found)
         if answer is None or not answer.is_ack:
             return answer
     if planned.known == 0:
@@ -221,13 +236,13 @@ def joined_empty(step: Step, answer: Answer) -> Answer:
     return step.known.joined_answer(answer.source, run, 0, answer.left) if run else answer
 
 
-def stored(step: Step, told: program.Upload, planned: plan.Plan, found: Found) -> Answer | None:
+def stored(step: Step, told: program.Upload, planned: plan.Plan, found: Found) -> Asking[Answer | None]:
     """Has the new entries of a stream stored. A conflict is kept, so that it stays one in every database."""
     path = step.path
     if planned.begin > 0 or planned.end < told.count:
         before = found[planned.begin - 1][0] if planned.begin else None
         path = program.cut(step.path, told, planned.begin, before, planned.end - planned.begin)
-    answer = asked(step, path)
+    answer = yield from asked(step, path)
     if answer is None:
         return None
     if answer.is_ack and answer.count != planned.end - planned.begin:

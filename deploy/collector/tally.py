@@ -19,6 +19,11 @@ class Tally:
         self.known.add(machine)
         return not source.names(machine)
 
+    def forget(self, machine: str, is_first: bool) -> None:
+        """Nothing of a machine was answered after all, if that is so."""
+        if is_first:
+            self.known.discard(machine)
+
     def add(self, machine: str, new: int, name: str, is_first: bool) -> None:
         """So many entries of a machine are new in the database."""
         self.entries[machine] += new
