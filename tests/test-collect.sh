@@ -151,6 +151,6 @@ fi
 
 export PROGRAM
 for part in runs at_once full kills older; do
-    python3 "tests/collect/$part.py" || differs "tests/collect/$part.py"
+    PYTHONPATH=tests python3 "tests/collect/$part.py" || differs "tests/collect/$part.py"
 done
 finish
