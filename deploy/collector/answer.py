@@ -6,14 +6,6 @@ UNREAD, STORE_FAILED, NO_MEMORY = 61, 62, 63
 CONFLICT, NOT_THE_SAME = 60, 70
 
 
-HEXADECIMAL = frozenset("0123456789abcdef")
-
-
-def is_source(name: str) -> bool:
-    """Whether it is a source's id: 32 hexadecimal digits in lower case."""
-    return len(name) == 32 and HEXADECIMAL.issuperset(name)
-
-
 class NoAnswer(Exception):
     """A line isn't an answer."""
 

@@ -16,9 +16,9 @@ import time
 from typing import NamedTuple
 
 from shared import files
+from shared.formats import is_id
 
 from . import databases, kept, missing, retention, source, state
-from .answer import is_source
 from .report import report, status, tell
 
 MANIFEST, FORMAT = "backup", "backup 1"
@@ -200,7 +200,7 @@ def restore(folder: str) -> int:
 def restore_source(machine: str, name: str, machines: str) -> bool:
     """Puts back what was known of a source, unless something is known of it. Whether it was put back."""
     path = os.path.join("sources", machine, name)
-    if not is_source(name) or os.path.lexists(path):
+    if not is_id(name) or os.path.lexists(path):
         return False
     copy_source(os.path.join(machines, machine, name), path)
     return True

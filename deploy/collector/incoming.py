@@ -6,9 +6,9 @@ from collections.abc import Callable
 from typing import NamedTuple
 
 from shared import files
+from shared.formats import is_id
 
 from . import aside, backup, databases, kept, program, renaming, retention, service, settings, source
-from .answer import is_source
 from .report import tell
 from .settings import Settings, Wrong
 
@@ -129,7 +129,7 @@ def is_number_of_days(word: str) -> bool:
 
 # Which words can be what.
 RIGHT: dict[str, Callable[[str], object]] = {
-    "MACHINE": settings.is_machine, "OLD": settings.is_machine, "NEW": settings.is_machine, "SOURCE": is_source,
+    "MACHINE": settings.is_machine, "OLD": settings.is_machine, "NEW": settings.is_machine, "SOURCE": is_id,
     "DAYS": is_number_of_days, "DATABASE": databases.NAME.fullmatch,
     "FOLDER": lambda word: word and not word.startswith("-")
 }

@@ -7,11 +7,11 @@ from __future__ import annotations
 import os
 
 from shared import files
+from shared.formats import is_id
 
 from . import state
 
 NAME = "sequences"
-DIGITS = 32
 # A machine has a few. One that sends others again and again fills no disk by it.
 MOST = 1_000
 
@@ -27,7 +27,7 @@ def known(path: str) -> list[str]:
         lines = (state.read_bytes(path) or b"").decode("ascii", "replace").splitlines()
     except state.Damaged:
         return []
-    return [line for line in lines if len(line) == DIGITS and state.HEXADECIMAL.issuperset(line)]
+    return list(filter(is_id, lines))
 
 
 def add(machine: str, ids: Iterable[str]) -> None:

@@ -23,10 +23,11 @@ from __future__ import annotations
 import os
 
 from shared import files
+from shared.formats import is_id
 from shared.records import NamedTuple
 
 from . import state
-from .answer import Answer, Key, NoAnswer, acked, is_source, read_answer
+from .answer import Answer, Key, NoAnswer, acked, read_answer
 from .state import Damaged
 
 FORMAT, OLD_FORMAT = "source 2", "source 1"
@@ -208,4 +209,4 @@ def locked(machine: str) -> files.locked:
 
 def names(machine: str) -> list[str]:
     """The sources of a machine of which something is known."""
-    return [name for name in files.names(os.path.join("sources", machine)) if is_source(name)]
+    return [name for name in files.names(os.path.join("sources", machine)) if is_id(name)]

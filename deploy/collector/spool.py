@@ -5,10 +5,10 @@ import os
 import zlib
 
 from shared import files
+from shared.formats import is_id
 from shared.records import NamedTuple
 
 from . import state
-from .answer import is_source
 from .settings import is_machine
 
 TYPE_CHECKING = False
@@ -39,7 +39,7 @@ class Waiting(NamedTuple):
 def read_name(name: str) -> Waiting | None:
     """The upload whose file has this name, if it is one's."""
     parts = name.removesuffix(END).split("@")
-    if not name.endswith(END) or len(parts) != 3 or not is_machine(parts[1]) or not is_source(parts[2]):
+    if not name.endswith(END) or len(parts) != 3 or not is_machine(parts[1]) or not is_id(parts[2]):
         return None
     number = parts[0]
     is_number = len(number) == NUMBER_DIGITS and number.isascii() and number.isdigit()

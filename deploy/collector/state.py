@@ -10,7 +10,7 @@ import os
 import stat
 import zlib
 
-from .answer import HEXADECIMAL
+from shared.formats import HEXADECIMAL
 
 TYPE_CHECKING = False
 if TYPE_CHECKING:

@@ -7,13 +7,8 @@
 """
 from __future__ import annotations
 
+from shared.formats import is_id
 from shared.records import dataclass, field
-
-HEXADECIMAL = frozenset("0123456789abcdef")
-
-
-def is_id(word: str) -> bool:
-    return len(word) == 32 and HEXADECIMAL.issuperset(word)
 
 
 def is_number(word: str) -> bool:

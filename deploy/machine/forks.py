@@ -13,6 +13,7 @@ import os
 
 from machine import texts
 from machine.report import LOOK, Report
+from shared.formats import is_id
 from shared.records import dataclass
 
 TYPE_CHECKING = False
@@ -22,7 +23,6 @@ if TYPE_CHECKING:
 PATH, HEAD = "forks", "forks 1"
 # More than any machine is set back. The oldest give way.
 MOST = 1_000
-HEXADECIMAL = frozenset("0123456789abcdef")
 
 
 @dataclass
@@ -35,10 +35,6 @@ class Fork:
 
     def line(self) -> str:
         return f"fork {self.sequence} {self.number} {self.new} {'told' if self.is_told else 'new'}"
-
-
-def is_id(word: str) -> bool:
-    return len(word) == 32 and HEXADECIMAL.issuperset(word)
 
 
 def parse(line: str) -> Fork:

@@ -5,7 +5,7 @@ import os
 import time
 
 from machine import answers, done, sent, streams, texts, upload
-from machine.answers import Told, is_id
+from machine.answers import Told
 from machine.collector import Collector, Outcome
 from machine.done import Done
 from machine.gathering import Gathering
@@ -18,6 +18,7 @@ from machine.settings import Settings
 from machine.streams import Stream
 from machine.upload import Upload
 from shared import files
+from shared.formats import is_id
 
 TYPE_CHECKING = False
 if TYPE_CHECKING:
