@@ -2,27 +2,12 @@
 # What one machine may take of a collector: calls, time, sources, costly uploads, and its share; and that what it does
 # keeps no other machine from an answer.
 set -uo pipefail
-. "$(dirname "$0")/expect.sh"
-
-umask 022
-files_in_memory
-folder=$(mktemp -d)
-trap 'rm -rf "$folder"' EXIT
-deploy/install.sh "$folder/root" /usr || differs "the programs aren't installed"
-library=${PROGRAMS:-$folder/root/usr/lib/journal-collect}
-mkdir "$folder/bin"
-ln -s "$PROGRAM" "$folder/bin/journal-collect"
-PATH=$folder/bin:$PATH
+# shellcheck source=tests/installed.sh
+. "$(dirname "$0")/installed.sh"
 # shellcheck source=tests/deploy/collector.sh
 . "$(dirname "$0")/deploy/collector.sh"
-# shellcheck disable=SC2034 # collector.sh uses it
-clock=
-if command -v rt > "$folder/told"; then
-    clock=$(PYTHONPATH=tests python3 -B -c \
-        'import preload, sys; print(preload.built("tests/deploy/clock.c", sys.argv[1]))' "$folder")
-else
-    echo "skipped: there is no rt, whose compiler builds what sets a clock and a disk's room"
-fi
+
+on_the_path "$PROGRAM"
 
 # in_background NAME COMMAND..: a call whose standard error is NAME.errors; `calls[NAME]` is its process.
 declare -A calls

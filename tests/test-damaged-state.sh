@@ -2,18 +2,12 @@
 # Damage to what programs keep: random edits of the files of a machine, of the collector, and of those who read its
 # databases. The same edits each time; STATE_EDITS=10000 in the nights, and SEED chooses others.
 set -uo pipefail
-. "$(dirname "$0")/expect.sh"
+# shellcheck source=tests/installed.sh
+. "$(dirname "$0")/installed.sh"
 
-umask 022
-files_in_memory
-folder=$(mktemp -d)
-trap 'rm -rf "$folder"' EXIT
-deploy/install.sh "$folder/root" /usr || differs "the programs aren't installed"
-library=${PROGRAMS:-$folder/root/usr/lib/journal-collect}
-mkdir "$folder/bin" "$folder/readers"
-ln -s "$PROGRAM" "$folder/bin/journal-collect"
-PATH=$folder/bin:$PATH
-export PROGRAM SEED=${SEED-7}
+on_the_path "$PROGRAM"
+mkdir "$folder/readers"
+export SEED=${SEED-7}
 python3 -B tests/deploy/damaged_state.py "$library" --edits "${STATE_EDITS-120}" || differs "a machine's state"
 python3 -B tests/deploy/state_fuzz.py "$library" --edits "${STATE_EDITS-200}" || differs "the collector's state"
 python3 -B tests/reading/damaged_state.py "$library" "$folder/readers" --edits "${STATE_EDITS-160}" ||

@@ -3,18 +3,10 @@
 # and ssh, and what other programs say of units and scripts. The scripts that the guide had before have to fail the same
 # schedules. tests/test-receive.sh has the rows of the collector.
 set -uo pipefail
-. "$(dirname "$0")/expect.sh"
+# shellcheck source=tests/installed.sh
+. "$(dirname "$0")/installed.sh"
 
-# the usual one, which the programs have to do better than
-umask 022
-files_in_memory
-folder=$(mktemp -d)
-trap 'rm -rf "$folder"' EXIT
-deploy/install.sh "$folder/root" /usr || differs "the programs aren't installed"
-library=$folder/root/usr/lib/journal-collect
-mkdir "$folder/bin"
-ln -s "$PROGRAM" "$folder/bin/journal-collect"
-PATH=$folder/bin:$PATH
+on_the_path "$PROGRAM"
 
 # settings that can't be
 for line in UPLOADS=8x UPLOAD_ENTRIES=0 STREAM_BYTES=16M FOLDER_BYTES= UPLOAD_BYTES=010; do

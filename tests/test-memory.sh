@@ -4,15 +4,10 @@
 # libraries, as jc_test_calls makes them. The library that refuses is preloaded, and compiled here by the compiler of
 # the toolchain.
 set -uo pipefail
-. "$(dirname "$0")/expect.sh"
+# shellcheck source=tests/trials.sh
+. "$(dirname "$0")/trials.sh"
 
-# each run makes its database anew
-files_in_memory
 # The store takes 8 MB as it opens a database; in large pages that takes the system half of the time.
 export GLIBC_TUNABLES=glibc.malloc.hugetlb=1
-export CALLS=${CALLS:-crates/jc_test_calls/out/jc_test_calls}
-export PROGRAM PYTHONPATH=tests:tests/collect:tests/hostile:tests/schedules PYTHONDONTWRITEBYTECODE=1
-for part in sweeps calls worlds; do
-    python3 "tests/memory/$part.py" || differs "tests/memory/$part.py"
-done
+trials memory sweeps calls worlds
 finish

@@ -2,28 +2,12 @@
 # The collector's side (deploy/receive, answers, serve, collect-incoming): what each refuses and reports, what is
 # stored once over any number of databases, whose turn it is, how databases are finished and deleted, and random rounds.
 set -uo pipefail
-. "$(dirname "$0")/expect.sh"
-
-# the usual one, which the programs have to do better than
-umask 022
-files_in_memory
-folder=$(mktemp -d)
-trap 'rm -rf "$folder"' EXIT
-deploy/install.sh "$folder/root" /usr || differs "the programs aren't installed"
-library=${PROGRAMS:-$folder/root/usr/lib/journal-collect}
-mkdir "$folder/bin"
-ln -s "${COLLECTING_PROGRAM:-$PROGRAM}" "$folder/bin/journal-collect"
-PATH=$folder/bin:$PATH
+# shellcheck source=tests/installed.sh
+. "$(dirname "$0")/installed.sh"
 # shellcheck source=tests/deploy/collector.sh
 . "$(dirname "$0")/deploy/collector.sh"
-# shellcheck disable=SC2034 # collector.sh uses it
-clock=
-if command -v rt > "$folder/told"; then
-    clock=$(PYTHONPATH=tests python3 -B -c \
-        'import preload, sys; print(preload.built("tests/deploy/clock.c", sys.argv[1]))' "$folder")
-else
-    echo "skipped: there is no rt, whose compiler builds what stops a run and sets its clock"
-fi
+
+on_the_path "${COLLECTING_PROGRAM:-$PROGRAM}"
 
 # Names, sizes, numbers of uploads, and what is no upload ------------------------------------------------------------
 

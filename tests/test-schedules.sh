@@ -2,9 +2,8 @@
 # Random schedules of machines and their collector: each event's answer and what there is afterwards, against a model of
 # its own.
 set -uo pipefail
-. "$(dirname "$0")/expect.sh"
+# shellcheck source=tests/trials.sh
+. "$(dirname "$0")/trials.sh"
 
-export CALLS=${CALLS:-crates/jc_test_calls/out/jc_test_calls}
-export PYTHONPATH=tests:tests/collect PYTHONDONTWRITEBYTECODE=1
-python3 tests/schedules/schedules.py || differs tests/schedules/schedules.py
+trials schedules schedules
 finish

@@ -2,12 +2,9 @@
 # How the programs of deploy/ start: what they load, that they heed no variable of Python's, and that modules which were
 # compiled at the installation are never older than their sources.
 set -uo pipefail
-. "$(dirname "$0")/expect.sh"
+# shellcheck source=tests/installed.sh
+. "$(dirname "$0")/installed.sh"
 
-folder=$(mktemp -d)
-trap 'rm -rf "$folder"' EXIT
-deploy/install.sh "$folder/root" /usr || differs "the programs aren't installed"
-library=$folder/root/usr/lib/journal-collect
 printf 'FOLDER=%s\n' "$folder/collector" > "$folder/collector.conf"
 printf 'COLLECTOR=here\nFOLDER=%s\n' "$folder/machine" > "$folder/machine.conf"
 

@@ -10,7 +10,7 @@ import struct
 import sys
 import zlib
 
-from collector_case import HERE, SEQUENCE, SOURCE, Case, entries, file_upload, upload
+from collector_case import HERE, SEQUENCE, SOURCE, Case, entries, file_upload, tried, upload
 from trial_rows import Row, Rows
 
 ROWS: Rows = Rows()
@@ -196,13 +196,5 @@ def answer_to_another_upload(row: Row, case: Case) -> None:
     row.expect("answers", [line for line in case.answers() if not line.startswith("waits")], [])
 
 
-def main() -> int:
-    folder = Case.build(sys.argv[1])
-    try:
-        return ROWS.run(sys.argv[2:], ["once"], Case)
-    finally:
-        shutil.rmtree(folder)
-
-
 if __name__ == "__main__":
-    sys.exit(main())
+    sys.exit(tried(ROWS))

@@ -14,7 +14,7 @@ import sys
 import time
 from collections.abc import Callable
 
-from collector_case import HERE, SOURCE, Case, entries, noticed, source, upload
+from collector_case import HERE, SOURCE, Case, entries, noticed, source, tried, upload
 from trial_rows import Row, Rows
 
 sys.path.insert(0, os.path.join(HERE, ".."))
@@ -362,16 +362,5 @@ def renamed_with_stops(row: Row, case: Case) -> None:
         row.expect(f"stop {number}", (old + new)[0], f"ack {SOURCE} 0 9 4 0")
 
 
-def main() -> int:
-    folder = Case.build(sys.argv[1])
-    try:
-        if not Case.clock_library:
-            print("skipped: there is no rt, whose compiler builds what stops a run")
-            return 0
-        return ROWS.run(sys.argv[2:], ["once"], Case)
-    finally:
-        shutil.rmtree(folder)
-
-
 if __name__ == "__main__":
-    sys.exit(main())
+    sys.exit(tried(ROWS, "stops a run"))

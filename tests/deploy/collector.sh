@@ -1,7 +1,14 @@
 # shellcheck shell=bash disable=SC2154 # whoever sources this assigns what is named here
 # What the rows of the collector's side use: collectors of their own, uploads, the service, and a clock that is wrong.
-# Whoever sources this has `library` with the programs, `folder` for what is made, `journal-collect` on the PATH, and
-# `clock`, the library that clock.c makes.
+# Whoever sources this has `library` with the programs, `folder` for what is made, and `journal-collect` on the PATH.
+# `clock` is the library that clock.c makes, if it can be made.
+clock=
+if command -v rt > "$folder/told"; then
+    clock=$(PYTHONPATH=tests python3 -B -c \
+        'import preload, sys; print(preload.built("tests/deploy/clock.c", sys.argv[1]))' "$folder")
+else
+    echo "skipped: there is no rt, whose compiler builds what stops a run, and sets its clock and its disk's room"
+fi
 id=a0a1a2a3a4a5a6a7a8a9aaabacadaeaf
 sequence=202122232425262728292a2b2c2d2e2f
 

@@ -13,6 +13,7 @@ HERE = os.path.dirname(os.path.abspath(__file__))
 sys.path.insert(0, os.path.join(HERE, ".."))
 import preload  # noqa: E402
 from collector_machines import PROGRAM, entries_of, entry_text  # noqa: E402
+from trial_rows import Rows  # noqa: E402
 
 DAY = 86400
 SEQUENCE = "20" * 16
@@ -155,3 +156,16 @@ class Case:
         """The folder is again as it was."""
         shutil.rmtree(self.folder)
         shutil.copytree(f"{self.base}/{name}", self.folder, symlinks=True)
+
+
+def tried(rows: Rows, lacking: str = "") -> int:
+    """Tries rows of collectors, as the arguments say: LIBRARY [ROW..]. Without rt those aren't tried whose clocks and
+    stops are `lacking` then."""
+    folder = Case.build(sys.argv[1])
+    try:
+        if lacking and not Case.clock_library:
+            print(f"skipped: there is no rt, whose compiler builds what {lacking}")
+            return 0
+        return rows.run(sys.argv[2:], ["once"], Case)
+    finally:
+        shutil.rmtree(folder)

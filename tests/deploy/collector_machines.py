@@ -5,7 +5,9 @@ import subprocess
 import sys
 from collections.abc import Iterator
 
-sys.path.insert(0, os.path.join(os.path.dirname(os.path.abspath(__file__)), "..", "collect"))
+HERE = os.path.dirname(os.path.abspath(__file__))
+sys.path[:0] = [os.path.join(HERE, "..", "collect"), os.path.join(HERE, "..", "shared")]
+from export_streams import binary, fields_of  # noqa: E402
 from trial import Trial  # noqa: E402
 
 PROGRAM = os.environ["PROGRAM"]
@@ -15,25 +17,14 @@ BASE = 1_700_000_000_000_000
 
 def entry_text(sequence: str, number: int, message: bytes) -> bytes:
     """An entry as an export stream has it."""
-    field = b"MESSAGE\n%s%s\n" % (len(message).to_bytes(8, "little"), message)
-    if b"\n" not in message:
-        field = b"MESSAGE=%s\n" % message
+    field = binary(b"MESSAGE", message) if b"\n" in message else b"MESSAGE=%s\n" % message
     return (b"__REALTIME_TIMESTAMP=%d\n__MONOTONIC_TIMESTAMP=%d\n__SEQNUM=%d\n__SEQNUM_ID=%s\n%sPRIORITY=6\n\n"
             % (BASE + number, number, number, sequence.encode(), field))
 
 
 def entries_of(text: bytes) -> Iterator[tuple[str, int, bytes]]:
     """The key and the message of each entry of an export."""
-    while text:
-        fields = {}
-        while not text.startswith(b"\n"):
-            line, _, text = text.partition(b"\n")
-            name, equals, value = line.partition(b"=")
-            if not equals:
-                length = int.from_bytes(text[:8], "little")
-                value, text = text[8:8 + length], text[9 + length:]
-            fields[name] = value
-        text = text[1:]
+    for fields in fields_of(text):
         yield fields[b"__SEQNUM_ID"].decode(), int(fields[b"__SEQNUM"]), fields.get(b"MESSAGE", b"")
 
 

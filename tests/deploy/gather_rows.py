@@ -476,10 +476,5 @@ def earlier_version(row: Row, machine: Machine) -> None:
     row.expect("what is sent", sent, [3, 4, 5, 6])
 
 
-def main() -> None:
-    library, wanted = os.path.abspath(sys.argv[1]), sys.argv[2:]
-    sys.exit(ROWS.run(wanted, [252, 254, 257], lambda systemd: Machine(library, systemd)))
-
-
 if __name__ == "__main__":
-    main()
+    ROWS.main([252, 254, 257], Machine)

@@ -10,7 +10,7 @@ import shutil
 import sys
 import time
 
-from collector_case import DAY, SOURCE, Case, entries, upload
+from collector_case import DAY, SOURCE, Case, entries, tried, upload
 from trial_rows import Row, Rows
 
 ROWS: Rows = Rows()
@@ -203,16 +203,5 @@ def one_entry_of_two_sources(row: Row, case: Case) -> None:
     row.expect("answers", len([line for line in case.answers() if line.startswith("ack")]), 2)
 
 
-def main() -> int:
-    folder = Case.build(sys.argv[1])
-    try:
-        if not Case.clock_library:
-            print("skipped: there is no rt, whose compiler builds what sets a clock")
-            return 0
-        return ROWS.run(sys.argv[2:], ["once"], Case)
-    finally:
-        shutil.rmtree(folder)
-
-
 if __name__ == "__main__":
-    sys.exit(main())
+    sys.exit(tried(ROWS, "sets a clock"))

@@ -3,7 +3,6 @@
 As in gather_rows: what makes an entry too large is left out of it, the entry is named, and all others go out.
 """
 import os
-import sys
 
 from one_machine import Machine
 from trial_rows import Row, Rows
@@ -110,10 +109,5 @@ def large_is_kept(row: Row, machine: Machine) -> None:
     row.expect("the second run", machine.send(), (0, ""))
 
 
-def main() -> None:
-    library, wanted = os.path.abspath(sys.argv[1]), sys.argv[2:]
-    sys.exit(ROWS.run(wanted, [252, 254, 257], lambda systemd: Machine(library, systemd)))
-
-
 if __name__ == "__main__":
-    main()
+    ROWS.main([252, 254, 257], Machine)

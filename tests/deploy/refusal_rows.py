@@ -8,7 +8,6 @@ import re
 import shutil
 import signal
 import subprocess
-import sys
 
 from deployed import Deployed
 from one_machine import PROGRAM
@@ -269,11 +268,6 @@ def damaged_stream(row: Row, machine: Deployed) -> None:
         row.expect(f"{kept!r}: what isn't stored", set(range(1, 8)) - stored, lost)
 
 
-def main() -> None:
-    library = os.path.abspath(sys.argv[1])
-    sys.exit(ROWS.run(sys.argv[2:], [True, False], lambda one_database: Deployed(library, one_database)))
-
-
 if __name__ == "__main__":
     assert PROGRAM
-    main()
+    ROWS.main([True, False], Deployed)

@@ -6,7 +6,6 @@ import itertools
 import os
 import signal
 import subprocess
-import sys
 import time
 
 import forked
@@ -18,9 +17,9 @@ from trial_rows import Row, Rows
 ROWS: Rows[Machine] = Rows()
 
 
-@ROWS.row
-def set_back(row: Row, machine: Machine) -> None:
-    """A machine that is set back to a snapshot: an answer moves no stream that hasn't these entries."""
+def go_back(machine: Machine) -> str:
+    """A machine sends, is set back to a snapshot from before its last upload, and has the journal of then. Answers what
+    the collector says of that upload."""
     machine.journal.grow(4)
     machine.send()
     machine.answers(machine.collect())
@@ -30,11 +29,18 @@ def set_back(row: Row, machine: Machine) -> None:
     machine.journal.grow(3)
     machine.send()
     lost = machine.collect(machine.files()[-1]) + machine.last()
-    # the machine goes on from the snapshot with another history, in which the numbers begin anew
     restore(machine, "s")
     machine.journal = journal
-    journal.new_sequence()
-    journal.grow(5)
+    return lost
+
+
+@ROWS.row
+def set_back(row: Row, machine: Machine) -> None:
+    """A machine that is set back to a snapshot: an answer moves no stream that hasn't these entries."""
+    lost = go_back(machine)
+    # the machine goes on from the snapshot with another history, in which the numbers begin anew
+    machine.journal.new_sequence()
+    machine.journal.grow(5)
     machine.answers(lost)
     status, said = machine.send()
     row.expect("status", (status, "set back or copied" in said), (1, True))
@@ -60,18 +66,8 @@ def check(row: Row, machine: Machine) -> None:
 @ROWS.row
 def set_back_within_a_boot(row: Row, machine: Machine) -> None:
     """The same numbers for other entries: what the collector has of the id didn't go out from here."""
-    machine.journal.grow(4)
-    machine.send()
-    machine.answers(machine.collect())
-    machine.send()
-    snapshot(machine, "s", machine.journal)
-    journal = machine.journal.copy_to(f"{machine.base}/journal-s")
-    machine.journal.grow(3)
-    machine.send()
-    lost = machine.collect(machine.files()[-1]) + machine.last()
-    restore(machine, "s")
-    machine.journal = journal
-    journal.grow(9)
+    lost = go_back(machine)
+    machine.journal.grow(9)
     machine.answers(lost)
     before = len(machine.files())
     status, said = machine.send()
@@ -396,10 +392,5 @@ def restore(machine: Machine, name: str) -> None:
     subprocess.run(["cp", "-a", f"{machine.base}/{name}", machine.folder], check=True)
 
 
-def main() -> None:
-    library, wanted = os.path.abspath(sys.argv[1]), sys.argv[2:]
-    sys.exit(ROWS.run(wanted, [252], lambda systemd: Machine(library, systemd)))
-
-
 if __name__ == "__main__":
-    main()
+    ROWS.main([252], Machine)

@@ -12,7 +12,7 @@ import sys
 import time
 from collections.abc import Callable
 
-from collector_case import SOURCE, Case, entries, noticed, source, upload
+from collector_case import SOURCE, Case, entries, noticed, source, tried, upload
 from trial_rows import Row, Rows
 
 ROWS: Rows = Rows()
@@ -327,13 +327,5 @@ def no_memory(row: Row, case: Case) -> None:
     row.expect("the answer", case.answers()[0].split()[:4], ["ack", SOURCE, "0", "3"])
 
 
-def main() -> int:
-    folder = Case.build(sys.argv[1])
-    try:
-        return ROWS.run(sys.argv[2:], ["once"], Case)
-    finally:
-        shutil.rmtree(folder)
-
-
 if __name__ == "__main__":
-    sys.exit(main())
+    sys.exit(tried(ROWS))

@@ -4,7 +4,6 @@ SINCE is evaluated once; `send --again` sends what the journal has since a time 
 """
 import os
 import shutil
-import sys
 
 from exported import body, read
 from one_machine import Machine
@@ -166,10 +165,5 @@ def again(row: Row, machine: Machine) -> None:
     row.expect("no time", machine.send("--again", "whenever")[0], 2)
 
 
-def main() -> None:
-    library, wanted = os.path.abspath(sys.argv[1]), sys.argv[2:]
-    sys.exit(ROWS.run(wanted, [252, 254, 257], lambda systemd: Machine(library, systemd)))
-
-
 if __name__ == "__main__":
-    main()
+    ROWS.main([252, 254, 257], Machine)

@@ -6,7 +6,6 @@ import fcntl
 import json
 import os
 import re
-import sys
 import time
 
 from trial_rows import Row, Rows
@@ -285,10 +284,5 @@ def which_side(row: Row, watched: Watched) -> None:
         row.expect("neither", (status, "neither a machine nor a collector" in text), (2, True))
 
 
-def main() -> None:
-    library = os.path.abspath(sys.argv[1])
-    sys.exit(ROWS.run(sys.argv[2:], ["status"], lambda _: Watched(library)))
-
-
 if __name__ == "__main__":
-    main()
+    ROWS.main(["status"], lambda library, _: Watched(library))

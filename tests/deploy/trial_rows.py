@@ -3,7 +3,7 @@ import os
 import shutil
 import sys
 from collections.abc import Callable, Iterator, Sequence
-from typing import Generic, TypeVar
+from typing import Generic, NoReturn, TypeVar
 
 from one_machine import Machine
 
@@ -55,6 +55,11 @@ class Rows(Generic[Kind]):
                 chosen = [variants[index % len(variants)]]
             for variant in chosen:
                 yield function, variant
+
+    def main(self, variants: Sequence[Variant], make: Callable[[str, Variant], Kind]) -> NoReturn:
+        """Tries the rows as the arguments say, LIBRARY [ROW..], and ends with their status."""
+        library = os.path.abspath(sys.argv[1])
+        sys.exit(self.run(sys.argv[2:], variants, lambda variant: make(library, variant)))
 
     def run(self, wanted: Sequence[str], variants: Sequence[Variant], make: Callable[[Variant], Kind]) -> int:
         """Tries the rows; 1 if one differs."""

@@ -2,7 +2,6 @@
 """Rows of journal-collect-forward that need no engine: settings, what is read, files of lines, stops, disks.
 files_rows.py LIBRARY FOLDER [ROW..]
 """
-import fcntl
 import gzip
 import json
 import os
@@ -18,7 +17,7 @@ import made
 from collected import ROOT, finish
 from compared import Entry
 from forwarded import Collector, Collectors
-from programs import call, killed_before
+from programs import call, killed_before, make_strange
 from rows import Row, Rows
 
 ROWS: Rows[Collectors] = Rows()
@@ -145,11 +144,7 @@ def searched_beside_damage(collector: Collector) -> list[Entry]:
 @ROWS.row
 def another_run(row: Row, collectors: Collectors) -> None:
     collector = collectors.new(ENGINE="files")
-    row.ends(collector.run(), 0)
-    with (collector.state / "lock").open("ab") as lock:
-        fcntl.flock(lock, fcntl.LOCK_EX)
-        row.ends(collector.run(), 75, "", "forward: another run is under way")
-    row.ends(collector.run(), 0)
+    row.one_at_a_time(collector.run, collector.state / "lock", "forward: another run is under way")
 
 
 @ROWS.row
@@ -283,14 +278,6 @@ def copy(collectors: Collectors, first: Collector) -> Collector:
     shutil.rmtree(other.folder)
     shutil.copytree(first.folder, other.folder)
     return other
-
-
-def make_strange(path: Path, text: str) -> None:
-    path.unlink(missing_ok=True)
-    if text == "pipe":
-        os.mkfifo(path)
-    else:
-        path.write_text(text, encoding="ascii")
 
 
 def in_time() -> None:

@@ -3,11 +3,15 @@ as journals have them and odd ones."""
 import hashlib
 import random
 import sqlite3
+import sys
 from collections.abc import Iterator
 from dataclasses import dataclass
 from pathlib import Path
 
 from collected import finish
+
+sys.path.append(str(Path(__file__).resolve().parent.parent / "shared"))
+from export_streams import binary  # noqa: E402
 
 TABLES = """
 CREATE TABLE journal(one INTEGER PRIMARY KEY, version INTEGER NOT NULL) STRICT;
@@ -128,7 +132,7 @@ def upload(path: Path, entries: list[Entry], end: bytes = b"") -> Path:
 
 def exported(one: Entry) -> bytes:
     """An entry as an export stream has it, each field in the spelling that takes any bytes."""
-    fields = b"".join(name + b"\n" + len(value).to_bytes(8, "little") + value + b"\n" for name, value in one.pairs)
+    fields = b"".join(binary(name, value) for name, value in one.pairs)
     return b"__REALTIME_TIMESTAMP=%d\n__MONOTONIC_TIMESTAMP=%d\n__SEQNUM=%d\n__SEQNUM_ID=%s\n%s\n" % (
         one.realtime, one.monotonic, one.number, one.sequence.encode(), fields)
 

@@ -1,7 +1,11 @@
 """Entries that a real machine wrote, from what `journalctl --output=export` prints."""
+import sys
 from collections.abc import Iterator
 from pathlib import Path
 from typing import IO
+
+sys.path.append(str(Path(__file__).resolve().parent.parent / "shared"))
+from export_streams import pairs_of  # noqa: E402
 
 Pairs = tuple[tuple[bytes, bytes], ...]
 
@@ -13,15 +17,6 @@ def entries(path: Path) -> list[Pairs]:
 
 
 def read(stream: IO[bytes]) -> Iterator[Pairs]:
-    pairs: list[tuple[bytes, bytes]] = []
-    for line in stream:
-        name, equals, value = line[:-1].partition(b"=")
-        if not name:
-            yield tuple(pairs)
-            pairs = []
-            continue
-        if not equals:
-            value = stream.read(int.from_bytes(stream.read(8), "little"))
-            stream.read(1)
-        if not name.startswith(b"__"):
-            pairs.append((name, value))
+    """The fields of each entry, without its metadata."""
+    for pairs in pairs_of(stream):
+        yield tuple(pair for pair in pairs if not pair[0].startswith(b"__"))

@@ -17,14 +17,7 @@ enum { NO_MEMORY = 12 };
 static unsigned long first, last, made;
 static int note;
 
-static unsigned long number_in(const char *name)
-{
-    const char *digits = getenv(name);
-    unsigned long number = 0;
-    while (digits && *digits >= '0' && *digits <= '9')
-        number = number * 10 + (unsigned long)(*digits++ - '0');
-    return number;
-}
+#include "../shared/preloaded.h"
 
 __attribute__((constructor)) static void begin(void)
 {

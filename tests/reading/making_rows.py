@@ -2,7 +2,6 @@
 """Rows of journal-files that need no program of systemd: settings, and databases that can't be made.
 making_rows.py LIBRARY FOLDER [ROW..]
 """
-import fcntl
 import os
 import signal
 import sys
@@ -10,6 +9,7 @@ from pathlib import Path
 
 from collected import ROOT, entries_of_headers, run
 from collector import TIME, Collector, Collectors
+from programs import make_strange
 from rows import Row, Rows
 
 ROWS: Rows[Collectors] = Rows()
@@ -67,11 +67,7 @@ def nothing_is_there(row: Row, collectors: Collectors) -> None:
 def another_run(row: Row, collectors: Collectors) -> None:
     collector = collectors.new()
     collector.databases.mkdir(parents=True)
-    row.ends(collector.make(), 0)
-    with (collector.journals / ".state/lock").open("ab") as lock:
-        fcntl.flock(lock, fcntl.LOCK_EX)
-        row.ends(collector.make(), 75, "", "journal-files: another run is under way")
-    row.ends(collector.make(), 0)
+    row.one_at_a_time(collector.make, collector.journals / ".state/lock", "journal-files: another run is under way")
 
 
 @ROWS.row
@@ -162,14 +158,6 @@ def state_that_is_not_right(row: Row, collectors: Collectors) -> None:
         make_strange(collector.journals / ".state" / name, '{"version":2}')
         collector.exported("2025-12-01T00-10", "b", 1, 2)
         row.ends(collector.make(**how), 3, "", f"~*{name} is of a version that isn't known")
-
-
-def make_strange(path: Path, text: str) -> None:
-    path.unlink(missing_ok=True)
-    if text == "pipe":
-        os.mkfifo(path)
-    else:
-        path.write_text(text, encoding="ascii")
 
 
 @ROWS.row

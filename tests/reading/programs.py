@@ -96,3 +96,12 @@ class Calls:
             return 0
         self.number += 1
         return self.number
+
+
+def make_strange(path: Path, text: str) -> None:
+    """Puts this text in the place of a file, or a pipe if it is `pipe`."""
+    path.unlink(missing_ok=True)
+    if text == "pipe":
+        os.mkfifo(path)
+    else:
+        path.write_text(text, encoding="ascii")

@@ -1,8 +1,10 @@
 """Rows of a test: functions that say what differs."""
+import fcntl
 import sys
 import traceback
 from collections.abc import Callable
 from fnmatch import fnmatchcase
+from pathlib import Path
 from typing import Generic, TypeVar
 
 from programs import Done
@@ -27,6 +29,15 @@ class Row:
         for stream, got, wanted in (("output", done.output, output), ("errors", done.errors, errors)):
             if not (fnmatchcase(got, wanted[1:]) if wanted[:1] == "~" else got == wanted):
                 self.same(f"{what}: {stream}", got, wanted)
+
+
+    def one_at_a_time(self, run: Callable[[], Done], lock: Path, said: str) -> None:
+        """While another run is under way a run ends at once, with 75; before and after that, as ever."""
+        self.ends(run(), 0)
+        with lock.open("ab") as file:
+            fcntl.flock(file, fcntl.LOCK_EX)
+            self.ends(run(), 75, "", said)
+        self.ends(run(), 0)
 
 
 class Rows(Generic[Place]):
