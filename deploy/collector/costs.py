@@ -9,7 +9,7 @@ from typing import NamedTuple
 from shared import files
 
 from . import shares
-from .settings import Settings
+from .settings import OF_UPLOAD_BYTES, Settings
 
 TICKS = os.sysconf("SC_CLK_TCK")
 # By the clock an upload may take so many times as long as on a processor, since disks are slower.
@@ -18,7 +18,7 @@ CLOCK = 10
 OPENED_BYTES = 1 << 20
 # What a database with its log may grow by: something for any upload, and for each of its bytes as much as the shortest
 # fields take, thrice; but no more than for the most bytes and fields together.
-LEAST_GROWTH, OF_A_BYTE, OF_UPLOAD_BYTES, OF_A_FIELD = 16 << 20, 64, 4, 256
+LEAST_GROWTH, OF_A_BYTE, OF_A_FIELD = 16 << 20, 64, 256
 # So much has to be there at least, for the tables and the log of a database.
 LEAST_ROOM = 1 << 18
 # A file that was to be larger than it may be lacks no more than the last bytes that were to be written at once.

@@ -9,9 +9,9 @@ import time
 from shared import files
 from shared.records import NamedTuple
 
-from . import aside, bounds, costs, program, shares, spool
+from . import aside, bounds, program, shares, spool
 from .report import tell
-from .settings import Settings
+from .settings import OF_UPLOAD_BYTES, Settings
 
 TYPE_CHECKING = False
 if TYPE_CHECKING:
@@ -177,7 +177,7 @@ def look_at(settings: Settings, machine: str, part: str) -> str:
 def most_of(settings: Settings) -> program.Most:
     """What an upload may have. Entries of a journal file may share values, but may have no more of them than a database
     may grow by."""
-    return program.Most(settings.upload_entries, settings.upload_fields, costs.OF_UPLOAD_BYTES * settings.upload_bytes)
+    return program.Most(settings.upload_entries, settings.upload_fields, OF_UPLOAD_BYTES * settings.upload_bytes)
 
 
 class Told(NamedTuple):

@@ -10,6 +10,8 @@ from shared.settings import Wrong
 DEFAULT_FILE = "/etc/journal-collect/collector.conf"
 # The most characters in the name of a database, and of a machine.
 LONGEST_NAME, LONGEST_MACHINE = 128, 64
+# So many times UPLOAD_BYTES the names and values of an upload's entries may have.
+OF_UPLOAD_BYTES = 4
 PUNCTUATION = dict.fromkeys(map(ord, "._-"))
 
 
