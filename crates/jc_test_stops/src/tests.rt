@@ -15,6 +15,12 @@ use std::alloc::Global;
 use std::test::Fail;
 use std::{env, fs, io, process};
 
+/// A run that was stopped, and the journal that the next one opened.
+type Runs<'a> = (
+    Stopped<'a, FileFrom<Unknown>>,
+    Result<OpenedFiles<Unknown>, Failure<'a>>,
+);
+
 type Upload<'a> = Delivery<FromRead<&'a [u8]>, SliceSpace<'static>>;
 
 /// The bytes of three uploads, each with one entry, and the names of files that have them, one a line.
@@ -90,16 +96,7 @@ fn deliveries_stop_and_open(
 ) -> Result<(), Fail> {
     let mut output = Vec::new(rt.alloc());
     let mut two = [stream(&uploads.second), stream(&uploads.third)];
-    let (run, next) = opened(open_after_stop(
-        rt,
-        Unknown,
-        Unknown,
-        path,
-        tables,
-        None,
-        &mut two,
-        &mut output,
-    ))?;
+    let (run, next) = opened(next_after_stop(rt, path, tables, &mut two, &mut output))?;
     has_entries(next, 3)?;
     let answers = ["ack S 0 1 0 0", "ack S 0 1 1 0"];
     answered(rt.alloc(), run, &output, &answers)
@@ -114,20 +111,36 @@ fn lines_stop_and_open(
     let mut output = Vec::new(rt.alloc());
     let mut errors = Vec::new(rt.alloc());
     let mut names = uploads.names.as_bytes();
-    let (run, next) = opened(open_after_lines(
-        rt,
-        Unknown,
-        Unknown,
-        path,
-        tables,
-        None,
-        &mut names,
-        &mut output,
-        &mut errors,
-    ))?;
+    let runs = next_after_lines(rt, path, tables, &mut names, &mut output, &mut errors);
+    let (run, next) = opened(runs)?;
     has_entries(next, 3)?;
     let answers = ["ack S 0 1 0 0", "ack S 0 1 0 0"];
     answered(rt.alloc(), run, &output, &answers)
+}
+
+// The calls stand alone, so that no more than one function has their contracts to bear.
+
+fn next_after_stop<'a>(
+    rt: &HostRuntime,
+    path: &'a str,
+    tables: Tables,
+    uploads: &mut [Upload<'_>],
+    output: &mut Vec<u8>,
+) -> Result<Runs<'a>, Failure<'a>> {
+    open_after_stop(rt, Unknown, Unknown, path, tables, None, uploads, output)
+}
+
+fn next_after_lines<'a>(
+    rt: &HostRuntime,
+    path: &'a str,
+    tables: Tables,
+    names: &mut &[u8],
+    output: &mut Vec<u8>,
+    errors: &mut Vec<u8>,
+) -> Result<Runs<'a>, Failure<'a>> {
+    open_after_lines(
+        rt, Unknown, Unknown, path, tables, None, names, output, errors,
+    )
 }
 
 fn opened<T: Drop>(run: Result<T, Failure<'_>>) -> Result<T, Fail> {
