@@ -170,6 +170,30 @@ fn what_was_stored_is_noted(rt: HostRuntime) -> Result<(), Fail> {
     Ok(())
 }
 
+/// What became of a union that was found after a stop.
+fn recovered(
+    alloc: Global,
+    union: &mut UnionKeeper<MapKeeper, MapLedger, EmptyShelf>,
+    texts: &[&[u8]],
+) -> Result<CaughtUp, Fail> {
+    let mut entries = source(alloc, texts)?;
+    Ok(union.recover(&mut entries)?)
+}
+
+/// A union of what a stop left, which had stored what it didn't note, takes nothing up twice.
+#[test]
+fn a_union_recovers(rt: HostRuntime) -> Result<(), Fail> {
+    let alloc = rt.alloc();
+    let mut present = MapKeeper::new(alloc);
+    absorb(&mut present, &mut source(alloc, &[ENTRY, ENTRY_2])?)?;
+    let mut union = UnionKeeper::new(alloc, present, MapLedger::new(alloc), EmptyShelf);
+    let caught = recovered(alloc, &mut union, &[ENTRY, ENTRY_2])?;
+    same_caught_up(&rt, caught, CaughtUp::Done);
+    let answers = [answer(alloc, &mut union, &[ENTRY, ENTRY_2, ENTRY_3])?];
+    same_answers(&rt, &answers, &[ack(3, 1, 0)]);
+    Ok(())
+}
+
 /// A ledger that is shut has nothing taken up.
 #[test]
 fn a_shut_ledger_fails(rt: HostRuntime) -> Result<(), Fail> {
