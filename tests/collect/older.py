@@ -10,16 +10,13 @@ import os
 import resource
 import shutil
 import signal
-import sys
 import time
 
+import samples
 from make import Machine
 from model import Journal, read_stream
 from stock import IS_HERE, stock
 from trial import ROWS, SCHEMA, TABLES, Trial, as_output, run, start
-
-sys.path.insert(0, os.path.join(os.path.dirname(os.path.abspath(__file__)), ".."))
-from samples import stream  # noqa: E402
 
 FIXTURES = os.path.join(os.path.dirname(os.path.abspath(__file__)), "..", "fixtures")
 # The databases of an earlier program: one was closed, and of the other what is stored is in the log.
@@ -70,7 +67,7 @@ def migrated(trial: Trial) -> str:
 def by_key(trial: Trial) -> str:
     """The same journal in tables by key, which were made so."""
     database = trial.database()
-    upload = stream(earlier_journal().text())
+    upload = samples.stream(earlier_journal().text())
     trial.expect("collected", run("collect", "--tables", "2", database, stdin=upload)[1:], ("", 0))
     return database
 

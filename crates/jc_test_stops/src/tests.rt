@@ -10,15 +10,15 @@ use jc_command_args::Tables;
 use jc_command_shared::{Failure, Status};
 use jc_file::SliceSpace;
 use jc_test_samples::{add_pieces, answer_lines};
-use sqlite::{FileFrom, Unknown};
+use sqlite::{FileFrom, Start, Unknown};
 use std::alloc::Global;
 use std::test::Fail;
 use std::{env, fs, io, process};
 
 /// A run that was stopped, and the journal that the next one opened.
-type Runs<'a> = (
-    Stopped<'a, FileFrom<Unknown>>,
-    Result<OpenedFiles<Unknown>, Failure<'a>>,
+type Runs<'a, S, T> = (
+    Stopped<'a, FileFrom<S>>,
+    Result<OpenedFiles<T>, Failure<'a>>,
 );
 
 type Upload<'a> = Delivery<FromRead<&'a [u8]>, SliceSpace<'static>>;
@@ -96,10 +96,9 @@ fn deliveries_stop_and_open(
 ) -> Result<(), Fail> {
     let mut output = Vec::new(rt.alloc());
     let mut two = [stream(&uploads.second), stream(&uploads.third)];
-    let (run, next) = opened(next_after_stop(rt, path, tables, &mut two, &mut output))?;
-    has_entries(next, 3)?;
+    let runs = next_after_stop(rt, path, tables, &mut two, &mut output);
     let answers = ["ack S 0 1 0 0", "ack S 0 1 1 0"];
-    answered(rt.alloc(), run, &output, &answers)
+    went_on(rt.alloc(), runs, &output, &answers)
 }
 
 fn lines_stop_and_open(
@@ -112,10 +111,8 @@ fn lines_stop_and_open(
     let mut errors = Vec::new(rt.alloc());
     let mut names = uploads.names.as_bytes();
     let runs = next_after_lines(rt, path, tables, &mut names, &mut output, &mut errors);
-    let (run, next) = opened(runs)?;
-    has_entries(next, 3)?;
     let answers = ["ack S 0 1 0 0", "ack S 0 1 0 0"];
-    answered(rt.alloc(), run, &output, &answers)
+    went_on(rt.alloc(), runs, &output, &answers)
 }
 
 // The calls stand alone, so that no more than one function has their contracts to bear.
@@ -126,7 +123,7 @@ fn next_after_stop<'a>(
     tables: Tables,
     uploads: &mut [Upload<'_>],
     output: &mut Vec<u8>,
-) -> Result<Runs<'a>, Failure<'a>> {
+) -> Result<Runs<'a, Unknown, Unknown>, Failure<'a>> {
     open_after_stop(rt, Unknown, Unknown, path, tables, None, uploads, output)
 }
 
@@ -137,7 +134,7 @@ fn next_after_lines<'a>(
     names: &mut &[u8],
     output: &mut Vec<u8>,
     errors: &mut Vec<u8>,
-) -> Result<Runs<'a>, Failure<'a>> {
+) -> Result<Runs<'a, Unknown, Unknown>, Failure<'a>> {
     open_after_lines(
         rt, Unknown, Unknown, path, tables, None, names, output, errors,
     )
@@ -150,10 +147,27 @@ fn opened<T: Drop>(run: Result<T, Failure<'_>>) -> Result<T, Fail> {
     }
 }
 
-/// Whether a run printed these answers.
-fn answered(
+/// Whether a run printed these answers, and the next one opened a journal with all three entries.
+fn went_on<S: Start, T: Start>(
     alloc: Global,
-    run: Stopped<'_, FileFrom<Unknown>>,
+    runs: Result<Runs<'_, S, T>, Failure<'_>>,
+    output: &[u8],
+    answers: &[&str],
+) -> Result<(), Fail> {
+    match runs {
+        Ok((run, next)) => {
+            let entries = entries_of(next);
+            answered(alloc, run, output, answers)?;
+            same_count(entries, 3)
+        }
+        Err(_) => Err(Fail::from("the database wasn't opened")),
+    }
+}
+
+/// Whether a run printed these answers.
+fn answered<S: Start>(
+    alloc: Global,
+    run: Stopped<'_, FileFrom<S>>,
     output: &[u8],
     answers: &[&str],
 ) -> Result<(), Fail> {
@@ -164,13 +178,16 @@ fn answered(
     }
 }
 
-/// Whether the next run has opened a journal of so many entries.
-fn has_entries(next: Result<OpenedFiles<Unknown>, Failure<'_>>, count: u64) -> Result<(), Fail> {
-    let found = match next {
+/// How many entries the next run has found, if it has opened a journal.
+fn entries_of<T: Start>(next: Result<OpenedFiles<T>, Failure<'_>>) -> Option<u64> {
+    match next {
         Ok(Opened::ByKey(mut keeper)) => keeper.count().ok(),
         Ok(Opened::ByNumber(mut keeper)) => keeper.count().ok(),
-        Err(_) => return Err(Fail::from("the next run opened nothing")),
-    };
+        Err(_) => None,
+    }
+}
+
+fn same_count(found: Option<u64>, count: u64) -> Result<(), Fail> {
     if found == Some(count) {
         Ok(())
     } else {
