@@ -19,6 +19,8 @@ from model import Journal
 from trial import PROGRAM, Trial, as_output, run, status_of
 
 REFUSED = (b"", "out of memory\n", 3)
+# What `migrate` says of tables that aren't of an earlier kind.
+IS_OVER = (b"bad 64 0\n", "", 1)
 # One in this many places of a sweep is refused together with all later ones.
 LATER = 5
 NEVER = 10**12
@@ -260,21 +262,22 @@ def copied(base: str, folder: str) -> str:
 
 
 class Migrate(Sweep):
-    """A journal that goes over to the tables of the present version: it is whole, in the old tables or in the new
-    ones."""
+    """A journal that goes over to tables of another kind: it is whole, in the old tables or in the new ones."""
 
-    def __init__(self, trial: Trial, name: str) -> None:
+    def __init__(self, trial: Trial, name: str, base: str, over: tuple[str, ...] = ("migrate",)) -> None:
         self.journal = older.earlier_journal()
-        self.base = older.earlier(trial, "closed")
+        self.base = base
+        self.over = over
         super().__init__(trial, name, [], older.usual(self.journal))
 
     def prepare(self, folder: str) -> list[str]:
-        return ["migrate", shutil.copyfile(self.base, os.path.join(folder, "db"))]
+        return [*self.over, shutil.copyfile(self.base, os.path.join(folder, "db"))]
 
     def judge(self, what: str, folder: str, told: tuple[bytes, str, int]) -> bool:
         database = os.path.join(folder, "db")
-        if not self.is_usual(told) and run("check", database) == older.REFUSED:
-            self.trial.expect(f"{what}: again", run("migrate", database), self.usual)
+        may_be = [IS_OVER] if self.is_usual(told) else [IS_OVER, self.usual]
+        again = run(*self.over, database)
+        self.trial.expect(f"{what}: {again}, again", again in may_be, True)
         self.trial.expect(f"{what}: export", run("export", database), (self.journal.text(), "", 0))
         return super().judge(what, folder, told)
 
@@ -339,7 +342,8 @@ def reading(trial: Trial, base: str) -> Iterator[Sweep]:
     yield Listing(trial, "export", ["export"], base, journal.text())
     yield Listing(trial, "show", ["show", "--from", "1"], base, journal.lines())
     yield Listing(trial, "check", ["check"], base, b"ok 1\n")
-    yield Migrate(trial, "migrate")
+    yield Migrate(trial, "migrate", older.earlier(trial, "closed"))
+    yield Migrate(trial, "migrate to numbers", older.by_key(trial), ("migrate", "--tables", "3"))
     file = put(os.path.join(trial.folder(), "file"), samples.FILE)
     texts = put(os.path.join(trial.folder(), "texts"), samples.E1 + samples.E2)
     yield Sweep(trial, "verify export", ["verify", "export", texts], (b"ok 2 0\n", "", 0))
