@@ -93,7 +93,7 @@ class Collecting:
         trial = self.trial
         told = run("export", database)
         found = [journal for journal in journals if told == (journal.text(), "", 0)]
-        if is_none_yet(database, told) and not self.base and not journals[0].entries:
+        if told == (b"", f"cannot open {database}\n", 3) and not self.base and not journals[0].entries:
             found = [Journal()]
         if trial.expect(f"{what}: {told} is one of the journals that may be there", bool(found), True):
             journal = found[0].copy()
@@ -101,15 +101,6 @@ class Collecting:
             trial.expect(f"{what}: again", run("collect", database, *self.names), again)
             trial.expect(f"{what}: complete", run("export", database), (journal.text(), "", 0))
         shutil.rmtree(os.path.dirname(database))
-
-
-def is_none_yet(database: str, told: tuple[bytes, str, int]) -> bool:
-    """Whether this is said of a database that was being made: its first byte is written last, and until then a loss of
-    power may leave anything behind it."""
-    if told == (b"", "bad 64 0\n", 1):
-        with open(database, "rb") as file:
-            return file.read(1) == b"\0"
-    return told == (b"", f"cannot open {database}\n", 3)
 
 
 def answers(journal: Journal, uploads: Sequence[bytes]) -> tuple[bytes, str, int]:
