@@ -6,6 +6,7 @@ from pathlib import Path
 from typing import Any
 
 from forwarding.entry import Entry
+from forwarding.settings import Kind
 from reading import json_files
 from reading.databases import Database
 from reading.failure import NEEDS_A_LOOK
@@ -14,6 +15,7 @@ from reading.taken import Taken
 from shared import files
 
 PLACE, DATABASES, ASIDE = "place.json", "databases.json", "aside.json"
+LONGEST_TARGET = 4096
 
 
 @dataclass
@@ -120,8 +122,16 @@ def aside_lines(path: Path) -> list[bytes]:
 def place_of(folder: Path, value: dict[str, Any]) -> Place:
     """What an object says; a ValueError if it says no place."""
     json_files.only(value, "target", "within", "aside", "aside_bytes")
-    return Place(folder, json_files.text(value["target"]), within_of(value["within"]) if value["within"] else None,
+    return Place(folder, target_of(value["target"]), within_of(value["within"]) if value["within"] else None,
                  json_files.number(value["aside"]), json_files.number(value["aside_bytes"]))
+
+
+def target_of(value: Any) -> str:
+    """What is forwarded to, or nothing yet: something that settings can name."""
+    target = json_files.text(value)
+    if target and (len(target) > LONGEST_TARGET or target.split(" ")[0] not in {kind.value for kind in Kind}):
+        raise ValueError(f"no target: {target[:80]!r}")
+    return target
 
 
 def within_of(value: dict[str, Any]) -> Within:

@@ -242,6 +242,8 @@ def full_disk(row: Row, collectors: Collectors) -> None:
 STRANGE = ("", "5", "[]", "{}", "[" * 100_000, '{"version":true}', '{"version":1}', '{"version":1,"databases":[]}',
            '{"version":1,"target":"files","within":"x","aside":0,"aside_bytes":0}',
            '{"version":1,"target":5,"within":null,"aside":0,"aside_bytes":0}',
+           '{"version":1,"target":"' + "8" * 5000 + '","within":null,"aside":0,"aside_bytes":0}',
+           '{"version":1,"target":"loki ' + "8" * 5000 + '","within":null,"aside":0,"aside_bytes":0}',
            '{"version":1,"databases":{},"bad":{},"waited":"x","missed":[]}', "pipe")
 COSTS = {"place.json": "the database that was under way is forwarded anew",
          "databases.json": "all databases that are there are forwarded anew"}
