@@ -33,7 +33,7 @@ install: $(PROGRAM) ## journal-collect, its man pages, its documents and deploy/
 	install -d "$(BIN)" "$(MAN)" "$(DOC)"
 	install -m 755 $(PROGRAM) "$(BIN)/journal-collect"
 	install -m 644 docs/journal-collect.1 "$(MAN)/journal-collect.1"
-	install -m 644 README.md docs/GUIDE.md docs/FORMATS.md docs/FORWARDING.md docs/LIMITS.md docs/PERFORMANCE.md "$(DOC)/"
+	install -m 644 README.md docs/GUIDE.md docs/FORMATS.md docs/FORWARDING.md docs/PERFORMANCE.md "$(DOC)/"
 	@deploy/install.sh "$(DESTDIR)" "$(PREFIX)"
 
 deb: $(PROGRAM) ## a Debian package of all that is installed, in build/

@@ -1,5 +1,5 @@
 #!/usr/bin/env python3
-"""Measures what docs/LIMITS.md says: limits.py PROGRAM [ENTRIES..]
+"""Measures what each command costs, for docs/PERFORMANCE.md: limits.py PROGRAM [ENTRIES..]
 
 For each number of entries (10,000 and 100,000 unless given): time and memory of each command, and the size of the
 database. Then a stream of 1 GB, uploads that are named at once, machines, and the greatest entry and file.

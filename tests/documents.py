@@ -19,7 +19,7 @@ README_LINES = 200
 # The one table of figures, and the documents that may have no other ones.
 FIGURES = "docs/PERFORMANCE.md", "Figures to plan with"
 FIGURES_IN = (
-    "README.md", "CONTRIBUTING.md", "docs/GUIDE.md", "docs/LIMITS.md", "docs/DECISIONS.md", "docs/FORWARDING.md",
+    "README.md", "CONTRIBUTING.md", "docs/GUIDE.md", "docs/DECISIONS.md", "docs/FORWARDING.md",
     "docs/ARCHITECTURE.md", "docs/GATE.md", "docs/journal-collect.1", "deploy/collector.conf", "deploy/machine.conf",
     "deploy/journal-files.conf")
 AN_ENTRY = r"(?: of (?:memory|disk|the disk))? (?:an|per|for each(?: [a-z]+)?) entry\b"

@@ -51,7 +51,7 @@ deploy/collector.conf: the figure '7.5 million' isn't in the table of docs/PERFO
 changed docs/PERFORMANCE.md 's/^## Figures to plan with$/## Others/' \
     "~docs/PERFORMANCE.md has no figures under 'Figures to plan with'*"
 changed docs/GUIDE.md 's/^## Sizing$/## Size/' \
-    $'docs/LIMITS.md: there is no GUIDE.md#sizing\ndocs/LIMITS.md: there is no GUIDE.md#sizing'
+    $'docs/PERFORMANCE.md: there is no GUIDE.md#sizing\ndocs/PERFORMANCE.md: there is no GUIDE.md#sizing'
 changed docs/GUIDE.md 's/\]\(#an-engine\)/](#engine)/' "docs/GUIDE.md: there is no #engine"
 changed docs/GATE.md 's/^There are [0-9]+\.$/There are 7./' "~docs/GATE.md tells of 7 edits, and there are *"
 changed docs/FAULTS.md '/^- .*: 380 =/s/ 40$/ 47/' \

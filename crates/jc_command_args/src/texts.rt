@@ -14,7 +14,7 @@ pub(crate) const MORE: &str = "Exit status:
   3  a file, the database, standard output or memory failed
 
 share/doc/journal-collect, where this program is installed, has a guide (GUIDE.md), every rule (FORMATS.md), and how
-large things can be (LIMITS.md).
+large things can be and how fast (PERFORMANCE.md).
 
 Example: a machine's new entries go into the database logs.db, and the machine keeps the answer
   journalctl --output=export > today.export
