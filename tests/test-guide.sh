@@ -99,7 +99,7 @@ expect 0 "" "" blocks guide-4
 expect 0 "send: sent 300 entries in 1 uploads, 0 acknowledged" "" cat "$folder/send"
 expect 0 "" "~*stored 300 entries of web in databases/*.db: its first"$'\n'"*" \
     "$library/collect-incoming" --once "$root/etc/journal-collect/collector.conf"
-expect 0 "~ok 300"$'\n'"aaaaaaaaaaaaaaaaaaaaaaaaaaaaaaaa 1 1700000000000000 0 a0"$'\n'"*" "" blocks guide-10
+expect 0 "~ok 300"$'\n'"aaaaaaaaaaaaaaaaaaaaaaaaaaaaaaaa 1 1700000000000000 0 a0"$'\n'"*" "" blocks guide-11
 expect 0 "ok 300 0" "" journal-collect verify export "$HOME"/*.export
 
 # a fleet's keys: none, one with a wrong name and one that is cut off leave the file as it was
@@ -208,7 +208,7 @@ grep -q 'serve www"' "$root/var/lib/journal-collect/.ssh/authorized_keys" || dif
 expect 0 "ok 300 0"$'\n'"resume 300" "" blocks guide-16
 expect 0 "ok 300" "" journal-collect check logs.db
 if [[ -n $real_journalctl && -x /lib/systemd/systemd-journal-remote ]]; then
-    blocks guide-11 > "$folder/told" 2> "$folder/errors" ||
+    blocks guide-10 > "$folder/told" 2> "$folder/errors" ||
         differs "the journals for journalctl: $(cat "$folder/errors")"
     [[ $(sort "$folder/told" | uniq | wc -l) -eq 300 ]] ||
         differs "what --since shows: $(wc -l < "$folder/told") lines"
