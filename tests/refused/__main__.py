@@ -2,8 +2,8 @@
 
 usage: python3 tests/refused [--only CRATE] [--list] [--beside]
 
-An edit gives one function another body, in the form that docs/GATE.md says. Many are applied at once, one a function,
-and each is judged by what the check says of its own function, while all others are taken at their word: a promise of
+An edit gives one function another body, in CONTRIBUTING.md's form. Many are applied at once, one a function, and each
+is judged by what the check says of its own function, while all others are taken at their word: a promise of
 that function must be refused. It may name goals that are left open, as they aren't what it is about. It fails if it
 doesn't apply, changes more than a body, leaves open what is no goal, can't be read, or if its function is proved, or
 refused only by arithmetic, by bounds or by what a call requires. At the end each function must be proved
