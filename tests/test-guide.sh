@@ -13,7 +13,8 @@ library=$root/usr/lib/journal-collect
 deploy/install.sh "$root" /usr || differs "the programs aren't installed"
 mkdir -p "$folder/bin" "$folder/home" "$root/var/lib" "$root/etc/systemd/system"
 ln -s "$PROGRAM" "$folder/bin/journal-collect"
-export HOME=$folder/home PATH=$folder/bin:$PATH JOURNAL=$folder/journal SYSTEMD=254 FAULT=none:0:0 CALLS=$folder/calls
+export HOME=$folder/home PATH=$folder/bin:$PATH JOURNAL=$folder/journal SYSTEMD=254 FAULT=none:0:0
+export SSH_CALLS=$folder/calls
 export FORCED_COMMAND="$library/serve web $root/etc/journal-collect/collector.conf"
 echo "FOLDER=$root/var/lib/journal-collect" >> "$root/etc/journal-collect/collector.conf"
 printf 'FOLDER=%s\n' "$root/var/lib/journal-send" >> "$root/etc/journal-collect/machine.conf"

@@ -24,7 +24,7 @@ class Both:
         base = self.machine.base
         self.machine.install("ssh", GUARD.format(base=base, ssh=os.path.join(HERE, "ssh")))
         self.calls, self.down = f"{base}/calls", f"{base}/down"
-        self.machine.environment = {"FORCED_COMMAND": f"{library}/serve web {collector.conf}", "CALLS": self.calls,
+        self.machine.environment = {"FORCED_COMMAND": f"{library}/serve web {collector.conf}", "SSH_CALLS": self.calls,
                                     "FAULT": "none:0:0"}
         self.follower: subprocess.Popen[bytes] | None = None
 

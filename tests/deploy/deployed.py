@@ -36,7 +36,7 @@ class Deployed(Machine):
         with open(f"{HERE}/ssh", encoding="ascii") as file:
             self.install("ssh", file.read())
         self.settings["ANSWER_SECONDS"] = 0
-        self.environment.update(FAULT="none:0:0", CALLS=f"{self.base}/calls")
+        self.environment.update(FAULT="none:0:0", SSH_CALLS=f"{self.base}/calls")
         self.known_as("web")
 
     def known_as(self, name: str) -> None:

@@ -33,7 +33,8 @@ class Run:
     ) -> None:
         self.name, self.disturbance = name, disturbance
         kind, value = disturbance
-        environment = {**os.environ, "FAULT": "none:0:0", "CALLS": os.path.join(world.folder(), "calls"), **environment}
+        calls = os.path.join(world.folder(), "calls")
+        environment = {**os.environ, "FAULT": "none:0:0", "SSH_CALLS": calls, **environment}
         self.environment = environment
         if kind == "stop":
             environment.update(BASH_ENV=os.path.join(HERE, "stop_at.sh"), STOP_PROGRAM=value[0], STOP_AT=str(value[1]))
@@ -51,7 +52,7 @@ class Run:
 
     def calls(self) -> int:
         """How often it called the collector."""
-        return os.path.getsize(self.environment["CALLS"]) if os.path.exists(self.environment["CALLS"]) else 0
+        return os.path.getsize(self.environment["SSH_CALLS"]) if os.path.exists(self.environment["SSH_CALLS"]) else 0
 
     def kill_in_time(self) -> None:
         if self.end is None:
