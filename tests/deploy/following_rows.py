@@ -7,14 +7,13 @@ web's upload comes first. mail's has entries that are stored already, so reading
 """
 import glob
 import os
-import shutil
 import signal
 import subprocess
 import sys
 import time
 from collections.abc import Callable
 
-from collector_case import Case, entries, noticed, source, upload
+from collector_case import Case, entries, noticed, source, tried, upload
 from trial_rows import Row, Rows
 
 ROWS: Rows = Rows()
@@ -291,13 +290,5 @@ def answer_cannot_be_kept(row: Row, case: Case) -> None:
     both.well_again()
 
 
-def main() -> int:
-    folder = Case.build(sys.argv[1])
-    try:
-        return ROWS.run(sys.argv[2:], ["once"], Case)
-    finally:
-        shutil.rmtree(folder)
-
-
 if __name__ == "__main__":
-    sys.exit(main())
+    sys.exit(tried(ROWS))
