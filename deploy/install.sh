@@ -12,7 +12,7 @@ install -d "$root$library"/{collector,forwarding,machine,reading,shared,watching
 install -d "$root$prefix"/{bin,lib/systemd/{system,journald.conf.d},lib/sysusers.d}
 install -d "$root/etc/journal-collect"
 install -m 755 deploy/{send,serve,receive,answers,collect-incoming,journal-files,search,forward,status} "$root$library"
-install -m 644 deploy/{sshd,slice}.conf "$root$library"
+install -m 644 deploy/{sshd,slice}.conf deploy/{together,make_together}.py "$root$library"
 install -m 755 deploy/machine/fit_stream.py "$root$library/fit-stream"
 for part in collector forwarding machine reading shared watching; do
     install -m 644 deploy/$part/*.py "$root$library/$part"
@@ -41,3 +41,5 @@ for conf in machine.conf collector.conf journal-files.conf forward.conf; do
 done
 # No run has to compile a module. Each is known by what its source has: if that is another one, the run compiles it.
 /usr/bin/python3 -m compileall -q -s "$root" -p / --invalidation-mode checked-hash "$root$library"
+# What short programs load is beside that in one file for each kind of them.
+/usr/bin/python3 -IBS "$root$library/make_together.py" "$root"

@@ -43,6 +43,30 @@ for module in "$library"/*/*.py; do
     [[ $(od -A n -t u4 -j 4 -N 4 "$compiled" | tr -d ' ') == 3 ]] || differs "$compiled goes by the time of its source"
     grep -qF "$folder" "$compiled" && differs "$compiled has a path of the build"
 done
+
+# so it is with modules that are compiled in one file; a file of them that isn't right is none
+for kind in collector machine; do
+    together=$(echo "$library"/__pycache__/together-$kind.cpython-*.pyc)
+    [[ -e $together ]] || differs "the modules of $kind aren't compiled in one file"
+    grep -qF "$folder" "$together" && differs "$together has a path of the build"
+done
+loaded="import sys; sys.path.insert(0, '$library'); import together; together.use('collector')
+import collector.session
+print(*(name for name, module in sys.modules.items() if name.partition('.')[0] in ('collector', 'shared')
+        and not isinstance(module.__spec__.loader, together.Modules)))"
+expect 0 "" "" /usr/bin/python3 -IBS -c "$loaded"
+cp "$library"/__pycache__/together-collector.cpython-*.pyc "$folder/together"
+together=$(echo "$library"/__pycache__/together-collector.cpython-*.pyc)
+printf 'FOLDER=%s\n' "$folder/answers" > "$folder/answers.conf"
+for size in 0 1 2 1000 100000; do
+    head -c "$size" "$folder/together" > "$together"
+    expect 0 "" "" "$library/answers" web "$folder/answers.conf"
+done
+for text in i 'N' $'\xfa' "$(tr -d '\0' < "$library/answers")"; do
+    printf %s "$text" > "$together"
+    expect 0 "" "" "$library/answers" web "$folder/answers.conf"
+done
+cp "$folder/together" "$together"
 expect 2 "" "~answers: *" "$library/answers" "" "$folder/collector.conf"
 touch -r "$library/collector/calls.py" "$folder/time"
 sed -i 's/^WRONG, FAILED = 2, 3$/WRONG, FAILED = 4, 3/' "$library/collector/calls.py"
