@@ -10,8 +10,8 @@ from .report import tell
 def lines(machine: str) -> list[str]:
     """The last answer to each source of a machine, what is acknowledged of it, and what waits. A damaged file keeps the
     other sources from nothing: its machine sends again, and then it is put aside."""
-    waiting = {each.source for each in spool.waiting_in("incoming") if each.machine == machine}
-    waiting |= {each.source for _, each in spool.in_batches() if each.machine == machine}
+    waiting = {each.source for each in spool.waiting_in("incoming", machine)}
+    waiting |= {each.source for _, each in spool.in_batches(machine)}
     told = []
     for name in sorted({*source.names(machine), *waiting}):
         try:

@@ -9,10 +9,12 @@ from __future__ import annotations
 
 import time
 
+from shared import files
 from shared.records import NamedTuple
 
 DAY = 86400.0
 BOOT_ID = "/proc/sys/kernel/random/boot_id"
+LONGEST = 100
 
 
 class Moment(NamedTuple):
@@ -24,9 +26,7 @@ class Moment(NamedTuple):
 
 def now() -> Moment:
     """What the clocks say now."""
-    # As text it would be read by a module that takes longer to load than a call does.
-    with open(BOOT_ID, "rb") as file:
-        boot = file.read().decode("ascii").strip()
+    boot = files.beginning(BOOT_ID, LONGEST).decode("ascii").strip()
     return Moment(boot, time.clock_gettime(time.CLOCK_MONOTONIC_RAW), time.time())
 
 

@@ -12,6 +12,7 @@ from . import shares
 from .settings import OF_UPLOAD_BYTES, Settings
 
 TICKS = os.sysconf("SC_CLK_TCK")
+LONGEST_STAT = 4096
 # By the clock an upload may take so many times as long as on a processor, since disks are slower.
 CLOCK = 10
 # A database of a MiB was opened in a sixth of a second.
@@ -89,8 +90,7 @@ class Meter:
 def processor_seconds(process: int) -> float:
     """How long a process was on a processor."""
     try:
-        with open(f"/proc/{process}/stat", "rb") as file:
-            words = file.read().rpartition(b")")[2].split()
+        words = files.beginning(f"/proc/{process}/stat", LONGEST_STAT).rpartition(b")")[2].split()
     except (FileNotFoundError, ProcessLookupError):
         return 0.0
     return (int(words[11]) + int(words[12])) / TICKS

@@ -4,7 +4,8 @@ The program has read the stream before, and says how many entries it has and wha
 this compares both.
 """
 import hashlib
-from collections.abc import Iterator
+from collections.abc import Callable, Iterator, Sequence
+from operator import itemgetter
 
 from .answer import Key
 from .fields import read_rest
@@ -13,10 +14,10 @@ from .records import PART
 
 NUMBER, SEQUENCE = b"__SEQNUM", b"__SEQNUM_ID"
 REALTIME, MONOTONIC = b"__REALTIME_TIMESTAMP", b"__MONOTONIC_TIMESTAMP"
-# A name, a value, and what stands for both before the value.
+# A name, a value, and the text that stands for both.
 Pair = tuple[bytes, bytes, bytes]
-# So many lines are known again, none of which is as long as that.
-LINES, LONGEST_LINE = 4096, 256
+# So many lines are known again, none of which is as long as that, and so many orders of names.
+LINES, LONGEST_LINE, ORDERS = 4096, 256, 256
 
 
 def key_part(key: Key) -> bytes:
@@ -25,22 +26,42 @@ def key_part(key: Key) -> bytes:
 
 
 def spelled(name: bytes, value: bytes) -> Pair:
-    """A pair with what stands for it before its value."""
-    return name, value, b" %d %d %b" % (len(name), len(value), name)
+    """A pair with the text that stands for it."""
+    return name, value, b" %d %d %b%b" % (len(name), len(value), name, value)
 
 
-def content_part(meta: dict[bytes, bytes], pairs: set[Pair]) -> bytes:
+class Sorted:
+    """Puts pairs in order. Entries that have the same names one behind the other have the same order."""
+
+    def __init__(self) -> None:
+        self.orders: dict[tuple[bytes, ...], Callable[[Sequence[bytes]], Sequence[bytes]]] = {}
+
+    def texts(self, pairs: list[Pair]) -> Sequence[bytes]:
+        """What stands for the pairs, each once, in the order of names and values."""
+        if len(pairs) < 2:
+            return [text for _, _, text in pairs]
+        names, _, texts = zip(*pairs)
+        order = self.orders.get(names)
+        if order:
+            return order(texts)
+        if len(set(names)) < len(names):
+            return [text for _, _, text in sorted(set(pairs))]
+        order = itemgetter(*sorted(range(len(names)), key=names.__getitem__))
+        if len(self.orders) < ORDERS:
+            self.orders[names] = order
+        return order(texts)
+
+
+def content_part(meta: dict[bytes, bytes], texts: Sequence[bytes]) -> bytes:
     """What stands for the times and the set of fields, whatever their order and spelling."""
-    texts = [b"%d %d" % (int(meta[REALTIME]), int(meta[MONOTONIC]))]
-    for _, value, before in sorted(pairs):
-        texts += (before, value)
-    return hashlib.blake2b(b"".join(texts), digest_size=PART).digest()
+    data = b"%d %d%b" % (int(meta[REALTIME]), int(meta[MONOTONIC]), b"".join(texts))
+    return hashlib.blake2b(data, digest_size=PART).digest()
 
 
-def entry(meta: dict[bytes, bytes], pairs: set[Pair]) -> tuple[Key, bytes]:
+def entry(meta: dict[bytes, bytes], texts: Sequence[bytes]) -> tuple[Key, bytes]:
     """A complete entry's key and identity."""
     key = Key(meta[SEQUENCE].decode("ascii").lower(), int(meta[NUMBER]))
-    return key, key_part(key) + content_part(meta, pairs)
+    return key, key_part(key) + content_part(meta, texts)
 
 
 def entries(path: str) -> Iterator[tuple[Key, bytes]]:
@@ -49,17 +70,20 @@ def entries(path: str) -> Iterator[tuple[Key, bytes]]:
     with open(path, "rb", buffering=1 << 17) as file:
         file.seek(HEAD)
         meta: dict[bytes, bytes] = {}
-        pairs: set[Pair] = set()
+        pairs: list[Pair] = []
         lines: dict[bytes, Pair] = {}
+        in_order = Sorted()
+        known, add = lines.get, pairs.append
         for line in file:
-            known = lines.get(line)
-            if known:
-                pairs.add(known)
+            pair = known(line)
+            if pair:
+                add(pair)
                 continue
             if line == b"\n":
                 if meta or pairs:
-                    yield entry(meta, pairs)
-                meta, pairs = {}, set()
+                    yield entry(meta, in_order.texts(pairs))
+                meta = {}
+                pairs.clear()
                 continue
             field = read_rest(file, line)
             if field is None:
@@ -68,6 +92,6 @@ def entries(path: str) -> Iterator[tuple[Key, bytes]]:
                 meta[field[0]] = field[1]
                 continue
             pair = spelled(*field)
-            pairs.add(pair)
+            add(pair)
             if len(line) < LONGEST_LINE and len(lines) < LINES and b"=" in line:
                 lines[line] = pair

@@ -3,7 +3,7 @@ from __future__ import annotations
 
 import os
 
-from shared import processes
+from shared import files, processes
 from shared.records import NamedTuple
 
 from .answer import Key
@@ -85,14 +85,19 @@ def inspect(path: str, seconds: int = 0, most: Most | None = None) -> Upload | F
     words = said.decode(errors="replace").split()
     try:
         if status == 0 and words[0] == "upload":
-            key = None if words[5] == "-" else Key(words[5], int(words[6]))
-            return Upload(words[1], int(words[2]), int(words[3]), int(words[4]), key)
+            return upload_of(words[1:])
         if status == 1 and words[0] == "bad":
             return Fault(int(words[1]), int(words[2]))
     except (IndexError, ValueError):
         pass
     failure = Stopped if status == -SIGXCPU else Failed
     raise failure(f"journal-collect inspect {path}: status {status}: {errors.decode(errors='replace').strip()}")
+
+
+def upload_of(words: list[str]) -> Upload:
+    """What the words say that an upload has; a ValueError or an IndexError if they say nothing."""
+    key = None if words[4] == "-" else Key(words[4], int(words[5]))
+    return Upload(words[0], int(words[1]), int(words[2]), int(words[3]), key)
 
 
 def is_journal_file(head: bytes) -> bool:
@@ -111,8 +116,7 @@ def has_journal_file(path: str) -> bool:
 
 def header(path: str) -> tuple[int, str, int]:
     """The kind, the source and the start in an upload's header."""
-    with open(path, "rb") as file:
-        head = file.read(HEAD)
+    head = files.beginning(path, HEAD)
     if len(head) < HEAD:
         raise Failed(f"{path} has no whole header")
     return head[8], head[16:32].hex(), int.from_bytes(head[START:START + 8], "little")

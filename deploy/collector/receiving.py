@@ -9,7 +9,7 @@ import time
 from shared import files
 from shared.records import NamedTuple
 
-from . import aside, bounds, program, shares, spool
+from . import aside, bounds, noted, program, shares, spool
 from .report import tell
 from .settings import OF_UPLOAD_BYTES, Settings
 
@@ -22,7 +22,8 @@ TAKEN, REFUSED, FAILED = 0, 1, 3
 # What takes longer than a run of a machine may take is of a connection that is gone. What comes behind the last byte
 # may take so long.
 SECONDS, SECONDS_BEHIND = 1800, 600
-PIECE = 1 << 20
+# A pipe holds no more.
+PIECE = 1 << 16
 # A journal of a machine never gets so far.
 LAST_START = 2**62
 
@@ -87,7 +88,7 @@ def begin_part(settings: Settings, machine: str) -> tuple[int, str]:
     """A new part of an upload, which is locked as long as its connection is there. Fails if there is too much
     already."""
     with files.locked(spool.ORDER):
-        waiting = [each.name for each in spool.waiting_in("incoming") if each.machine == machine]
+        waiting = [each.name for each in spool.waiting_in("incoming", machine)]
         if len(waiting) >= settings.uploads_waiting:
             refuse(f"{len(waiting)} uploads of {machine} are waiting", bounds.NOT_NOW)
         connections = sum(name.startswith(f"{machine}@") for name in drop_dead_parts())
@@ -152,7 +153,7 @@ def look_at_size(settings: Settings, machine: str, size: int) -> None:
 def look_at(settings: Settings, machine: str, part: str) -> str:
     """The source of an upload that may wait."""
     try:
-        told = program.inspect(part, settings.upload_cpu_seconds, most_of(settings))
+        told = noted.inspect(part, settings.upload_cpu_seconds, most_of(settings))
     except program.Stopped:
         refuse(f"an upload of {machine} takes over {settings.upload_cpu_seconds} seconds of a processor", bound="cost")
     if isinstance(told, program.Fault) and told.code in (3, 4):

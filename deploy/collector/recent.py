@@ -64,7 +64,8 @@ class Recent:
                 self.number += 1
                 folder = os.path.join(FOLDER, database)
                 kept = os.path.join(folder, f"{first:020d}-{last:020d}-{self.number}.upload")
-                os.makedirs(folder, exist_ok=True)
+                if not os.path.isdir(folder):
+                    os.makedirs(folder, exist_ok=True)
                 os.replace(path, kept)
                 self.uploads.append((self.number, kept, size))
                 self.bytes += size

@@ -2,7 +2,9 @@
 and its identity, which is what it is known again by. They have one sum, which the source's file keeps."""
 import os
 import struct
+import sys
 import zlib
+from array import array
 from collections.abc import Iterator, Sequence
 from typing import NamedTuple
 
@@ -17,6 +19,8 @@ PART = 8
 IDENTITY = 2 * PART
 RECORD = struct.Struct(f"<Q{IDENTITY}s")
 AT_ONCE = RECORD.size << 12
+# A record as numbers: its position, what stands for its key, and the rest.
+WORDS = RECORD.size // 8
 
 
 class Known(NamedTuple):
@@ -55,14 +59,26 @@ def look_at(path: str, source: Source) -> None:
 def known_of(path: str, source: Source, start: int, identities: Sequence[bytes]) -> Known:
     """Looks an upload's entries up in the records."""
     end, keys = start + len(identities), {identity[:PART] for identity in identities}
+    positions, numbers = set(range(start, end)), {int.from_bytes(key, "little") for key in keys}
     known = Known({}, {})
     for piece in pieces(path, source):
+        if has_none(piece, positions, numbers):
+            continue
         for position, identity in RECORD.iter_unpack(piece):
             if start <= position < end:
                 known.at[position] = identity
             if identity[:PART] in keys:
                 known.under[identity[:PART]] = identity
     return known
+
+
+def has_none(piece: bytes, positions: set[int], keys: set[int]) -> bool:
+    """Whether no record of a piece has one of these positions or keys. So it is with nearly all, and to take each of
+    them apart takes five times as long."""
+    words = array("Q", piece)
+    if sys.byteorder == "big":
+        words.byteswap()
+    return positions.isdisjoint(words[::WORDS]) and keys.isdisjoint(words[1::WORDS])
 
 
 def add(path: str, source: Source, added: Sequence[tuple[int, bytes]], database: str) -> None:

@@ -16,8 +16,10 @@ FIRST_LINE = "session 1"
 LONGEST_LINE = 100
 # So long a machine may say nothing, and so long one may wait for answers.
 IDLE_SECONDS, MOST_SECONDS = 1800.0, 60.0
-LOOKS = 0.1
-PIECE = 1 << 20
+# The service looks for uploads each two seconds, so answers take about that long.
+LOOKS = 0.25
+# ssh brings half as much at once.
+PIECE = 1 << 16
 
 
 class Over(Exception):

@@ -101,5 +101,7 @@ def enter(chosen: Settings) -> None:
     look_at_owner(chosen.folder)
     os.umask(0o077)
     for part in ("calls", "incoming", "batch", "aside", "shares", "sources", "databases"):
-        os.makedirs(os.path.join(chosen.folder, part), exist_ok=True)
+        folder = os.path.join(chosen.folder, part)
+        if not os.path.isdir(folder):
+            os.makedirs(folder, exist_ok=True)
     os.chdir(chosen.folder)

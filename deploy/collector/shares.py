@@ -1,4 +1,6 @@
-"""What each machine has used of the collector in the present day: shares/MACHINE.share, in lines, replaced whole.
+"""What each machine has used of the collector in the present day: shares/MACHINE.share, in lines. Whoever reads or
+writes one has the lock `shares.lock`, so that it can be written over: a file that is replaced takes a processor ten
+times as long, and this is done for each upload twice.
 
     share 1               the version of this format
     day BOOT NUMBER       the day that this is about, counted from the machine's start
@@ -13,6 +15,7 @@ more than that a machine may have its share of a day twice, as it also may if th
 from __future__ import annotations
 
 import os
+import stat
 
 from shared import files
 
@@ -107,21 +110,18 @@ def path_of(machine: str) -> str:
     return os.path.join(FOLDER, machine + END)
 
 
-def beginning(path: str) -> bytes:
-    """The first bytes of a file; what isn't one is no reason to wait."""
-    file = os.open(path, os.O_RDONLY | os.O_NOFOLLOW | os.O_NONBLOCK | os.O_CLOEXEC)
-    try:
-        return os.read(file, LONGEST)
-    finally:
-        os.close(file)
-
-
 def read(machine: str) -> Share:
     """What a machine has used today."""
+    with files.locked(LOCK):
+        return found(machine)
+
+
+def found(machine: str) -> Share:
+    """The same, for whoever has the lock."""
     day = today()
     path = path_of(machine)
     try:
-        return of_text(beginning(path).decode("ascii"), day)
+        return of_text(files.beginning(path, LONGEST).decode("ascii"), day)
     except FileNotFoundError:
         pass
     except (OSError, ValueError) as error:
@@ -131,7 +131,26 @@ def read(machine: str) -> Share:
 
 def write(machine: str, share: Share) -> None:
     """Keeps what a machine has used. The disk has it when it likes: little is lost with it."""
-    files.replace(path_of(machine), share.text(), is_synced=False)
+    path, text = path_of(machine), share.text()
+    if not is_written_over(path, text):
+        files.replace(path, text, is_synced=False)
+
+
+def is_written_over(path: str, text: bytes) -> bool:
+    """Writes over a file; whether it is one, and has no other name."""
+    try:
+        file = os.open(path, os.O_WRONLY | os.O_NOFOLLOW | os.O_NONBLOCK | os.O_CLOEXEC)
+    except OSError:
+        return False
+    try:
+        told = os.fstat(file)
+        if not stat.S_ISREG(told.st_mode) or told.st_nlink > 1:
+            return False
+        os.pwrite(file, text, 0)
+        os.ftruncate(file, len(text))
+        return True
+    finally:
+        os.close(file)
 
 
 def use(machine: str, size: int, seconds: float) -> None:
@@ -155,7 +174,7 @@ def change(machine: str, how: Callable[[Share], None]) -> None:
     """Changes what a machine has used today. On a full disk it isn't kept."""
     try:
         with files.locked(LOCK):
-            share = read(machine)
+            share = found(machine)
             how(share)
             write(machine, share)
     except OSError as error:
@@ -167,7 +186,7 @@ def tell_all() -> None:
     for name in files.names(FOLDER, END):
         machine = name.removesuffix(END)
         with files.locked(LOCK):
-            share = read(machine)
+            share = found(machine)
             untold = sorted(share.refused.keys() - share.told)
             share.told |= set(untold)
             if untold:

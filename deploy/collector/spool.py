@@ -46,16 +46,18 @@ def read_name(name: str) -> Waiting | None:
     return Waiting(int(number), parts[1], parts[2]) if is_number else None
 
 
-def waiting_in(folder: str) -> list[Waiting]:
-    """The uploads in a folder, the first that came first. A pipe, a link or a folder is none."""
-    return [each for name in files.names(folder, END) if (each := read_name(name))
+def waiting_in(folder: str, machine: str = "") -> list[Waiting]:
+    """The uploads in a folder, the first that came first; or those of one machine. A pipe, a link or a folder is
+    none."""
+    part = f"@{machine}@" if machine else ""
+    return [each for name in files.names(folder, END) if part in name and (each := read_name(name))
             and state.is_file(os.path.join(folder, name))]
 
 
-def in_batches() -> Iterator[tuple[str, Waiting]]:
-    """The uploads that belong to databases."""
+def in_batches(machine: str = "") -> Iterator[tuple[str, Waiting]]:
+    """The uploads that belong to databases; or those of one machine."""
     for folder in files.names("batch"):
-        for each in waiting_in(os.path.join("batch", folder)):
+        for each in waiting_in(os.path.join("batch", folder), machine):
             yield folder, each
 
 
@@ -76,9 +78,8 @@ def put(path: str, machine: str, source: str) -> str:
     """Puts an upload with those that wait; its name. It takes the place of an older one of its source, or the last
     one."""
     with files.locked(ORDER) as order:
-        waiting = waiting_in("incoming")
-        older = [each for each in waiting if (each.machine, each.source) == (machine, source)]
-        number = older[0].number if older else next_number(order, waiting)
+        older = [each for each in waiting_in("incoming", machine) if each.source == source]
+        number = older[0].number if older else next_number(order)
         name = Waiting(number, machine, source).name
         os.replace(path, os.path.join("incoming", name))
         files.sync("incoming")
@@ -87,14 +88,15 @@ def put(path: str, machine: str, source: str) -> str:
 
 def waits(name: str) -> bool:
     """Whether an upload of this name isn't answered yet."""
-    return any(os.path.exists(os.path.join(folder, name)) for folder in (
-        "incoming", *(os.path.join("batch", each) for each in files.names("batch"))))
+    return os.path.exists(os.path.join("incoming", name)) or any(
+        os.path.exists(os.path.join("batch", each, name)) for each in files.names("batch"))
 
 
-def next_number(order: int, waiting: list[Waiting]) -> int:
-    """The number after the last one that was given."""
+def next_number(order: int) -> int:
+    """The number after the last one that was given. Names in order have their numbers in order."""
     given = os.pread(order, 32, 0).decode("ascii", errors="replace").strip()
-    number = 1 + max(int(given) if given.isdecimal() else 0, max((each.number for each in waiting), default=0))
+    last = next(filter(None, map(read_name, reversed(files.names("incoming", END)))), None)
+    number = 1 + max(int(given) if given.isdecimal() else 0, last.number if last else 0)
     number = min(number, 10**NUMBER_DIGITS - 1)
     os.pwrite(order, f"{number:0{NUMBER_DIGITS}d}\n".encode(), 0)
     return number

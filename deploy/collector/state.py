@@ -49,7 +49,7 @@ def read_bytes(path: str) -> bytes | None:
         return None
     with file:
         try:
-            data = file.read(LONGEST + 1)
+            data = file.read(min(os.fstat(file.fileno()).st_size, LONGEST) + 1)
         except OSError as error:
             raise Damaged(f"{path}: {error.strerror}") from error
     if len(data) > LONGEST:

@@ -11,7 +11,7 @@ from typing import NamedTuple, TypeVar
 
 from shared import files
 
-from . import aside, databases, entries, plan, program, records, sequences, source, spool
+from . import aside, databases, entries, noted, plan, program, records, sequences, source, spool
 from .answer import CONFLICT, NO_MEMORY, UNREAD, Answer, Key, acked, refused
 from .recent import recent
 from .report import report
@@ -141,7 +141,7 @@ def answered(step: Step) -> Asking[tuple[Step, Answer | None]]:
 
 def answer_to(step: Step) -> Asking[Answer | None]:
     """The answer to an upload, which is stored first; None if that is to be tried later."""
-    told = program.inspect(step.path)
+    told = noted.known(step.path) or program.inspect(step.path)
     if isinstance(told, program.Fault) and told.code in BAD_HEADER:
         raise Spoiled(f"it is no upload any more (bad {told.code} {told.place})")
     kind, name, start = program.header(step.path)

@@ -38,6 +38,15 @@ def read(path: Name) -> bytes:
         return file.read()
 
 
+def beginning(path: Name, most: int) -> bytes:
+    """The first bytes of a small file, which come at once. What isn't a file is no reason to wait."""
+    file = os.open(path, os.O_RDONLY | os.O_NOFOLLOW | os.O_NONBLOCK | os.O_CLOEXEC)
+    try:
+        return os.read(file, most)
+    finally:
+        os.close(file)
+
+
 def sync(path: Name) -> None:
     """What was written to a file, or which names a folder has, is on the disk afterwards."""
     handle = os.open(path, os.O_RDONLY)
