@@ -1,16 +1,11 @@
-"""Rows of one connection that has a whole run: usage: python3 session_rows.py LIBRARY [ROW..]
-
-Connections are cut at each STEP-th byte of what either side says (STEP in the environment, 61 by default).
-"""
+"""Rows of one connection that has a whole run: usage: python3 session_rows.py LIBRARY [ROW..]"""
 from __future__ import annotations
 
 import os
 import resource
-import shutil
 import signal
 import subprocess
 import sys
-from collections.abc import Iterator
 
 HERE = os.path.dirname(os.path.abspath(__file__))
 sys.path.insert(0, os.path.join(HERE, "..", "reading"))
@@ -19,7 +14,6 @@ from rows import Row, Rows  # noqa: E402
 from running import Collector, wait_for  # noqa: E402
 
 LIBRARY = os.path.abspath(sys.argv[1])
-STEP = int(os.environ.get("STEP", "61"))
 ROWS: Rows[str] = Rows()
 
 
@@ -142,21 +136,6 @@ def at_once(row: Row, library: str) -> None:
 
 
 @ROWS.row
-def cut_at_the_collector(row: Row, library: str) -> None:
-    """What a machine says ends at some byte: what came whole waits, and nothing else is left."""
-    with Collector(library) as collector:
-        uploads = [collector.upload(1, 2), collector.upload(1, 1, "b" * 32)]
-        text = b"".join(b"upload %d\n%s" % (len(upload), upload) for upload in uploads)
-        first = text.index(b"upload", 1)
-        for end in sorted({*range(0, len(text), STEP), first - 1, first, len(text) - 1, len(text)}):
-            shutil.rmtree(collector.folder, ignore_errors=True)
-            status, said, errors = call(collector, text[:end])
-            row.same(f"cut at {end}: status", (status, errors), (0, ""))
-            row.same(f"cut at {end}: taken", said.count("taken"), (end >= first) + (end == len(text)))
-            row.same(f"cut at {end}: left", left(collector), ((end >= first) + (end == len(text)), 0))
-
-
-@ROWS.row
 def full_disk(row: Row, library: str) -> None:
     """A part can't be written: the rest of it is read, and the connection goes on."""
     def limit() -> None:
@@ -196,13 +175,6 @@ def nobody_listens(row: Row, library: str) -> None:
 # Both ends
 
 
-def faults() -> Iterator[str]:
-    """Cuts of a connection that is as long as one in which an upload goes out."""
-    for kind, length in (("cut", 700), ("half", 250)):
-        for count in range(0, length, STEP):
-            yield f"{kind}:1:{count}"
-
-
 def all_stored(row: Row, what: str, both: Both) -> None:
     """All of the journal is stored, once."""
     both.collector.stop()
@@ -238,22 +210,6 @@ def an_older_collector(row: Row, library: str) -> None:
         os.unlink(f"{both.machine.folder}/old-collector")
         row.same("a newer one", (both.send(), both.number_of_calls()), ((0, ""), 1))
         all_stored(row, "after three runs", both)
-
-
-@ROWS.row
-def cut_connections(row: Row, library: str) -> None:
-    """Connections are cut at some byte of what one side says: the next run goes on, and each entry is stored once."""
-    with Collector(library) as collector, Both(library, collector) as both:
-        collector.start()
-        for fault in faults():
-            both.machine.journal.grow(1)
-            status, said = both.send(fault)
-            row.same(f"{fault}: status: {said}", status in (0, 1, 3) and "Traceback" not in said, True)
-            row.same(f"{fault}: parts", left(collector)[1], 0)
-        for _ in range(3):
-            status, said = both.send()
-        row.same("a run at last", (status, said), (0, ""))
-        all_stored(row, "after all", both)
 
 
 @ROWS.row
