@@ -2,15 +2,16 @@
 """What machines that send each minute cost a collector, over real sshd and real keys.
 
 usage: python3 bench/load.py PROGRAM [--machines N] [--seconds S] [--every S] [--entries N,N..] [--collectors N,N..]
-                             [--way session|calls] [--kex ALGORITHM] [--deploy FOLDER] [--rounds N]
+                             [--way session|calls] [--kex ALGORITHM] [--deploy FOLDER] [--rounds N] [--keys N]
 
-It installs deploy/ below a temporary folder and starts an sshd of its own on loopback, with a key for each machine, and
-the collector's service. Then each machine sends once a minute, so many entries each time, at a moment of its own. The
-processor time of each kind of process is divided by the runs: that of sshd with the shell that it begins, of `serve`
-with what it runs, of the service, and of its programs. The machines' side, which is ssh alone here, isn't counted to
-what a processor serves. `calls` is the way of an earlier version: a connection for the answers and one for the upload.
---deploy has another tree's deploy/ installed beside this one's, and both measured in turn. Run it as root, for sshd
-wants that.
+It installs deploy/ below a temporary folder and starts an sshd of its own on loopback, with a key for each machine,
+and the collector's service. Then each machine sends once a minute, so many entries each time, at a moment of its own.
+The processor time of each kind of process is divided by the runs: that of sshd with the shell that it begins
+(/bin/sh, as the package's account has it) and the end of `serve`, of `serve` with what it runs, of the service, and
+of its programs. The machines' side, which is ssh alone here, isn't counted to what a processor serves. With --keys so
+many more machines have keys, which send nothing. `calls` is the way of an earlier version: a connection for the
+answers and one for the upload. --deploy has another tree's deploy/ installed beside this one's, and both measured in
+turn. Run it as root, for sshd wants that.
 """
 from __future__ import annotations
 
@@ -38,6 +39,14 @@ FIELDS = b"".join(b"%s=%s\n" % pair for pair in (
     (b"_SYSTEMD_CGROUP", b"/system.slice/ssh.service"), (b"_SYSTEMD_UNIT", b"ssh.service"),
     (b"_SYSTEMD_SLICE", b"system.slice"), (b"_SYSTEMD_INVOCATION_ID", b"6" * 32), (b"PRIORITY", b"6"),
     (b"SYSLOG_FACILITY", b"4"), (b"SYSLOG_IDENTIFIER", b"sshd"), (b"SYSLOG_PID", b"1234")))
+
+END_OF_SERVE = 'os._exit(calls.serve(sys.argv[1:], os.environ.get("SSH_ORIGINAL_COMMAND", "")))\n'
+SAYS = """status = calls.serve(sys.argv[1:], os.environ.get("SSH_ORIGINAL_COMMAND", ""))
+import resource
+used = [resource.getrusage(each) for each in (resource.RUSAGE_SELF, resource.RUSAGE_CHILDREN)]
+with open("{times}", "a", encoding="ascii") as file:
+    file.write("%.6f\\n" % sum(each.ru_utime + each.ru_stime for each in used))
+"""
 
 
 @dataclass
@@ -124,35 +133,41 @@ class Machine:
 class Place:
     """The folder with everything, sshd and the service."""
 
-    def __init__(self, program: str, machines: int, collectors: int, kex: str, tree: Path) -> None:
+    def __init__(self, asked: argparse.Namespace, collectors: int, tree: Path) -> None:
         self.folder = Path(tempfile.mkdtemp(prefix="load-", dir="/var/tmp"))
         os.chmod(self.folder, 0o755)
         subprocess.run([tree / "deploy/install.sh", self.folder / "root", "/usr"], check=True)
         self.library = self.folder / "root/usr/lib/journal-collect"
         (self.folder / "root/usr/bin").mkdir(exist_ok=True)
-        shutil.copy(program, self.folder / "root/usr/bin/journal-collect")
+        shutil.copy(asked.program, self.folder / "root/usr/bin/journal-collect")
         self.conf = self.folder / "collector.conf"
         self.conf.write_text(f"FOLDER={self.folder}/collector\nCOLLECTORS={collectors}\nFREE_BYTES=0\n")
-        # bash says last what the processes took that it waited for.
         self.times = self.folder / "times"
         self.times.write_bytes(b"")
-        commands = [f"{self.library}/serve m{number} {self.conf}; code=$?; times >> {self.times}; exit $code"
-                    for number in range(machines)]
-        self.sshd = Sshd(self.folder, commands)
+        self.have_serve_say()
+        commands = [f"{self.library}/serve m{number} {self.conf}" for number in range(asked.machines)]
+        self.sshd = Sshd(self.folder, commands, asked.keys)
         self.ssh = ["ssh", "-F", "/dev/null", "-p", str(self.sshd.port), "-l", self.sshd.user, "-o",
                     "HostName=127.0.0.1", "-o", "BatchMode=yes", "-o", "IdentitiesOnly=yes", "-o",
                     f"UserKnownHostsFile={self.sshd.known_hosts}",
-                    *(["-o", f"KexAlgorithms={kex}"] if kex else [])]
+                    *(["-o", f"KexAlgorithms={asked.kex}"] if asked.kex else [])]
         self.service = subprocess.Popen([self.library / "collect-incoming", self.conf],
                                         stderr=open(self.folder / "service", "wb"))
-        self.machines = [Machine(self, number) for number in range(machines)]
+        self.machines = [Machine(self, number) for number in range(asked.machines)]
         self.most = 0
+
+    def have_serve_say(self) -> None:
+        """`serve` says at its end what it and what it ran have taken."""
+        path = self.library / "serve"
+        text = path.read_text(encoding="utf-8")
+        if text.count(END_OF_SERVE) != 1:
+            raise ValueError(f"{path} has no {END_OF_SERVE}")
+        says = SAYS.format(times=self.times) + "os._exit(status)\n"
+        path.write_text(text.replace(END_OF_SERVE, says), encoding="utf-8")
 
     def served(self) -> float:
         """The processor seconds of `serve` and what it ran."""
-        lines = self.times.read_text(encoding="ascii").splitlines()
-        return sum(60 * float(minutes) + float(seconds.rstrip("s")) for line in lines[1::2]
-                   for minutes, _, seconds in (word.partition("m") for word in line.split()))
+        return sum(map(float, self.times.read_text(encoding="ascii").split()))
 
     def used(self) -> dict[str, float]:
         """The processor seconds of each kind of process."""
@@ -251,7 +266,9 @@ def measure_all(asked: argparse.Namespace, collectors: int) -> None:
     places: list[Place] = []
     try:
         for tree in asked.trees:
-            places.append(Place(os.path.abspath(asked.program), asked.machines, collectors, asked.kex, tree))
+            places.append(Place(asked, collectors, tree))
+        # What a service does at its start isn't counted.
+        time.sleep(3)
         kinds = [(entries, way) for _ in range(asked.rounds) for entries in map(int, asked.entries.split(","))
                  for way in asked.way or ("calls", "session")]
         for entries, way in kinds:
@@ -277,6 +294,7 @@ def main() -> None:
     parser.add_argument("--collectors", default="1,4")
     parser.add_argument("--way", action="append", choices=("session", "calls"))
     parser.add_argument("--kex", default="")
+    parser.add_argument("--keys", type=int, default=0, help="keys of other machines")
     parser.add_argument("--deploy", dest="trees", action="append", type=Path, default=[ROOT], metavar="FOLDER")
     asked = parser.parse_args()
     for collectors in map(int, asked.collectors.split(",")):

@@ -5,7 +5,8 @@ usage: python3 bench/service.py PROGRAM [--tables N,N] [--collectors N] [--uploa
 
 Uploads of 1,000 entries of 24 fields wait, each of a machine of its own, and a run of the service stores them. Kinds of
 tables take turns: the service makes tables by number (3), and a copy of it, with that one word changed, tables by key
-(2). It prints the time of each run, and that of a processor, which other work on the machine lengthens less.
+(2). After each run of the service the program alone stores the same uploads in one database, by a list of their names.
+It prints the time of each run, and that of a processor, which other work on the machine lengthens less.
 """
 from __future__ import annotations
 
@@ -68,6 +69,23 @@ class Service:
         return took, used.ru_utime + used.ru_stime, size
 
 
+def alone(folder: Path, program: str, tables: str, uploads: list[bytes]) -> tuple[float, float]:
+    """The seconds and the processor seconds in which the program by itself stores uploads that lie there."""
+    names = [folder / f"{number}.upload" for number in range(len(uploads))]
+    for path, given in zip(names, uploads):
+        path.write_bytes(given)
+    begin = time.monotonic()
+    process = subprocess.Popen([program, "collect", "--files-from", "-", "--tables", tables, folder / "alone.db"],
+                               stdin=subprocess.PIPE, stdout=subprocess.DEVNULL)
+    assert process.stdin
+    process.stdin.write("".join(f"{path}\n" for path in names).encode())
+    process.stdin.close()
+    _, status, used = os.wait4(process.pid, 0)
+    if status:
+        raise OSError(f"the program ended with {status}")
+    return time.monotonic() - begin, used.ru_utime + used.ru_stime
+
+
 def main() -> None:
     parser = argparse.ArgumentParser()
     parser.add_argument("program")
@@ -89,6 +107,10 @@ def main() -> None:
                 print(f"  tables {service.tables}: {took:6.2f} s, {entries / took:7,.0f} entries a second; "
                       f"{used:6.2f} s of a processor, {1000 * used / entries:.3f} ms an entry; "
                       f"{size / entries:,.0f} bytes an entry; load {os.getloadavg()[0]:.1f}", flush=True)
+                by_itself, its_own = alone(folder, os.path.abspath(asked.program), service.tables, uploads)
+                print(f"    the program alone: {by_itself:6.2f} s, so the service stored "
+                      f"{100 * by_itself / took:.0f} % of what it does; {1000 * its_own / entries:.3f} ms an entry",
+                      flush=True)
                 shutil.rmtree(folder)
 
 

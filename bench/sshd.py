@@ -1,6 +1,7 @@
 """An sshd of a measurement's own, on loopback, with a key for each machine. Run as root, for sshd wants that."""
 from __future__ import annotations
 
+import base64
 import os
 import pwd
 import signal
@@ -10,11 +11,16 @@ import time
 from pathlib import Path
 
 
-class Sshd:
-    """It runs these commands, each for the key of its number."""
+# Starts a program that finds another file in place of /etc/passwd.
+WITH_PASSWD = ["unshare", "--mount", "sh", "-c", 'mount --bind "$0" /etc/passwd && exec "$@"']
 
-    def __init__(self, folder: Path, commands: list[str]) -> None:
-        self.folder = folder
+
+class Sshd:
+    """It runs these commands, each for the key of its number. So many others have keys, too: half of them stand before
+    those that are used."""
+
+    def __init__(self, folder: Path, commands: list[str], others: int = 0) -> None:
+        self.folder, self.others = folder, others
         with socket.socket() as free:
             free.bind(("127.0.0.1", 0))
             self.port = free.getsockname()[1]
@@ -28,13 +34,22 @@ class Sshd:
 
     def make_keys(self, commands: list[str]) -> None:
         (self.folder / "keys").mkdir()
-        lines = []
+        lines = [other_key() for _ in range(self.others // 2)]
         for number, command in enumerate(commands):
             subprocess.run(["ssh-keygen", "-q", "-t", "ed25519", "-N", "", "-C", f"m{number}", "-f", self.key(number)],
                            check=True)
             public = self.key(number).with_suffix(".pub").read_text(encoding="ascii")
             lines.append(f'command="{command}",restrict {public}')
+        lines += [other_key() for _ in range(self.others - self.others // 2)]
         (self.folder / "authorized_keys").write_text("".join(lines), encoding="ascii")
+
+    def passwd(self) -> Path:
+        """Accounts as they are, but that this one has the shell of the package's account."""
+        own = [":".join([*line.split(":")[:-1], "/bin/sh"]) if line.startswith(f"{self.user}:") else line
+               for line in Path("/etc/passwd").read_text(encoding="utf-8").splitlines()]
+        path = self.folder / "passwd"
+        path.write_text("\n".join(own) + "\n", encoding="utf-8")
+        return path
 
     def start(self) -> None:
         host = self.folder / "host"
@@ -48,15 +63,24 @@ class Sshd:
                           # A shell reads what it finds at home, which would be counted.
                           f"PermitRootLogin yes\nUsePAM no\nLogLevel ERROR\nSetEnv HOME={self.folder}\n",
                           encoding="ascii")
-        self.process = subprocess.Popen(["/usr/sbin/sshd", "-D", "-f", config, "-E", self.folder / "sshd-log"])
+        self.process = subprocess.Popen([*WITH_PASSWD, self.passwd(), "/usr/sbin/sshd", "-D", "-f", config, "-E",
+                                         self.folder / "sshd-log"])
         for _ in range(100):
             if (self.folder / "pid").exists():
                 return
             if self.process.poll() is not None:
                 break
             time.sleep(0.1)
-        raise SystemExit("sshd didn't start: " + (self.folder / "sshd-log").read_text(errors="replace"))
+        log = self.folder / "sshd-log"
+        raise SystemExit("sshd didn't start: " + (log.read_text(errors="replace") if log.exists() else "no log"))
 
     def end(self) -> None:
         self.process.send_signal(signal.SIGTERM)
         self.process.wait()
+
+
+def other_key() -> str:
+    """The line of a key that nobody has."""
+    key = b"".join(len(part).to_bytes(4, "big") + part for part in (b"ssh-ed25519", os.urandom(32)))
+    text = base64.b64encode(key).decode()
+    return f'command="/usr/lib/journal-collect/serve other",restrict ssh-ed25519 {text} other\n'
