@@ -33,10 +33,10 @@ for unit in deploy/*.service deploy/*.timer; do
     name=${page%(*} section=${page#*(}
     [[ $name != journal-collect* ]] || there "$name" "${section%)}" || differs "$unit: there is no page $page"
 done
-# what lies beside the programs and ends in .conf is for systemd and sshd
+# what lies beside the programs and ends in .conf is for systemd and sshd, and what ends in .py is no program
 for program in "$folder"/usr/bin/* "$folder"/usr/lib/journal-collect/*; do
     name=${program##*/}
-    [[ -d $program || $name == *.conf || -e $folder/usr/bin/journal-collect-$name ]] ||
+    [[ -d $program || $name == *.conf || $name == *.py || -e $folder/usr/bin/journal-collect-$name ]] ||
         grep -qr "^.Nm .*\b$name$" "$pages" || grep -qrF "\fB$name\fR" "$pages" || differs "no page is about $name"
 done
 for conf in "$folder"/etc/journal-collect/*.conf; do
