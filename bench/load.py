@@ -10,8 +10,8 @@ The processor time of each kind of process is divided by the runs: that of sshd 
 (/bin/sh, as the package's account has it) and the end of `serve`, of `serve` with what it runs, of the service, and
 of its programs. The machines' side, which is ssh alone here, isn't counted to what a processor serves. With --keys so
 many more machines have keys, which send nothing. `calls` is the way of an earlier version: a connection for the
-answers and one for the upload. --deploy has another tree's deploy/ installed beside this one's, and both measured in
-turn. Run it as root, for sshd wants that.
+answers and one for the upload. --deploy has another tree's deploy/ installed beside this one's, and both measured at
+the same time. Run it as root, for sshd wants that.
 """
 from __future__ import annotations
 
@@ -175,10 +175,8 @@ class Place:
         programs = children_of(service)
         self.most = max([self.most, *map(most_memory_of, programs)])
         own, waited = seconds_of(service)
-        ssh = resource.getrusage(resource.RUSAGE_CHILDREN)
         return {"sshd": sum(seconds_of(self.sshd.process.pid)) - served, "serve": served, "service": own,
-                "programs": waited + sum(sum(seconds_of(each)) for each in programs),
-                "ssh": ssh.ru_utime + ssh.ru_stime}
+                "programs": waited + sum(sum(seconds_of(each)) for each in programs)}
 
     def end(self) -> None:
         self.sshd.end()
@@ -230,39 +228,50 @@ def busy() -> float:
     return (sum(map(int, words[1:])) - int(words[4]) - int(words[5])) / TICKS
 
 
-def measure(place: Place, way: str, entries: int, asked: argparse.Namespace) -> str:
-    figures, machines, before, was_busy = Figures(), place.machines, place.used(), busy()
-    started = time.monotonic()
+def measure(places: list[Place], way: str, entries: int, asked: argparse.Namespace) -> list[str]:
+    """What each of the places took, all of which are at work at the same time: so what else the machine does lengthens
+    the times of all alike."""
+    figures, before = [Figures() for _ in places], [place.used() for place in places]
+    was_busy, started, begun = busy(), time.monotonic(), ssh_seconds()
     begin = started + 1
     threads = [threading.Thread(target=serve, args=(
-        machine, way, entries, begin + asked.every * number / len(machines), begin + asked.seconds, asked.every,
-        figures)) for number, machine in enumerate(machines)]
+        machine, way, entries, begin + asked.every * (number + index / len(places)) / len(place.machines),
+        begin + asked.seconds, asked.every, figures[index]))
+        for index, place in enumerate(places) for number, machine in enumerate(place.machines)]
     for thread in threads:
         thread.start()
     for thread in threads:
         thread.join()
     time.sleep(3)
     took = time.monotonic() - started
-    used = {name: value - before[name] for name, value in place.used().items()}
     share = (busy() - was_busy) / took / (os.cpu_count() or 1)
-    return text_of(figures, way, entries, used, share)
+    ssh = (ssh_seconds() - begun) / max(sum(each.runs for each in figures), 1)
+    told = (f"the machines' ssh {1000 * ssh:.1f} ms; the processors were {100 * share:.0f} % busy, load "
+            f"{os.getloadavg()[0]:.0f}")
+    return [text_of(each, way, entries, {name: value - past[name] for name, value in place.used().items()}) + told
+            for each, past, place in zip(figures, before, places)]
 
 
-def text_of(figures: Figures, way: str, entries: int, used: dict[str, float], share: float) -> str:
+def ssh_seconds() -> float:
+    """The processor seconds of all that has ended and was waited for, which is the machines' ssh alone."""
+    used = resource.getrusage(resource.RUSAGE_CHILDREN)
+    return used.ru_utime + used.ru_stime
+
+
+def text_of(figures: Figures, way: str, entries: int, used: dict[str, float]) -> str:
     runs = max(figures.runs, 1)
     each = {name: 1000 * value / runs for name, value in used.items()}
-    total = sum(value for name, value in each.items() if name != "ssh")
+    total = sum(each.values())
     waits = sorted(figures.waits) or [0.0]
     kinds = ", ".join(f"{name} {value:.1f}" for name, value in each.items())
     return (f"{way:8} {entries:4} entries: {figures.runs} runs of {kinds} ms; {60_000 / total if total else 0:.0f} "
             f"machines a processor; answers after {waits[len(waits) // 2]:.2f} s in the median, "
             f"{waits[len(waits) * 99 // 100]:.2f} s 99 %; {len(figures.faults)} faults "
-            f"{sorted(set(figures.faults))[:2]}; the machine's processors were {100 * share:.0f} % busy, load "
-            f"{os.getloadavg()[0]:.0f}")
+            f"{sorted(set(figures.faults))[:2]}; ")
 
 
 def measure_all(asked: argparse.Namespace, collectors: int) -> None:
-    """Each number of entries, each way of sending, and each tree, in turn."""
+    """Each number of entries and each way of sending in turn, over all trees."""
     places: list[Place] = []
     try:
         for tree in asked.trees:
@@ -272,8 +281,8 @@ def measure_all(asked: argparse.Namespace, collectors: int) -> None:
         kinds = [(entries, way) for _ in range(asked.rounds) for entries in map(int, asked.entries.split(","))
                  for way in asked.way or ("calls", "session")]
         for entries, way in kinds:
-            for tree, place in zip(asked.trees, places):
-                print(f"{tree.name}, {collectors} collectors: {measure(place, way, entries, asked)}", flush=True)
+            for tree, text in zip(asked.trees, measure(places, way, entries, asked)):
+                print(f"{tree.name}, {collectors} collectors: {text}", flush=True)
         for tree, place in zip(asked.trees, places):
             place.used()
             print(f"{tree.name}, {collectors} collectors: memory of the service {memory_of(place.service.pid)} kB, of "
