@@ -1,20 +1,11 @@
-"""Rows over tables by number, as docs/FORMATS.md has them: usage: python3 by_number.py PROGRAM FOLDER
-
-Databases are looked at, changed and made by the sqlite3 of Python.
-"""
-import contextlib
+"""Rows over tables by number, as docs/FORMATS.md has them: usage: python3 by_number.py PROGRAM FOLDER"""
 import itertools
 import os
-import sqlite3
-import subprocess
-import sys
-from collections.abc import Iterator
 
-from samples import BOOT_ID, E1, E2, E3, H1, SEQNUM_ID, entry_text, stream
+import rows
+from rows import ACK, SOURCE, expect, new, run, run_all, stock
+from samples import BOOT_ID, E1, E2, E3, H1, SEQNUM_ID, entry_text
 
-PROGRAM, FOLDER = sys.argv[1:]
-SOURCE = "a0a1a2a3a4a5a6a7a8a9aaabacadaeaf"
-ACK = f"ack {SOURCE} 0 {{}} {{}} 0\n"
 BY_NUMBER = [
     "CREATE TABLE journal(one INTEGER PRIMARY KEY, version INTEGER NOT NULL) STRICT",
     "CREATE TABLE record(id INTEGER PRIMARY KEY, seqid BLOB NOT NULL, seqnum INTEGER NOT NULL,\n"
@@ -28,45 +19,16 @@ CREATE TABLE entry(seqid BLOB NOT NULL, seqnum INTEGER NOT NULL,
   body BLOB NOT NULL, PRIMARY KEY(seqid, seqnum)) STRICT;
 INSERT INTO journal VALUES (1, 1);
 """
-mistakes = 0
-rows = 0
 
 
-def expect(what: str, got: object, wanted: object) -> None:
-    global mistakes, rows
-    rows += 1
-    if got != wanted:
-        mistakes += 1
-        print(f"{what}: {got}, not {wanted}", file=sys.stderr)
-
-
-def run(*words: str, upload: bytes = b"") -> tuple[int, str]:
-    """The status of a command, and what it printed on both outputs."""
-    told = subprocess.run([PROGRAM, *words], input=upload, capture_output=True, check=False)
-    return told.returncode, told.stdout.decode() + told.stderr.decode()
-
-
-def collect(path: str, *entries: bytes, options: tuple[str, ...] = ("--tables", "3")) -> tuple[int, str]:
-    return run("collect", *options, path, upload=stream(*entries))
-
-
-@contextlib.contextmanager
-def stock(path: str) -> Iterator[sqlite3.Connection]:
-    """A database as the stock SQLite has it; what is changed is committed."""
-    connection = sqlite3.connect(path)
-    with connection:
-        yield connection
-    connection.close()
+def collect(path: str, *entries: bytes, tables: str = "3") -> tuple[int, str]:
+    return rows.collect(path, *entries, tables=tables)
 
 
 def schema(path: str) -> list[str]:
     with stock(path) as connection:
         return [text for text, in connection.execute(
             "SELECT sql FROM sqlite_schema WHERE sql IS NOT NULL ORDER BY rootpage")]
-
-
-def new(name: str) -> str:
-    return f"{FOLDER}/{name}"
 
 
 def is_made() -> None:
@@ -91,10 +53,10 @@ def goes_on() -> None:
     texts = {}
     for kind, other in (("2", "3"), ("3", "2")):
         path = new(f"kind-{kind}")
-        expect("collect", collect(path, E1, E2, options=("--tables", kind)), (0, ACK.format(2, 2)))
+        expect("collect", collect(path, E1, E2, tables=kind), (0, ACK.format(2, 2)))
         before = schema(path)
-        expect("another option", collect(path, E2, E3, options=("--tables", other)), (0, ACK.format(2, 1)))
-        expect("no option", collect(path, E1, E3, options=()), (0, ACK.format(2, 0)))
+        expect("another option", collect(path, E2, E3, tables=other), (0, ACK.format(2, 1)))
+        expect("no option", collect(path, E1, E3, tables=""), (0, ACK.format(2, 0)))
         expect("a conflict", collect(path, H1), (1, f"no {SOURCE} 0 60 0\n"))
         expect("its tables", schema(path), before)
         expect("check", run("check", path), (0, "ok 3\n"))
@@ -102,7 +64,7 @@ def goes_on() -> None:
     expect("what is listed", texts["3"], texts["2"])
     expect("an export", texts["3"][0][1].count("__SEQNUM="), 3)
     path = new("without")
-    collect(path, E1, options=())
+    collect(path, E1, tables="")
     with stock(path) as connection:
         expect("without the option", connection.execute("SELECT version FROM journal").fetchall(), [(2,)])
     expect("no such tables", run("collect", "--tables", "4", new("never"))[0], 2)
@@ -114,11 +76,11 @@ def beside_others() -> None:
     for kind, change in itertools.product(("2", "3"), ("ANALYZE", "CREATE TABLE other(id INTEGER PRIMARY KEY, a, b)",
                                                        "CREATE TABLE other(a, b, c, d, e)")):
         path = new(f"beside-{kind}-{change.replace(' ', '')[:20]}-{len(change)}")
-        collect(path, E1, E2, options=("--tables", kind))
+        collect(path, E1, E2, tables=kind)
         with stock(path) as connection:
             connection.execute(change)
         expect(f"{kind} {change}", run("check", path), (0, "ok 2\n"))
-        expect(f"{kind} {change}: collect", collect(path, E2, E3, options=()), (0, ACK.format(2, 1)))
+        expect(f"{kind} {change}: collect", collect(path, E2, E3, tables=""), (0, ACK.format(2, 1)))
 
 
 # A change of three entries with two fields each, and what `check` says then. Records are in the order of keys.
@@ -151,22 +113,7 @@ HOSTILE = {
 
 
 def hostile() -> None:
-    """Rows that somebody else wrote: the first bad one in the order of keys is told, and nothing is stored over it."""
-    def with_two(number: int) -> bytes:
-        return entry_text(number).replace(b"MESSAGE=hi\n", b"MESSAGE=hi\nPRIORITY=6\n")
-
-    for number, (what, (change, says)) in enumerate(HOSTILE.items()):
-        path = new(f"hostile-{number}")
-        collect(path, *map(with_two, (1, 2, 3)))
-        with stock(path) as connection:
-            connection.executescript(change)
-            left, = connection.execute("SELECT count(*) FROM record").fetchone()
-        good = says.startswith("ok")
-        expect(what, run("check", path), (0 if good else 1, says + "\n"))
-        expect(f"{what}: collect", collect(path, with_two(4))[0], 0 if good else 1)
-        with stock(path) as connection:
-            stored, = connection.execute("SELECT count(*) FROM record").fetchone()
-        expect(f"{what}: what is stored", stored, left + good)
+    rows.hostile("3", HOSTILE)
 
 
 def is_migrated() -> None:
@@ -217,7 +164,7 @@ def made_by_key(name: str, of_version_1: bool) -> str:
         with stock(path) as connection:
             connection.executescript(BY_ONE_VALUE)
         expect("of version 1", run("migrate", path), (0, "ok 0\n"))
-    expect("collect", collect(path, E3, E1, E2, options=("--tables", "2")), (0, ACK.format(3, 3)))
+    expect("collect", collect(path, E3, E1, E2, tables="2"), (0, ACK.format(3, 3)))
     return path
 
 
@@ -266,12 +213,5 @@ def is_refused() -> None:
             expect(f"{what}: its rows", connection.execute("SELECT count(*) FROM record").fetchone(), (3,))
 
 
-def main() -> None:
-    for part in (is_made, goes_on, beside_others, hostile, is_migrated, migrated_beside, is_numbered, is_refused):
-        part()
-    print(f"{rows} rows, {mistakes} mistakes")
-    sys.exit(mistakes > 0)
-
-
 if __name__ == "__main__":
-    main()
+    run_all((is_made, goes_on, beside_others, hostile, is_migrated, migrated_beside, is_numbered, is_refused))

@@ -1,0 +1,82 @@
+"""What the rows over tables of either kind share, which are run as: python3 NAME.py PROGRAM FOLDER
+
+Databases are looked at, changed and made by the sqlite3 of Python.
+"""
+from __future__ import annotations
+
+import contextlib
+import sqlite3
+import subprocess
+import sys
+from collections.abc import Callable, Iterator
+
+from samples import entry_text, stream
+
+PROGRAM, FOLDER = sys.argv[1:]
+SOURCE = "a0a1a2a3a4a5a6a7a8a9aaabacadaeaf"
+ACK = f"ack {SOURCE} 0 {{}} {{}} 0\n"
+mistakes = 0
+rows = 0
+
+
+def expect(what: str, got: object, wanted: object) -> None:
+    global mistakes, rows
+    rows += 1
+    if got != wanted:
+        mistakes += 1
+        print(f"{what}: {got}, not {wanted}", file=sys.stderr)
+
+
+def run(*words: str, upload: bytes = b"") -> tuple[int, str]:
+    """The status of a command, and what it printed on both outputs."""
+    told = subprocess.run([PROGRAM, *words], input=upload, capture_output=True, check=False)
+    return told.returncode, told.stdout.decode() + told.stderr.decode()
+
+
+def collect(path: str, *entries: bytes, tables: str) -> tuple[int, str]:
+    """An upload of these entries is collected, with no option if `tables` is empty."""
+    options = ("--tables", tables) if tables else ()
+    return run("collect", *options, path, upload=stream(*entries))
+
+
+@contextlib.contextmanager
+def stock(path: str) -> Iterator[sqlite3.Connection]:
+    """A database as the stock SQLite has it; what is changed is committed."""
+    connection = sqlite3.connect(path)
+    with connection:
+        yield connection
+    connection.close()
+
+
+def new(name: str) -> str:
+    return f"{FOLDER}/{name}"
+
+
+def with_two(number: int) -> bytes:
+    """An entry of two fields."""
+    return entry_text(number).replace(b"MESSAGE=hi\n", b"MESSAGE=hi\nPRIORITY=6\n")
+
+
+def hostile(tables: str, changes: dict[str, tuple[str, str]]) -> None:
+    """Changes that somebody else made of three entries with two fields each, and what `check` says then: the first bad
+    row in the order of keys is told, and nothing is stored over it."""
+    for number, (what, (change, says)) in enumerate(changes.items()):
+        path = new(f"hostile-{number}")
+        collect(path, *map(with_two, (1, 2, 3)), tables=tables)
+        with stock(path) as connection:
+            connection.executescript(change)
+            left, = connection.execute("SELECT count(*) FROM record").fetchone()
+        good = says.startswith("ok")
+        expect(what, run("check", path), (0 if good else 1, says + "\n"))
+        expect(f"{what}: collect", collect(path, with_two(4), tables=tables)[0], 0 if good else 1)
+        with stock(path) as connection:
+            stored, = connection.execute("SELECT count(*) FROM record").fetchone()
+        expect(f"{what}: what is stored", stored, left + good)
+
+
+def run_all(parts: tuple[Callable[[], None], ...]) -> None:
+    """Runs the parts, and ends with status 1 if a row of one is wrong."""
+    for part in parts:
+        part()
+    print(f"{rows} rows, {mistakes} mistakes")
+    sys.exit(mistakes > 0)
