@@ -318,11 +318,26 @@ done
 for setting in SystemMaxFiles RuntimeMaxFiles; do
     grep -qx $setting=10000 "$folder/root/usr/lib/systemd/journald.conf.d"/*.conf || differs "journald: no $setting"
 done
-# what systemd's own judge says of them, in tenths: at most so many
+# what systemd's own judge says of them, in tenths: at most what SECURITY.md says; another release may look at more
+judged() {
+    systemd-analyze security --offline=true --no-pager --threshold="$1" "$2"
+}
 if command -v systemd-analyze > "$folder/told"; then
-    for unit in incoming:5 journal-files:5 send:15 follow:15 forward:15 browse:15; do
-        expect 0 "~*" "" systemd-analyze security --offline=true --no-pager --threshold="${unit#*:}" \
+    more=5
+    if [[ $(systemd-analyze --version) == "systemd 252 "* ]]; then more=0; fi
+    for unit in incoming:2 journal-files:2 send:13 follow:13 forward:12 browse:10; do
+        expect 0 "~*" "" judged $((${unit#*:} + more)) \
             "$folder/root/usr/lib/systemd/system/journal-collect-${unit%:*}.service"
+    done
+    # a unit that needs no network and no user beside its own has neither, and that counts
+    for unit in incoming journal-files; do
+        for setting in PrivateUsers=yes IPAddressDeny=any PrivateNetwork=yes RestrictAddressFamilies=none; do
+            grep -qx $setting "$folder/root/usr/lib/systemd/system/journal-collect-$unit.service" ||
+                differs "journal-collect-$unit.service: no $setting"
+            sed "/^$setting/d" "$folder/root/usr/lib/systemd/system/journal-collect-$unit.service" \
+                > "$folder/less.service"
+            if [[ $more == 0 ]]; then expect 1 "~*" "" judged 2 "$folder/less.service"; fi
+        done
     done
 else
     echo "skipped: systemd-analyze isn't installed, so what the units may do isn't judged"

@@ -6,8 +6,13 @@ beside is modules that are loaded, none of which was used: whoever forks runs no
 """
 from __future__ import annotations
 
+import _signal
+import ast
+import codecs
+import fnmatch
 import gc
 import os
+import re
 import signal
 import subprocess
 import sys
@@ -34,17 +39,32 @@ def install(library: str, stand_ins: Mapping[str, str], programs: Sequence[str] 
     """From now on programs of a library run so, and those that stand in for others: by name, the source of each."""
     global is_on
     sys.path.insert(0, library)
+    codecs.lookup("ascii")
     for package in packages:
         for name in sorted(os.listdir(os.path.join(library, package))):
             if name.endswith(".py") and name != "__init__.py":
                 __import__(f"{package}.{name[:-3]}")
+                compile_patterns(os.path.join(library, package, name))
     own = {os.path.join(library, name): os.path.join(library, name) for name in programs}
     for name, path in {**own, **stand_ins}.items():
         with open(path, encoding="utf-8") as file:
             codes[name] = compile(file.read(), path, "exec", dont_inherit=True)
+        compile_patterns(path)
     subprocess.Popen.__init__ = begin  # type: ignore[method-assign]
     os.posix_spawnp, os.execvp = spawn, replace  # type: ignore[assignment]
     is_on = True
+
+
+def compile_patterns(path: str) -> None:
+    """`re` keeps the patterns of a source, so that no forked process compiles them anew; and that of journal files,
+    which are looked for by their names."""
+    with open(path, encoding="utf-8") as file:
+        calls = [node for node in ast.walk(ast.parse(file.read())) if isinstance(node, ast.Call)]
+    for call in calls:
+        if isinstance(call.func, ast.Attribute) and ast.unparse(call.func.value) == "re" and not call.keywords and \
+                call.args and isinstance(call.args[0], ast.Constant):
+            re.compile(call.args[0].value)
+    fnmatch.filter([], "*.journal")
 
 
 def runs(words: Sequence[str]) -> bool:
@@ -154,8 +174,9 @@ def take_name(path: str) -> None:
 def forget_signals() -> None:
     """Signals do what they do when a program begins."""
     signal.set_wakeup_fd(-1)
-    for each in signal.valid_signals():
-        handler = signal.getsignal(each)
+    for each in range(1, signal.NSIG):
+        # the module `signal` makes an object of each answer
+        handler = _signal.getsignal(each)
         if callable(handler) and handler is not signal.default_int_handler:
             signal.signal(each, signal.SIG_DFL)
     for each in (signal.SIGPIPE, signal.SIGXFSZ):
@@ -163,6 +184,8 @@ def forget_signals() -> None:
 
 
 def put_environment(environment: Mapping[str, str]) -> None:
+    if environment is os.environ:
+        return
     for name in [name for name in os.environ if name not in environment]:
         del os.environ[name]
     for name, value in environment.items():

@@ -12,6 +12,7 @@ import shutil
 import subprocess
 import sys
 
+import journald
 from since_rows import as_version_2
 from one_machine import HERE, Machine
 from trial_rows import Row, Rows
@@ -25,6 +26,12 @@ case "$*" in
     *) exec {real} --directory="$JOURNAL" "$@" ;;
 esac
 """
+DROP_IN = os.path.join(HERE, "..", "..", "deploy", "journald.conf")
+# Each message has field names that none had before.
+FLOOD = [b"MESSAGE=flood %d\n" % number + b"".join(b"F%dX%d=x\n" % (number, name) for name in range(140))
+         for number in range(300)]
+
+
 class RealMachine(Machine):
     def __init__(self, library: str) -> None:
         super().__init__(library, 252)
@@ -231,6 +238,33 @@ def unreadable_for_a_while(row: Row, machine: RealMachine) -> None:
     machine.put("system", data)
     row.expect("status", machine.send()[0], 0)
     row.expect("how many came", read_stream(machine).count(b"\n__SEQNUM="), 12)
+
+
+@ROWS.once
+def user_makes_ever_new_files(row: Row, machine: RealMachine) -> None:
+    """Any user can have journald begin ever new files. By its default it removes what wasn't gathered, and that is
+    told; with the drop-in it keeps all."""
+    if why := journald.lacking(machine.base):
+        print(f"skipped: {why}, so no journald removes files")
+        return
+    for drop_ins in ((), (DROP_IN,)):
+        base, keeps = f"{machine.base}/journald-{len(drop_ins)}", bool(drop_ins)
+        with journald.Journald(base, *drop_ins) as daemon:
+            machine.journal.path, machine.settings["FOLDER"] = daemon.journal, f"{base}/machine"
+            daemon.log(0, [b"MESSAGE=gathered\n"])
+            daemon.wait_for_message("gathered")
+            row.expect("status before", machine.send(), (0, ""))
+            daemon.log(0, [b"MESSAGE=not gathered\n"])
+            daemon.log(1000, FLOOD)
+            daemon.wait_for_message(f"flood {len(FLOOD) - 1}")
+            shown = daemon.shown()
+            status, said = machine.send()
+            row.expect("what is stored", machine.keys() >= machine.shown(), True)
+        row.expect("what journald has", "not gathered" in shown, keeps)
+        row.expect("whether it has all", sum(each.startswith("flood ") for each in shown) == len(FLOOD), keeps)
+        row.expect(f"status: {said}", (status, "a gap" in said), (0, False) if keeps else (1, True))
+        row.expect("what is stored of others", "not gathered" in {entry[3] for entry in machine.stored()}, keeps)
+        shutil.rmtree(base)
 
 
 def main() -> None:
