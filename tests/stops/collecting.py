@@ -10,8 +10,6 @@ import device
 from model import Journal
 from trial import PROGRAM, Trial, as_output, run, status_of
 
-NEVER = 10**12
-
 
 class Collecting:
     """Uploads, and a database that has some entries already or isn't there."""

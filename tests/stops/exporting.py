@@ -4,14 +4,13 @@ from __future__ import annotations
 
 import os
 import shutil
-from collections.abc import Callable
 from concurrent.futures import Executor
 
 import device
 import samples
 from trial import PROGRAM, Trial, run
+from upwards import stops_and_failures
 
-NEVER = 10**12
 OLD = b"what was there before\n"
 BEFORE = samples.E1
 AFTER = samples.E1 + samples.E2
@@ -83,14 +82,9 @@ class Exporting:
         self.trial.expect("collect --then-export: calls that change a file", (told, operations), (USUAL, b"cwsms"))
         shutil.rmtree(os.path.dirname(database))
 
-    def sweep(self, pool: Executor, upwards: Callable[[Executor, Callable[[int], bool]], int]) -> int:
+    def sweep(self, pool: Executor) -> int:
         self.in_order()
-        counts = [upwards(pool, lambda number: self.once(mode, number, NEVER)) for mode in "kh"]
-        for reads in (False, True):
-            counts.append(upwards(pool, lambda number: self.once("f", number, number, reads)))
-            counts.append(upwards(pool, lambda number: self.once("f", number, NEVER, reads)))
-        print(f"stops: collect --then-export: {sum(counts[:2])} stops, {sum(counts[2:])} failures")
-        return sum(counts)
+        return stops_and_failures("collect --then-export", pool, self.once)
 
 
 def content(path: str) -> bytes:

@@ -15,10 +15,9 @@ from concurrent.futures import Executor, ThreadPoolExecutor
 from random import Random
 
 import device
-import samples
 from collecting import Collecting
-from make import Machine
-from migrating import Migrating, migrations
+from migrating import Migrating
+from scenarios import scenarios
 from trial import Trial
 
 # How often power is lost at one place, each time with other changes kept.
@@ -75,16 +74,7 @@ def sweep(scenario: Collecting | Migrating, pool: Executor) -> int:
 def main() -> None:
     with Trial("losses") as trial, ThreadPoolExecutor(os.cpu_count()) as pool:
         trial.library = device.built(trial.base)
-        row, rest = samples.stream(samples.E1), samples.stream(samples.E2, samples.E3)
-        machine = Machine(trial.dice, 60)
-        scenarios = [
-            Collecting(trial, "an upload without entries", [samples.head(1)]),
-            Collecting(trial, "two uploads", [row, rest]),
-            Collecting(trial, "two uploads into a journal", [rest, samples.head(2) + samples.FILE], [row]),
-            Collecting(trial, "many entries", [machine.stream(0, 40), machine.file(50), machine.stream(30, 60)]),
-            *migrations(trial),
-        ]
-        trial.finish(f"{sum(sweep(scenario, pool) for scenario in scenarios)} losses of power")
+        trial.finish(f"{sum(sweep(scenario, pool) for scenario in scenarios(trial))} losses of power")
 
 
 if __name__ == "__main__":

@@ -12,23 +12,21 @@ from __future__ import annotations
 import os
 import shutil
 import signal
-from collections.abc import Callable
 from concurrent.futures import Executor, ThreadPoolExecutor
 
 import device
 import samples
-from collecting import NEVER, Collecting
+from collecting import Collecting
 from exporting import Exporting
-from make import Machine
-from migrating import Migrating, migrations
+from migrating import Migrating
+from scenarios import MANY, scenarios
 from trial import PROGRAM, Trial, run
+from upwards import NEVER, stops_and_failures, upwards
 
 KILLED = ("", -signal.SIGKILL)
 RESUME = ("--source", samples.SOURCE.hex(), "--resume")
 # The two files of a database, as device.c calls them.
 FILES = {"database": "d", "log": "l"}
-# So many numbers are tried before it is asked whether there was anything to do at the last of them.
-CHUNK = 16
 
 
 def stopped(scenario: Collecting | Migrating, mode: str, number: int) -> bool:
@@ -53,18 +51,8 @@ def failing(scenario: Collecting | Migrating, number: int, last: int, reads: boo
     return bool(calls)
 
 
-def upwards(pool: Executor, attempt: Callable[[int], bool], step: int = 1) -> int:
-    """Tries one number after another until an attempt finds nothing to do; answers how many did."""
-    tried = 0
-    while True:
-        numbers = range(1 + tried * step, 1 + (tried + CHUNK) * step, step)
-        found = list(pool.map(attempt, numbers))
-        tried += found.count(True)
-        if not all(found):
-            return tried
-
-
-def sweep(trial: Trial, pool: Executor, scenario: Collecting | Migrating, step: int = 1) -> int:
+def sweep(trial: Trial, pool: Executor, scenario: Collecting | Migrating) -> int:
+    step = 3 if scenario.name == MANY else 1
     told, calls = scenario.run("n", 0, 0)[1:]
     trial.expect(f"{scenario.name}: undisturbed", told, scenario.usual)
     stops = sum(upwards(pool, lambda number: stopped(scenario, mode, number), step) for mode in "kh")
@@ -120,28 +108,14 @@ class Acks:
 
     def sweep(self, pool: Executor) -> int:
         self.in_order()
-        counts = [upwards(pool, lambda number: self.once(mode, number, NEVER)) for mode in "kh"]
-        for reads in (False, True):
-            counts.append(upwards(pool, lambda number: self.once("f", number, number, reads)))
-            counts.append(upwards(pool, lambda number: self.once("f", number, NEVER, reads)))
-        print(f"stops: ack: {sum(counts[:2])} stops, {sum(counts[2:])} failures")
-        return sum(counts)
+        return stops_and_failures("ack", pool, self.once)
 
 
 def main() -> None:
     with Trial("stops") as trial, ThreadPoolExecutor(os.cpu_count()) as pool:
         trial.library = device.built(trial.base)
-        row, rest = samples.stream(samples.E1), samples.stream(samples.E2, samples.E3)
-        machine = Machine(trial.dice, 60)
-        scenarios = [
-            (Collecting(trial, "an upload without entries", [samples.head(1)]), 1),
-            (Collecting(trial, "two uploads", [row, rest]), 1),
-            (Collecting(trial, "two uploads into a journal", [rest, samples.head(2) + samples.FILE], [row]), 1),
-            (Collecting(trial, "many entries", [machine.stream(0, 40), machine.file(50), machine.stream(30, 60)]), 3),
-            *((migration, 1) for migration in migrations(trial)),
-        ]
-        tried = sum(sweep(trial, pool, *scenario) for scenario in scenarios)
-        tried += Acks(trial).sweep(pool) + Exporting(trial).sweep(pool, upwards)
+        tried = sum(sweep(trial, pool, scenario) for scenario in scenarios(trial))
+        tried += Acks(trial).sweep(pool) + Exporting(trial).sweep(pool)
         trial.finish(f"{tried} runs")
 
 
