@@ -16,7 +16,7 @@ expect 0 "~*" "" env -u MAKEFLAGS -u MAKELEVEL make -o crates/jc_cli/out/jc_cli 
 cmp "$program" "$PROGRAM" || differs "the program installed"
 cmp "$page" docs/journal-collect.1 || differs "the page installed"
 cmp "$folder/usr/share/doc/journal-collect/README.md" README.md || differs "the README installed"
-for name in GUIDE FORMATS FORWARDING LIMITS PERFORMANCE; do
+for name in GUIDE FORMATS FORWARDING PERFORMANCE; do
     cmp "$folder/usr/share/doc/journal-collect/$name.md" "docs/$name.md" || differs "the document installed"
 done
 expect 0 "journal-collect 0.1.0" "" "$program" --version
