@@ -28,6 +28,8 @@
 //! | `collect PATH,PATH..` | collects the uploads by one run into the journal, which is made if there is none |
 //! | `collect-old PATH,PATH..` | the same, in the tables of schema 1 |
 //! | `collect-numbers PATH,PATH..` | the same, in the tables of schema 3 |
+//! | `collect-noted PATH,PATH..` | the same, as `jc_union` does it: what is noted goes on from one database to the next |
+//! | `turn all` | another database takes the place of this one: the disks are empty |
 //! | `migrate all` | the journal goes over from the tables of schema 1 |
 //! | `export all` | the journal's entries; so does `export-numbers`, of the tables of schema 3 |
 //! | `stored ID:NUMBER` | the entry under the key; so does `stored-numbers`, of the tables of schema 3 |
@@ -92,6 +94,14 @@ impl Calls {
                 let uploads = read_files(rt, operand)?;
                 self.disks
                     .perform(&Task::CollectNumbers(&uploads), &mut self.output)
+            }
+            "collect-noted" => {
+                let uploads = read_files(rt, operand)?;
+                self.disks.collect_noted(&uploads, &mut self.output)
+            }
+            "turn" => {
+                self.disks.turn();
+                Ok(())
             }
             "migrate" => self.disks.perform(&Task::Migrate, &mut self.output),
             "export" => self.disks.perform(&Task::Export, &mut self.output),

@@ -1,13 +1,17 @@
 //! Two disks in memory for a database, and what befalls them.
 
+use crate::noted;
 use crate::operands::numbered;
 use crate::output::write_line;
 use crate::tables::Task;
 use crate::worn::Worn;
+use jc_ledger::MapLedger;
+use jc_union::NotedRun;
 use sqlite::{Connection, FileStore, Files, Options};
 use sqlite_disk::{Crash, Disk, Fuse, Memory};
 use std::alloc::Global;
-use std::io;
+use std::marker::Brand;
+use std::{io, mem};
 
 /// More calls than a disk gets, and a place after the end of each disk.
 const NEVER: u64 = u64::MAX;
@@ -83,6 +87,8 @@ pub struct Disks {
     db: Vec<u8>,
     /// What befalls them at the next task.
     harm: Harm,
+    /// What is noted of the entries in this database and in those that it took the place of.
+    ledger: MapLedger,
 }
 
 impl Disks {
@@ -93,7 +99,38 @@ impl Disks {
             log: Vec::new(alloc),
             db: Vec::new(alloc),
             harm: Harm::NOTHING,
+            ledger: MapLedger::new(alloc),
         }
+    }
+
+    /// Another database takes the place of this one: the files are empty, and what is noted stays.
+    pub fn turn(&mut self) {
+        self.log.clear();
+        self.db.clear();
+    }
+
+    /// Collects uploads into the union of this database and those that it took the place of. If that fails, the files are
+    /// empty afterwards, and nothing is noted.
+    pub fn collect_noted(&mut self, uploads: &[Vec<u8>], output: &mut Vec<u8>) -> io::Result<()> {
+        let files = self.harmed(Harm::NOTHING)?;
+        let ledger = mem::replace(&mut self.ledger, MapLedger::new(self.alloc));
+        self.turn();
+        let run = noted::collect::<Harmed, MapLedger, Brand>(
+            self.alloc, files, ledger, uploads, output,
+        )?;
+        let Some(
+            NotedRun {
+                status: _,
+                files,
+                ledger,
+            },
+        ) = run
+        else {
+            return Ok(());
+        };
+        self.ledger = ledger;
+        self.take_back(files, Kind::Nothing)?;
+        Ok(())
     }
 
     pub fn expect(&mut self, harm: Harm) {
@@ -175,7 +212,7 @@ fn perform<D: Disk + Drop>(
 }
 
 /// The database on disks, or the disks, if it can't be opened.
-fn open<D: Disk + Drop>(
+pub fn open<D: Disk + Drop>(
     alloc: Global,
     files: Files<D>,
 ) -> Result<Connection<FileStore<D>>, Files<D>> {

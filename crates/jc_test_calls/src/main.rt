@@ -8,6 +8,7 @@ mod calls;
 mod collecting;
 mod disks;
 mod entries;
+mod noted;
 mod operands;
 mod output;
 mod readings;

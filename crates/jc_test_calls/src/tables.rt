@@ -58,7 +58,7 @@ impl Task<'_> {
 
 /// The journal in a database, made if there are no tables and it may be; or the database, once it was said why there is no
 /// journal.
-fn journal<S: Alter + Drop, L: Listed + Drop>(
+pub fn journal<S: Alter + Drop, L: Listed + Drop>(
     alloc: Global,
     conn: Connection<S>,
     may_be_made: bool,
