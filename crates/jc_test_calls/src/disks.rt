@@ -109,10 +109,12 @@ impl Disks {
         self.db.clear();
     }
 
-    /// Collects uploads into the union of this database and those that it took the place of. If that fails, the files are
-    /// empty afterwards, and nothing is noted.
+    /// Collects uploads into the union of this database and those that it took the place of, with the harm that was
+    /// expected. If that fails, the files are empty afterwards, and nothing is noted.
     pub fn collect_noted(&mut self, uploads: &[Vec<u8>], output: &mut Vec<u8>) -> io::Result<()> {
-        let files = self.harmed(Harm::NOTHING)?;
+        let harm = self.harm;
+        self.harm = Harm::NOTHING;
+        let files = self.harmed(harm)?;
         let ledger = mem::replace(&mut self.ledger, MapLedger::new(self.alloc));
         self.turn();
         let run = noted::collect::<Harmed, MapLedger, Brand>(
@@ -129,8 +131,8 @@ impl Disks {
             return Ok(());
         };
         self.ledger = ledger;
-        self.take_back(files, Kind::Nothing)?;
-        Ok(())
+        let has_stopped = self.take_back(files, harm.kind)?;
+        harm.write_to(has_stopped, output)
     }
 
     pub fn expect(&mut self, harm: Harm) {
