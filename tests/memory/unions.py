@@ -1,6 +1,6 @@
-"""Uploads that jc_test_calls collects into the union of databases in memory: one on its disks, and those that it took the
-place of. The answers are those of one journal with all their entries, over turns, over what a stop left stored but not
-noted, with memory refused at each request, and with a disk that stops at each call.
+"""Uploads that jc_test_calls collects into the union of databases in memory: one on its disks, and those that it took
+the place of. The answers are those of one journal with all their entries, over turns, over what a stop left stored but
+not noted, with memory refused at each request, and with a disk that stops at each call.
 """
 from __future__ import annotations
 
@@ -53,7 +53,8 @@ def rows(trial: Trial) -> None:
     trial.expect(
         "over a turn",
         told(trial, ("collect-noted", ROW), ("collect-noted", ROW), ("turn", "all"), ("collect-noted", ROW),
-             ("export-numbers", "all"), ("collect-noted", CONFLICT), ("collect-noted", REST), ("export-numbers", "all")),
+             ("export-numbers", "all"), ("collect-noted", CONFLICT), ("collect-noted", REST),
+             ("export-numbers", "all")),
         (answers["first"] + answers["again"] + answers["turned"] + entries() + answers["other"] + answers["rest"]
          + entries(samples.E2, samples.E3), "", 0),
     )
@@ -119,7 +120,8 @@ def main() -> None:
         rows(trial)
         ends = memory(trial, pool)
         tried = stops(trial)
-        trial.finish(f"{len(ends)} runs with memory refused, {ends.count(True)} told by a call", f"{tried} stops of a disk")
+        told_by_calls = f"{ends.count(True)} told by a call"
+        trial.finish(f"{len(ends)} runs with memory refused, {told_by_calls}", f"{tried} stops of a disk")
 
 
 if __name__ == "__main__":
