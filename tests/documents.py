@@ -16,8 +16,9 @@ ROOT = Path(sys.argv[2] if len(sys.argv) > 2 else __file__ + "/../..").resolve()
 # The code that the library alone has: in its place the program prints `write failed`.
 UNPRINTED = (66, "WriteFailed")
 README_LINES = 200
-# The one table of figures, and the documents that may have no other ones.
+# The one table of figures, the parts of its own page that may have no other ones, and the documents that may not.
 FIGURES = "docs/PERFORMANCE.md", "Figures to plan with"
+FIGURES_BESIDE = "Limits", "A machine's commands", "The collector's commands"
 FIGURES_IN = (
     "README.md", "CONTRIBUTING.md", "docs/GUIDE.md", "docs/DECISIONS.md", "docs/FORWARDING.md",
     "docs/ARCHITECTURE.md", "docs/GATE.md", "docs/journal-collect.1", "deploy/collector.conf", "deploy/machine.conf",
@@ -129,14 +130,22 @@ def figures(text: str) -> set[str]:
     return {it for match in FIGURE.findall(" ".join(text.split())) for it in match if it}
 
 
+def part_of(page: str, title: str) -> str:
+    """The part of a page below a heading."""
+    return page.partition(f"\n## {title}\n")[2].partition("\n## ")[0]
+
+
 def told_figures() -> Iterator[str]:
     """Figures that the one table doesn't have."""
     path, title = FIGURES
-    table = figures(text_of(path).partition(f"\n## {title}\n")[2].partition("\n## ")[0])
+    page = text_of(path)
+    table = figures(part_of(page, title))
     if not table:
         yield f"{path} has no figures under '{title}'"
-    for told in FIGURES_IN:
-        for it in sorted(figures(text_of(told)) - table):
+    parts = {f"{path}, {it}": part_of(page, it) for it in FIGURES_BESIDE}
+    yield from (f"{path} has no part '{it}'" for it in FIGURES_BESIDE if not parts[f"{path}, {it}"])
+    for told, text in [*parts.items(), *((it, text_of(it)) for it in FIGURES_IN)]:
+        for it in sorted(figures(text) - table):
             yield f"{told}: the figure '{it}' isn't in the table of {path}"
 
 

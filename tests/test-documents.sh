@@ -48,6 +48,9 @@ docs/GUIDE.md: the figure '9.9 ms' isn't in the table of docs/PERFORMANCE.md"
 changed deploy/collector.conf '$a # 1,234 bytes for each entry, and 7.5 million entries a day' \
     "deploy/collector.conf: the figure '1,234 bytes' isn't in the table of docs/PERFORMANCE.md
 deploy/collector.conf: the figure '7.5 million' isn't in the table of docs/PERFORMANCE.md"
+changed docs/PERFORMANCE.md 's/^## A machine.s commands$/&\n\nIt takes 9.8 ms an entry./' \
+    "docs/PERFORMANCE.md, A machine's commands: the figure '9.8 ms' isn't in the table of docs/PERFORMANCE.md"
+changed docs/PERFORMANCE.md 's/^## Limits$/## Bounds/' "~docs/PERFORMANCE.md has no part 'Limits'*"
 changed docs/PERFORMANCE.md 's/^## Figures to plan with$/## Others/' \
     "~docs/PERFORMANCE.md has no figures under 'Figures to plan with'*"
 changed docs/GUIDE.md 's/^## Sizing$/## Size/' \
