@@ -18,6 +18,7 @@ from reading.journal_file import Writer
 from reading.made import Made
 from reading.plan import Applying, Places
 from reading.settings import DEFAULT_FILE, Settings
+from reading.terminal import Progress
 from shared import files
 
 # So much of databases goes together.
@@ -34,8 +35,10 @@ class Maker:
         self.places = Places(self.folder / "journals")
         self.status, self.stopping = 0, False
         self.passed_over: set[str] = set()
+        self.progress, self.at, self.of = Progress(), 0, 0
 
     def tell(self, text: str, status: int = 0) -> None:
+        self.progress.wipe()
         print(f"journal-files: {text}", file=sys.stderr, flush=True)
         self.status = max(self.status, status)
 
@@ -64,6 +67,8 @@ class Maker:
         while (waiting := self.waiting(state)) and not self.stopping:
             if files.free_bytes(self.folder) < self.free_bytes:
                 raise Failure(f"fewer than {self.free_bytes} bytes are free; {len(waiting)} databases wait")
+            self.of = max(self.of, len(waiting))
+            self.at = self.of - len(waiting)
             self.step(together(waiting), state)
             state = self.made()
         for name in state.bad:
@@ -91,7 +96,7 @@ class Maker:
         """Makes some databases, or finds out that one of them can't be."""
         try:
             room = max(0, files.free_bytes(self.folder) - self.free_bytes // 2)
-            spools = taking.take(batch, self.places, self.writer, self.keep_days, state, room, self.tell)
+            spools = taking.take(batch, self.places, self.writer, self.keep_days, state, room, self.tell, self.look)
         except BadDatabase as bad:
             self.pass_over(bad, batch)
             return
@@ -105,6 +110,10 @@ class Maker:
         self.apply()
         for database in batch if self.remove_exports else []:
             files.remove(database.export)
+
+    def look(self, number: int) -> None:
+        """Says how far the run is, on a terminal."""
+        self.progress.say(self.at + number, self.of, "databases")
 
     def pass_over(self, bad: BadDatabase, batch: list[Database]) -> None:
         """Nothing of the batch is made; the next one is without this database. What is damaged is known from now on."""
@@ -126,6 +135,7 @@ class Maker:
         finally:
             for text in applying.told:
                 self.tell(text, NEEDS_A_LOOK)
+        self.progress.wipe()
         if applying.plan:
             print(f"{applying.plan['says']}; {len(self.waiting(self.made()))} wait", flush=True)
 

@@ -1,6 +1,7 @@
 """The entries of finished databases, each put where it belongs."""
 import subprocess
 from collections import Counter
+from collections.abc import Callable
 from datetime import date
 from pathlib import Path
 from typing import BinaryIO
@@ -66,11 +67,12 @@ class Source:
 
 
 def take(batch: list[Database], places: Places, writer: Writer, keep_days: int, made: Made, room: int,
-         tell: Tell) -> Spools:
+         tell: Tell, look: Callable[[int], None]) -> Spools:
     """All entries of some databases, for which new files may take so much room. The newest day of `made` is raised by
-    them."""
+    them. Each database is told before it is read, by its number."""
     spools = Spools(places.work, places.journals, Days(places, tell), writer, room)
-    for database in batch:
+    for number, database in enumerate(batch):
+        look(number)
         take_one(database, spools, keep_days, made)
     spools.compare()
     return spools

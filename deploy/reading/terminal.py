@@ -82,7 +82,7 @@ class Output:
 
 
 class Progress:
-    """A line on a terminal that says how far a search is."""
+    """A line on a terminal that says how far a search or a run is."""
 
     def __init__(self) -> None:
         self.is_shown = sys.stderr.isatty()

@@ -122,6 +122,29 @@ def a_database_without_entries(row: Row, collectors: Collectors) -> None:
     row.ends(collector.make("--status"), 0, "made 1 newest 2025-12-01T00-00\nwaiting 0 bytes 0")
 
 
+def on_a_terminal() -> None:
+    """The run takes its standard error for a terminal, and says at once how far it is."""
+    from reading import making, terminal  # pylint: disable=import-outside-toplevel,import-error
+    terminal.LONG = terminal.SECONDS = 0.0
+    shown = terminal.Progress()
+    shown.is_shown = True
+    making.Progress = lambda: shown
+
+
+@ROWS.row
+def how_far_a_run_is(row: Row, collectors: Collectors) -> None:
+    """It is said of each database on a terminal, and wiped off; nothing is said where there is no terminal."""
+    collector = collectors.new()
+    for minute in ("00", "10", "20"):
+        collector.exported(f"2025-12-01T00-{minute}", "a", 1, 0)
+    made = "made 3 databases, the last of them 2025-12-01T00-20, with 0 entries; 0 wait"
+    wipe = "\r\x1b[K"
+    row.ends(collector.make(before=on_a_terminal), 0, made,
+             "".join(f"{wipe}databases: {number} of 3" for number in range(3)) + wipe)
+    collector.exported("2025-12-01T00-30", "a", 1, 0)
+    row.ends(collector.make(), 0, "made 1 databases, the last of them 2025-12-01T00-30, with 0 entries; 0 wait")
+
+
 @ROWS.row
 def dates_that_are_none(row: Row, collectors: Collectors) -> None:
     """A database and a folder that are called like a day that doesn't exist, days at the end of all, days without
