@@ -85,8 +85,11 @@ def codes_of_guide() -> Iterator[str]:
 def printed_codes(program: str) -> Iterator[str]:
     """Whether `codes` and `help codes` print the table, and which codes in it aren't the sources'."""
     codes = printed(program, "codes")
-    if codes != lines_of_table():
+    below = re.compile(r"^ {24}(?! ).*\n", re.MULTILINE)
+    if below.sub("", codes) != lines_of_table():
         yield "`codes` doesn't print the table of docs/FORMATS.md"
+    if len(codes.splitlines()) != 2 * len(below.findall(codes)) or "\n\n" in codes:
+        yield "`codes` doesn't say what to do below each code"
     if codes.rstrip("\n") not in printed(program, "help", "codes"):
         yield "`help codes` doesn't have what `codes` prints"
     known = codes_of_sources() - {UNPRINTED}

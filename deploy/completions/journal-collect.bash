@@ -3,15 +3,20 @@
 
 _journal_collect() {
     local program=$1 word=$2 before=$3 help
-    local -a asked=("$program")
-    if [[ ${program##*/} == journal-collect && $COMP_CWORD -gt 1 ]]; then
-        asked+=("${COMP_WORDS[1]}")
+    local -a asked=("$program") own=()
+    local first=1
+    if [[ ${program##*/} == journal-collect ]]; then
+        own=(--explain)
+        while [[ ${COMP_WORDS[first]} == --* && $COMP_CWORD -gt $first ]]; do first=$((first + 1)); done
+        [[ $COMP_CWORD -le $first ]] || asked+=("${COMP_WORDS[first]}")
     fi
+    case ${asked[1]:-} in check | codes | inspect | verify) own+=(--json) ;; esac
     help=$("${asked[@]}" --help 2> /dev/null)
     COMPREPLY=()
     if [[ $word == -* ]]; then
+        help="${own[*]} $help"
         mapfile -t COMPREPLY < <(compgen -W "$(grep -oE -- '--[a-z][a-z-]*' <<< "$help" | sort -u)" -- "$word")
-    elif [[ ${program##*/} == journal-collect && $COMP_CWORD -eq 1 ]]; then
+    elif [[ ${program##*/} == journal-collect && $COMP_CWORD -eq $first ]]; then
         mapfile -t COMPREPLY < <(compgen -W "$(_journal_collect_commands "$help")" -- "$word")
     elif [[ $before == --output ]]; then
         mapfile -t COMPREPLY < <(compgen -W "$(sed -nE 's/.*--output \{([a-z,]+)\}.*/\1/p' <<< "$help" | tr , ' ')" \

@@ -9,6 +9,7 @@ use crate::arguments::{
     flag_arg, kind_arg, list_arg, number_arg, option_arg, place_arg, tables_arg, then_export_arg,
     uploads_arg, with_source,
 };
+use crate::codes::CODES;
 use crate::making::Making;
 use crate::texts;
 use clap::Command;
@@ -47,6 +48,7 @@ fn top<'a>(alloc: Global) -> Making<'a>
     let command = Command::new(alloc, texts::NAME)
         .version(texts::VERSION)
         .about(texts::ABOUT)
+        .override_usage(texts::USAGE)
         .after_help(texts::MORE)
         .arg_required_else_help(true)
         .subcommand_required(true)
@@ -132,7 +134,7 @@ fn ack_command<'a>(alloc: Global) -> Making<'a>
 fn codes_command<'a>(alloc: Global) -> Making<'a>
     ensures { IsMade result (new_app (codes "codes")) }
 {
-    new_command(alloc, "codes", texts::CODES_ABOUT, texts::CODES)
+    new_command(alloc, "codes", texts::CODES_ABOUT, CODES)
 }
 
 /// A command over a database.

@@ -3,12 +3,13 @@
 
 mod arguments;
 mod asked;
+mod codes;
 mod grammar;
 mod making;
 mod request;
 mod texts;
 mod words;
 
+pub use codes::CODES;
 pub use request::{InputKind, Request, Source, Tables};
-pub use texts::CODES;
 pub use words::parse;

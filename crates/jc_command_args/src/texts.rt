@@ -6,8 +6,15 @@ pub(crate) const VERSION: &str = "0.1.0";
 
 pub(crate) const ABOUT: &str = "Collects the systemd journals of many machines";
 
+pub(crate) const USAGE: &str = "journal-collect [--explain] [--json] <COMMAND>";
+
 /// The end of the program's own help.
-pub(crate) const MORE: &str = "Exit status:
+pub(crate) const MORE: &str =
+    "--explain, anywhere among the arguments of any command, adds a line on standard error below what is refused or fails:
+why it was, what its code means, and what to do.
+--json, among those of check, codes, inspect and verify, prints an object of JSON in place of each line.
+
+Exit status:
   0  all went well
   1  what was read or asked for is refused
   2  the command line is wrong
@@ -150,56 +157,8 @@ Example: the collector's answers to the uploads of today.export
   journal-collect ack --source a0a1a2a3a4a5a6a7a8a9aaabacadaeaf --resume today.resume \\
     export today.export < today.answers";
 
-pub(crate) const CODES_ABOUT: &str = "Prints what the codes in answers and in `bad` lines mean";
-
-/// What each code means, a line for each: number, name and meaning, as the table in docs/FORMATS.md has them.
-pub const CODES: &str = "1   ShortHeader         an upload has fewer bytes than a header
-2   BadMagic            an upload begins with neither `JCUPLD01` nor `JCUPLD02`
-3   BadKind             the kind of an upload is unknown
-4   BadReserved         reserved bytes in an upload's header aren't as they have to be
-5   Incomplete          an upload that is to be whole has another number of entries, or ends within one
-6   OverBounds          an upload passes a bound; the place is the number of the first entry that does, from 0
-10  EmptyName           a field begins with `=`
-11  NameTooLong         a name is over its limit
-12  ValueTooLong        a value is over its limit
-13  MissingNewline      no newline after a binary value
-14  TooManyFields       an entry has too many fields
-15  EntryTooLong        an entry has too many bytes
-20  DuplicateMeta       a known metadata name is there twice
-21  NoRealtime          `__REALTIME_TIMESTAMP` is missing
-22  NoMonotonic         `__MONOTONIC_TIMESTAMP` is missing
-23  NoSeqnum            `__SEQNUM` is missing
-24  NoSeqnumId          `__SEQNUM_ID` is missing
-25  BadNumber           a number is malformed or over 2^63 - 1
-26  BadId               the sequence id isn't 32 hexadecimal digits
-27  ZeroSeqnum          the sequence number is 0
-30  FileShort           a journal file has fewer bytes than a header
-31  BadSignature        a journal file doesn't begin with `LPKSHHRH`
-32  BadHeaderSize       the header size of a journal file is too small, or isn't a multiple of 8
-33  Compressed          a journal file has compressed objects
-34  Compact             a journal file is in the compact layout
-35  UnknownIncompatible a journal file has an unknown incompatible flag
-36  Sealed              a journal file is sealed
-37  BadState            the state of a journal file is unknown
-38  Truncated           a journal file ends before its arena does
-39  TooManyEntries      the arena has no room for the number of entries
-40  ChainEnds           the chain of entry arrays ends before the last entry
-41  BadOffset           an offset isn't that of an object in the arena
-42  BadType             an object has another type than its place asks for
-43  BadSize             an object's size doesn't fit its type or the arena
-44  ChainBack           an entry array begins before the end of the one before it
-45  CompressedObject    an object's payload is compressed
-46  BadData             a payload isn't name, `=` and value
-47  FileTooLong         a journal file is over its limit
-60  Conflict            an entry differs from another one under the same key; the place is its number, from 0
-61  ReadFailed          the upload couldn't be read
-62  StoreFailed         the database failed; the upload may be stored whole
-63  OutOfMemory         memory was refused
-64  NotAJournal         a database has no journal of this version
-65  BadRow              a row isn't an entry; the place is its number in the order of keys, from 0
-67  OldSchema           a database has a journal of an older version
-70  SourceChanged       a source's entries no longer go on from the resume point
-";
+pub(crate) const CODES_ABOUT: &str =
+    "Prints what the codes in answers and in `bad` lines mean, and what to do";
 
 pub(crate) const DATABASE_HELP: &str = "The SQLite database with the entries";
 

@@ -1,0 +1,64 @@
+-- What explanations say.
+use Rattle.std.specs.Prelude.{◌≡◌, ◌⊎◌, ◌++◌, ◌∷◌, ℕ, List, [], codes, decimal}
+use Rattle.std.specs.Str.{trim}
+use Rattle.jc_command_shared.specs.declared.failure.Failure.{Failure}
+use Rattle.jc_command_shared.specs.declared.failure.Failure.TheVariants as failure
+use Rattle.jc_explain.specs.declared.cause.Cause.{Cause}
+use Rattle.jc_explain.specs.declared.cause.Cause.TheVariants as cause
+use Rattle.jc_explain.specs.declared.table.Coded.{Coded}
+
+-- what stands behind the name of a file that can't be used
+abbrev pub text_of : Cause → List ℕ
+text_of cause.Missing = codes "is missing: look at its name"
+text_of cause.NoFolder = codes "would lie in a folder that is missing: look at its path"
+text_of cause.Unmade = codes "is missing, and can't be made: see who may write in its folder, and whether the disk is read-only"
+text_of cause.Folder = codes "is a folder: name a file"
+text_of cause.Unreadable = codes "may not be read by this user: see the rights of the file and of its folders"
+text_of cause.Unwritable = codes "may not be written by this user, as a database is while it is open: see its rights, or use a copy"
+text_of cause.NotRegular = codes "is not a regular file: write what it gives into one first"
+text_of cause.SecondName = codes "has a second name (a hard link), under which it could be changed: use a copy"
+text_of cause.Empty = codes "is empty: a database is made by `collect`"
+text_of cause.NotDatabase = codes "is no SQLite database, by its first 16 bytes: look at its name"
+text_of cause.OtherTables = codes "is an SQLite database with other tables than are asked for, or it is damaged: see the guide on code 64"
+text_of cause.NoTables = codes "is a database without tables: `collect` makes them"
+text_of cause.Unfinished = codes "has SQLite's rollback journal beside it: open it with sqlite3 first, which plays that back"
+text_of cause.LogClosed = codes "has a log beside it, named as it is and `-wal`, that may not be written: see its rights"
+text_of cause.InUse = codes "is in use by another program: wait until that one has ended"
+text_of cause.InUseOrNoLog = codes "is in use by another program, or no file may be made in its folder: wait for that one, or see the rights"
+text_of cause.Unknown = codes "can't be opened, and nothing about it says why: has the process too many files open?"
+
+-- what a failure means, and what to do about it; nothing where a number in its line says it
+abbrev pub advice_of : Failure → List ℕ
+advice_of failure.BadResume = codes "the resume file has something else in it: remove it and take a new id"
+advice_of (failure.BadAnswer _) = codes "this line of standard input is no answer: give `ack` what `collect` printed"
+advice_of failure.BadId = codes "an id is 32 hexadecimal digits: write it without dashes"
+advice_of failure.BadFieldName = codes "a field's name has no `=` and no newline in it, and does not begin with `__`"
+advice_of failure.BadDatabaseName = codes "SQLite takes a name that begins with `:` or `file:` for something else: write `./` in front of it"
+advice_of failure.BadExportName = codes "the export would take the place of the database or of its log: choose another name"
+advice_of (failure.CannotOpen _) = codes "the file can't be opened"
+advice_of failure.ReadFailed = codes "a file or standard input gave no more bytes: look at its disk"
+advice_of failure.WriteFailed = codes "standard output or a file took no more bytes: is the disk full, or was a pipe closed?"
+advice_of failure.StoreFailed = codes "the database failed while it was read or written: look at the space on its disk, and at the disk"
+advice_of failure.OutOfMemory = codes "memory was refused: give the command more, or begin another database"
+advice_of _ = []
+
+-- What two lines say, the first of which begins behind its number.
+pub record SaysRow (rest : List ℕ) (row : Coded) : Type 0 where
+  pub line : List ℕ
+  pub meaning : List ℕ
+  pub advice : List ℕ
+  pub after : List ℕ
+  pub lines : rest ≡ line ++ 10 ∷ (advice ++ 10 ∷ after)
+  pub words : trim line ≡ row.name.now ++ 32 ∷ meaning
+  pub means : row.meaning.now ≡ trim meaning
+  pub advised : row.advice.now ≡ trim advice
+
+-- a text that stands at the beginning of a line, and what comes behind it
+abbrev pub BeginsLine : (begin text rest : List ℕ) → Type 0
+BeginsLine begin text rest = (text ≡ begin ++ rest) ⊎ ((before : List ℕ) × (text ≡ before ++ 10 ∷ (begin ++ rest)))
+
+-- A table says this of a code, in the line that begins with its number and in the one below.
+pub record IsRow (code : ℕ) (table : List ℕ) (row : Coded) : Type 0 where
+  pub rest : List ℕ
+  pub begins : BeginsLine (decimal code ++ codes " ") table rest
+  pub says : SaysRow rest row

@@ -1,0 +1,43 @@
+//! Runs of which what is refused or fails is explained.
+
+ghost use Rattle.std.specs.Prelude.{◌≡◌, ◌≤◌, ℕ, List, Option as Maybe, map, string_bytes};
+ghost use Rattle.sqlite.specs.WalFiles.{image_at};
+ghost use Rattle.jc_command_shared.specs.declared.status.Status.{Status};
+ghost use Rattle.jc_command.specs.Run.{EndsWithin};
+
+use crate::Watched;
+use crate::telling::tell;
+use jc_command::command;
+use sqlite::{FileFrom, Start};
+use sqlite_disk::Disk;
+use std::io::{Read, Write};
+
+/// Does what the arguments ask for, as `command` does. Then each line that refuses something or reports a failure is
+/// explained on `errors`.
+pub fn explained<S: Start, I: Read, O: Write + Drop, E: Write + Drop>(
+    rt: &HostRuntime,
+    start: S,
+    words: Vec<String>,
+    input: &mut I,
+    output: &mut Watched<O>,
+    errors: &mut Watched<E>,
+) -> u8
+    ensures status { result ≤ 3 }
+    // `told` is what `errors` had before the explanations.
+    ensures success { result ≡ 0 → (told : Maybe (List ℕ)) × EndsWithin (image_at S.Start) ⟦<FileFrom<S> as Disk>⟧ (map string_bytes words.items)
+        (I.remaining input.old) (O.contents output.old.inner) (O.contents output.new.inner) (E.contents errors.old.inner) told Status.Success }
+    ensures refused { result ≡ 1 → (told : Maybe (List ℕ)) × EndsWithin (image_at S.Start) ⟦<FileFrom<S> as Disk>⟧ (map string_bytes words.items)
+        (I.remaining input.old) (O.contents output.old.inner) (O.contents output.new.inner) (E.contents errors.old.inner) told Status.Refused }
+    ensures misused { result ≡ 2 → (told : Maybe (List ℕ)) × EndsWithin (image_at S.Start) ⟦<FileFrom<S> as Disk>⟧ (map string_bytes words.items)
+        (I.remaining input.old) (O.contents output.old.inner) (O.contents output.new.inner) (E.contents errors.old.inner) told Status.Misused }
+{
+    let asked: Result<_, _> = words.clone();
+    let status = command(rt, start, words, input, output, errors);
+    if let Ok(asked) = asked {
+        let answers = output.take_kept(rt.alloc());
+        let failures = errors.take_kept(rt.alloc());
+        // An explanation is beside the run: where it can't be made or written, the run has ended as it has.
+        let _ = tell(rt, &asked, &answers, &failures, &mut errors.inner);
+    }
+    status
+}

@@ -1,0 +1,67 @@
+//! Lines of failures, and what to do about them.
+
+ghost use Rattle.std.specs.Prelude.{◌≡◌, IfSome};
+ghost use Rattle.jc_command_shared.specs.Failure.{line_of};
+ghost use Rattle.jc_explain.specs.Texts.{advice_of};
+
+use jc_command_shared::Failure;
+
+/// What begins the line of a file that can't be opened.
+const CANNOT_OPEN: &str = "cannot open ";
+
+/// The failure whose line this is, if that has no number in it.
+pub fn failure_of<'a>(line: &'a str) -> Option<Failure<'a>>
+    ensures { IfSome result (λ failure. line_of failure ≡ line.now) }
+{
+    if let Some(path) = line.strip_prefix(CANNOT_OPEN) {
+        return Some(Failure::CannotOpen(path));
+    }
+    match line {
+        "bad resume" => Some(Failure::BadResume),
+        "bad id" => Some(Failure::BadId),
+        "bad field name" => Some(Failure::BadFieldName),
+        "bad database name" => Some(Failure::BadDatabaseName),
+        "bad export name" => Some(Failure::BadExportName),
+        "read failed" => Some(Failure::ReadFailed),
+        "write failed" => Some(Failure::WriteFailed),
+        "store failed" => Some(Failure::StoreFailed),
+        "out of memory" => Some(Failure::OutOfMemory),
+        _ => None,
+    }
+}
+
+/// What a failure means, and what to do about it, as far as its line tells.
+pub fn advice(failure: &Failure<'_>) -> &'static str
+    ensures { result.now ≡ advice_of failure.now }
+{
+    match failure {
+        Failure::BadResume => {
+            "the resume file has something else in it: remove it and take a new id"
+        }
+        Failure::BadAnswer(_) => {
+            "this line of standard input is no answer: give `ack` what `collect` printed"
+        }
+        Failure::BadId => "an id is 32 hexadecimal digits: write it without dashes",
+        Failure::BadFieldName => {
+            "a field's name has no `=` and no newline in it, and does not begin with `__`"
+        }
+        Failure::BadDatabaseName => {
+            "SQLite takes a name that begins with `:` or `file:` for something else: write `./` in front of it"
+        }
+        Failure::BadExportName => {
+            "the export would take the place of the database or of its log: choose another name"
+        }
+        Failure::CannotOpen(_) => "the file can't be opened",
+        Failure::ReadFailed => "a file or standard input gave no more bytes: look at its disk",
+        Failure::WriteFailed => {
+            "standard output or a file took no more bytes: is the disk full, or was a pipe closed?"
+        }
+        Failure::StoreFailed => {
+            "the database failed while it was read or written: look at the space on its disk, and at the disk"
+        }
+        Failure::OutOfMemory => {
+            "memory was refused: give the command more, or begin another database"
+        }
+        _ => "",
+    }
+}

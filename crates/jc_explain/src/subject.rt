@@ -1,0 +1,80 @@
+//! The files that a command works on.
+
+use jc_command_args::{Request, Source, parse};
+use std::alloc::{AllocError, Global};
+
+/// What a command works on, as far as an explanation asks for it.
+#[derive(Debug, Drop)]
+pub struct Subject<'a> {
+    pub database: Option<&'a str>,
+    /// Whether the database is made if it is missing.
+    pub makes: bool,
+    /// The files that are read.
+    pub files: Vec<&'a str>,
+    /// Whether standard output has lines that say how something was found.
+    pub answers: bool,
+}
+
+/// What the words ask to be worked on: nothing if they ask for nothing.
+pub fn subject_of<'a>(alloc: Global, words: &'a [String]) -> Result<Subject<'a>, AllocError> {
+    match parse(alloc, words) {
+        Ok(request) => subject_in(alloc, request),
+        Err(_) => Ok(over_database(alloc, None, false)),
+    }
+}
+
+fn subject_in<'a>(alloc: Global, request: Request<'a>) -> Result<Subject<'a>, AllocError> {
+    match request {
+        Request::Collect {
+            database,
+            uploads,
+            ..
+        } => Ok(collecting(database, uploads)),
+        Request::CollectListed { database, list, .. } => {
+            Ok(collecting(database, Vec::from_slice(alloc, &[list])?))
+        }
+        Request::Export { database } | Request::Show { database, .. } => {
+            Ok(over_database(alloc, Some(database), false))
+        }
+        Request::Check { database } | Request::Migrate { database, .. } => {
+            Ok(over_database(alloc, Some(database), true))
+        }
+        Request::Verify { file, .. } | Request::Inspect { file, .. } => {
+            Ok(over_files(Vec::from_slice(alloc, &[file])?, true))
+        }
+        Request::Upload { source, .. } | Request::Ack { source } => of_source(alloc, source),
+        Request::ListCodes => Ok(over_database(alloc, None, false)),
+    }
+}
+
+fn of_source<'a>(alloc: Global, source: Source<'a>) -> Result<Subject<'a>, AllocError> {
+    let files = Vec::from_slice(alloc, &[source.resume, source.file])?;
+    Ok(over_files(files, false))
+}
+
+fn collecting<'a>(database: &'a str, files: Vec<&'a str>) -> Subject<'a> {
+    Subject {
+        database: Some(database),
+        makes: true,
+        files,
+        answers: true,
+    }
+}
+
+fn over_database<'a>(alloc: Global, database: Option<&'a str>, answers: bool) -> Subject<'a> {
+    Subject {
+        database,
+        makes: false,
+        files: Vec::new(alloc),
+        answers,
+    }
+}
+
+fn over_files<'a>(files: Vec<&'a str>, answers: bool) -> Subject<'a> {
+    Subject {
+        database: None,
+        makes: false,
+        files,
+        answers,
+    }
+}

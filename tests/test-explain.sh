@@ -1,0 +1,169 @@
+#!/usr/bin/env bash
+# `--explain`: each cause is told for a file that has it, each code with what it means, and what had no complete entry;
+# the lines of answers and errors, and the status, are those of the same call without the option.
+set -uo pipefail
+. "$(dirname "$0")/expect.sh"
+
+folder=$(mktemp -d)
+trap 'rm -rf "$folder"' EXIT
+id=a0a1a2a3a4a5a6a7a8a9aaabacadaeaf
+export PYTHONPATH=tests
+python3 -B - "$folder" << 'MADE'
+import sqlite3
+import sys
+from samples import E1, E2, H1, stream
+folder = sys.argv[1]
+for name, data in {
+    "in": E1 + E2, "up": stream(E1, E2), "changed": stream(H1), "prose": b"8 bytes\n", "cut": E1[:20],
+    "no-number": E1.replace(b"__SEQNUM=1\n", b""), "empty": b"", "resume": b"?\n",
+    "garbage": b"all of this is prose\n" * 3,
+}.items():
+    with open(f"{folder}/{name}", "wb") as file:
+        file.write(data)
+with open(f"{folder}/cut-up", "wb") as file:
+    file.write(stream(E1)[:60])
+other = sqlite3.connect(f"{folder}/other.db")
+other.execute("CREATE TABLE t(x)")
+other.commit()
+other.execute("PRAGMA journal_mode = WAL")
+other.close()
+none = sqlite3.connect(f"{folder}/none.db")
+none.execute("CREATE TABLE t(x)")
+none.execute("DROP TABLE t")
+none.commit()
+none.close()
+MADE
+"$PROGRAM" collect "$folder/logs.db" "$folder/up" > "$folder/told" || differs "no database"
+
+# explains STATUS OUTPUT ERRORS EXPLANATION WORD..: the call as it is without the option, and then with it at each end
+# of the words. Without an EXPLANATION there is none.
+explains() {
+    local status=$1 output=$2 errors=$3 explanation=$4 all
+    shift 4
+    expect "$status" "$output" "$errors" "$PROGRAM" "$@"
+    all=${errors:+$errors$'\n'}explain:\ $explanation
+    [[ -n $explanation ]] || all=$errors
+    expect "$status" "$output" "~$all" "$PROGRAM" --explain "$@"
+    expect "$status" "$output" "~$all" "$PROGRAM" "$@" --explain
+}
+
+# why a database can't be opened
+db=$folder/logs.db
+mkdir "$folder/sub"
+cp "$db" "$folder/twice.db"
+ln "$folder/twice.db" "$folder/sub/second.db"
+cp "$db" "$folder/played.db"
+printf 'x' > "$folder/played.db-journal"
+explains 3 "" "cannot open $folder/gone.db" "$folder/gone.db is missing: *" check "$folder/gone.db"
+explains 3 "" "cannot open $folder/gone/logs.db" "$folder/gone/logs.db * a folder that is missing: *" \
+    check "$folder/gone/logs.db"
+explains 3 "" "cannot open $folder/up/logs.db" "$folder/up/logs.db * a folder that is missing: *" \
+    export "$folder/up/logs.db"
+explains 3 "" "cannot open $folder/gone/logs.db" "$folder/gone/logs.db * a folder that is missing: *" \
+    collect "$folder/gone/logs.db" "$folder/up"
+explains 3 "" "cannot open $folder/sub" "$folder/sub is a folder: *" collect "$folder/sub" "$folder/up"
+explains 3 "" "cannot open /dev/null" "/dev/null is not a regular file: *" show /dev/null
+explains 3 "" "cannot open $folder/empty" "$folder/empty is empty: *" migrate "$folder/empty"
+explains 3 "" "cannot open $folder/none.db" "$folder/none.db is a database without tables: *" check "$folder/none.db"
+for name in "$folder/twice.db" "$folder/sub/second.db"; do
+    explains 3 "" "cannot open $name" "$name has a second name *" check "$name"
+done
+explains 3 "" "cannot open $folder/played.db" "$folder/played.db has SQLite's rollback journal *" \
+    check "$folder/played.db"
+
+# one that another program has open: this one holds it while it waits for the name of an upload
+mkfifo "$folder/names"
+"$PROGRAM" collect --files-from "$folder/names" "$db" > "$folder/told" &
+exec 9> "$folder/names"
+while [[ ! -e $db-wal ]]; do sleep 0.1; done
+explains 3 "" "cannot open $db" "$db is in use by another program: *" check "$db"
+exec 9>&-
+wait
+
+# who may read and write; if the superuser tries, it is as nobody
+as_user() {
+    if [[ $(id -u) -ne 0 ]]; then
+        "$@"
+    else
+        setpriv --reuid=65534 --regid=65534 --clear-groups "$@"
+    fi
+}
+cp "$PROGRAM" "$folder/program"
+chmod 755 "$folder" "$folder/program"
+if as_user "$folder/program" --version > "$folder/told" 2>&1; then
+    mkdir "$folder/shut"
+    for name in secret.db kept.db shut/kept.db; do cp "$db" "$folder/$name"; done
+    chmod 000 "$folder/secret.db"
+    chmod 444 "$folder/kept.db" "$folder/shut/kept.db"
+    chmod 555 "$folder/shut"
+    for row in "secret.db may not be read" "kept.db may not be written" "shut/kept.db may not be written"; do
+        read -r name told <<< "$row"
+        expect 3 "" "~cannot open $folder/$name"$'\n'"explain: $folder/$name $told *" \
+            as_user "$folder/program" --explain check "$folder/$name"
+    done
+    chmod 777 "$folder/shut/kept.db"
+    expect 3 "" "~*$folder/shut/kept.db is in use by another program, or no file may be made in its folder: *" \
+        as_user "$folder/program" --explain check "$folder/shut/kept.db"
+    expect 3 "" "~*$folder/shut/new.db is missing, and can't be made: *" \
+        as_user "$folder/program" --explain collect "$folder/shut/new.db" "$folder/up"
+    expect 3 "" "~*$folder/secret.db may not be read *" \
+        as_user "$folder/program" --explain verify export "$folder/secret.db"
+else
+    echo "skipped: nobody can't run programs here, so it isn't tried what another user is told"
+fi
+
+# what is no journal's database
+explains 1 "bad 64 0" "" "64 NotAJournal *: $folder/garbage is no SQLite database, by its first 16 bytes: *" \
+    check "$folder/garbage"
+explains 1 "bad 64 0" "" "64 NotAJournal *: $folder/other.db is an SQLite database with other tables *" \
+    check "$folder/other.db"
+explains 1 "" "bad 64 0" "64 NotAJournal *: $folder/garbage is no SQLite database*" export "$folder/garbage"
+
+# files that are read
+explains 3 "" "cannot open $folder/gone" "$folder/gone is missing: *" verify export "$folder/gone"
+explains 3 "" "read failed" "$folder/sub is a folder: *" verify export "$folder/sub"
+explains 0 "ok 0 8" "" "no entry is complete: the 8 bytes *" verify export "$folder/prose"
+explains 0 "ok 0 0" "" "there was nothing to read: *" verify export "$folder/empty"
+explains 0 "ok 2 0" "" "" verify export "$folder/in"
+# shellcheck disable=SC2016 # the blank quotes are the table's
+explains 1 "bad 23 0" "" '23 NoSeqnum (`__SEQNUM` is missing): *`fit-stream`*' verify export "$folder/no-number"
+# shellcheck disable=SC2016 # as above
+explains 1 "bad 2 0" "" '2 BadMagic (an upload begins with neither `JCUPLD01` nor `JCUPLD02`): *' \
+    inspect "$folder/garbage"
+explains 0 "upload $id 0 0 12 - -" "" "no entry is complete: the 12 bytes *" inspect "$folder/cut-up"
+
+# answers; each code is explained once, and not what came of an upload that was stored
+explains 1 "no $id 0 60 0" "" "60 Conflict (*): *" collect "$db" "$folder/changed"
+explains 0 "ack $id 0 2 0 0" "" "" collect "$db" "$folder/up"
+explains 0 "ack $id 0 0 0 12" "" "no entry is complete: the 12 bytes *" collect "$db" "$folder/cut-up"
+expect 1 "no - - 2 0"$'\n'"no $id 0 60 0"$'\n'"no - - 2 0" "~explain: 2 BadMagic *"$'\n'"explain: 60 Conflict *" \
+    "$PROGRAM" collect --explain "$db" "$folder/garbage" "$folder/changed" "$folder/garbage"
+"$PROGRAM" collect --explain "$db" "$folder/garbage" "$folder/changed" "$folder/garbage" \
+    > "$folder/told" 2> "$folder/why"
+[[ $(wc -l < "$folder/why") -eq 2 ]] || differs "a code is explained twice"
+
+# what is on standard output of the others is no answer, whatever is in it
+"$PROGRAM" show --explain "$db" > "$folder/told" 2> "$folder/why" || differs "show"
+[[ ! -s $folder/why ]] || differs "what show lists is explained"
+
+# failures that name no file
+source=(--source "$id" --resume "$folder/resume" export "$folder/in")
+explains 1 "" "bad resume" "the resume file has something else in it: *" upload "${source[@]}"
+rm "$folder/resume"
+explains 2 "" "bad id" "an id is 32 hexadecimal digits: *" show "$db" --id a0
+explains 2 "" "bad field name" "a field's name has no *" show "$db" --field A=B
+explains 2 "" "bad database name" "SQLite takes a name *" check file:logs.db
+explains 2 "" "bad export name" "the export would take the place *" collect --then-export "$db" "$db" "$folder/up"
+expect 3 "" "~write failed"$'\n'"explain: standard output *" \
+    bash -c "'$PROGRAM' --explain verify export '$folder/in' > /dev/full"
+expect 1 "" "~bad answer 1"$'\n'"explain: this line of standard input is no answer: *" \
+    "$PROGRAM" --explain ack "${source[@]}" <<< "prose"
+
+# where the option stands, and where it is no option
+expect 0 "ok 2 0" "" env -C "$folder" "$PROGRAM" verify --explain export in
+cp "$folder/in" "$folder/--explain"
+expect 0 "ok 2 0" "" env -C "$folder" "$PROGRAM" verify export -- --explain
+expect 2 "" "~error: unexpected argument '--explain' found*" "$PROGRAM" --explain check "$db" --explain
+expect 0 "~*Usage: journal-collect \[--explain\] *<COMMAND>*" "" "$PROGRAM" --help
+expect 0 "~*Usage: journal-collect \[--explain\] *<COMMAND>*" "" "$PROGRAM" --explain --help
+finish
