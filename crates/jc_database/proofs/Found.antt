@@ -1,10 +1,13 @@
 -- What an open finds.
 use Rattle.std.proofs.Common.{◌≡◌, inl, inr, [], true, ℕ, List, refl, sym, ap, subst, ◌∙◌}
 use Rattle.std.proofs.Math.Logic.{∥∥₁_elim}
+use Rattle.std.specs.List.{AllByRecursion}
 use Rattle.sqlite_disk.specs.declared.Disk as disk
 use Rattle.sqlite_store.specs.declared.store.FileStore.{FileStore}
 use Rattle.sqlite_store.specs.declared.catalog.Wanted.{Wanted}
 use Rattle.sqlite_store.specs.Listing.{IsOurs}
+use Rattle.sqlite_trees.specs.declared.store.Shape.TheVariants.{Table}
+use Rattle.sqlite_trees.specs.View.{IsShaped}
 use Rattle.sqlite_trees.specs.Objects.{catalog_tree}
 use Rattle.sqlite_trees.specs.Props.{Trees-set, rows_set}
 use Rattle.sqlite_trees.specs.Sound.{is_sound_list}
@@ -13,6 +16,7 @@ use Rattle.sqlite_catalog.specs.Listing.{Lists}
 use Rattle.sqlite_catalog.proofs.ReadLemmas.{lists_once}
 use Rattle.sqlite.specs.Recovery.{Image}
 use Rattle.sqlite.specs.Order.{Row}
+use Rattle.sqlite.specs.Schema.{Schema}
 use Rattle.sqlite.specs.Tree.{Trees}
 use Rattle.sqlite.specs.Effect.{Database, IsDatabase}
 use Rattle.sqlite.specs.State.{HasCleanDisk}
@@ -22,6 +26,7 @@ use Rattle.sqlite.specs.Files.{HoldsDatabase, IsNothing, IsEmpty, IsOpened, AreF
 use Rattle.jc_store.specs.Schema.{no_schema}
 use Rattle.jc_database.specs.Files.{HoldsNone, IsFound}
 use Rattle.jc_database.proofs.Blank.{never_blank}
+use Rattle.jc_database.proofs.Ordered.{found_in_order}
 
 lists_none : Lists [] no_schema
 unfolding is_sound_list
@@ -52,6 +57,10 @@ module _ {D : Type 0} {g : disk.Ghosts D} (image : Image) (c : Held (FileStore D
   is_found clean = record {
     sound = record { clean = clean; is_open = opened.0.is_open };
     live = (opened.1 opened.0.is_open).0;
+    ordered = found_in_order (file_state c).now (opened.1 opened.0.is_open).0 image
+        (subst (AreFoundIn image) (sym (ap (λ (d : Database). d.trees) opened.0.clean)) found.reads)
+        (λ none. subst (λ (s : Schema). AllByRecursion (λ t. IsShaped Table ((file_state c).now.trees t.tree)) s.tables)
+        (sym (blank (file_state c).now (opened.1 opened.0.is_open).0 none)) tt);
     settled = sym opened.0.clean;
     whole = held;
     none = λ none. blank (file_state c).now (opened.1 opened.0.is_open).0 (unlisted none);

@@ -1,3 +1,4 @@
 pub mod Blank
+pub mod Ordered
 pub mod Found
 pub mod Left

@@ -1,9 +1,12 @@
 -- What the two files of a database hold, its own and the log beside it. (own)
 use Rattle.std.specs.Prelude.{◌≡◌, ◌⊎◌}
 use Rattle.std.specs.FinMap.{empty}
+use Rattle.std.specs.List.{AllByRecursion}
 use Rattle.sqlite_disk.specs.declared.Disk as disk
 use Rattle.sqlite_disk.specs.declared.Files.{Files}
 use Rattle.sqlite_store.specs.declared.store.FileStore.{FileStore}
+use Rattle.sqlite_trees.specs.declared.store.Shape.TheVariants.{Table}
+use Rattle.sqlite_trees.specs.View.{IsShaped}
 use Rattle.sqlite.specs.Recovery.{Image}
 use Rattle.sqlite.specs.WalFiles.{outcomes}
 use Rattle.sqlite.specs.WalReads.{AreClean}
@@ -66,10 +69,15 @@ pub record Keeps (m : Meaning) {D : Type 0} {g : disk.Ghosts D} (c : Held (FileS
   pub made : AreMade m over_files c
   pub is : journal_of m over_files c ≡ journal
 
+-- The rows of each table stand behind rowids that rise.
+abbrev pub AreInOrder : Database → Type 0
+AreInOrder db = AllByRecursion (λ t. IsShaped Table (db.trees t.tree)) db.schema.tables
+
 -- One that was opened: it is open and has what the files had, all of it committed.
 pub record IsFound {D : Type 0} {g : disk.Ghosts D} (image : Image) (c : Held (FileStore D g)) : Type 0 where
   pub sound : IsSound over_files c
   pub live : IsDatabase (file_state c).now
+  pub ordered : AreInOrder (file_state c).now
   pub settled : (file_state c).committed ≡ (file_state c).now
   pub whole : (db : Trees) → ∥ HoldsDatabase image db ∥₁ → (file_state c).now.trees ≡ db
   pub none : HoldsNone image → IsBlank (file_state c).now
