@@ -52,7 +52,7 @@ DEFINITION = re.compile(r"^(?:(?:abbrev|pub|record|data|opaque|instance) )*(\w+)
 
 @dataclass
 class Clause:
-    """A clause of a contract: its name, the comment above it, and its text."""
+    """A clause of a contract: its name, the comment above it, and the text behind its name."""
     name: str
     comment: str
     text: str = ""
@@ -136,7 +136,7 @@ def read_module(path: Path) -> Module:
             found.functions.append(last)
             comment, aside = [], []
         elif (match := CLAUSE.match(line)) and last is not None:
-            clause = Clause(match[2] or match[3] or "", joined(aside), bare)
+            clause = Clause(match[2] or match[3] or "", joined(aside), bare.partition("{")[2])
             depth = line.count("{") - line.count("}")
             (last.asked if match[1] == "requires" else last.clauses).append(clause)
             aside = []
