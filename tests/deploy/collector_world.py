@@ -6,7 +6,8 @@ There are forty rounds to a world, and then another one. Programs run in forked 
 Machines send uploads: new ones, old ones again, late ones after newer ones, ones behind a gap, ones that are cut, and
 ones of a machine that was set back to an earlier day. Databases turn in a second. Between and within runs of the
 collector the clock is set by a minute, by 12 h, by 40 days and to 1970, days go by, the machine is started again,
-databases get second names as a backup by hard links gives them; runs are killed, find a full disk, or are told to stop.
+databases get second names as a backup by hard links gives them; runs are killed, find a full disk or one that has room
+for no more files, or are told to stop.
 Backups are taken, also while the collector runs; its disk is lost, a backup put back, and machines send again what they
 have. Machines get other names. Afterwards all is sent once more, and then each acknowledged entry is in exactly one
 database, no entry under a key of its source was acknowledged with another content, nothing waits, and no database was
@@ -181,11 +182,14 @@ class World(Trial):
 
     # The collector
 
-    def begin(self, words: list[str], size: int | None = None) -> subprocess.Popen[bytes]:
-        environment = {**os.environ, "LD_PRELOAD": self.library, "CLOCK_FILE": self.clock}
-        return subprocess.Popen([os.path.join(self.programs, "collect-incoming"), *words, self.conf], env=environment,
-                                stdin=subprocess.DEVNULL, stdout=subprocess.DEVNULL, stderr=subprocess.PIPE,
-                                preexec_fn=full(size) if size is not None else None)
+    def begin(self, words: list[str], size: int | None = None, steps: int = 0) -> subprocess.Popen[bytes]:
+        """On a disk on which files can't grow further, or which after some steps has room for no more files."""
+        environment = {**os.environ, "LD_PRELOAD": self.library, "CLOCK_FILE": self.clock, "FILES": "no",
+                       "STOP_AT": str(steps)}
+        before = [*forked.STOP_AT] * bool(steps)
+        return subprocess.Popen([*before, os.path.join(self.programs, "collect-incoming"), *words, self.conf],
+                                env=environment, stdin=subprocess.DEVNULL, stdout=subprocess.DEVNULL,
+                                stderr=subprocess.PIPE, preexec_fn=full(size) if size is not None else None)
 
     def collect(self, kind: str) -> None:
         """One run of the collector, perhaps disturbed."""
@@ -193,7 +197,8 @@ class World(Trial):
         before, waiting = self.there(), self.waiting()
         self.read_unfinished()
         size = self.dice.choice((0, 2000, 30000, 60000)) if kind == "full" else None
-        run = self.begin(["--once"] if kind in ("once", "full") else [], size)
+        steps = self.dice.randint(1, 120) if kind == "files" else 0
+        run = self.begin(["--once"] if kind in ("once", "full", "files") else [], size, steps)
         if kind in ("kill", "kill all", "term", "turn"):
             time.sleep(self.dice.random() * self.dice.choice((0.05, 0.2, 1.5) if forked.is_on else (1.5,)))
             if self.dice.random() < 0.5:
@@ -354,7 +359,7 @@ class World(Trial):
             if dice.random() < share:
                 change()
         for _ in range(dice.choice((1, 1, 2))):
-            self.collect(dice.choice(("once", "term", "turn", "kill", "kill all", "full")))
+            self.collect(dice.choice(("once", "term", "turn", "kill", "kill all", "full", "files")))
         self.take_answers()
         if dice.random() < 0.2:
             self.conflict()

@@ -86,9 +86,9 @@ class Deployment:
 
 
 def stopped(program: str, disturbance: Disturbance) -> list[str]:
-    """What is put before a command of this program, if it is the one that is to be stopped."""
+    """What is put before a command of this program, if it is the one that is to be stopped, or to make no files."""
     kind, value = disturbance
-    is_it = kind == "stop" and value[0] == program
+    is_it = kind in ("stop", "files") and value[0] == program
     return ["/usr/bin/python3", "-IBS", os.path.join(HERE, "stop_at.py")] if is_it else []
 
 

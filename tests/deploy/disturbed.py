@@ -38,6 +38,8 @@ class Run:
         self.environment = environment
         if kind == "stop":
             environment.update(BASH_ENV=os.path.join(HERE, "stop_at.sh"), STOP_PROGRAM=value[0], STOP_AT=str(value[1]))
+        if kind == "files":
+            environment.update(FILES="no", STOP_AT=str(value[1]))
         if kind == "fault":
             environment["FAULT"] = value
         # What it says goes to a pipe, as it goes to the journal: a full disk doesn't keep it from that.

@@ -1,5 +1,7 @@
 """stop_at.py PROGRAM WORD..: runs a program of deploy/, which is killed before the step of the number STOP_AT: a file
-that it opens, moves or removes, a lock that it takes, or a program that it starts."""
+that it opens, moves or removes, a lock that it takes, or a program that it starts. With FILES=no it isn't killed, but
+from that step on makes no file and no folder, as on a disk that has room for bytes, but for no more files."""
+import errno
 import os
 import runpy
 import signal
@@ -16,7 +18,21 @@ def count(event: str, arguments: tuple[object, ...]) -> None:
     if left[0] and event in STEPS and not (event == "open" and str(arguments[0]).endswith((".py", ".pyc", ".so"))):
         left[0] -= 1
         if left[0] == 0:
-            os.kill(os.getpid(), signal.SIGKILL)
+            if os.environ.get("FILES") != "no":
+                os.kill(os.getpid(), signal.SIGKILL)
+            left[0] = 1
+            if makes_file(event, arguments):
+                raise OSError(errno.ENOSPC, os.strerror(errno.ENOSPC))
+
+
+def makes_file(event: str, arguments: tuple[object, ...]) -> bool:
+    """Whether a step makes a file or a folder."""
+    if event != "open":
+        return event == "os.mkdir"
+    path, _, flags = arguments
+    # what is open already is opened by its number
+    return isinstance(path, (str, bytes)) and isinstance(flags, int) and flags & os.O_CREAT > 0 and \
+        not os.path.lexists(path)
 
 
 def main() -> None:

@@ -84,7 +84,8 @@ def stores_uploads(row: Row, machine: Booted) -> None:
     process = machine.shows(INCOMING, "MainPID")
     users = machine.call("cat", f"/proc/{process}/uid_map").stdout.split()
     row.expect("its users", (users[::3], users[2::3]), (["0", "990"], ["1", "1"]))
-    row.expect("its network", machine.call("cat", f"/proc/{process}/net/dev").stdout.count(":"), 1)
+    networks = {machine.call("readlink", f"/proc/{each}/ns/net").stdout for each in (process, 1)}
+    row.expect("a network of its own", len(networks), 2)
     row.expect("what may come from where", set(machine.shows(INCOMING, "IPAddressDeny").split()), {"0.0.0.0/0", "::/0"})
     machine.call("systemctl", "reload", INCOMING)
     wait_for(lambda: glob.glob(f"{machine.folder}/{STATE}/databases/*.sha256"))

@@ -6,12 +6,12 @@ There are a hundred rounds to a world, and then another one. Programs in Python 
 round of EACH, in which they are begun as they are installed. In each round journals grow and lose entries, begin new
 sequences, have their clocks set, and get entries that are too large or damaged; some machines send and the collector
 collects, at the same time. Some of these runs are stopped by SIGKILL, at a random moment or before one of their
-commands; find a full disk; lose their connection; or are started twice. If the collector compares keys, machines are
-also set back to snapshots and cloned, and collector_events.py has what becomes of the collector. Afterwards some
-undisturbed rounds follow. Then each entry that a journal still had when a gathering ran to its end is in the databases,
-once unless its machine was set back or cloned; what journald removed of a file that was seen before was told as a gap;
-each machine has its newest stream alone, with nothing to send; the collector has nothing that waits; and no file was
-ever one that others may read.
+commands; find a full disk, or one that has room for no more files; lose their connection; or are started twice. If the
+collector compares keys, machines are also set back to snapshots and cloned, and collector_events.py has what becomes of
+the collector. Afterwards some undisturbed rounds follow. Then each entry that a journal still had when a gathering ran
+to its end is in the databases, once unless its machine was set back or cloned; what journald removed of a file that was
+seen before was told as a gap; each machine has its newest stream alone, with nothing to send; the collector has nothing
+that waits; and no file was ever one that others may read.
 """
 from __future__ import annotations
 
@@ -109,6 +109,7 @@ class World(Trial):
             ("none", None), ("none", None), ("cap", None), ("kill", (True, soon)), ("kill", (False, soon)),
             ("stop", (program, dice.randint(1, self.deployment.COUNT[program]))),
             ("stop", (program, dice.randint(1, self.deployment.COUNT[program]))),
+            ("files", (program, dice.randint(1, self.deployment.COUNT[program]))),
             ("full", dice.choice((0, 100, dice.randrange(2000), dice.randrange(40000)))),
             ("fault", ":".join((dice.choice(("refused", "cut", "half", "lost")),
                                 str(dice.randint(1, self.deployment.CONNECTIONS)),
