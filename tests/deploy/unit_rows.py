@@ -25,7 +25,8 @@ USER = "journal-collect"
 LIBRARY = "/usr/local/lib/journal-collect"
 INCOMING, FORWARD, SEND, FOLLOW = (f"journal-collect-{name}.service" for name in ("incoming", "forward", "send",
                                                                                   "follow"))
-FILES, REMOTE = "journal-collect-journal-files.service", "/lib/systemd/systemd-journal-remote"
+FILES = "journal-collect-journal-files.service"
+REMOTE = os.environ.get("JOURNAL_REMOTE", "/lib/systemd/systemd-journal-remote")
 STATE, SENT = "var/lib/journal-collect", "var/lib/journal-send"
 ROWS: list[Callable[[Row, Booted], None]] = []
 SSH_HERE = f"""#!/bin/sh
@@ -49,7 +50,8 @@ def installed(folder: str) -> Booted:
     machine.write("usr/local/lib/ssh.py", SSH)
     machine.write("etc/journal-collect/collector.conf", "FREE_BYTES=0\nPOLL_SECONDS=0.05\n")
     machine.write("etc/journal-collect/forward.conf", "ENGINE=files\nFREE_BYTES=0\n")
-    machine.write("etc/journal-collect/journal-files.conf", "JOURNAL_FILES=yes\nFREE_BYTES=0\n")
+    machine.write("etc/journal-collect/journal-files.conf",
+                  f"JOURNAL_FILES=yes\nFREE_BYTES=0\nJOURNAL_REMOTE={REMOTE}\n")
     machine.write("etc/journal-collect/machine.conf", "COLLECTOR=here\nFOLLOW=yes\nRESEND_MINUTES=0\n")
     machine.write(f"{SENT}/received/answers", "")
     return machine
@@ -77,7 +79,8 @@ def answers(machine: Booted) -> str:
 def stores_uploads(row: Row, machine: Booted) -> None:
     """It stores one, ends a database when it is told to, and has no user beside its own, and no network."""
     begin(row, machine, INCOMING)
-    told = machine.call(f"{LIBRARY}/receive", "web", given=upload(entries(1, 5)), user=USER)
+    given = upload([entry.replace(b"\nPRIORITY", b"\n_BOOT_ID=%s\nPRIORITY" % (b"4" * 32)) for entry in entries(1, 5)])
+    told = machine.call(f"{LIBRARY}/receive", "web", given=given, user=USER)
     row.expect(f"receive: {told.stderr}", told.returncode, 0)
     wait_for(lambda: "ack" in answers(machine))
     row.expect("the answer", answers(machine).splitlines()[0], f"ack {SOURCE} 0 5 5 0")
