@@ -23,7 +23,7 @@ ABOUT = {"The main theorem": "jc_collect"}
 CLAIM = re.compile(r"\*\*`([^`]+)`\*\*(?: \(([^)]*)\))?")
 DEFINITION = re.compile(r"`(\w+)` in `(specs/[\w/]+\.antt)`")
 USED = re.compile(r"^use Rattle\.(jc_\w+)\.specs\.([A-Z][\w.]*?)\.\{", re.MULTILINE)
-BLOCK = re.compile(r"^(?:pub )?(impl|trait)\b(?:<[^{]*?>)? ?(.*?)(?: where.*)?(?: \{)?$")
+BLOCK = re.compile(r"^(?:pub )?(impl|trait)\b(?:<(?:[^<>{]|<[^<>{]*>)*>)? ?(.*?)(?: where.*)?(?: \{)?$")
 FUNCTION = re.compile(r"^\s*(pub(?:\(\w+\))? )?fn (\w+)")
 CLAUSE = re.compile(r"^\s*ensures(?: (\w+))? \{|^\s*ghost (\w+) = ")
 

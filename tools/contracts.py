@@ -43,7 +43,7 @@ HERE_ALONE = {
 APOSTROPHE = "'s", "'"
 # Traits of the standard library that say nothing by themselves.
 SILENT = ("Model", "Drop")
-BLOCK = re.compile(r"^(pub )?(impl|trait)\b(?:<[^{]*?>)? ?(.*?)(?: where.*)?(?: \{)?$")
+BLOCK = re.compile(r"^(pub )?(impl|trait)\b(?:<(?:[^<>{]|<[^<>{]*>)*>)? ?(.*?)(?: where.*)?(?: \{)?$")
 FUNCTION = re.compile(r"^\s*(pub(?:\(\w+\))? )?fn (\w+)")
 CLAUSE = re.compile(r"^\s*(ensures|requires)(?: (\w+))? \{|^\s*ghost (\w+) = ")
 IMPORT = re.compile(r"^\s*ghost use Rattle\.(jc_\w+)\.specs\.([\w.]+)\.\{([^}]*)\};", re.MULTILINE)
