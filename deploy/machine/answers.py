@@ -7,19 +7,23 @@
 """
 from __future__ import annotations
 
+from machine.texts import is_number
 from shared.formats import is_id
 from shared.records import dataclass, field
 
+# The digits of the greatest number that an entry may have.
+SEQNUM_DIGITS = 20
 
-def is_number(word: str) -> bool:
-    return word.isascii() and word.isdigit()
+
+def is_seqnum(word: str) -> bool:
+    return word.isascii() and word.isdigit() and len(word) <= SEQNUM_DIGITS
 
 
 # What the words of each line are.
 FORMS = {
     "ack": (is_id, is_number, is_number, is_number, is_number),
     "no": (is_id, is_number, is_number, is_number),
-    "last": (is_id, is_number, is_id, is_number),
+    "last": (is_id, is_number, is_id, is_seqnum),
     "waits": (is_id,),
 }
 

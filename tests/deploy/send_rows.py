@@ -48,6 +48,21 @@ def set_back(row: Row, machine: Machine) -> None:
     row.all_stored(machine)
 
 
+@ROWS.row
+def numbers_that_cannot_be(row: Row, machine: Machine) -> None:
+    """What a collector says with numbers that no stream gets to is passed over: other lines count, and all goes out."""
+    machine.journal.grow(3)
+    machine.send()
+    told, (source, _, _) = machine.collect(), machine.upload()
+    for number in ("9" * 20, "9" * 5_000):
+        machine.journal.grow(2)
+        for line in (f"no {source} {number} 60 0", f"ack {source} 0 {number} 0 0",
+                     f"last {source} {number} {'a' * 32} 1"):
+            machine.answers(f"{told}{line}\n")
+            row.expect(line[:60], machine.send(), (0, ""))
+    row.all_stored(machine)
+
+
 @ROWS.once
 def check(row: Row, machine: Machine) -> None:
     """`--check` says nothing if the collector answers, names what is wrong, and makes nothing."""
