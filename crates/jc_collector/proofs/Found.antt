@@ -24,8 +24,8 @@ use Rattle.jc_schema_three.specs.Schema.{schema_three}
 use Rattle.jc_schema_three.specs.Tables.{three}
 use Rattle.jc_database.specs.Files.{AreLawful, EndsWith, HoldsJournal, IsFound, Keeps}
 use Rattle.jc_database.specs.FilesLaws.{database_found, keeps_found}
-use Rattle.jc_collector.specs.Open.{Begun, HasKind, IsFoundIn}
-use Rattle.jc_collector.specs.Kinds.{AreByNumber, BeginsIn, IsAdoptedFrom, IsMadeIn, LeadsIn, OpenedFiles, conn_of, kind_of, meaning_of}
+use Rattle.jc_collector.specs.Open.{Begun, HasKind, IsFoundIn, IsOne}
+use Rattle.jc_collector.specs.Kinds.{AreAlone, AreByNumber, BeginsIn, IsAdoptedFrom, IsMadeIn, LeadsIn, OpenedFiles, conn_of, kind_of, meaning_of}
 
 -- ---- the tables of each kind
 
@@ -108,6 +108,22 @@ module _ {D : Type 0} {g : disk.Ghosts D} (image : Image) (first : Held (FileSto
 
     pub found_adopted : (¬ IsBlank (file_state first).now) → IsAdoptedFrom first opened → (made : Tables) → IsFoundIn made (kind_of opened) image (conn_of opened)
     found_adopted tables it = adopted_in image first (conn_of opened) found it.was_sound it.sound (kind_of opened) it.kind tables it.keeps
+
+-- ---- tables that are one
+
+module _ {D : Type 0} {g : disk.Ghosts D} (image : Image) (first : Held (FileStore D g)) (found : HasCleanDisk (file_state first) → IsFound image first)
+    (opened : OpenedFiles D g)
+  where
+    pub one_adopted : IsAdoptedFrom first opened → IsOne (kind_of opened) (conn_of opened)
+    one_adopted it alone sound =
+        let kind = kind_of opened in
+        let was = found (it.was_sound sound).clean in
+        let same = it.same sound in
+        let journal = it.found sound (subst (AreAlone kind) same.now_is alone) was.ordered in
+        record { journal = subst (λ (d : Database). (meaning_of kind).is_journal d) (sym same.now_is) journal; settled = same.committed_is ∙ (was.settled ∙ sym same.now_is) }
+
+    pub one_made : (made : Tables) → IsMadeIn first made opened → IsOne (kind_of opened) (conn_of opened)
+    one_made made it alone = it.made
 
 -- ---- what is said of the kind that a run has, for each that it may have begun with
 

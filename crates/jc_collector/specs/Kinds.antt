@@ -5,6 +5,7 @@ use Rattle.sqlite_disk.specs.declared.Disk as disk
 use Rattle.sqlite_disk.specs.declared.Files.{Files}
 use Rattle.sqlite.specs.Recovery.{Image}
 use Rattle.sqlite.specs.Schema.{Schema}
+use Rattle.sqlite.specs.Effect.{Database}
 use Rattle.sqlite_schema.specs.Names.{table_named}
 use Rattle.sqlite.specs.WalReads.{AreClean}
 use Rattle.sqlite.specs.Held.{Held}
@@ -16,8 +17,11 @@ use Rattle.jc_command_args.specs.declared.request.Tables.{Tables}
 use Rattle.jc_command_args.specs.declared.request.Tables.TheVariants.{ByKey, ByNumber}
 use Rattle.jc_store.specs.Meaning.{AreMade, IsSound, KeepsJournal, Kept, Meaning, journal_of}
 use Rattle.jc_schema_two.specs.Tables.{two}
+use Rattle.jc_store.specs.Statements.{IsSame}
+use Rattle.jc_schema_two.specs.Adopting as of_two
 use Rattle.jc_schema_three.specs.Tables.{three}
-use Rattle.jc_database.specs.Files.{EndsWith, HoldsJournal, HoldsNone}
+use Rattle.jc_schema_three.specs.Adopting as of_three
+use Rattle.jc_database.specs.Files.{AreInOrder, EndsWith, HoldsJournal, HoldsNone}
 use Rattle.jc_collector.specs.declared.database.Opened.{Opened}
 use Rattle.jc_collector.specs.declared.database.Opened.TheVariants as opened
 
@@ -26,6 +30,11 @@ use Rattle.jc_collector.specs.declared.database.Opened.TheVariants as opened
 abbrev pub meaning_of : Tables → Meaning
 meaning_of ByKey = two
 meaning_of ByNumber = three
+
+-- The tables are those of a kind as they are made, and nothing stands beside them.
+abbrev pub AreAlone : Tables → Database → Type 0
+AreAlone ByKey db = of_two.AreAlone db
+AreAlone ByNumber db = of_three.AreAlone db
 
 -- A keeper's kind, and its connection.
 abbrev pub kind_of : {K N : Type 0} → Opened K N → Tables
@@ -64,6 +73,10 @@ module _ {D : Type 0} {g : disk.Ghosts D} (before : Held (FileStore D g)) where
     pub sound : HasCleanDisk (file_state (conn_of opened)) → IsSound over_files (conn_of opened)
     pub was_sound : IsSound over_files (conn_of opened) → IsSound over_files before
     pub keeps : KeepsJournal (meaning_of (kind_of opened)) over_files before (conn_of opened)
+    pub same : IsSound over_files (conn_of opened) → IsSame (file_state before) (file_state (conn_of opened))
+    -- They are one, if nothing stands beside them.
+    pub found : IsSound over_files (conn_of opened) → AreAlone (kind_of opened) (file_state before).now → AreInOrder (file_state before).now
+        → (meaning_of (kind_of opened)).is_journal (file_state before).now
 
 -- ---- files
 

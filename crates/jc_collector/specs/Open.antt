@@ -15,7 +15,7 @@ use Rattle.jc_store.specs.Crash.{LeavesJournals, MayLeave}
 use Rattle.jc_store.specs.Meaning.{AreMade, IsSound, Meaning, journal_of}
 use Rattle.jc_upload.specs.declared.answer.Answer.{Answer}
 use Rattle.jc_database.specs.Files.{EndsWith, Keeps}
-use Rattle.jc_collector.specs.Kinds.{BeginsIn, OpenedFiles, conn_of, kind_of, meaning_of}
+use Rattle.jc_collector.specs.Kinds.{AreAlone, BeginsIn, OpenedFiles, conn_of, kind_of, meaning_of}
 
 module _ {D : Type 0} {g : disk.Ghosts D} where
   -- If the disks of a connection that was opened return what was written, then it is sound, and keeps this journal.
@@ -28,6 +28,10 @@ module _ {D : Type 0} {g : disk.Ghosts D} where
       HasCleanDisk (file_state first)
       → IsSound over_files first
       × ((kind : Tables) (before : Journal) → BeginsIn made kind image before → (kind ≡ mine) × Keeps (meaning_of mine) first before)
+
+  -- Its tables, which are of this kind, are a journal's, whoever wrote the files, if nothing stands beside them.
+  abbrev pub IsOne : (mine : Tables) → (first : Held (FileStore D g)) → Type 0
+  IsOne mine first = AreAlone mine (file_state first).now → AreMade (meaning_of mine) over_files first
 
   -- If the disks have returned what was written, then this holds of each journal that a run may have begun with.
   abbrev pub WhileClean : (now : Held (FileStore D g)) → (Begins Holds : Journal → Type 0) → Type 0

@@ -2,7 +2,7 @@
 use Rattle.std.proofs.Common.{true≢false, sym, ◌∙◌}
 use Rattle.sqlite.specs.WalFiles.{image_at}
 use Rattle.jc_collector.proofs.Causes.{no_tables}
-use Rattle.jc_collector.proofs.Found.{found_adopted, found_made}
+use Rattle.jc_collector.proofs.Found.{found_adopted, found_made, one_adopted, one_made}
 use Rattle.jc_collector.proofs.Results.{IfErr-each, IfOk-each}
 use Rattle.jc_collector.proofs.database.open_or_make.Goals as goal
 
@@ -19,3 +19,11 @@ returns-else-is_empty-clause-found g c =
     (λ opened adopted. found_adopted (image_at g.S.Start) c.in_ok-conn.conn c.in_ok-conn.ensures.found opened
     (λ blank. true≢false (sym (c.is_empty.ensures.1 blank) ∙ c.if-is_empty.false)) adopted c.args.tables)
     c.adopt.ensures.adopted
+
+pub returns-then-is_empty-clause-one : goal.returns-then-is_empty-clause-one
+returns-then-is_empty-clause-one g c =
+    IfOk-each c.make.result _ _ (λ opened made. one_made (image_at g.S.Start) c.in_ok-conn.conn c.in_ok-conn.ensures.found opened c.args.tables made) c.make.ensures.made
+
+pub returns-else-is_empty-clause-one : goal.returns-else-is_empty-clause-one
+returns-else-is_empty-clause-one g c =
+    IfOk-each c.adopt.result _ _ (λ opened adopted. one_adopted (image_at g.S.Start) c.in_ok-conn.conn c.in_ok-conn.ensures.found opened adopted) c.adopt.ensures.adopted

@@ -1,7 +1,7 @@
 -- The keeper has the journal that the files had.
 use Rattle.sqlite.specs.WalFiles.{image_at}
 use Rattle.jc_collector.proofs.Causes.{no_tables}
-use Rattle.jc_collector.proofs.Found.{found_adopted}
+use Rattle.jc_collector.proofs.Found.{found_adopted, one_adopted}
 use Rattle.jc_collector.proofs.Results.{IfErr-each, IfOk-each}
 use Rattle.jc_collector.proofs.database.open_there.Goals as goal
 
@@ -13,3 +13,7 @@ returns-clause-found g c =
 
 pub returns-clause-failed : goal.returns-clause-failed
 returns-clause-failed g c = IfErr-each c.adopt.result _ _ (no_tables c.args.path.now) c.adopt.ensures.failed
+
+pub returns-clause-one : goal.returns-clause-one
+returns-clause-one g c =
+    IfOk-each c.adopt.result _ _ (λ opened adopted. one_adopted (image_at g.S.Start) c.in_ok-conn.conn c.in_ok-conn.ensures.found opened adopted) c.adopt.ensures.adopted
