@@ -116,7 +116,7 @@ class Collector:
     def is_old() -> bool:
         """Whether the collector knew no sessions when it was asked last."""
         try:
-            return abs(time.time() - int(texts.read(OLD))) < AGAIN
+            return abs(time.time() - texts.number(texts.read(OLD).strip())) < AGAIN
         except (OSError, ValueError):
             return False
 

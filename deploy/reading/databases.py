@@ -60,8 +60,9 @@ def begun(name: str) -> datetime | None:
 
 
 def natural(name: str) -> list[tuple[int, str]]:
-    """Names by their numbers: `a-2` comes before `a-10`."""
-    return [(int(part), "") if part.isdigit() else (-1, part) for part in re.split(r"(\d+)", name)]
+    """Names by their numbers: `a-2` comes before `a-10`. A number may have any number of digits."""
+    return [(len(digits := part.lstrip("0")), digits) if place % 2 else (-1, part)
+            for place, part in enumerate(re.split("([0-9]+)", name))]
 
 
 class Mark(NamedTuple):

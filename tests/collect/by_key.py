@@ -1,6 +1,6 @@
 """Rows over tables by key, as docs/FORMATS.md has them: usage: python3 by_key.py PROGRAM FOLDER"""
-import rows
-from rows import ACK, collect, expect, new, run, run_all, stock
+import table_rows
+from table_rows import ACK, collect, expect, new, run, run_all, stock
 from samples import E1, E2, E3
 
 BY_HAND = """
@@ -56,7 +56,7 @@ HOSTILE = {
 
 
 def hostile() -> None:
-    rows.hostile("2", HOSTILE)
+    table_rows.hostile("2", HOSTILE)
 
 
 def by_hand() -> None:
@@ -70,7 +70,8 @@ def by_hand() -> None:
         ("fields without a record", "DELETE FROM record WHERE seqnum = 2", "bad 65 2"),
     )):
         path, other = new(f"hand-{number}"), new(f"like-{number}")
-        expect(f"{what}: collect", collect(other, *map(rows.with_two, (1, 2, 3)), tables="2"), (0, ACK.format(3, 3)))
+        expect(f"{what}: collect", collect(other, *map(table_rows.with_two, (1, 2, 3)), tables="2"),
+               (0, ACK.format(3, 3)))
         with stock(path) as connection:
             connection.executescript(f"{BY_HAND} ATTACH '{other}' AS given")
             connection.executescript("INSERT INTO record SELECT * FROM given.record ORDER BY rowid;"

@@ -2,8 +2,8 @@
 import itertools
 import os
 
-import rows
-from rows import ACK, SOURCE, expect, new, run, run_all, stock
+import table_rows
+from table_rows import ACK, SOURCE, expect, new, run, run_all, stock
 from samples import BOOT_ID, E1, E2, E3, H1, SEQNUM_ID, entry_text
 
 BY_NUMBER = [
@@ -22,7 +22,7 @@ INSERT INTO journal VALUES (1, 1);
 
 
 def collect(path: str, *entries: bytes, tables: str = "3") -> tuple[int, str]:
-    return rows.collect(path, *entries, tables=tables)
+    return table_rows.collect(path, *entries, tables=tables)
 
 
 def schema(path: str) -> list[str]:
@@ -113,7 +113,7 @@ HOSTILE = {
 
 
 def hostile() -> None:
-    rows.hostile("3", HOSTILE)
+    table_rows.hostile("3", HOSTILE)
 
 
 def is_migrated() -> None:

@@ -207,6 +207,12 @@ def an_older_collector(row: Row, library: str) -> None:
         both.machine.journal.grow(5)
         row.same("the second one", both.send(OLD_COLLECTOR="1"), (0, ""))
         row.same("connections of it", both.number_of_calls(), 2)
+        # when that was is damaged: it is asked again
+        for number in (400, 5_000):
+            with open(f"{both.machine.folder}/old-collector", "w", encoding="ascii") as file:
+                file.write("9" * number + "\n")
+            status, said = both.send(OLD_COLLECTOR="1")
+            row.same(f"{number} digits", (status, "of an earlier version" in said), (0, True))
         os.unlink(f"{both.machine.folder}/old-collector")
         row.same("a newer one", (both.send(), both.number_of_calls()), ((0, ""), 1))
         all_stored(row, "after three runs", both)

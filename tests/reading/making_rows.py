@@ -159,6 +159,21 @@ def dates_that_are_none(row: Row, collectors: Collectors) -> None:
 
 
 @ROWS.row
+def names_with_odd_numbers(row: Row, collectors: Collectors) -> None:
+    """A digit that is no decimal one, and a number without end in what is noted."""
+    collector = collectors.new()
+    for name in ("a-10", "a-9", "a-8"):
+        collector.exported(name, "a", 1, 0)
+    for path in collector.databases.glob("a-8.*"):
+        path.rename(path.with_name(path.name.replace("-8", "²")))
+    row.ends(collector.make(), 0, "made 3 databases, the last of them a², with 0 entries; 0 wait")
+    row.ends(collector.make("--status"), 0, "made 3 newest a²\nwaiting 0 bytes 0")
+    noted = collector.journals / ".state/made.json"
+    noted.write_text(noted.read_text(encoding="utf-8").replace("a-10", f"b-{'9' * 5_000}"), encoding="utf-8")
+    row.ends(collector.make("--status"), 0, "~made 3 newest b-999*\nwaiting 1 bytes *")
+
+
+@ROWS.row
 def state_that_is_not_right(row: Row, collectors: Collectors) -> None:
     """Each file is put aside and told, with what that costs, and what comes later is made. What is of a later version
     stays as it is."""
