@@ -216,8 +216,8 @@ class World(Trial):
         _, errors = run.communicate(timeout=600)
         errors = errors.decode()
         self.expect(f"{kind}: a mistake: {errors}", any(word in errors for word in BROKEN), False)
-        # a signal may come before the program itself has begun
-        early = {"term": (0, -signal.SIGTERM), "turn": (0, -signal.SIGTERM, -signal.SIGHUP)}
+        # A signal may come before the program itself has begun; and what a killed run began may have the lock still.
+        early = {"term": (0, 75, -signal.SIGTERM), "turn": (0, 75, -signal.SIGTERM, -signal.SIGHUP)}
         wanted = early.get(kind, (0, 1, 3, -signal.SIGKILL, 75))
         self.expect(f"{kind}: {errors}: status", run.returncode in wanted, True)
         self.look_at_deleted(before, errors)
