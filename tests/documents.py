@@ -2,9 +2,9 @@
 """Compares the documents with each other and with the sources: documents.py PROGRAM [FOLDER]
 
 One version, one toolchain, one table of codes, which the program prints too, a list of crates that is whole, scripts
-that say what they test, the number of edits, one table of the figures to plan with, tries that add up, the functions
-that the README names for its claims on the page of contracts, links to headings that are there, and a README that stays
-short. Prints what differs.
+that say what they test, the number of edits, one table of the figures to plan with, the functions that the README names
+for its claims on the page of contracts, links to headings that are there, and a README that stays short. Prints what
+differs.
 """
 import re
 import subprocess
@@ -152,28 +152,6 @@ def told_figures() -> Iterator[str]:
             yield f"{told}: the figure '{it}' isn't in the table of {path}"
 
 
-def sums() -> Iterator[str]:
-    """Tries in docs/FAULTS.md that aren't the sum of their parts, or whose parts stand nowhere else on the page."""
-    page = text_of("docs/FAULTS.md")
-    told = re.findall(r"^- `tests/(\S+)`: ([\d,]+) = ([\d, +]+)$", page, re.MULTILINE)
-    rest = re.sub(r"^- `tests/\S+`: [\d,]+ = .*$", "", page, flags=re.MULTILINE)
-    if not told:
-        yield "docs/FAULTS.md has no sums"
-    for script, total, parts in told:
-        numbers = parts.split(" + ")
-        if number_of(total) != sum(map(number_of, numbers)):
-            yield f"docs/FAULTS.md: {total} isn't the sum of {parts}"
-        if not re.search(rf"^\| `tests/{re.escape(script)}` \|.*\| {total} \|", page, re.MULTILINE):
-            yield f"docs/FAULTS.md: the table doesn't have {total} for {script}"
-        for it in numbers:
-            if not re.search(rf"(?<![\d,]){it}(?![\d,]*\d)", rest):
-                yield f"docs/FAULTS.md: {it}, a part of {total}, stands nowhere else"
-
-
-def number_of(text: str) -> int:
-    return int(text.replace(",", ""))
-
-
 def claims() -> set[str]:
     """The functions that the README's list of what is proved names for its claims."""
     proved = text_of("README.md").partition("\n### Proved\n")[2].partition("\n### ")[0]
@@ -219,7 +197,6 @@ def differences(program: str) -> Iterator[str]:
     yield from lists()
     yield from edits()
     yield from told_figures()
-    yield from sums()
     yield from told_claims()
     yield from broken_links()
 

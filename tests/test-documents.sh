@@ -1,8 +1,8 @@
 #!/usr/bin/env bash
 # The documents agree with each other, with the sources and with the program: one version, one toolchain, one table of
 # codes, all crates in the list, scripts that say what they test, the number of edits, one table of the figures to plan
-# with, tries that add up, the functions that the README names for its claims on the page of contracts, links to
-# headings that are there, and a README that stays short. Each file says what it is about (`make files`).
+# with, the functions that the README names for its claims on the page of contracts, links to headings that are there,
+# and a README that stays short. Each file says what it is about (`make files`).
 set -uo pipefail
 . "$(dirname "$0")/expect.sh"
 
@@ -57,10 +57,6 @@ changed docs/GUIDE.md 's/^## Sizing$/## Size/' \
     $'docs/PERFORMANCE.md: there is no GUIDE.md#sizing\ndocs/PERFORMANCE.md: there is no GUIDE.md#sizing'
 changed docs/GUIDE.md 's/\]\(#an-engine\)/](#engine)/' "docs/GUIDE.md: there is no #engine"
 changed docs/GATE.md 's/^There are [0-9]+\.$/There are 7./' "~docs/GATE.md tells of 7 edits, and there are *"
-changed docs/FAULTS.md '/^- .*: 372 =/s/ 40$/ 47/' \
-    "docs/FAULTS.md: 372 isn't the sum of 150 + 20 + 50 + 60 + 52 + 47
-docs/FAULTS.md: 47, a part of 372, stands nowhere else"
-changed docs/FAULTS.md 's/\| 372 \|/| 373 |/' "docs/FAULTS.md: the table doesn't have 372 for test-collect.sh"
 changed docs/CONTRACTS.md 's/\*\*`export_reads_back`\*\*/**`export_reads`**/' \
     "README.md names export_reads_back for a claim, and docs/CONTRACTS.md doesn't have it"
 changed README.md 's/\(`Keeper::absorb`, /(`Keeper::absorbs`, /' \
