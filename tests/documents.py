@@ -74,12 +74,14 @@ def lines_of_table() -> str:
 
 
 def codes_of_guide() -> Iterator[str]:
-    """Codes that the table of the guide hasn't, has twice, or has alone."""
+    """Codes of which the guide says more than once what to do, or which aren't any."""
     table = text_of("docs/GUIDE.md").partition("\n## What to do about each code\n")[2]
     told = [int(it) for row in re.findall(r"^\| ([\d, ]+) \|", table, re.MULTILINE) for it in row.split(", ")]
     known = {number for number, _ in codes_of_table()}
-    yield from (f"docs/GUIDE.md doesn't say once what to do about code {it}"
-                for it in sorted(known | set(told)) if told.count(it) != 1 or it not in known)
+    if not told:
+        yield "docs/GUIDE.md says of no code what to do"
+    yield from (f"docs/GUIDE.md doesn't say once what to do about code {it}, or it is none"
+                for it in sorted(set(told)) if told.count(it) != 1 or it not in known)
 
 
 def printed_codes(program: str) -> Iterator[str]:

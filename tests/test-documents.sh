@@ -54,7 +54,7 @@ changed docs/PERFORMANCE.md 's/^## Limits$/## Bounds/' "~docs/PERFORMANCE.md has
 changed docs/PERFORMANCE.md 's/^## Figures to plan with$/## Others/' \
     "~docs/PERFORMANCE.md has no figures under 'Figures to plan with'*"
 changed docs/GUIDE.md 's/^## Sizing$/## Size/' \
-    $'docs/PERFORMANCE.md: there is no GUIDE.md#sizing\ndocs/PERFORMANCE.md: there is no GUIDE.md#sizing'
+    "docs/PERFORMANCE.md: there is no GUIDE.md#sizing"
 changed docs/GUIDE.md 's/\]\(#an-engine\)/](#engine)/' "docs/GUIDE.md: there is no #engine"
 changed docs/GATE.md 's/^There are [0-9]+\.$/There are 7./' "~docs/GATE.md tells of 7 edits, and there are *"
 changed docs/CONTRACTS.md 's/\*\*`export_reads_back`\*\*/**`export_reads`**/' \
@@ -62,8 +62,8 @@ changed docs/CONTRACTS.md 's/\*\*`export_reads_back`\*\*/**`export_reads`**/' \
 changed README.md 's/\(`Keeper::absorb`, /(`Keeper::absorbs`, /' \
     "README.md names Keeper::absorbs for a claim, and docs/CONTRACTS.md doesn't have it"
 changed docs/FORMATS.md 's/^\| 60 \|/| 59 |/' "~code (59, *code (60, *"
-changed docs/GUIDE.md 's/^\| 12, 14, 15 \|/| 12, 15, 16, 11 |/' \
-    "docs/GUIDE.md doesn't say once what to do about code 11
-docs/GUIDE.md doesn't say once what to do about code 14
-docs/GUIDE.md doesn't say once what to do about code 16"
+changed docs/GUIDE.md 's/^\| 12, 14, 15 \|/| 12, 14, 16, 60 |/' \
+    "docs/GUIDE.md doesn't say once what to do about code 16, or it is none
+docs/GUIDE.md doesn't say once what to do about code 60, or it is none"
+changed docs/GUIDE.md 's/^## What to do about each code$/## Codes/' "docs/GUIDE.md says of no code what to do"
 finish
