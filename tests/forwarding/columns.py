@@ -7,7 +7,7 @@ from collected import ROOT
 
 SECTION = re.compile(r"## What is forwarded\n(.*?)\n## ", re.DOTALL)
 FORMATS = (ROOT / "docs/FORMATS.md").read_text(encoding="utf-8")
-NAMES = dict(re.findall(r"^\| `(\w+)` \| `(\w+)` \|$", SECTION.findall(FORMATS)[0], re.MULTILINE))
+NAMES = dict(re.findall(r"\| `(\w+)` \| `(\w+)` (?=\|)", SECTION.findall(FORMATS)[0]))
 KEYS = {"__SEQNUM_ID": "sequence", "__SEQNUM": "number", "__REALTIME_TIMESTAMP": "realtime",
         "__MONOTONIC_TIMESTAMP": "monotonic"}
 
