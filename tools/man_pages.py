@@ -178,6 +178,9 @@ def program_page(page: dict) -> Iterator[str]:
     if told.statuses:
         yield ".Sh EXIT STATUS"
         yield from tagged(told.statuses)
+    if page.get("says"):
+        yield ".Sh DIAGNOSTICS"
+        yield from tagged([(" , ".join(f'Li "{plain(it)}"' for it in lines), text) for *lines, text in page["says"]])
 
 
 def settings_page(page: dict) -> Iterator[str]:
