@@ -180,7 +180,11 @@ def program_page(page: dict) -> Iterator[str]:
         yield from tagged(told.statuses)
     if page.get("says"):
         yield ".Sh DIAGNOSTICS"
-        yield from tagged([(" , ".join(f'Li "{plain(it)}"' for it in lines), text) for *lines, text in page["says"]])
+        yield ".Bl -tag -width Ds"
+        for *lines, text in page["says"]:
+            yield from (f'.It Li "{plain(line)}"' for line in lines)
+            yield from lines_of(text)
+        yield ".El"
 
 
 def settings_page(page: dict) -> Iterator[str]:
