@@ -3,10 +3,12 @@
     boots 1
     boot SEQUENCE BOOT MACHINE HOST
     hour NAME DIGEST NUMBER:FIRST:LAST ..
+    end DIGEST-OF-THE-LINES
 
-The first lines have the boots, in hexadecimal digits; the others name them by their numbers, from 0, with the times of
-their first and last entries in the databases of an hour. DIGEST is that of these databases' names and digests: a line
-is believed as long as an hour has the same ones. So the databases of an hour are read once.
+The first lines have the boots, in hexadecimal digits: a sequence id, and the values of `_BOOT_ID`, `_MACHINE_ID` and
+`_HOSTNAME`. The others name them by their numbers, from 0, with the microseconds of their first and last entries in the
+databases of an hour. DIGEST is the SHA-256 of a line `DIGEST NAME` of each of these databases, in the order of their
+names: a line is believed as long as an hour has the same ones. So the databases of an hour are read once.
 """
 import contextlib
 import hashlib

@@ -5,9 +5,10 @@
     end DIGEST-OF-THE-LINES
 
 So a search opens only the databases that have something of its time. A line is believed if the digest beside the
-database is the one that it names; inode and time say whether that file was replaced since. A database in which long
-times without an entry lie has a span for each part. The file is a cache: nobody needs it, and whatever is wrong with
-it, it is made anew.
+database is the one that it names; inode and time say whether that file was replaced since. The name has `%` as in URLs.
+A database in which long times without an entry lie has a span for each part: how many entries it has, and the
+microseconds of the first and the last. DIGEST-OF-THE-LINES is the SHA-256 of all lines before. The file is a cache:
+nobody needs it, and whatever is wrong with it, it is made anew.
 """
 import contextlib
 import heapq
