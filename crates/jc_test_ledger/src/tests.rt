@@ -1,0 +1,6 @@
+//! Worked ledgers over files.
+
+mod ledgers;
+mod notes;
+mod stops;
+mod unions;

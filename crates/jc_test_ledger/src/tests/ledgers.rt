@@ -1,0 +1,127 @@
+//! Ledgers over folders, and what is noted in them.
+
+use crate::MemoryFolder;
+use jc_base::{Entry, Id128, Key, Limits};
+use jc_export::read_all;
+use jc_keeper::KeepStop;
+use jc_ledger::{Ledger, Notes, digest_of};
+use jc_ledger_files::{DiskWindows, EachEntry, FileLedger};
+use jc_test_samples::SEQNUM_ID;
+use sqlite_disk::{Crash, Fuse, Memory};
+use std::alloc::Global;
+use std::collections::BTreeMap;
+use std::test::Fail;
+
+/// A ledger over files in memory.
+pub(super) type Files = FileLedger<DiskWindows<Fuse<Memory>, MemoryFolder>, EachEntry>;
+
+/// More calls than there are.
+pub(super) const NEVER: u64 = u64::MAX;
+
+/// A ledger over the files of a folder. Nothing is claimed of them.
+pub(super) fn opened(alloc: Global, folder: MemoryFolder) -> Files {
+    let worn = MemoryFolder {
+        is_worn: true,
+        ..folder
+    };
+    FileLedger::new(alloc, DiskWindows::new(alloc, worn), EachEntry::new(alloc))
+}
+
+/// The folder of a ledger that ends.
+pub(super) fn folder_of(ledger: Files) -> MemoryFolder {
+    let FileLedger { windows, .. } = ledger;
+    let DiskWindows { folder, .. } = windows;
+    folder
+}
+
+/// The folder after a loss of power: each file has what was synced, and new files fail after so many calls.
+pub(super) fn crashed(
+    alloc: Global,
+    folder: MemoryFolder,
+    calls: u64,
+) -> Result<MemoryFolder, Fail> {
+    let mut after = MemoryFolder::unclaimed(alloc, calls);
+    for (key, mut file) in folder.kept.files {
+        file.crash();
+        put(&mut after, key, file)?;
+    }
+    Ok(after)
+}
+
+/// Puts a file into a folder.
+fn put(folder: &mut MemoryFolder, key: Key, file: Fuse<Memory>) -> Result<(), Fail> {
+    match folder.kept.files.insert(key, file) {
+        Ok(_) => Ok(()),
+        Err(_) => Err(Fail::new("no memory")),
+    }
+}
+
+/// A folder whose first window has these bytes.
+pub(super) fn folder_with(alloc: Global, bytes: &[u8]) -> Result<MemoryFolder, Fail> {
+    let mut folder = MemoryFolder::unclaimed(alloc, NEVER);
+    let mut memory = Memory::new(alloc);
+    fill(&mut memory, bytes)?;
+    let key = Key {
+        seqnum_id: Id128(SEQNUM_ID),
+        seqnum: 0,
+    };
+    put(&mut folder, key, Fuse::new(memory, NEVER))?;
+    Ok(folder)
+}
+
+fn fill<D: Crash>(disk: &mut D, bytes: &[u8]) -> Result<(), Fail> {
+    if !disk.may_be_used() {
+        return Err(Fail::new("not usable"));
+    }
+    disk.write_at(0, bytes)?;
+    disk.sync()?;
+    Ok(())
+}
+
+/// The bytes of a window's file.
+pub(super) fn bytes_of(alloc: Global, folder: &MemoryFolder, window: u64) -> Result<Vec<u8>, Fail> {
+    let key = Key {
+        seqnum_id: Id128(SEQNUM_ID),
+        seqnum: window,
+    };
+    let mut bytes = Vec::new(alloc);
+    if let Some(file) = folder.kept.files.get(&key) {
+        bytes.extend_from_slice(file.inner().bytes())?;
+    }
+    Ok(bytes)
+}
+
+/// The entries with these canonical texts.
+pub(super) fn entries(alloc: Global, texts: &[&[u8]]) -> Result<Vec<Entry>, Fail> {
+    Ok(read_all(alloc, &texts.concat(alloc)?, &Limits::default())?.entries)
+}
+
+/// Notes the entries with these texts.
+pub(super) fn note(
+    alloc: Global,
+    ledger: &mut Files,
+    texts: &[&[u8]],
+) -> Result<Result<(), KeepStop>, Fail> {
+    let mut notes: Notes = BTreeMap::new(alloc);
+    let all = entries(alloc, texts)?;
+    for entry in &all {
+        if notes.insert(entry.key(), digest_of(entry)).is_err() {
+            return Err(Fail::new("no memory"));
+        }
+    }
+    Ok(ledger.note(notes))
+}
+
+/// How many of the entries with these texts are noted. None is noted as another one.
+pub(super) fn noted(alloc: Global, ledger: &mut Files, texts: &[&[u8]]) -> Result<u64, Fail> {
+    let mut count = 0u64;
+    let all = entries(alloc, texts)?;
+    for entry in &all {
+        match ledger.find(entry)? {
+            Some(found) if found == digest_of(entry) => count = count.saturating_add(1),
+            Some(_) => return Err(Fail::new("another digest")),
+            None => {}
+        }
+    }
+    Ok(count)
+}

@@ -1,0 +1,51 @@
+//! A union whose notes stand in files.
+
+use super::ledgers::{Files, NEVER, entries, folder_of, opened};
+use crate::MemoryFolder;
+use jc_base::{Ending, ListSource};
+use jc_keeper::{Absorbed, KeepStop, Keeper, MapKeeper};
+use jc_ledger::{EmptyShelf, UnionKeeper};
+use jc_test_samples::{CHANGED_ENTRY, ENTRY, ENTRY_2, ENTRY_3};
+use std::alloc::Global;
+use std::collections::VecDeque;
+use std::process::Abort;
+use std::test::Fail;
+
+type Union = UnionKeeper<MapKeeper, Files, EmptyShelf>;
+
+/// What becomes of an upload with these entries.
+fn absorbed<K: Keeper>(
+    alloc: Global,
+    keeper: &mut K,
+    texts: &[&[u8]],
+) -> Result<Result<Absorbed, KeepStop>, Fail> {
+    let all = VecDeque::from(entries(alloc, texts)?);
+    let mut source = ListSource::new(all, Ending::End { left: 0 });
+    Ok(keeper.absorb(&mut source))
+}
+
+fn is_taken(outcome: Result<Absorbed, KeepStop>, wanted: (u64, u64)) -> bool {
+    match outcome {
+        Ok(Absorbed::Taken { count, new, .. }) => (count, new) == wanted,
+        _ => false,
+    }
+}
+
+fn union(alloc: Global, ledger: Files) -> Union {
+    UnionKeeper::new(alloc, MapKeeper::new(alloc), ledger, EmptyShelf)
+}
+
+/// What an earlier run noted is known, though the present database hasn't got it.
+#[test]
+fn what_is_in_the_files_is_not_taken_again(rt: HostRuntime) -> Result<(), Fail> {
+    let alloc = rt.alloc();
+    let mut first = union(alloc, opened(alloc, MemoryFolder::unclaimed(alloc, NEVER)));
+    assert!(rt; is_taken(absorbed(alloc, &mut first, &[ENTRY, ENTRY_2])?, (2, 2)));
+    assert!(rt; is_taken(absorbed(alloc, &mut first, &[ENTRY_2, ENTRY_3])?, (2, 1)));
+    let UnionKeeper { ledger, .. } = first;
+    let mut second = union(alloc, opened(alloc, folder_of(ledger)));
+    assert!(rt; is_taken(absorbed(alloc, &mut second, &[ENTRY_3, ENTRY])?, (2, 0)));
+    let changed = absorbed(alloc, &mut second, &[ENTRY_2, CHANGED_ENTRY])?;
+    assert!(rt; matches!(changed, Ok(Absorbed::Conflict { index: 1 })));
+    Ok(())
+}
