@@ -1,7 +1,12 @@
-"""The sample entries, journal files and uploads that the scripts share, as docs/FORMATS.md spells them."""
+"""The sample entries, journal files and uploads that the scripts share, as docs/FORMATS.md spells them.
+
+samples.py FOLDER NAME=EXPRESSION..: files in a folder, each with the bytes that an expression over these names has.
+"""
 from __future__ import annotations
 
 import struct
+import sys
+from pathlib import Path
 
 SOURCE = bytes(range(0xa0, 0xb0))
 SEQNUM_ID = bytes(range(16))
@@ -18,9 +23,14 @@ def entry_text(number: int, message: bytes = b"hi") -> bytes:
 HEAD = 48
 
 
-def head(kind: int, start: int = 0) -> bytes:
+def head(kind: int, start: int = 0, source: bytes = SOURCE) -> bytes:
     """An upload's header."""
-    return b"JCUPLD01" + bytes([kind]) + bytes(7) + SOURCE + struct.pack("<QQ", start, 0)
+    return b"JCUPLD01" + bytes([kind]) + bytes(7) + source + struct.pack("<QQ", start, 0)
+
+
+def second_head(start: int, whole: bool, count: int, source: bytes = SOURCE) -> bytes:
+    """The header of its second version, of an upload of an export stream with so many entries."""
+    return b"JCUPLD02" + bytes([1, whole]) + bytes(6) + source + struct.pack("<QQ", start, count)
 
 
 def stream(*texts: bytes, start: int = 0) -> bytes:
@@ -51,3 +61,12 @@ FILE = edited(bytes(400), {
     240: b"\x03", 248: 80, 256: 1, 264: 1000000, 272: 5, 280: BOOT_ID, 304: 320,
     320: b"\x01", 328: 74, 360: 240, 376: 1, 384: b"MESSAGE=hi",
 })
+
+
+def main(folder: str, *made: str) -> None:
+    for name, _, expression in (it.partition("=") for it in made):
+        Path(folder, name).write_bytes(eval(expression))
+
+
+if __name__ == "__main__":
+    main(*sys.argv[1:])

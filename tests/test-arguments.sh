@@ -4,22 +4,11 @@
 set -uo pipefail
 . "$(dirname "$0")/expect.sh"
 
-folder=$(mktemp -d)
-trap 'rm -rf "$folder"' EXIT
-id=a0a1a2a3a4a5a6a7a8a9aaabacadaeaf
+new_folder
 most=9223372036854775807
 db=$folder/db
-python3 - "$folder" << 'MADE'
-import sys
-sys.path[:0] = ["tests"]
-from samples import E1, E2, E3, FILE, entry_text, head, stream
-for name, data in {
-    "a": stream(E1, E2), "b": stream(E3), "-a": stream(entry_text(10)),
-    "in": E1 + E2, "many": b"".join(map(entry_text, range(1, 1002))), "journal": FILE, "uploaded": head(2) + FILE,
-}.items():
-    with open(f"{sys.argv[1]}/{name}", "wb") as file:
-        file.write(data)
-MADE
+samples 'a=stream(E1, E2)' 'b=stream(E3)' '-a=stream(entry_text(10))' 'in=E1 + E2' \
+    'many=b"".join(map(entry_text, range(1, 1002)))' 'journal=FILE' 'uploaded=head(2) + FILE'
 
 # the uploads in the order of the arguments, one of them twice; one after `--`; and the one on standard input
 a=$folder/a b=$folder/b

@@ -6,18 +6,13 @@
 set -uo pipefail
 . "$(dirname "$0")/expect.sh"
 
-folder=$(mktemp -d)
-trap 'chmod -R u+rwx "$folder"; rm -rf "$folder"' EXIT
+new_folder
 chmod 755 "$folder"
-id=a0a1a2a3a4a5a6a7a8a9aaabacadaeaf
 ack="ack $id 0 1 1 0"
 again="ack $id 0 1 0 0"
 up=$folder/upload
 db=$folder/db
-# the header of an upload of this id, and after it the sample's one entry
-printf 'JCUPLD01\1\0\0\0\0\0\0\0\240\241\242\243\244\245\246\247\250\251\252\253\254\255\256\257' > "$up"
-printf '\0\0\0\0\0\0\0\0\0\0\0\0\0\0\0\0' >> "$up"
-cat examples/one-entry.export >> "$up"
+uploaded < examples/one-entry.export > "$up"
 sample=$(cat examples/one-entry.export)
 
 # a folder in place of an upload, of a database, and of the folder of a database

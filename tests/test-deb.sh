@@ -10,8 +10,7 @@ for tool in dpkg-deb dpkg strip objdump; do
         exit 0
     }
 done
-folder=$(mktemp -d)
-trap 'rm -rf "$folder"' EXIT
+new_folder
 chmod 755 "$folder"
 expect 0 "~*" "" deploy/build-deb.sh "$folder"
 package=$(echo "$folder"/*.deb)

@@ -6,8 +6,7 @@
 set -uo pipefail
 . "$(dirname "$0")/expect.sh"
 
-folder=$(mktemp -d)
-trap 'rm -rf "$folder"' EXIT
+new_folder
 other=$folder/other
 printf '#!/bin/sh\necho journal-collect 0.0.0\n' > "$other"
 chmod 755 "$other"

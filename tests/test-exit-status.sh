@@ -3,8 +3,7 @@
 set -uo pipefail
 . "$(dirname "$0")/expect.sh"
 
-folder=$(mktemp -d)
-trap 'rm -rf "$folder"' EXIT
+new_folder
 cp examples/one-entry.export "$folder/good"
 printf '=x\n' > "$folder/bad"
 : > "$folder/empty"

@@ -5,16 +5,11 @@
 set -uo pipefail
 . "$(dirname "$0")/expect.sh"
 
-folder=$(mktemp -d)
-trap 'rm -rf "$folder"' EXIT
-id=a0a1a2a3a4a5a6a7a8a9aaabacadaeaf
+new_folder
 up=$folder/upload
 db=$folder/db
 list=$folder/list
-# the header of an upload of this id, and after it the sample's one entry
-printf 'JCUPLD01\1\0\0\0\0\0\0\0\240\241\242\243\244\245\246\247\250\251\252\253\254\255\256\257' > "$up"
-printf '\0\0\0\0\0\0\0\0\0\0\0\0\0\0\0\0' >> "$up"
-cat examples/one-entry.export >> "$up"
+uploaded < examples/one-entry.export > "$up"
 sed 's/__SEQNUM=1$/__SEQNUM=2/' "$up" > "$folder/second"
 first="ack $id 0 1 1 0"
 again="ack $id 0 1 0 0"
@@ -81,5 +76,5 @@ expect 2 "" "~error: the argument '--files-from <FILE>' cannot be used multiple 
     "$PROGRAM" collect "$db" --files-from "$list" --files-from "$list"
 
 export PROGRAM
-python3 tests/collect/listed.py || differs "tests/collect/listed.py"
+PYTHONPATH=tests python3 tests/collect/listed.py || differs "tests/collect/listed.py"
 finish

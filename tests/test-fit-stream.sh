@@ -4,8 +4,7 @@
 set -uo pipefail
 . "$(dirname "$0")/expect.sh"
 
-folder=$(mktemp -d)
-trap 'rm -rf "$folder"' EXIT
+new_folder
 fit=(python3 deploy/machine/fit_stream.py)
 times=$'__REALTIME_TIMESTAMP=1000000\n__MONOTONIC_TIMESTAMP=5\n'
 cursor=__CURSOR=s=000102030405060708090a0b0c0d0e0f

@@ -9,8 +9,7 @@ fixtures=$PWD/tests/fixtures
 fit_stream=$PWD/deploy/machine/fit_stream.py
 expected_text=$PWD/tests/collect/expected_text.py
 source=a0a1a2a3a4a5a6a7a8a9aaabacadaeaf
-folder=$(mktemp -d)
-trap 'rm -rf "$folder"' EXIT
+new_folder
 cd "$folder" || exit 1
 
 # unpack VERSION NAME: the journal file, and its export as a stream whose entries have their keys

@@ -5,8 +5,7 @@
 set -uo pipefail
 . "$(dirname "$0")/expect.sh"
 
-folder=$(mktemp -d)
-trap 'rm -rf "$folder"' EXIT
+new_folder
 here=$PWD
 root=$folder/root
 library=$root/usr/lib/journal-collect

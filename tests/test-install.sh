@@ -5,8 +5,7 @@
 set -uo pipefail
 . "$(dirname "$0")/expect.sh"
 
-folder=$(mktemp -d)
-trap 'rm -rf "$folder"' EXIT
+new_folder
 program=$folder/usr/bin/journal-collect
 page=$folder/usr/share/man/man1/journal-collect.1
 

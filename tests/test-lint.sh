@@ -5,8 +5,7 @@ set -uo pipefail
 . "$(dirname "$0")/expect.sh"
 cd "$(dirname "$0")/.." || exit
 
-folder=$(mktemp -d)
-trap 'rm -rf "$folder"' EXIT
+new_folder
 
 python=$(python3 -c 'import sys; print(sys.executable)')
 

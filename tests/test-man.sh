@@ -4,8 +4,7 @@
 set -uo pipefail
 . "$(dirname "$0")/expect.sh"
 
-folder=$(mktemp -d)
-trap 'rm -rf "$folder"' EXIT
+new_folder
 expect 0 "" "" python3 -ESB tools/man_pages.py --check
 deploy/install.sh "$folder" /usr || differs "the programs aren't installed"
 pages=$folder/usr/share/man

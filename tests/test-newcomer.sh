@@ -6,8 +6,7 @@ set -uo pipefail
 . "$(dirname "$0")/expect.sh"
 
 files_in_memory
-folder=$(mktemp -d)
-trap 'rm -rf "$folder"' EXIT
+new_folder
 # shellcheck source=tests/newcomer/computers.sh
 . "$(dirname "$0")/newcomer/computers.sh"
 if ! lacking=$(can_run); then

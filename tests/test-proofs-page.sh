@@ -4,8 +4,7 @@
 set -uo pipefail
 . "$(dirname "$0")/expect.sh"
 
-folder=$(mktemp -d)
-trap 'rm -rf "$folder"' EXIT
+new_folder
 expect 0 "" "" python3 -B tools/contracts.py --check
 expect 0 "" "" python3 -B tests/proofs_page.py
 

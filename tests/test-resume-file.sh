@@ -4,19 +4,14 @@
 set -uo pipefail
 . "$(dirname "$0")/expect.sh"
 
-folder=$(mktemp -d)
-trap 'rm -rf "$folder"' EXIT
-id=a0a1a2a3a4a5a6a7a8a9aaabacadaeaf
+new_folder
 point="resume 1 000102030405060708090a0b0c0d0e0f 1"
 in=$folder/in
 resume=$folder/resume
 cp examples/one-entry.export "$in"
 printf 'ack %s 0 1 1 0\n' $id > "$folder/answers"
 printf 'ack %s\n' $id > "$folder/no-answers"
-# the header of an upload of this id, and after it the one entry
-printf 'JCUPLD01\1\0\0\0\0\0\0\0\240\241\242\243\244\245\246\247\250\251\252\253\254\255\256\257' > "$folder/upload"
-printf '\0\0\0\0\0\0\0\0\0\0\0\0\0\0\0\0' >> "$folder/upload"
-cat "$in" >> "$folder/upload"
+uploaded < "$in" > "$folder/upload"
 
 upload() { "$PROGRAM" upload --source $id --resume "$resume" "$@"; }
 ack() { "$PROGRAM" ack --source $id --resume "$resume" "$@"; }

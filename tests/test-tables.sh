@@ -4,8 +4,7 @@
 set -uo pipefail
 . "$(dirname "$0")/expect.sh"
 
-folder=$(mktemp -d)
-trap 'rm -rf "$folder"' EXIT
+new_folder
 for rows in by_number by_key; do
     mkdir "$folder/$rows"
     PYTHONPATH=tests python3 -B "tests/collect/$rows.py" "$PROGRAM" "$folder/$rows" || differs "tests/collect/$rows.py"

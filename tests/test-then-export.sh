@@ -4,19 +4,10 @@
 set -uo pipefail
 . "$(dirname "$0")/expect.sh"
 
-folder=$(mktemp -d)
-trap 'chmod -R u+rwx "$folder"; rm -rf "$folder"' EXIT
-id=a0a1a2a3a4a5a6a7a8a9aaabacadaeaf
+new_folder
 db=$folder/db
 out=$folder/out
-python3 - "$folder" << 'MADE'
-import sys
-sys.path[:0] = ["tests"]
-from samples import entry_text, stream
-for name, numbers in {"first": range(1, 3001), "second": range(3001, 3003)}.items():
-    with open(f"{sys.argv[1]}/{name}", "wb") as file:
-        file.write(stream(*map(entry_text, numbers)))
-MADE
+samples 'first=stream(*map(entry_text, range(1, 3001)))' 'second=stream(*map(entry_text, range(3001, 3003)))'
 
 collect() { "$PROGRAM" collect --then-export "$out" "$db" "$@"; }
 

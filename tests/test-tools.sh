@@ -6,8 +6,7 @@ set -uo pipefail
 . "$(dirname "$0")/expect.sh"
 cd "$(dirname "$0")/.." || exit
 
-folder=$(mktemp -d)
-trap 'rm -rf "$folder"' EXIT
+new_folder
 tools=$PWD/tools
 real=$(realpath "$(command -v rt)")
 

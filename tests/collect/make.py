@@ -3,10 +3,10 @@ seeds."""
 from __future__ import annotations
 
 import os
-import struct
 import sys
 from random import Random
 
+import samples
 from model import KNOWN, Entry, spelled
 
 sys.path.insert(0, os.path.join(os.path.dirname(os.path.abspath(__file__)), "..", "..", "bench"))
@@ -34,13 +34,10 @@ class Machine:
         return Entry(self.seqnum_id, number, self.dice.randrange(2**50), self.dice.choice((0, 2**63 - 1, number)),
                      frozenset(pairs))
 
-    def head(self, kind: int, start: int) -> bytes:
-        return b"JCUPLD01" + bytes([kind]) + bytes(7) + self.source + struct.pack("<QQ", start, 0)
-
     def stream(self, first: int, last: int) -> bytes:
         """An upload of the entries from one index to before another."""
         texts = [loose_text(self.dice, entry) for entry in self.entries[first:last]]
-        return self.head(1, first) + b"".join(texts)
+        return samples.head(1, first, self.source) + b"".join(texts)
 
     def file(self, last: int) -> bytes:
         """An upload of a journal file that has the entries before an index."""
@@ -49,12 +46,12 @@ class Machine:
             payloads = [name + b"=" + value for name, value in sorted(entry.pairs)]
             self.dice.shuffle(payloads)
             journal.add(entry.seqnum, entry.realtime, entry.monotonic, self.boot_id, payloads)
-        return self.head(2, 0) + b"".join(journal.pieces(self.seqnum_id))
+        return samples.head(2, 0, self.source) + b"".join(journal.pieces(self.seqnum_id))
 
     def other(self, index: int) -> bytes:
         """An upload of an entry that says another thing under the number of one of this machine's."""
         entry = self.entries[index]
-        return self.head(1, index) + entry._replace(realtime=entry.realtime + 1).text()
+        return samples.head(1, index, self.source) + entry._replace(realtime=entry.realtime + 1).text()
 
 
 def loose_text(dice: Random, entry: Entry) -> bytes:

@@ -42,8 +42,8 @@ def pieces() -> list[bytes]:
     be whole."""
     one, both = journal_file(FILED[:1]), journal_file(FILED)
     text = b"".join(entry.text() for entry in POOL[:3:2])
-    alien = samples.head(1).replace(samples.SOURCE, bytes(16)) + text
-    filed = samples.head(2).replace(samples.SOURCE, bytes(16)) + one
+    alien = samples.head(1, source=bytes(16)) + text
+    filed = samples.head(2, source=bytes(16)) + one
     second = samples.edited(alien, {7: b"2", 9: b"\x01", 40: 2})
     return [one, both, both[:-8], b"", samples.head(1) + text, alien, alien[:-9], alien[:47], b"x" + alien[1:],
             second, second[:-9], samples.edited(second, {9: b"\x00"}), samples.edited(second, {9: b"\x02"}),
