@@ -6,8 +6,7 @@
 # the usual one, which the programs have to do better than
 umask 022
 files_in_memory
-folder=$(mktemp -d)
-trap 'rm -rf "$folder"' EXIT
+new_folder
 deploy/install.sh "$folder/root" /usr || differs "the programs aren't installed"
 library=${PROGRAMS:-$folder/root/usr/lib/journal-collect}
 export PROGRAM

@@ -9,7 +9,7 @@ from pathlib import Path
 
 from collected import finish
 from rows import Row, Rows
-from searched import TIME, Searched, binary, entry, opened
+from searched import TIME, Copies, Searched, binary, entry, opened
 
 HOUR = 3_600_000_000
 # web has a boot in each of the first two hours and a third one from then on; mail has one, and is silent since.
@@ -26,20 +26,15 @@ def entries(number: int, boots: tuple[str, ...]) -> tuple[bytes, ...]:
                  for at, boot in enumerate(boots))
 
 
-class Place:
-    """Five databases in four hours, which each row may change in a copy."""
+class Place(Copies):
+    """Five databases in four hours, whose boots a copy has counted."""
 
     def __init__(self, library: Path, folder: Path) -> None:
-        self.library, self.folder, self.number = library, folder, 0
-        self.first = Searched(library, folder / "first")
-        for number, (name, *boots) in enumerate(HOURS):
-            self.first.finished(name, entries(number, tuple(boots)))
+        super().__init__(library, folder, ((name, entries(number, tuple(boots)))
+                                           for number, (name, *boots) in enumerate(HOURS)))
 
     def copy(self) -> Searched:
-        self.number += 1
-        searched = Searched(self.library, self.folder / str(self.number))
-        shutil.rmtree(searched.databases)
-        shutil.copytree(self.first.databases, searched.databases)
+        searched = super().copy()
         searched.messages("-n0")
         return searched
 

@@ -1,7 +1,8 @@
 """Collected databases for the rows of search."""
 import os
+import shutil
 import sqlite3
-from collections.abc import Callable
+from collections.abc import Callable, Iterable
 from pathlib import Path
 from unittest import mock
 
@@ -92,3 +93,19 @@ def opened(searched: Searched, *words: str) -> tuple[list[str], list[str]]:
             mock.patch("reading.boots_kept.connect", logged):
         found = searched.messages(*words)
     return found, sorted(set(log.read_text(encoding="utf-8").splitlines()))
+
+
+class Copies:
+    """Finished databases, which each row may change in a copy."""
+
+    def __init__(self, library: Path, folder: Path, databases: Iterable[tuple[str, tuple[bytes, ...]]]) -> None:
+        self.library, self.folder, self.number = library, folder, 0
+        self.first = Searched(library, folder / "first")
+        for name, entries in databases:
+            self.first.finished(name, entries)
+
+    def copy(self) -> Searched:
+        self.number += 1
+        searched = Searched(self.library, self.folder / str(self.number))
+        shutil.copytree(self.first.databases, searched.databases, dirs_exist_ok=True)
+        return searched

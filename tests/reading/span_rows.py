@@ -13,34 +13,17 @@ from unittest import mock
 
 from collected import finish
 from rows import Row, Rows
-from searched import FIRST, SECOND, THIRD, TIME, Searched, binary, entry, opened
+from searched import FIRST, SECOND, THIRD, TIME, Copies, Searched, binary, entry, opened
 
 HOUR = 3_600_000_000
 NAMES = ("a", "b c\n%", "2025-12-01T12-20")
 
 
-class Place:
-    """Three databases, which each row may change in a copy."""
-
-    def __init__(self, library: Path, folder: Path) -> None:
-        self.library, self.folder, self.number = library, folder, 0
-        self.first = Searched(library, folder / "first")
-        for name, entries in zip(NAMES, (FIRST, SECOND, THIRD)):
-            self.first.finished(name, entries)
-
-    def copy(self) -> Searched:
-        self.number += 1
-        searched = Searched(self.library, self.folder / str(self.number))
-        shutil.rmtree(searched.databases)
-        shutil.copytree(self.first.databases, searched.databases)
-        return searched
-
-
-ROWS: Rows[Place] = Rows()
+ROWS: Rows[Copies] = Rows()
 
 
 @ROWS.row
-def only_those_of_the_time(row: Row, place: Place) -> None:
+def only_those_of_the_time(row: Row, place: Copies) -> None:
     searched = place.copy()
     everything = sorted(map(repr, NAMES))
     row.same("the first search", opened(searched, "--until=@1764590401"), (["a1"], everything))
@@ -50,7 +33,7 @@ def only_those_of_the_time(row: Row, place: Place) -> None:
 
 
 @ROWS.row
-def what_is_not_believed(row: Row, place: Place) -> None:
+def what_is_not_believed(row: Row, place: Copies) -> None:
     """A database that was restored with other entries, and a file of spans that was changed at any byte."""
     searched = place.copy()
     searched.messages()
@@ -93,7 +76,7 @@ def restored(searched: Searched) -> list[str]:
 
 
 @ROWS.row
-def where_nothing_can_be_kept(row: Row, place: Place) -> None:
+def where_nothing_can_be_kept(row: Row, place: Copies) -> None:
     """The folder can't be written, the file is a link or a folder, another search keeps its own at the moment."""
     searched = place.copy()
     spans = searched.folder / "spans"
@@ -113,7 +96,7 @@ def where_nothing_can_be_kept(row: Row, place: Place) -> None:
 
 
 @ROWS.row
-def parts(row: Row, place: Place) -> None:
+def parts(row: Row, place: Copies) -> None:
     """One entry of a wrong clock doesn't make a database one of all times."""
     searched = Searched(place.library, place.folder / "parts")
     times = [0, TIME, TIME + 1, TIME + 3 * HOUR, (1 << 63) - 1]
@@ -129,7 +112,7 @@ def parts(row: Row, place: Place) -> None:
 
 
 @ROWS.row
-def spans_of_times(row: Row, _place: Place) -> None:
+def spans_of_times(row: Row, _place: Copies) -> None:
     """Any times: each is in a span, there are no more spans than may be, and what lies between them is long."""
     from reading.spans import GAP, MOST_SPANS, spans_of  # pylint: disable=import-outside-toplevel,import-error
     random.seed(7)
@@ -146,7 +129,7 @@ def spans_of_times(row: Row, _place: Place) -> None:
 
 
 @ROWS.row
-def slices(row: Row, place: Place) -> None:
+def slices(row: Row, place: Copies) -> None:
     """Slices of one entry, and of few, give what one slice gives; in processes of their own, too."""
     from reading import finding, reader  # pylint: disable=import-outside-toplevel,import-error
     everything = place.first.find().output
@@ -165,7 +148,7 @@ def slices(row: Row, place: Place) -> None:
 
 
 @ROWS.row
-def damaged_for_other_processes(row: Row, place: Place) -> None:
+def damaged_for_other_processes(row: Row, place: Copies) -> None:
     """What a process finds out is told, and the other databases are shown."""
     from reading import finding, spans  # pylint: disable=import-outside-toplevel,import-error
     searched = place.copy()
@@ -180,7 +163,7 @@ def damaged_for_other_processes(row: Row, place: Place) -> None:
 
 
 @ROWS.row
-def texts_in_pages(row: Row, place: Place) -> None:
+def texts_in_pages(row: Row, place: Copies) -> None:
     """A text is found wherever SQLite cuts the value that it is in, and databases without it aren't read."""
     searched = Searched(place.library, place.folder / "pages")
     lengths = range(3_900, 8_400, 5)
@@ -193,4 +176,4 @@ def texts_in_pages(row: Row, place: Place) -> None:
 
 
 if __name__ == "__main__":
-    sys.exit(ROWS.run(sys.argv[3:], Place(Path(sys.argv[1]), Path(sys.argv[2]))))
+    sys.exit(ROWS.run(sys.argv[3:], Copies(Path(sys.argv[1]), Path(sys.argv[2]), zip(NAMES, (FIRST, SECOND, THIRD)))))
