@@ -1,6 +1,7 @@
 #!/usr/bin/env bash
 # The man pages: each is as tools/man_pages.py makes it, is read without a warning, and is installed; units name pages
-# that are there; and the settings files have the settings that their programs take, and the defaults of these.
+# that are there; programs say what pages tell of; and the settings files have the settings that their programs take,
+# and the defaults of these.
 set -uo pipefail
 . "$(dirname "$0")/expect.sh"
 
@@ -41,6 +42,20 @@ done
 for conf in "$folder"/etc/journal-collect/*.conf; do
     there "journal-collect-${conf##*/}" 5 || differs "there is no page of ${conf##*/}"
 done
+
+# each line that a page tells of stands in a program, but for what it names
+expect 0 "" "" python3 -B - << 'END_OF_PYTHON'
+import re, sys, tomllib
+from pathlib import Path
+sources = [path for path in Path("deploy").rglob("*") if path.is_file() and path.suffix in ("", ".py")]
+programs = re.sub(r'"\s*\n\s*f?"', "", "\n".join(path.read_text() for path in sources))
+programs = re.sub(r"\{[^{}]*\}", "", programs)
+for page, told in tomllib.loads(Path("docs/man/pages.toml").read_text()).items():
+    for line in (line for *lines, _ in told.get("says", []) for line in lines):
+        parts = re.split(r"\b[A-Z][A-Z@-]*\b|\bweb\b|\.\.|: no\b", line)
+        if not all(part.strip(" ,;:") in programs for part in parts):
+            print(f"{page} tells of '{line}', which no program says", file=sys.stderr)
+END_OF_PYTHON
 
 # each setting stands in its file, with its default
 PYTHONPATH=deploy expect 0 "" "" python3 -B - << 'END_OF_PYTHON'
