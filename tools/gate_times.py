@@ -1,5 +1,6 @@
-"""Runs the gate, and says where its processor time goes: for each crate its proof, its tests, its edits tried one by
-one and its edits in batches, in processor seconds, and the largest memory of one process.
+"""Runs the gate, and says where its processor time goes: for each crate its proof, its tests, the code that `clang`
+makes of it, its edits tried one by one and its edits in batches, in processor seconds, and the largest memory of one
+process.
 
 usage: python3 tools/gate_times.py [COMMAND ..]
 
@@ -22,7 +23,7 @@ from dataclasses import dataclass
 
 EVERY = 0.25
 TICKS = os.sysconf("SC_CLK_TCK")
-KINDS = ("proof", "tests", "edits one by one", "edits in batches")
+KINDS = ("proof", "tests", "code", "edits one by one", "edits in batches")
 
 
 @dataclass
@@ -36,7 +37,8 @@ class Process:
 
 
 class Watch:
-    """The checker's processes below this one that were seen, by their number and the time of their start."""
+    """The processes of the checker, and of `clang` for it, below this one that were seen, by their number and the time
+    of their start."""
 
     def __init__(self) -> None:
         self.seen: dict[tuple[int, str], Process] = {}
@@ -57,23 +59,41 @@ class Watch:
                     continue
 
     def _note(self, number: int) -> None:
-        if _read(number, "comm") != "rattle\n":
+        name = _read(number, "comm").strip()
+        if name not in ("rattle", "clang"):
             return
         fields = _fields(number)
         key = number, fields[19]
         if key not in self.seen:
-            words = _read(number, "cmdline").split("\0")
-            if key in self.of_others or "--crate-name" not in words:
+            begun = None if key in self.of_others else self._begun(number, name)
+            if begun is None:
                 return
             if not _is_below(number, os.getpid()):
                 self.of_others.add(key)
                 return
-            folder = os.path.basename(os.readlink(f"/proc/{number}/cwd"))
-            self.seen[key] = Process(words[words.index("--crate-name") + 1], kind_of(words, folder))
+            self.seen[key] = begun
         found = self.seen[key]
         found.seconds = (int(fields[11]) + int(fields[12])) / TICKS
         status = dict(it.split(":", 1) for it in _read(number, "status").splitlines())
         found.memory = max(found.memory, int(status["VmHWM"].split()[0]) * 1024)
+
+    def _begun(self, number: int, name: str) -> Process | None:
+        """A process that is seen for the first time, if it is known what it is for."""
+        if name == "clang":
+            crate = self._caller(number)
+            return Process(crate, "code") if crate else None
+        words = _read(number, "cmdline").split("\0")
+        if "--crate-name" not in words:
+            return None
+        folder = os.path.basename(os.readlink(f"/proc/{number}/cwd"))
+        return Process(words[words.index("--crate-name") + 1], kind_of(words, folder))
+
+    def _caller(self, number: int) -> str | None:
+        """The crate of the checker's process that a process runs for."""
+        crates = {of: it.crate for (of, _), it in self.seen.items()}
+        while number not in crates and number > 1:
+            number = int(_fields(number)[1])
+        return crates.get(number)
 
 
 def _fields(number: int) -> list[str]:
