@@ -16,6 +16,8 @@ from dataclasses import dataclass, field
 from pathlib import Path
 
 ROOT = Path(__file__).resolve().parent.parent
+# Crates with contracts that need no definitions of their own.
+WITHOUT_SPECS = ("jc_cli", "jc_sequences")
 PAGE = "docs/CONTRACTS.md"
 WIDTH = 120
 HEAD = """\
@@ -287,7 +289,7 @@ def page() -> str:
     """The page."""
     lines = (ROOT / "crates.txt").read_text().splitlines()
     listed = [line.split(":")[0] for line in lines if line[:1] not in ("", "#")]
-    crates = [Crate(name) for name in listed if (ROOT / "crates" / name / "specs").is_dir() or name == "jc_cli"]
+    crates = [Crate(name) for name in listed if (ROOT / "crates" / name / "specs").is_dir() or name in WITHOUT_SPECS]
     printer = Printer(set().union(*(it.traits for it in crates)))
     lines = [line for crate in crates for line in printer.crate(crate)]
     return HEAD + "\n".join(lines) + "\n"

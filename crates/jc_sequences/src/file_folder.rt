@@ -1,5 +1,9 @@
 //! A folder with a file for each window.
 
+ghost use Rattle.std.specs.Prelude.{◌≡◌, false};
+ghost use Rattle.jc_ledger_files.specs.declared.window_name.WindowName.{WindowName};
+ghost use Rattle.jc_ledger_files.specs.Files.{AreClean, IsBlank, files_leave, files_seen};
+
 use crate::open_files::OpenFiles;
 use crate::window_path::open_window;
 use jc_keeper::KeepStop;
@@ -19,7 +23,12 @@ pub struct FileFolder<'a> {
 
 impl<'a> FileFolder<'a> {
     /// The folder at `path`, which is there. Takes no memory.
-    pub(crate) fn new(rt: &'a HostRuntime, path: &'a str) -> FileFolder<'a> {
+    pub(crate) fn new(rt: &'a HostRuntime, path: &'a str) -> FileFolder<'a>
+        ensures blank { (w : WindowName) → IsBlank (files_seen ⟦<File as Disk>⟧.seen result.open.kept.files w)
+            (files_leave ⟦<File as Disk>⟧.may_leave result.open.kept.files w) }
+        ensures clean { AreClean ⟦<File as Disk>⟧.is_clean result.open.kept.files }
+        ensures whole { result.open.is_worn ≡ false }
+    {
         FileFolder {
             rt,
             path,
@@ -30,39 +39,47 @@ impl<'a> FileFolder<'a> {
 }
 
 impl<'a> Folder<File> for FileFolder<'a> {
-    ghost use Rattle.std.specs.Prelude.{◌≡◌, [], refl};
+    ghost use Rattle.std.specs.Prelude.{◌≡◌, false, refl};
+    ghost use Rattle.std.proofs.Common.{inl};
+    ghost use Rattle.std.specs.BTreeMap.{get};
+    ghost use Rattle.jc_base.specs.Journal.{key_cmp};
+    ghost use Rattle.jc_ledger_files.specs.Files.{AreClean, files_leave, files_seen, key_named, seen_stays};
 
-    ghost seen = { λ _ _. [] };
+    // What a file has when it is opened no clause knows: it is taken to be empty, as `Unknown` says.
+    ghost seen = { λ f. files_seen ⟦<File as Disk>⟧.seen f.open.kept.files };
 
-    ghost may_leave = { λ _ _ left. left ≡ [] };
+    ghost may_leave = { λ f. files_leave ⟦<File as Disk>⟧.may_leave f.open.kept.files };
 
-    // What a real file holds is known to no clause, so nothing is claimed of it.
-    ghost clean = { λ _. ⊥ };
+    // Nothing is known of a file that was closed, so nothing is claimed once one was.
+    ghost clean = { λ f. (f.open.is_worn ≡ false) × AreClean ⟦<File as Disk>⟧.is_clean f.open.kept.files };
 
     ghost failures = { λ f. f.failures };
 
-    ghost seen_may_stay = { λ _ _. refl };
+    ghost seen_may_stay = { λ f w. seen_stays ⟦<File as Disk>⟧.seen ⟦<File as Disk>⟧.may_leave
+        (λ _. inl refl) (get key_cmp f.open.kept.files (key_named w)) };
 
     fn lend(&mut self, name: WindowName) -> Result<File, KeepStop> {
-        if let Some(file) = self.open.take(name)
-            && file.may_be_used()
-        {
-            return Ok(file);
-        }
-        match open_window(self.rt, self.path, name) {
-            Ok(file) => Ok(file),
-            Err(OpenError::OutOfMemory) => Err(KeepStop::OutOfMemory),
-            Err(_closed) => {
+        match self.open.take(name) {
+            Some(file) => {
+                if file.may_be_used() {
+                    return Ok(file);
+                }
+                self.open.is_worn = true;
                 self.failures = self.failures.saturating_add(1);
                 Err(KeepStop::StoreFailed)
             }
+            None => match open_window(self.rt, self.path, name) {
+                Ok(file) => Ok(file),
+                Err(OpenError::OutOfMemory) => Err(KeepStop::OutOfMemory),
+                Err(_closed) => {
+                    self.failures = self.failures.saturating_add(1);
+                    Err(KeepStop::StoreFailed)
+                }
+            },
         }
     }
 
     fn give_back(&mut self, name: WindowName, file: File) {
-        if file.may_be_used() {
-            // One that isn't kept is opened again.
-            let _ = self.open.put(name, file);
-        }
+        self.open.put(name, file);
     }
 }

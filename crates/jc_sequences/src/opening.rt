@@ -1,10 +1,12 @@
 //! Notes of sequences, opened.
 
-ghost use Rattle.std.specs.Prelude.{◌≡◌, ◌⊎◌, false, IfErr, IfOk};
+ghost use Rattle.std.specs.Prelude.{◌≡◌, IfErr, IfOk};
+ghost use Rattle.jc_base.specs.declared.id.Key.{Key};
 
 use crate::file_folder::FileFolder;
 use crate::window_path::{make_folder, sync_folder};
 use jc_command_shared::Failure;
+use jc_ledger::Ledger;
 use jc_ledger_files::{AnyEntry, DiskWindows, FileLedger};
 use sqlite_std_file::File;
 use std::{fs, io};
@@ -17,7 +19,9 @@ pub fn open_sequences<'a>(
     rt: &'a HostRuntime,
     path: &'a str,
 ) -> Result<FileSequences<'a>, Failure<'a>>
-    ensures open { IfOk result (λ ledger. ledger.windows.is_shut ≡ false) }
+    // What its files have no clause knows: by `Unknown` that is nothing.
+    ensures sound { IfOk result (λ ledger. ⟦<FileSequences<'a> as Ledger>⟧.sound ledger) }
+    ensures none { IfOk result (λ ledger. (k : Key) → ⟦<FileSequences<'a> as Ledger>⟧.known ledger k ≡ None) }
     ensures failed { IfErr result (λ failure. failure ≡ Failure.CannotOpen path.entry) }
 {
     if have_folder(rt, path).is_err() {

@@ -1,6 +1,6 @@
 //! Where the file of a window lies.
 
-ghost use Rattle.std.specs.Prelude.{IfOk, IsTrue};
+ghost use Rattle.std.specs.Prelude.{◌≡◌, List, [], ℕ, IfOk, IsTrue};
 
 use jc_ledger_files::WindowName;
 use sqlite_disk::{Disk, Files};
@@ -29,6 +29,9 @@ pub(crate) fn open_window(
     folder: &str,
     name: WindowName,
 ) -> Result<File, OpenError>
+    // What it has no clause knows: by `Unknown` that is nothing.
+    ensures seen { IfOk result (λ file. ⟦<File as Disk>⟧.seen file ≡ []) }
+    ensures crash { IfOk result (λ file. (c : List ℕ) → ⟦<File as Disk>⟧.may_leave file c → c ≡ []) }
     ensures usable { IfOk result (λ file. IsTrue (⟦<File as Disk>⟧.is_usable file)) }
 {
     let alloc = rt.alloc();
