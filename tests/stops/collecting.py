@@ -80,10 +80,7 @@ class Collecting:
             elif line not in (f"no {whose} 61 0", "no - - 61 0"):
                 self.trial.expect(f"{what}: line", line, answer)
                 journal = after
-        and_failed = journal.copy()
-        for upload in failed[:1]:
-            and_failed.take(upload)
-        return [journal, and_failed]
+        return journal.perhaps_with(failed)
 
     def holds_one_of(self, what: str, database: str, journals: list[Journal]) -> None:
         """The database holds one of some journals, and the same uploads complete it. If there was none before the run,

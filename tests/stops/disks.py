@@ -121,10 +121,7 @@ class Case:
                 failed.append(upload)
             else:
                 self.trial.expect(f"{what}: answer", line, journal.take(upload))
-        and_failed = journal.copy()
-        for upload in failed[:1]:
-            and_failed.take(upload)
-        return [journal, and_failed]
+        return journal.perhaps_with(failed)
 
     def left(self, what: str, told: Told, journals: list[Journal]) -> None:
         """The entries, the answers to the same uploads sent again, and the entries then."""
