@@ -325,7 +325,7 @@ judged() {
 if command -v systemd-analyze > "$folder/told"; then
     more=5
     if [[ $(systemd-analyze --version) == "systemd 252 "* ]]; then more=0; fi
-    for unit in incoming:2 journal-files:2 send:13 follow:13 forward:12 browse:10; do
+    for unit in incoming:2 journal-files:2 send:13 follow:13 connection:13 forward:12 browse:10; do
         expect 0 "~*" "" judged $((${unit#*:} + more)) \
             "$folder/root/usr/lib/systemd/system/journal-collect-${unit%:*}.service"
     done

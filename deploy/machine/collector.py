@@ -7,15 +7,19 @@ import re
 import time
 
 from machine import texts
+from machine.connection import socket_of
 from machine.report import Report
-from machine.session import LOST, Ended, Session
+from machine.session import LOST, TOO_LONG, Ended, Session
 from machine.settings import Settings
+from shared import files
 from shared.processes import Overdue, Process
 
 OPTIONS = ["-o", "BatchMode=yes", "-o", "ConnectTimeout=20", "-o", "ServerAliveInterval=15", "-o",
            "ServerAliveCountMax=4", "-o", "IdentitiesOnly=yes", "-o", "StrictHostKeyChecking=yes"]
 
 
+# A run waits so long for the connection that is kept, which is how long ssh waits for one of its own.
+KEPT_SECONDS = 20
 # A collector that knows no sessions ends one with this status. It is asked for another one a day later.
 UNKNOWN = 2
 OLD, AGAIN = "old-collector", 86_400
@@ -25,6 +29,13 @@ MOST_SAID = 1 << 16
 TOO_LARGE = re.compile(r"^receive: .*\bover [0-9]+", re.MULTILINE)
 # The status of `receive` for an upload that it doesn't take.
 REFUSED = 1
+
+
+def command(settings: Settings, socket: str, options: list[str], words: list[str]) -> list[str]:
+    """The words by which ssh reaches the collector; with the name of a socket by the connection that is kept."""
+    kept = ["-o", f"ControlPath={socket}"] if socket else []
+    return ["ssh", *OPTIONS, "-o", f"UserKnownHostsFile={settings.known_hosts}", "-i", settings.key, *kept, *options,
+            settings.collector, *words]
 
 
 class Outcome(enum.Enum):
@@ -61,18 +72,13 @@ class Collector:
         # What the collector or ssh said the last time.
         self.said = ""
 
-    def command(self, word: str) -> list[str]:
-        settings = self.settings
-        return ["ssh", *OPTIONS, "-o", f"UserKnownHostsFile={settings.known_hosts}", "-i", settings.key,
-                settings.collector, word]
-
     def ask(self, word: str, given: int, output: int) -> int:
         """Has the collector do what the word says; the status of ssh, or -1 if it took too long. `bytes_taken` is how
         much it read of the file that was given."""
         out, said = os.pipe()
         with open(os.memfd_create("errors"), "w+b") as errors:
             try:
-                ssh = Process(self.command(word), given, said, errors.fileno())
+                ssh = Process(command(self.settings, "", [], [word]), given, said, errors.fileno())
                 cat = Process(["cat"], out, output, held=[self.lock])
             finally:
                 os.close(out)
@@ -99,8 +105,7 @@ class Collector:
         if self.is_old():
             return self.answers_alone()
         try:
-            self.session = Session(self.command("session"), self.lock)
-            self.session.begin(self.settings.upload_seconds)
+            self.session = self.kept_session() or self.begin("", self.settings.upload_seconds)
             return 0, self.session.answers(self.settings.upload_seconds)
         except Ended as ended:
             self.session = None
@@ -111,6 +116,26 @@ class Collector:
             self.report.pass_on("send: the collector is of an earlier version: each upload has a connection of its own")
             texts.replace(OLD, f"{int(time.time())}\n")
         return status, text
+
+    def begin(self, socket: str, seconds: float, *options: str) -> Session:
+        session = Session(command(self.settings, socket, [*options], ["session"]), self.lock)
+        session.begin(seconds)
+        return session
+
+    def kept_session(self) -> Session | None:
+        """A session in the connection that is kept, if there is one which works. One that is silent is made again: its
+        socket is removed."""
+        socket = socket_of(self.settings) if self.settings.keep_connection else ""
+        if not socket or not os.path.exists(socket):
+            return None
+        try:
+            return self.begin(socket, KEPT_SECONDS, "-o", "ControlMaster=no")
+        except Ended as ended:
+            if ended.status not in (LOST, TOO_LONG):
+                raise
+        self.report.pass_on("send: the connection that is kept doesn't work; this run has one of its own")
+        files.remove(socket)
+        return None
 
     @staticmethod
     def is_old() -> bool:

@@ -16,28 +16,30 @@ from shared.records import NamedTuple
 from shared.settings import Wrong
 
 
-USAGE = "usage: send [--follow | --again SINCE | --check] [CONFIG]"
+USAGE = "usage: send [--follow | --keep-connection | --again SINCE | --check] [CONFIG]"
+# What is asked for in place of a run, and the units that ask for it.
+OTHERS = ("--follow", "--keep-connection", "--check")
+UNITS = {"--follow": "follow", "--keep-connection": "connection"}
 
 
 class Call(NamedTuple):
-    """What `send` is called with."""
+    """What `send` is called with: its settings, one of OTHERS or nothing, and since when entries are sent again."""
     config: str
+    asked: str
     again: str
-    follows: bool
-    checks: bool
 
 
 def parse(words: list[str]) -> Call:
-    again, follows, checks = "", words[:1] == ["--follow"], words[:1] == ["--check"]
-    if follows or checks:
+    asked, again = "".join(words[:1]), ""
+    if asked in OTHERS:
         words = words[1:]
-    elif words[:1] == ["--again"]:
+    elif asked == "--again":
         if len(words) < 2 or not words[1]:
             raise Wrong("--again needs a time, as SINCE takes it: --again yesterday")
         again, words = words[1], words[2:]
     if len(words) > 1 or "".join(words).startswith("-"):
         raise Wrong(USAGE)
-    return Call(os.path.abspath(words[0]) if words else DEFAULT_FILE, again, follows, checks)
+    return Call(os.path.abspath(words[0]) if words else DEFAULT_FILE, asked if asked in OTHERS else "", again)
 
 
 def look_for_owner(settings: Settings, call: Call) -> None:
@@ -60,9 +62,9 @@ def name_of(user: int) -> str:
 def right_command(user: str, call: Call) -> str:
     """The command with which this user runs `send`."""
     import shlex
-    if call.config == DEFAULT_FILE and not call.again and not call.checks:
-        return "systemctl start journal-collect-send.service"
-    asked = ["--again", call.again] if call.again else ["--check"] if call.checks else []
+    asked = ["--again", call.again] if call.again else [call.asked] if call.asked == "--check" else []
+    if call.config == DEFAULT_FILE and not asked:
+        return f"systemctl start journal-collect-{UNITS.get(call.asked, 'send')}.service"
     words = [os.path.abspath(sys.argv[0]), *asked, call.config]
     return f"runuser -u {user} -G systemd-journal -- {shlex.join(words)}"
 
@@ -84,7 +86,7 @@ def is_of_another_user(path: str) -> bool:
         return False
 
 
-def enter_folder(settings: Settings, report: Report) -> int:
+def enter_folder(settings: Settings, report: Report, lock: str = "lock", busy: str = "another run is under way") -> int:
     """Goes to the machine's folder, which others can't look into; the handle of its lock. All programs that a run
     starts hold the lock, so what outlives a run that was killed is waited for too."""
     os.umask(0o077)
@@ -92,11 +94,11 @@ def enter_folder(settings: Settings, report: Report) -> int:
     os.chmod(settings.folder, 0o700)
     os.chdir(settings.folder)
     look_for_strangers(settings)
-    lock = files.open_lock("lock")
-    if not files.lock_now(lock):
-        report.say(BUSY, "another run is under way")
+    handle = files.open_lock(lock)
+    if not files.lock_now(handle):
+        report.say(BUSY, busy)
         raise Stop
-    return lock
+    return handle
 
 
 def report_backlog(settings: Settings, report: Report) -> None:
@@ -131,6 +133,16 @@ def follow(settings: Settings, report: Report) -> None:
     lock = enter_folder(settings, report)
     following = Following(settings, report, lock)
     following.run(lambda journal, collector: run_once(settings, following.report, lock, journal, collector))
+
+
+def keep_connection(settings: Settings, report: Report, config: str) -> None:
+    """Keeps a connection for the runs until it is told to stop."""
+    from machine.keeping import Keeper
+    if not settings.keep_connection:
+        report.say(0, "KEEP_CONNECTION isn't `yes`: no connection is kept")
+        return
+    enter_folder(settings, report, "connection.lock", "another process keeps the connection")
+    Keeper(config, settings).run()
 
 
 def run_once(settings: Settings, report: Report, lock: int, journal: Journal, collector: Collector,
@@ -168,10 +180,12 @@ def main() -> int:
         call = parse(sys.argv[1:])
         settings = read(call.config)
         look_for_owner(settings, call)
-        if call.checks:
+        if call.asked == "--check":
             check(settings, report)
-        elif call.follows:
+        elif call.asked == "--follow":
             follow(settings, report)
+        elif call.asked == "--keep-connection":
+            keep_connection(settings, report, call.config)
         else:
             run(settings, report, since.seconds(call.again) if call.again else "")
     except Wrong as fault:

@@ -23,6 +23,7 @@ class Settings(NamedTuple):
     answer_seconds: int = 5
     follow: bool = False
     follow_seconds: int = 3
+    keep_connection: bool = False
     resend_minutes: int = 10
     folder: str = "/var/lib/journal-send"
     folder_bytes: int = 1_073_741_824

@@ -11,6 +11,7 @@ from . import looking, units, words
 from .findings import Findings, Status
 
 TIMER, SERVICE = "journal-collect-send.timer", "journal-collect-send.service"
+CONNECTION = "journal-collect-connection.service"
 # A run begins each minute, and takes 45 minutes at most. What waits for longer than this has something that holds it.
 STALE_SECONDS, HELD_SECONDS = 3600, 7200
 STREAM = re.compile("[0-9]{8,}")
@@ -80,7 +81,7 @@ def look(path: str, now: float, findings: Findings) -> Machine:
     for what, file in (("key", chosen.key), ("known_hosts", chosen.known_hosts)):
         if looking.status(file) is None:
             findings.add(Status.WRONG, what, "machine", f"there is no {file}: see the guide, \"A machine\"")
-    look_at_units(machine, findings)
+    look_at_units(machine, chosen.keep_connection, findings)
     if not os.path.isdir(chosen.folder):
         findings.add(Status.LOOK, "never", "machine", f"nothing was gathered yet: there is no {chosen.folder}")
         return machine
@@ -90,9 +91,13 @@ def look(path: str, now: float, findings: Findings) -> Machine:
     return machine
 
 
-def look_at_units(machine: Machine, findings: Findings) -> None:
-    """Whether systemd runs it each minute."""
-    timer = units.ask([TIMER, SERVICE]).get(TIMER)
+def look_at_units(machine: Machine, keeps_connection: bool, findings: Findings) -> None:
+    """Whether systemd runs it each minute, and keeps its connection if it is to."""
+    known = units.ask([TIMER, SERVICE, CONNECTION])
+    connection, timer = known.get(CONNECTION), known.get(TIMER)
+    if keeps_connection and connection and not connection.runs:
+        findings.add(Status.LOOK, "connection", "machine", f"{CONNECTION} doesn't run, so each run has a connection of "
+                     f"its own: systemctl enable --now {CONNECTION}")
     if timer is None:
         return
     machine.timer = "runs" if timer.runs else "doesn't run"

@@ -266,6 +266,13 @@ def held_back(row: Row, watched: Watched) -> None:
                f"the last run ended with status 1: {said.splitlines()[0].removeprefix('send: ')}"))
     watched.units({"journal-collect-send.timer": "inactive disabled"})
     row.expect("the timer", found(watched.of_machine())[0], (1, "timer", "machine"))
+    for state, wanted in (("inactive disabled", True), ("active enabled", False)):
+        watched.units({"journal-collect-send.timer": "active enabled", "journal-collect-connection.service": state})
+        for setting in ("yes", "no"):
+            watched.settings["KEEP_CONNECTION"] = setting
+            watched.write_settings()
+            told = (1, "connection", "machine") in found(watched.of_machine())
+            row.expect(f"a connection to be kept: {setting}, {state}", told, wanted and setting == "yes")
     os.remove(f"{watched.base}/key")
     row.expect("no key", found(watched.of_machine())[0], (2, "key", "machine"))
 

@@ -23,8 +23,8 @@ from trial_rows import Row  # noqa: E402
 
 USER = "journal-collect"
 LIBRARY = "/usr/local/lib/journal-collect"
-INCOMING, FORWARD, SEND, FOLLOW = (f"journal-collect-{name}.service" for name in ("incoming", "forward", "send",
-                                                                                  "follow"))
+INCOMING, FORWARD, SEND, FOLLOW, CONNECTION = (
+    f"journal-collect-{name}.service" for name in ("incoming", "forward", "send", "follow", "connection"))
 FILES = "journal-collect-journal-files.service"
 REMOTE = os.environ.get("JOURNAL_REMOTE", "/lib/systemd/systemd-journal-remote")
 STATE, SENT = "var/lib/journal-collect", "var/lib/journal-send"
@@ -32,6 +32,11 @@ ROWS: list[Callable[[Row, Booted], None]] = []
 SSH_HERE = f"""#!/bin/sh
 export RECEIVED=/{SENT}/received
 exec /usr/bin/python3 -IBS /usr/local/lib/ssh.py "$@"
+"""
+KEPT_SSH = f"""#!/bin/sh
+export RECEIVED=/{SENT}/received CONNECTIONS=/{SENT}/connections
+export FORCED_COMMAND="/usr/bin/python3 -IBS /usr/local/lib/ssh.py session"
+exec /usr/bin/python3 -IBS /usr/local/lib/kept_ssh.py "$@"
 """
 
 
@@ -144,6 +149,28 @@ def follows(row: Row, machine: Booted) -> None:
     machine.call("systemd-cat", "echo", "to be seen soon")
     wait_for(lambda: "to be seen soon" in sent(machine))
     end(row, machine, FOLLOW)
+
+
+@row
+def keeps_a_connection(row: Row, machine: Booted) -> None:
+    """A run has its session in the connection that another unit keeps, which outlives the run."""
+    settings = machine.read("etc/journal-collect/machine.conf")
+    machine.append("etc/journal-collect/machine.conf", "KEEP_CONNECTION=yes\n")
+    with open(os.path.join(HERE, "kept_ssh"), encoding="utf-8") as file:
+        machine.write("usr/local/lib/kept_ssh.py", file.read())
+    machine.write("usr/local/bin/ssh", KEPT_SSH, 0o755)
+    begin(row, machine, CONNECTION)
+    wait_for(lambda: glob.glob(f"{machine.folder}/{SENT}/connection-????????"))
+    for number in range(2):
+        machine.call("systemd-cat", "echo", f"in one connection {number}")
+        machine.call("journalctl", "--sync")
+        begin(row, machine, SEND)
+        row.expect("what came", f"in one connection {number}" in sent(machine), True)
+    row.expect("connections", machine.read(f"{SENT}/connections").count("\n"), 1)
+    end(row, machine, CONNECTION)
+    row.expect("sockets", glob.glob(f"{machine.folder}/{SENT}/connection-*"), [])
+    machine.write("etc/journal-collect/machine.conf", settings)
+    machine.write("usr/local/bin/ssh", SSH_HERE, 0o755)
 
 
 @row
