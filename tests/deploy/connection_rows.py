@@ -188,6 +188,25 @@ def killed_runs(row: Row, kind: type[Kept]) -> None:
 
 
 @ROWS.row
+def it_dies_in_a_run(row: Row, kind: type[Kept]) -> None:
+    """At moments of which nobody knows where the run is: it ends well, or fails as with a connection of its own."""
+    with kind(LIBRARY) as both:
+        both.collector.start()
+        keeper = both.kept(AGAIN_SECONDS=0.1)
+        for number in range(int(os.environ.get("KILLS", "12"))):
+            both.grow()
+            wait_for(both.sockets)
+            with subprocess.Popen([f"{LIBRARY}/send", both.machine.write_settings()], stdin=subprocess.DEVNULL,
+                                  env=both.machine.whole_environment(), stderr=subprocess.DEVNULL) as run:
+                time.sleep(number * 0.07)
+                os.kill(both.ssh_of(keeper), signal.SIGKILL)
+            row.same(f"status of run {number}", run.returncode in (0, 3), True)
+        wait_for(lambda: both.run() == WELL)
+        row.same("said", (both.end(keeper), both.said()), (0, ""))
+        all_stored(row, both)
+
+
+@ROWS.row
 def told_to_stop(row: Row, kind: type[Kept]) -> None:
     """A run that is under way gets to its end: here it has its session, and takes long to make its upload."""
     with kind(LIBRARY) as both:
