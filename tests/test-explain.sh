@@ -80,6 +80,16 @@ explains 3 "" "cannot open $db" "$db is in use by another program: *" check "$db
 exec 9>&-
 wait
 
+# a folder of notes, and a database with another entry than is noted there
+explains 3 "" "cannot open $folder/up" "$folder/up is not a folder: *" \
+    collect --sequences "$folder/up" --files-from /dev/null "$folder/never.db"
+explains 3 "" "cannot open $folder/gone/notes" "$folder/gone/notes * a folder that is missing: *" \
+    collect --sequences "$folder/gone/notes" --files-from /dev/null "$folder/never.db"
+explains 0 "" "" "" collect --sequences "$folder/notes" --files-from /dev/null "$db"
+"$PROGRAM" collect "$folder/differs.db" "$folder/changed" > "$folder/told" || differs "no database that differs"
+explains 1 "" "bad 60 0" "an entry of $folder/differs.db isn't the one that is noted in $folder/notes: *" \
+    collect --sequences "$folder/notes" --files-from /dev/null "$folder/differs.db"
+
 # who may read and write; if the superuser tries, it is as nobody
 as_user() {
     if [[ $(id -u) -ne 0 ]]; then

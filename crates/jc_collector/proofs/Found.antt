@@ -1,5 +1,5 @@
 -- Which tables a database is opened with, and what they keep.
-use Rattle.std.proofs.Common.{◌≡◌, ◌≢◌, ◌↔◌, ℕ, List, length, inl, inr, refl, sym, ap, subst, ◌∙◌, arith}
+use Rattle.std.proofs.Common.{◌≡◌, ◌↔◌, length, inl, inr, refl, sym, ap, subst, ◌∙◌, arith}
 use Rattle.std.specs.FinMap.{empty}
 use Rattle.sqlite_disk.specs.declared.Disk as disk
 use Rattle.sqlite.specs.declared.Files.{Files}
@@ -19,9 +19,7 @@ use Rattle.jc_store.specs.Meaning.{AreMade, IsSound, KeepsJournal, journal_of}
 use Rattle.jc_store.specs.Schema.{no_schema}
 use Rattle.jc_store.specs.Statements.{IsBlank}
 use Rattle.jc_schema_two.specs.Schema.{Shape, fresh, migrated, schema_two}
-use Rattle.jc_schema_two.specs.Tables.{two}
 use Rattle.jc_schema_three.specs.Schema.{schema_three}
-use Rattle.jc_schema_three.specs.Tables.{three}
 use Rattle.jc_database.specs.Files.{AreLawful, EndsWith, HoldsJournal, IsFound, Keeps}
 use Rattle.jc_database.specs.FilesLaws.{database_found, keeps_found}
 use Rattle.jc_collector.specs.Open.{Begun, HasKind, IsFoundIn, IsOne}

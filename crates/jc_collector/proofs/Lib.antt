@@ -8,3 +8,4 @@ pub mod Older
 pub mod OverFiles
 pub mod Causes
 pub mod Open
+pub mod IntoUnion

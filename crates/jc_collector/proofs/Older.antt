@@ -7,17 +7,14 @@ use Rattle.sqlite.specs.State.{HasCleanDisk}
 use Rattle.sqlite.specs.Held.{Held}
 use Rattle.sqlite_tied.specs.Compute.{everything}
 use Rattle.sqlite.specs.Effect.{Database}
-use Rattle.sqlite.specs.Files.{file_state, over_files}
-use Rattle.jc_base.specs.Journal.{Journal}
-use Rattle.jc_command_args.specs.declared.request.Tables.{Tables}
-use Rattle.jc_command_args.specs.declared.request.Tables.TheVariants.{ByKey, ByNumber}
-use Rattle.jc_store.specs.Meaning.{IsSound}
+use Rattle.sqlite.specs.Files.{file_state}
+use Rattle.jc_command_args.specs.declared.request.Tables.TheVariants.{ByKey}
 use Rattle.jc_store.specs.SchemaOne.{schema_one}
 use Rattle.jc_store.specs.Statements.{IsBlank}
 use Rattle.jc_schema_two.specs.Schema.{Shape, fresh, migrated, schema_two}
-use Rattle.jc_database.specs.Files.{BeginsWith, HoldsJournal, IsFound, Keeps}
+use Rattle.jc_database.specs.Files.{HoldsJournal, IsFound}
 use Rattle.jc_database.specs.FilesLaws.{database_found, keeps_found}
-use Rattle.jc_collector.specs.Earlier.{Becomes, EarlierFiles, HasFields, IsEarlierFound, IsTakenFrom, Older, conn_before, meaning_before, older_of, oldest, by_key}
+use Rattle.jc_collector.specs.Earlier.{Becomes, EarlierFiles, HasFields, IsEarlierFound, IsTakenFrom, Older, meaning_before, older_of, oldest, by_key}
 
 -- ---- the tables of each kind
 

@@ -14,6 +14,10 @@ pub IfOk-three : {T E : Type 0} (r : Result T E) (P Q R Z : T → Type 0) → ((
 IfOk-three (Ok x) P Q R Z all p q s = all x p q s
 IfOk-three (Err e) P Q R Z all p q s = tt
 
+pub IfOk-four : {T E : Type 0} (r : Result T E) (P Q R S Z : T → Type 0) → ((x : T) → P x → Q x → R x → S x → Z x) → IfOk r P → IfOk r Q → IfOk r R → IfOk r S → IfOk r Z
+IfOk-four (Ok x) P Q R S Z all p q r s = all x p q r s
+IfOk-four (Err e) P Q R S Z all p q r s = tt
+
 pub IfErr-each : {T E : Type 0} (r : Result T E) (P Q : E → Type 0) → ((e : E) → P e → Q e) → IfErr r P → IfErr r Q
 IfErr-each (Ok x) P Q each p = tt
 IfErr-each (Err e) P Q each p = each e p

@@ -6,4 +6,5 @@ pub mod Inspected
 pub mod Kinds
 pub mod Earlier
 pub mod OverFiles
+pub mod IntoUnion
 pub mod Open

@@ -69,6 +69,9 @@ performed image g files words (requests.Collect database tables uploads then_exp
 performed image g files words (requests.CollectListed database tables list then_export) given output output' errors errors' Misused asks does quiet =
     let printed = does.printed.printed.printed in
     absurd (judged_not_misused (list_any is_failure printed.answers) (list_any is_refusal printed.answers) printed.is)
+performed image g files words (requests.CollectIntoUnion database tables list sequences then_export) given output output' errors errors' Misused asks does quiet =
+    let printed = does.printed.printed in
+    absurd (judged_not_misused (list_any is_failure printed.answers) (list_any is_refusal printed.answers) printed.is)
 performed image g files words (requests.Export database) given output output' errors errors' Misused asks does quiet = let same : Misused ≡ Success = does.0 in cc
 performed image g files words (requests.Show database field id first last) given output output' errors errors' Misused asks does quiet = let same : Misused ≡ Success = does.0 in cc
 performed image g files words requests.ListCodes given output output' errors errors' Misused asks does quiet = let same : Misused ≡ Success = does in cc

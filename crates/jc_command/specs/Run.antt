@@ -14,13 +14,14 @@ use Rattle.jc_command_shared.specs.declared.status.Status.{Status}
 use Rattle.jc_command_shared.specs.declared.status.Status.TheVariants.{Success, Refused, Misused, Failed}
 use Rattle.jc_command_args.specs.declared.request.Request.{Request}
 use Rattle.jc_command_args.specs.declared.request.Tables.{Tables}
-use Rattle.jc_command_args.specs.declared.request.Request.TheVariants.{Collect, CollectListed, Show, Check, Migrate, Verify, Inspect, Upload, Ack, ListCodes}
+use Rattle.jc_command_args.specs.declared.request.Request.TheVariants.{Collect, CollectListed, CollectIntoUnion, Show, Check, Migrate, Verify, Inspect, Upload, Ack, ListCodes}
 use Rattle.jc_command_args.specs.declared.request.Request.TheVariants as request
 use Rattle.jc_collector_answers.specs.Answered.{PrintsAnswers, number_of_uploads}
 use Rattle.jc_collector.specs.Checked.{IsHealth, PrintsHealth, count_line}
 use Rattle.jc_collector.specs.Database.{CheckFailsBy, CollectFailsBy, DatabaseFailsBy, ShowFailsBy}
 use Rattle.jc_command_shared.specs.Failure.{status_of}
 use Rattle.jc_collector.specs.Inspected.{PrintsSomeInspected}
+use Rattle.jc_collector.specs.IntoUnion.{UnionFailsBy}
 use Rattle.jc_collector.specs.Listed.{PrintsListed}
 use Rattle.jc_collector.specs.Earlier.{LeadsFrom}
 use Rattle.jc_collector.specs.Kinds.{LeadsIn, LeadsThere}
@@ -75,7 +76,7 @@ module _ {D : Type 0} (image : Image) (g : disk.Ghosts D) (files : Option (Files
   -- What standard output gains when a request is performed, over what standard input gives, the status, and what becomes of
   -- the files of its database: from `verify` a reading, from `inspect` what an upload says, from `upload` an upload, from
   -- `ack` a resume point, from `collect` an answer to each upload, from `export` and `show` a listing, and from `check` and
-  -- `migrate` what there is of a journal.
+  -- `migrate` what there is of a journal. What `collect` stores in a union of databases is said of `collect_into_union`.
   abbrev pub Performs : Request → (given old new : Option (List ℕ)) → Status → Type 0
   Performs (Verify kind file) given old new status = PrintsSomeReading kind status old new
   Performs (Inspect file most_entries most_fields most_bytes) given old new status = PrintsSomeInspected status old new
@@ -83,6 +84,7 @@ module _ {D : Type 0} (image : Image) (g : disk.Ghosts D) (files : Option (Files
   Performs (Ack source) given old new status = (status ≡ Success) × PrintsSomePoint source given old new
   Performs (Collect database tables uploads then_export) given old new status = Collects tables (length uploads.items) given old new status
   Performs (CollectListed database tables list then_export) given old new status = CollectsListed tables list.now given old new status
+  Performs (CollectIntoUnion database tables list sequences then_export) given old new status = PrintsListed list.now given status old new
   Performs (request.Export database) given old new status = (status ≡ Success) × LeadsOn (Prints export_text old new)
   Performs (Show database field id first last) given old new status =
       (status ≡ Success)
@@ -109,6 +111,8 @@ FailsBy (Upload source limit whole) given failure = UploadFailsBy source failure
 FailsBy (Ack source) given failure = AckFailsBy source given failure
 FailsBy (Collect database tables uploads then_export) given failure = CollectFailsBy database.now (map (λ path. path.now) uploads.items) failure
 FailsBy (CollectListed database tables list then_export) given failure = CollectFailsBy database.now (list.now ∷ []) failure
+FailsBy (CollectIntoUnion database tables list sequences then_export) given failure =
+    (failure ≡ CannotOpen sequences) ⊎ UnionFailsBy database.now (list.now ∷ []) failure
 FailsBy (request.Export database) given failure = DatabaseFailsBy database.now failure
 FailsBy (Show database field id first last) given failure =
     ShowFailsBy database.now (option_map (λ name. name.now) field) (option_map (λ digits. digits.now) id) failure

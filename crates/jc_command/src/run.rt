@@ -11,14 +11,17 @@ ghost use Rattle.jc_command.specs.Run.{Ends, EndsWithin, FailsBy, Performs, Stop
 use clap::error::ErrorKind;
 use jc_collect::Bounds;
 use jc_collector::{
-    Closed, Examined, check, collect, collect_listed, export, inspect, migrate, show,
+    Closed, Examined, check, collect, collect_into_union, collect_listed, export, inspect, migrate,
+    show,
 };
 use jc_command_args::{CODES, Request, parse};
 use jc_command_shared::{Failure, Status, printed};
 use jc_sender::{ack, upload, verify};
+use jc_sequences::open_sequences;
 use sqlite::{FileFrom, Files, Start};
 use sqlite_disk::Disk;
 use std::io::{Read, Write};
+use std::marker::Brand;
 
 /// What a run ended with: its status, and the files of its database, closed, if it had one open.
 #[derive(Drop)]
@@ -54,6 +57,17 @@ impl<S: Start> Done<S> {
         Done {
             status: closed.value,
             files: Some(closed.files),
+        }
+    }
+
+    /// By a command over the union of databases, which has closed the present one.
+    fn noted(status: Status, files: Files<FileFrom<S>>) -> Done<S>
+        ensures status { result.status ≡ status }
+        ensures files { result.files ≡ Some files }
+    {
+        Done {
+            status,
+            files: Some(files),
         }
     }
 
@@ -139,7 +153,7 @@ pub fn run_command<S: Start, I: Read, O: Write, E: Write>(
 
 /// Does what the arguments ask for, up to a failure.
 fn answered<'a, S: Start, I: Read, O: Write, E: Write>(
-    rt: &HostRuntime,
+    rt: &'a HostRuntime,
     start: S,
     words: &'a [String],
     input: &mut I,
@@ -159,7 +173,7 @@ fn answered<'a, S: Start, I: Read, O: Write, E: Write>(
 
 #[tactic(auto, using(crate::proofs::Runs::unless_failed))]
 fn perform<'a, S: Start, I: Read, O: Write, E: Write>(
-    rt: &HostRuntime,
+    rt: &'a HostRuntime,
     start: S,
     request: Request<'a>,
     input: &mut I,
@@ -237,6 +251,28 @@ fn perform<'a, S: Start, I: Read, O: Write, E: Write>(
                 errors,
             )?;
             Ok(Done::closed(closed))
+        }
+        Request::CollectIntoUnion {
+            database,
+            tables,
+            list,
+            sequences,
+            then_export,
+        } => {
+            let ledger = open_sequences(rt, sequences)?;
+            let run = collect_into_union::<S, _, Brand, _, _, _>(
+                rt,
+                start,
+                ledger,
+                database,
+                tables,
+                list,
+                then_export,
+                input,
+                output,
+                errors,
+            )?;
+            Ok(Done::noted(run.status, run.files))
         }
         Request::Export { database } => Ok(Done::listed(export(rt, start, database, output)?)),
         Request::Show {

@@ -57,11 +57,11 @@ flag_rule name = record (new_rule name) { long = Some name; action = Some SetTru
 abbrev pub database_grammar : Text → App
 database_grammar name = with_rule (new_app name) (place_rule (codes "DB"))
 
--- `collect DB [--files-from FILE] [--then-export FILE] [--tables N] [UPLOAD..]`
+-- `collect DB [--files-from FILE] [--sequences FOLDER] [--then-export FILE] [--tables N] [UPLOAD..]`
 abbrev pub collect_grammar : ValueParser → App
 collect_grammar tables =
-    with_rule (with_rule (with_rule (with_rule (database_grammar (codes "collect")) uploads_rule) (option_rule (codes "files-from")))
-    (option_rule (codes "then-export"))) (tables_rule tables)
+    with_rule (with_rule (with_rule (with_rule (with_rule (database_grammar (codes "collect")) uploads_rule) (option_rule (codes "files-from")))
+    (option_rule (codes "sequences"))) (option_rule (codes "then-export"))) (tables_rule tables)
 
 -- `show DB [--id HEX] [--from N] [--to N] [--field NAME]`
 abbrev pub show_grammar : App

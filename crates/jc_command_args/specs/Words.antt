@@ -8,7 +8,7 @@ use Rattle.clap.specs.declared.error.kind.ErrorKind.TheVariants.{ArgumentConflic
 use Rattle.jc_command_args.specs.Answer.{IsAskedFor}
 use Rattle.jc_command_args.specs.Grammar.{IsGrammar, kind_name, tables_name}
 use Rattle.jc_command_args.specs.declared.request.Request.{Request}
-use Rattle.jc_command_args.specs.declared.request.Request.TheVariants.{Collect, CollectListed, Export, Show, Check, Migrate, Verify, Inspect, Upload, Ack, ListCodes}
+use Rattle.jc_command_args.specs.declared.request.Request.TheVariants.{Collect, CollectListed, CollectIntoUnion, Export, Show, Check, Migrate, Verify, Inspect, Upload, Ack, ListCodes}
 use Rattle.jc_command_args.specs.declared.request.Source.{Source}
 use Rattle.jc_command_args.specs.declared.request.Tables.{Tables}
 use Rattle.jc_command_args.specs.declared.request.Tables.TheVariants.{ByKey}
@@ -16,6 +16,7 @@ use Rattle.jc_command_args.specs.declared.request.Tables.TheVariants.{ByKey}
 abbrev pub command_name : Request → Text
 command_name (Collect database tables uploads then_export) = codes "collect"
 command_name (CollectListed database tables list then_export) = codes "collect"
+command_name (CollectIntoUnion database tables list sequences then_export) = codes "collect"
 command_name (Export database) = codes "export"
 command_name (Show database field id first last) = codes "show"
 command_name (Check database) = codes "check"
@@ -58,10 +59,15 @@ abbrev pub AskBy : List Row → Request → Type 0
 AskBy rows (Collect database tables uploads then_export) =
     IsGiven rows (codes "DB") database.now × AreTablesOr ByKey (first_of (codes "tables") rows) tables
     × (map (λ upload. upload.now) uploads.items ≡ all_given rows (codes "UPLOAD"))
-    × (first_of (codes "files-from") rows ≡ None) × (option_map (λ path. path.now) then_export ≡ first_of (codes "then-export") rows)
+    × (first_of (codes "files-from") rows ≡ None) × (first_of (codes "sequences") rows ≡ None)
+    × (option_map (λ path. path.now) then_export ≡ first_of (codes "then-export") rows)
 AskBy rows (CollectListed database tables list then_export) =
     IsGiven rows (codes "DB") database.now × AreTablesOr ByKey (first_of (codes "tables") rows) tables
-    × IsGiven rows (codes "files-from") list.now × (all_given rows (codes "UPLOAD") ≡ [])
+    × IsGiven rows (codes "files-from") list.now × (all_given rows (codes "UPLOAD") ≡ []) × (first_of (codes "sequences") rows ≡ None)
+    × (option_map (λ path. path.now) then_export ≡ first_of (codes "then-export") rows)
+AskBy rows (CollectIntoUnion database tables list sequences then_export) =
+    IsGiven rows (codes "DB") database.now × AreTablesOr ByKey (first_of (codes "tables") rows) tables
+    × IsGiven rows (codes "files-from") list.now × (all_given rows (codes "UPLOAD") ≡ []) × IsGiven rows (codes "sequences") sequences.now
     × (option_map (λ path. path.now) then_export ≡ first_of (codes "then-export") rows)
 AskBy rows (Export database) = IsGiven rows (codes "DB") database.now
 AskBy rows (Show database field id first last) =
@@ -116,7 +122,8 @@ pub record AskFor (words : List Text) (request : Request) : Type 0 where
   pub asked : Asks found request
 
 -- The words are refused with a kind of error, or answered with help or the version; they are in conflict too if clap
--- passes them and they ask for nothing that there is, as words that name uploads in both ways.
+-- passes them and they ask for nothing that there is, as words that name uploads in both ways, or a folder of sequences and
+-- no list.
 pub record AreAnswered (words : List Text) (kind : ErrorKind) : Type 0 where
   pub app : App
   pub ours : IsGrammar app

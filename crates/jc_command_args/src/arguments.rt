@@ -65,6 +65,12 @@ pub(crate) fn list_arg<'a>(alloc: Global) -> Arg<'a>
     option_arg(alloc, "files-from", "FILE", texts::LIST_HELP)
 }
 
+pub(crate) fn sequences_arg<'a>(alloc: Global) -> Arg<'a>
+    ensures { IsRule result (option_rule (codes "sequences")) }
+{
+    option_arg(alloc, "sequences", "FOLDER", texts::SEQUENCES_HELP)
+}
+
 pub(crate) fn then_export_arg<'a>(alloc: Global) -> Arg<'a>
     ensures { IsRule result (option_rule (codes "then-export")) }
 {

@@ -14,7 +14,8 @@ use std::alloc::{AllocError, Global};
 /// How many entries an upload has at most if no limit is given.
 const ENTRIES: u64 = 1000;
 
-/// What the matches ask for; `None` if they lack what a command requires, or name uploads in both ways.
+/// What the matches ask for; `None` if they lack what a command requires, name uploads in both ways, or name a folder of
+/// sequences and no list.
 pub(crate) fn requested<'a>(
     alloc: Global,
     matches: &ArgMatches<'a>,
@@ -40,6 +41,16 @@ pub(crate) fn requested<'a>(
     }
 }
 
+/// Whether the matches name a folder of sequences, and no list of uploads.
+pub(crate) fn lacks_list(matches: &ArgMatches<'_>) -> bool {
+    match matches.subcommand() {
+        Some((_, given)) => {
+            text_given(given, "sequences").is_some() && text_given(given, "files-from").is_none()
+        }
+        None => false,
+    }
+}
+
 fn collect_request<'a>(
     alloc: Global,
     given: &ArgMatches<'a>,
@@ -55,20 +66,30 @@ fn collect_request<'a>(
     };
     let uploads = texts_given(alloc, given, "UPLOAD")?;
     let then_export = text_given(given, "then-export");
-    match text_given(given, "files-from") {
-        None => Ok(Some(Request::Collect {
+    let sequences = text_given(given, "sequences");
+    match (text_given(given, "files-from"), sequences) {
+        (None, None) => Ok(Some(Request::Collect {
             database,
             tables,
             uploads,
             then_export,
         })),
-        Some(list) if uploads.is_empty() => Ok(Some(Request::CollectListed {
+        (Some(list), None) if uploads.is_empty() => Ok(Some(Request::CollectListed {
             database,
             tables,
             list,
             then_export,
         })),
-        Some(_) => Ok(None),
+        (Some(list), Some(sequences)) if uploads.is_empty() => {
+            Ok(Some(Request::CollectIntoUnion {
+                database,
+                tables,
+                list,
+                sequences,
+                then_export,
+            }))
+        }
+        _ => Ok(None),
     }
 }
 

@@ -6,8 +6,8 @@ ghost use Rattle.clap.specs.declared.builder.value_parser.ValueParser.{ValuePars
 ghost use Rattle.jc_command_args.specs.Grammar.{AreKinds, AreTables, IsGrammar, IsMade, Makes, ack_grammar, collect_grammar, collector_grammar, database_grammar, inspect_grammar, migrate_grammar, show_grammar, top_grammar, upload_grammar, verify_grammar};
 
 use crate::arguments::{
-    flag_arg, kind_arg, list_arg, number_arg, option_arg, place_arg, tables_arg, then_export_arg,
-    uploads_arg, with_source,
+    flag_arg, kind_arg, list_arg, number_arg, option_arg, place_arg, sequences_arg, tables_arg,
+    then_export_arg, uploads_arg, with_source,
 };
 use crate::codes::CODES;
 use crate::making::Making;
@@ -62,6 +62,7 @@ pub(crate) fn collect_command<'a>(alloc: Global) -> Making<'a>
     database_command(alloc, "collect", texts::COLLECT, texts::COLLECT_MORE)
         .arg(uploads_arg(alloc))
         .arg(list_arg(alloc))
+        .arg(sequences_arg(alloc))
         .arg(then_export_arg(alloc))
         .arg(tables_arg(alloc, texts::MADE_TABLES_HELP))
 }

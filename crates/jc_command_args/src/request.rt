@@ -21,6 +21,15 @@ pub enum Request<'a> {
         list: &'a str,
         then_export: Option<&'a str>,
     },
+    /// The same, where this database and those whose entries are noted in a folder are one journal. Their new entries are
+    /// noted there too.
+    CollectIntoUnion {
+        database: &'a str,
+        tables: Tables,
+        list: &'a str,
+        sequences: &'a str,
+        then_export: Option<&'a str>,
+    },
     /// All entries of the journal of a database, as an export stream.
     Export {
         database: &'a str,

@@ -41,6 +41,10 @@ pub(crate) const COLLECT_NAME: &str = "journal-collect collect";
 pub(crate) const TWO_LISTS: &str =
     "the argument '--files-from <FILE>' cannot be used with '[UPLOAD]...'";
 
+/// The mistake in arguments that name a folder of sequences, and uploads in another way than by a list.
+pub(crate) const NO_LIST: &str =
+    "the argument '--sequences <FOLDER>' cannot be used without '--files-from <FILE>'";
+
 pub(crate) const COLLECT_MORE: &str =
     "The database is made if it is missing or empty. Prints one line for each upload, in their order:
   ack SOURCE START COUNT NEW LEFT  all COUNT complete entries are stored, and NEW of them weren't there before;
@@ -54,6 +58,11 @@ pub(crate) const COLLECT_MORE: &str =
 With --files-from, each upload is opened when its turn comes, and answered before the next name is read. One that can't
 be opened is answered `no - - 61 0`, and the next one is taken.
 
+With --sequences, which needs --files-from, each upload is answered as if DB and all databases whose entries are noted
+in FOLDER were one: NEW counts the entries that none of them has, and one that is noted isn't stored again. FOLDER is
+made if it is missing. Entries of DB that aren't noted are noted first, and if one of them differs from the one that is
+noted, `bad 60 PLACE` says which, counted from 0 in the order of `export`.
+
 With --then-export, FILE gets what `export` would write then, or stays as it was if that fails. What is answered stays
 stored.
 
@@ -63,7 +72,10 @@ Example: the uploads of two machines, and the answers to send back to them
   journal-collect collect logs.db web.upload mail.upload > answers
 
 Example: all uploads below the folder incoming
-  find incoming -name '*.upload' | journal-collect collect --files-from - logs.db > answers";
+  find incoming -name '*.upload' | journal-collect collect --files-from - logs.db > answers
+
+Example: the same, where older databases have a part of the entries
+  find incoming -name '*.upload' | journal-collect collect --sequences sequences --files-from - new.db > answers";
 
 pub(crate) const EXPORT: &str = "Writes all stored entries to standard output, as an export stream";
 
@@ -167,6 +179,9 @@ pub(crate) const UPLOADS_HELP: &str =
 
 pub(crate) const LIST_HELP: &str =
     "A file that names the uploads in place of UPLOAD, one on each line; `-` is standard input";
+
+pub(crate) const SEQUENCES_HELP: &str =
+    "The databases whose entries are noted in FOLDER and DB are one journal; with --files-from alone";
 
 pub(crate) const THEN_EXPORT_HELP: &str =
     "A file that gets all stored entries as an export stream, once the uploads are answered";

@@ -4,7 +4,7 @@ ghost use Rattle.std.specs.Prelude.{◌≡◌, ◌⊎◌, IfOk, IfErr, map, stri
 ghost use Rattle.clap.specs.Words.{kind_of, subcommand_rows_of};
 ghost use Rattle.jc_command_args.specs.Words.{AreAnswered, AreRight, AskFor};
 
-use crate::asked::requested;
+use crate::asked::{lacks_list, requested};
 use crate::grammar::{collect_command, program};
 use crate::request::Request;
 use crate::texts;
@@ -23,7 +23,7 @@ pub fn parse<'a>(alloc: Global, words: &'a [String]) -> Result<Request<'a>, Erro
     let asked = requested(alloc, &matches)?;
     match asked {
         Some(request) => Ok(request),
-        None => Err(two_lists(alloc)?),
+        None => Err(conflict(alloc, mistake_in(&matches))?),
     }
 }
 
@@ -36,13 +36,22 @@ fn found<'a>(alloc: Global, words: &'a [String]) -> Result<ArgMatches<'a>, Error
     program(alloc)?.try_get_matches_from(words)
 }
 
-/// The mistake of a `collect` whose uploads are named in both ways, as `clap` puts it. All else that a command requires
-/// is there once `clap` has passed the arguments.
-fn two_lists(alloc: Global) -> Result<Error, AllocError>
+/// What is wrong with a `collect` that asks for nothing: its uploads are named in both ways, or not as its folder of
+/// sequences needs it. All else that a command requires is there once `clap` has passed the arguments.
+fn mistake_in(matches: &ArgMatches<'_>) -> &'static str {
+    if lacks_list(matches) {
+        texts::NO_LIST
+    } else {
+        texts::TWO_LISTS
+    }
+}
+
+/// A mistake in the arguments of `collect`, as `clap` puts such mistakes.
+fn conflict(alloc: Global, text: &str) -> Result<Error, AllocError>
     ensures { IfOk result (λ e. kind_of e ≡ ErrorKind.ArgumentConflict) }
 {
     let mut collect = collect_command(alloc)
         .command?
         .bin_name(texts::COLLECT_NAME)?;
-    collect.error(ErrorKind::ArgumentConflict, texts::TWO_LISTS)
+    collect.error(ErrorKind::ArgumentConflict, text)
 }

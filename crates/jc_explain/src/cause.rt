@@ -13,6 +13,8 @@ pub enum Cause {
     /// A new file can't be made there.
     Unmade,
     Folder,
+    /// It is there, and is to be a folder.
+    NotFolder,
     Unreadable,
     Unwritable,
     /// It is a pipe, a device or a socket.
@@ -47,6 +49,7 @@ impl Cause {
                 "is missing, and can't be made: see who may write in its folder, and whether the disk is read-only"
             }
             Cause::Folder => "is a folder: name a file",
+            Cause::NotFolder => "is not a folder: name one, or a path at which one can be made",
             Cause::Unreadable => {
                 "may not be read by this user: see the rights of the file and of its folders"
             }

@@ -38,6 +38,18 @@ pub fn why_closed(rt: &HostRuntime, path: &str, makes: bool) -> Cause {
     }
 }
 
+/// Why the folder at `path`, which is made if it is missing, can't be used.
+pub fn why_no_folder(rt: &HostRuntime, path: &str) -> Cause {
+    match fs::metadata(rt, path) {
+        Ok(found) if found.is_dir() => Cause::Unknown,
+        Ok(_) => Cause::NotFolder,
+        Err(error) => match why_unfound(rt, path, &error) {
+            Cause::Missing => Cause::Unmade,
+            cause => cause,
+        },
+    }
+}
+
 /// Why the file at `path` is taken for no journal's database.
 pub fn why_no_journal(rt: &HostRuntime, path: &str) -> Cause {
     match front_of(rt, path, MAGIC.len() as u64) {

@@ -9,6 +9,8 @@ pub struct Subject<'a> {
     pub database: Option<&'a str>,
     /// Whether the database is made if it is missing.
     pub makes: bool,
+    /// The folder in which is noted what databases have.
+    pub sequences: Option<&'a str>,
     /// The files that are read.
     pub files: Vec<&'a str>,
     /// Whether standard output has lines that say how something was found.
@@ -29,9 +31,18 @@ fn subject_in<'a>(alloc: Global, request: Request<'a>) -> Result<Subject<'a>, Al
             database,
             uploads,
             ..
-        } => Ok(collecting(database, uploads)),
+        } => Ok(collecting(database, None, uploads)),
         Request::CollectListed { database, list, .. } => {
-            Ok(collecting(database, Vec::from_slice(alloc, &[list])?))
+            Ok(collecting(database, None, Vec::from_slice(alloc, &[list])?))
+        }
+        Request::CollectIntoUnion {
+            database,
+            list,
+            sequences,
+            ..
+        } => {
+            let files = Vec::from_slice(alloc, &[list])?;
+            Ok(collecting(database, Some(sequences), files))
         }
         Request::Export { database } | Request::Show { database, .. } => {
             Ok(over_database(alloc, Some(database), false))
@@ -52,10 +63,15 @@ fn of_source<'a>(alloc: Global, source: Source<'a>) -> Result<Subject<'a>, Alloc
     Ok(over_files(files, false))
 }
 
-fn collecting<'a>(database: &'a str, files: Vec<&'a str>) -> Subject<'a> {
+fn collecting<'a>(
+    database: &'a str,
+    sequences: Option<&'a str>,
+    files: Vec<&'a str>,
+) -> Subject<'a> {
     Subject {
         database: Some(database),
         makes: true,
+        sequences,
         files,
         answers: true,
     }
@@ -65,6 +81,7 @@ fn over_database<'a>(alloc: Global, database: Option<&'a str>, answers: bool) ->
     Subject {
         database,
         makes: false,
+        sequences: None,
         files: Vec::new(alloc),
         answers,
     }
@@ -74,6 +91,7 @@ fn over_files<'a>(files: Vec<&'a str>, answers: bool) -> Subject<'a> {
     Subject {
         database: None,
         makes: false,
+        sequences: None,
         files,
         answers,
     }

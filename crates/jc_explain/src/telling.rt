@@ -1,7 +1,7 @@
 //! The explanations of what a run printed.
 
 use crate::answers::{code_in, left_alone};
-use crate::looking::{is_folder, why_closed, why_no_journal, why_unread};
+use crate::looking::{is_folder, why_closed, why_no_folder, why_no_journal, why_unread};
 use crate::said::{advice, failure_of};
 use crate::subject::{Subject, subject_of};
 use crate::{Cause, row_about};
@@ -12,6 +12,9 @@ use std::{io, str};
 
 /// The code of a database that has no journal.
 const NOT_A_JOURNAL: u64 = 64;
+
+/// What begins the line of a database with another entry than the one that is noted. Its number is behind.
+const DIFFERS: &str = "bad 60 ";
 
 /// What begins the line of a line that is no answer. Its number is behind.
 const BAD_ANSWER: &str = "bad answer ";
@@ -67,6 +70,11 @@ fn explanation(
         let told = advice(&Failure::BadAnswer(0));
         return Ok(Some(String::from_str(rt.alloc(), told)?));
     }
+    if let (Some(folder), Some(database)) = (subject.sequences, subject.database)
+        && line.starts_with(DIFFERS)
+    {
+        return Ok(Some(why_differs(rt.alloc(), database, folder)?));
+    }
     if let Some(code) = code_in(line) {
         return why_refused(rt, subject, code);
     }
@@ -87,6 +95,8 @@ fn why_failed(
         Failure::CannotOpen(path) => {
             let cause = if subject.database == Some(*path) {
                 why_closed(rt, path, subject.makes)
+            } else if subject.sequences == Some(*path) {
+                why_no_folder(rt, path)
             } else {
                 why_unread(rt, path)
             };
@@ -129,6 +139,13 @@ fn why_refused(
         _ => format!(in alloc; "{code} {name} ({meaning}): {advice}")?,
     };
     Ok(Some(told))
+}
+
+/// What it means that a database has another entry than the one that is noted, and what to do about it.
+fn why_differs(alloc: Global, database: &str, folder: &str) -> Result<String, AllocError> {
+    format!(in alloc;
+        "an entry of {database} isn't the one that is noted in {folder}: the guide, \"A machine that was set back\""
+    )
 }
 
 /// What it means that there was no complete entry in what was read.

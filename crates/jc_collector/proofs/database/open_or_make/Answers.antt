@@ -1,9 +1,8 @@
 -- The keeper has the journal that the files had, or the empty one if they had none.
 use Rattle.std.proofs.Common.{true≢false, sym, ◌∙◌}
 use Rattle.sqlite.specs.WalFiles.{image_at}
-use Rattle.jc_collector.proofs.Causes.{no_tables}
 use Rattle.jc_collector.proofs.Found.{found_adopted, found_made, one_adopted, one_made}
-use Rattle.jc_collector.proofs.Results.{IfErr-each, IfOk-each}
+use Rattle.jc_collector.proofs.Results.{IfOk-each}
 use Rattle.jc_collector.proofs.database.open_or_make.Goals as goal
 
 pub returns-then-is_empty-clause-found : goal.returns-then-is_empty-clause-found

@@ -1,10 +1,6 @@
 -- The journal that the files had is moved, and then counted.
-use Rattle.sqlite.specs.WalFiles.{image_at}
 use Rattle.jc_schema_one.specs.Tables.{one}
 use Rattle.jc_schema_two.specs.Tables.{two}
-use Rattle.jc_database.specs.Files.{LeadsOver}
-use Rattle.jc_collector.specs.Checked.{Counts}
-use Rattle.jc_collector.specs.Earlier.{Older, meaning_before}
 use Rattle.jc_collector.proofs.Older.{by_key_alone}
 use Rattle.jc_collector.proofs.OverFiles.{went_over}
 use Rattle.jc_collector.proofs.migrating.migrated_by_key.Goals as goal

@@ -1,5 +1,4 @@
 -- What `collect` makes of the files that it gives back.
-use Rattle.std.proofs.Common.{◌≡◌}
 use Rattle.jc_command.proofs.Runs.{at_ok, no_items, some_each}
 use Rattle.jc_command.proofs.run.perform.Goals as goal
 

@@ -1,5 +1,5 @@
 -- The number says which status it was.
-use Rattle.std.proofs.Common.{◌∙◌, ap, inl, inr, map, refl, string_bytes, None}
+use Rattle.std.proofs.Common.{◌∙◌, ap, inl, map, refl, string_bytes, None}
 use Rattle.sqlite.specs.WalFiles.{image_at}
 use Rattle.jc_command_shared.specs.declared.status.Status.TheVariants.{Success, Refused, Misused, Failed}
 use Rattle.jc_command_shared.specs.Status.{number_of}

@@ -9,13 +9,15 @@ returns c =
     let none = database_grammar (codes "collect") in
     let one = with_rule none uploads_rule in
     let two = with_rule one (option_rule (codes "files-from")) in
-    let three = with_rule two (option_rule (codes "then-export")) in
+    let three = with_rule two (option_rule (codes "sequences")) in
+    let four = with_rule three (option_rule (codes "then-export")) in
     let tables = c.tables_arg.ensures in (
       tables.0,
       tables.1,
-      c.arg-4.ensures three (tables_rule tables.0)
-          (c.arg-3.ensures two (option_rule (codes "then-export"))
+      c.arg-5.ensures four (tables_rule tables.0)
+          (c.arg-4.ensures three (option_rule (codes "then-export"))
+          (c.arg-3.ensures two (option_rule (codes "sequences"))
           (c.arg-2.ensures one (option_rule (codes "files-from"))
           (c.arg.ensures none uploads_rule c.database_command.ensures c.uploads_arg.ensures) c.list_arg.ensures)
-          c.then_export_arg.ensures) tables.2,
+          c.sequences_arg.ensures) c.then_export_arg.ensures) tables.2,
     )

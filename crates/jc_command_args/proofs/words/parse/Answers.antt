@@ -19,6 +19,6 @@ returns-in-Some-clause-request c =
 
 pub returns-clause-answer : goal.returns-clause-answer
 returns-clause-answer c =
-    nothing (map string_bytes c.args.words.now) c.in_ok-two_lists-in-None.field-0 c.in_ok-asked.asked
-    (subcommand_rows_of c.in_ok-matches.matches) c.in_ok-matches.ensures.right c.in_ok-two_lists-in-None.ensures c.in-None.is
+    nothing (map string_bytes c.args.words.now) c.in_ok-conflict-in-None.field-0 c.in_ok-asked.asked
+    (subcommand_rows_of c.in_ok-matches.matches) c.in_ok-matches.ensures.right c.in_ok-conflict-in-None.ensures c.in-None.is
     c.in_ok-asked.ensures

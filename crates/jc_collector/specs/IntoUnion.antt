@@ -1,0 +1,54 @@
+-- What `collect` makes of the union of finished databases and the one in its files. (own)
+use Rattle.std.specs.Prelude.{◌≡◌, ◌⊎◌, ⊤, ℕ, List, Option, codes}
+use Rattle.sqlite_disk.specs.declared.Disk as disk
+use Rattle.sqlite_disk.specs.declared.Files.{Files}
+use Rattle.sqlite.specs.Recovery.{Image}
+use Rattle.sqlite.specs.WalReads.{AreClean}
+use Rattle.jc_base.specs.Journal.{Journal}
+use Rattle.jc_base.specs.LogEntry.{LogEntry}
+use Rattle.jc_collect.specs.Each.{StoresEach}
+use Rattle.jc_collector_answers.specs.Tied.{NamedWith}
+use Rattle.jc_command_args.specs.declared.request.Tables.{Tables}
+use Rattle.jc_command_shared.specs.declared.failure.Failure.{Failure}
+use Rattle.jc_command_shared.specs.declared.failure.Failure.TheVariants.{Bad, ReadFailed}
+use Rattle.jc_command_shared.specs.declared.status.Status.{Status}
+use Rattle.jc_database.specs.Files.{EndsWith}
+use Rattle.jc_ledger.specs.Kept.{IsKept}
+use Rattle.jc_ledger.specs.Known.{Known}
+use Rattle.jc_ledger.specs.Union.{union}
+use Rattle.jc_union.specs.Noted.{NotedFailsBy}
+use Rattle.jc_collector.specs.Database.{CollectFailsBy}
+use Rattle.jc_collector.specs.Kinds.{BeginsIn, meaning_of}
+
+-- What a run does with the journal in the files that it began with, if their disks returned what was written and this holds
+-- of that journal. The tables stay of their kind.
+abbrev pub LeadsIf : (made : Tables) → {D : Type 0} → Image → disk.Ghosts D → Files D → (Holds : Journal → Type 0)
+    → (Journal → Journal → Type 0) → Type 0
+LeadsIf made image g files Holds Step =
+    AreClean g files.log files.db → (kind : Tables) (before : Journal) → BeginsIn made kind image before → Holds before
+    → EndsWith (meaning_of kind) g files (Step before)
+
+-- The line of an answer was printed for each line of a text, the status is theirs, and each acknowledged upload is stored in
+-- the union of the finished databases and the present one. What is known is what these have.
+pub record StoresNotedNames (past : Journal) (known : Known) (came : LogEntry → Type 0) (text : Option (List ℕ)) (status : Status)
+    (old new : Option (List ℕ)) (before after : Journal) : Type 0 where
+  pub kept : IsKept known past after came
+  pub stored : NamedWith (λ answers. StoresEach (union past before) answers (union past after)) text status old new
+
+-- The same of an answer for each line of a list. The list is given by its name, which is that of a file unless it is
+-- standard input.
+pub record StoresNotedListed (past : Journal) (known : Known) (came : LogEntry → Type 0) (list : List ℕ) (given : Option (List ℕ))
+    (status : Status) (old new : Option (List ℕ)) (before after : Journal) : Type 0 where
+  pub text : Option (List ℕ)
+  pub input : list ≡ codes "-" → text ≡ given
+  pub stored : StoresNotedNames past known came text status old new before after
+
+-- Why a run over a union whose uploads lines name fails, once its present database is open.
+abbrev pub UnionStopsBy : Failure → Type 0
+UnionStopsBy failure = NotedFailsBy failure ⊎ (failure ≡ ReadFailed)
+
+-- Why a command over a union fails: its present database has another entry than is noted, or one over the limits; or it fails
+-- as another command over a database does that reads files with these paths.
+abbrev pub UnionFailsBy : (database : List ℕ) → (paths : List (List ℕ)) → Failure → Type 0
+UnionFailsBy database paths (Bad fault) = ⊤
+UnionFailsBy database paths failure = CollectFailsBy database paths failure

@@ -1,0 +1,216 @@
+//! `collect --sequences`: uploads that a list names, taken up into the union of finished databases and the present one.
+
+ghost use Rattle.std.specs.Prelude.{◌≡◌, ◌≢◌, ◌⊎◌, ◌∷◌, [], IfOk, IfErr};
+ghost use Rattle.std.specs.Io.KnownBytes.{Keeps as KeepsBytes};
+ghost use Rattle.sqlite.specs.Files.{over_files};
+ghost use Rattle.sqlite.specs.WalFiles.{image_at};
+ghost use Rattle.sqlite.specs.WalReads.{AreClean};
+ghost use Rattle.jc_base.specs.Journal.{Journal};
+ghost use Rattle.jc_command_shared.specs.Failure.{status_of};
+ghost use Rattle.jc_collector_answers.specs.Named.{PrintsNamed};
+ghost use Rattle.jc_database.specs.Files.{EndsWith, Keeps};
+ghost use Rattle.jc_ledger.specs.Kept.{NoneCollide};
+ghost use Rattle.jc_ledger.specs.Lagging.{MayCatchUp};
+ghost use Rattle.jc_store.specs.Meaning.{IsSound};
+ghost use Rattle.jc_collector.specs.Database.{DatabaseFailsBy};
+ghost use Rattle.jc_collector.specs.IntoUnion.{LeadsIf, StoresNotedListed, StoresNotedNames, UnionFailsBy, UnionStopsBy};
+ghost use Rattle.jc_collector.specs.Listed.{PrintsListed};
+
+use crate::database::{FileKeeper, Opened, check_name, open_or_make};
+use crate::listed::INPUT;
+use crate::then_export::{check_export, export_after};
+use jc_collector_answers::answer_names;
+use jc_command_args::Tables;
+use jc_command_shared::{Failure, Status, open_file};
+use jc_ledger::{Ledger, Past};
+use jc_schema_three::SchemaThree;
+use jc_schema_two::SchemaTwo;
+use jc_store::Listed;
+use jc_union::{NotedRun, close_union, open_union, why_no_union};
+use sqlite::{FileFrom, FileStore, Start};
+use sqlite_disk::Disk;
+use std::io::{BufRead, BufReader, Read, Write};
+
+/// Takes the uploads that the lines of a list name up into the union of the databases that are finished and the present
+/// one, which is made if there is none, and prints an answer for each line. The list, the export and the status are as
+/// `collect_listed` has them.
+pub fn collect_into_union<'a, S: Start, L: Ledger + Drop, P: Past, I: Read, O: Write, E: Write>(
+    rt: &HostRuntime,
+    start: S,
+    ledger: L,
+    database: &'a str,
+    tables: Tables,
+    list: &'a str,
+    then_export: Option<&'a str>,
+    input: &mut I,
+    output: &mut O,
+    errors: &mut E,
+) -> Result<NotedRun<FileFrom<S>, L>, Failure<'a>>
+    // What the printed lines acknowledge is stored in the union, if what was noted is what the finished databases have, and
+    // some of what the present one had. Then what is noted is what they have.
+    ensures each { IfOk result (λ run. LeadsIf tables (image_at S.Start) ⟦<FileFrom<S> as Disk>⟧ run.files
+        (λ before. MayCatchUp (L.known ledger) P.journal before (L.came ledger) × L.sound run.ledger × NoneCollide (L.came run.ledger))
+        (StoresNotedListed P.journal (L.known run.ledger) (L.came run.ledger) list.now (I.remaining input.old) run.status
+        (O.contents output.old) (O.contents output.new))) }
+    ensures printed { IfOk result (λ run. PrintsListed list.now (I.remaining input.old) run.status (O.contents output.old) (O.contents output.new)) }
+    ensures quiet { IfOk result (λ run. run.status ≡ Status.Success → KeepsBytes (E.contents errors.old) (E.contents errors.new)) }
+    ensures failed { IfErr result (UnionFailsBy database.now (list.now ∷ [])) }
+    ensures untouched { IfErr result (λ failure. status_of failure ≢ Status.Failed
+        → KeepsBytes (O.contents output.old) (O.contents output.new)) }
+{
+    check_name(database)?;
+    check_export(rt, database, then_export)?;
+    if list == INPUT {
+        return join_lines::<S, L, P, _, _, _>(
+            rt,
+            start,
+            ledger,
+            database,
+            tables,
+            then_export,
+            &mut *input,
+            output,
+            errors,
+        );
+    }
+    let names = open_file(rt, list)?;
+    join_lines::<S, L, P, _, _, _>(
+        rt,
+        start,
+        ledger,
+        database,
+        tables,
+        then_export,
+        names,
+        output,
+        errors,
+    )
+}
+
+/// Takes up the uploads that the lines of a reader name, which are read through a buffer.
+fn join_lines<'a, S: Start, L: Ledger + Drop, P: Past, N: Read + Drop, O: Write, E: Write>(
+    rt: &HostRuntime,
+    start: S,
+    ledger: L,
+    database: &'a str,
+    tables: Tables,
+    then_export: Option<&'a str>,
+    list: N,
+    output: &mut O,
+    errors: &mut E,
+) -> Result<NotedRun<FileFrom<S>, L>, Failure<'a>>
+    // What the printed lines acknowledge is stored in the union, if what was noted is what the finished databases have, and
+    // some of what the present one had. Then what is noted is what they have.
+    ensures each { IfOk result (λ run. LeadsIf tables (image_at S.Start) ⟦<FileFrom<S> as Disk>⟧ run.files
+        (λ before. MayCatchUp (L.known ledger) P.journal before (L.came ledger) × L.sound run.ledger × NoneCollide (L.came run.ledger))
+        (StoresNotedNames P.journal (L.known run.ledger) (L.came run.ledger) (N.remaining list) run.status
+        (O.contents output.old) (O.contents output.new))) }
+    ensures printed { IfOk result (λ run. PrintsNamed (N.remaining list) run.status (O.contents output.old) (O.contents output.new)) }
+    ensures quiet { IfOk result (λ run. run.status ≡ Status.Success → KeepsBytes (E.contents errors.old) (E.contents errors.new)) }
+    ensures failed { IfErr result (λ failure. UnionStopsBy failure ⊎ DatabaseFailsBy database.now failure) }
+    ensures untouched { IfErr result (λ failure. status_of failure ≢ Status.Failed
+        → KeepsBytes (O.contents output.old) (O.contents output.new)) }
+{
+    let Ok(mut names) = BufReader::new(rt.alloc(), list) else {
+        return Err(Failure::OutOfMemory);
+    };
+    join_names::<S, L, P, _, _, _>(
+        rt,
+        start,
+        ledger,
+        database,
+        tables,
+        then_export,
+        &mut names,
+        output,
+        errors,
+    )
+}
+
+/// Takes up the uploads that lines name.
+fn join_names<'a, S: Start, L: Ledger + Drop, P: Past, N: BufRead, O: Write, E: Write>(
+    rt: &HostRuntime,
+    start: S,
+    ledger: L,
+    database: &'a str,
+    tables: Tables,
+    then_export: Option<&'a str>,
+    names: &mut N,
+    output: &mut O,
+    errors: &mut E,
+) -> Result<NotedRun<FileFrom<S>, L>, Failure<'a>>
+    // What the printed lines acknowledge is stored in the union, if what was noted is what the finished databases have, and
+    // some of what the present one had. Then what is noted is what they have.
+    ensures each { IfOk result (λ run. LeadsIf tables (image_at S.Start) ⟦<FileFrom<S> as Disk>⟧ run.files
+        (λ before. MayCatchUp (L.known ledger) P.journal before (L.came ledger) × L.sound run.ledger × NoneCollide (L.came run.ledger))
+        (StoresNotedNames P.journal (L.known run.ledger) (L.came run.ledger) (N.remaining names.old) run.status
+        (O.contents output.old) (O.contents output.new))) }
+    ensures printed { IfOk result (λ run. PrintsNamed (N.remaining names.old) run.status (O.contents output.old) (O.contents output.new)) }
+    ensures quiet { IfOk result (λ run. run.status ≡ Status.Success → KeepsBytes (E.contents errors.old) (E.contents errors.new)) }
+    ensures failed { IfErr result (λ failure. UnionStopsBy failure ⊎ DatabaseFailsBy database.now failure) }
+    ensures untouched { IfErr result (λ failure. status_of failure ≢ Status.Failed
+        → KeepsBytes (O.contents output.old) (O.contents output.new)) }
+{
+    match open_or_make(rt, database, start, tables)? {
+        Opened::ByKey(keeper) => join_over::<S, SchemaTwo, L, P, _, _, _>(
+            rt,
+            keeper,
+            ledger,
+            then_export,
+            names,
+            output,
+            errors,
+        ),
+        Opened::ByNumber(keeper) => join_over::<S, SchemaThree, L, P, _, _, _>(
+            rt,
+            keeper,
+            ledger,
+            then_export,
+            names,
+            output,
+            errors,
+        ),
+    }
+}
+
+/// The same over the keeper of the present database, which is closed.
+fn join_over<
+    'a,
+    S: Start,
+    T: Listed + Drop,
+    L: Ledger + Drop,
+    P: Past,
+    N: BufRead,
+    O: Write,
+    E: Write,
+>(
+    rt: &HostRuntime,
+    present: FileKeeper<S, T>,
+    ledger: L,
+    then_export: Option<&'a str>,
+    names: &mut N,
+    output: &mut O,
+    errors: &mut E,
+) -> Result<NotedRun<FileFrom<S>, L>, Failure<'a>>
+    ensures each { IfOk result (λ run. AreClean ⟦<FileFrom<S> as Disk>⟧ run.files.log run.files.db → (before : Journal)
+        → Keeps T.meaning present.conn before → MayCatchUp (L.known ledger) P.journal before (L.came ledger) → L.sound run.ledger
+        → NoneCollide (L.came run.ledger) → EndsWith T.meaning ⟦<FileFrom<S> as Disk>⟧ run.files
+        (StoresNotedNames P.journal (L.known run.ledger) (L.came run.ledger) (N.remaining names.old) run.status
+        (O.contents output.old) (O.contents output.new) before)) }
+    ensures sound { IfOk result (λ run. AreClean ⟦<FileFrom<S> as Disk>⟧ run.files.log run.files.db → L.sound run.ledger
+        → NoneCollide (L.came run.ledger) → IsSound over_files present.conn) }
+    ensures printed { IfOk result (λ run. PrintsNamed (N.remaining names.old) run.status (O.contents output.old) (O.contents output.new)) }
+    ensures quiet { IfOk result (λ run. run.status ≡ Status.Success → KeepsBytes (E.contents errors.old) (E.contents errors.new)) }
+    ensures failed { IfErr result UnionStopsBy }
+    ensures untouched { IfErr result (λ failure. status_of failure ≢ Status.Failed
+        → KeepsBytes (O.contents output.old) (O.contents output.new)) }
+{
+    let opened = open_union::<FileStore<FileFrom<S>>, T, L, P>(rt.alloc(), present, ledger);
+    let mut union = match opened {
+        Ok(union) => union,
+        Err(stop) => return Err(why_no_union(stop)),
+    };
+    let answered = answer_names(rt, &mut union, names, output, errors);
+    let done = export_after(rt, &mut union.present, answered, then_export);
+    close_union(union, done)
+}
