@@ -30,8 +30,8 @@ FORMS = {
 
 @dataclass
 class Told:
-    """What is said of one source."""
-    acks: list[tuple[int, int]] = field(default_factory=list)
+    """What is said of one source: the lines of its acks with their starts and ends, and what else."""
+    acks: list[tuple[int, int, str]] = field(default_factory=list)
     refusals: list[str] = field(default_factory=list)
     position: int | None = None
     key: str = ""
@@ -39,7 +39,19 @@ class Told:
 
     def claim(self) -> int:
         """How many of its entries are said to be acknowledged."""
-        return self.position if self.position is not None else max((sum(ack) for ack in self.acks if ack[1]), default=0)
+        ends = [end for start, end, _ in self.acks if start < end]
+        return self.position if self.position is not None else max(ends, default=0)
+
+    def reach(self, position: int) -> int:
+        """How far its acks come that begin at a position, or before it, and go on from there; none further than what
+        is claimed."""
+        for start, end, _ in self.usable():
+            position = max(position, end) if start <= position else position
+        return position
+
+    def usable(self) -> list[tuple[int, int, str]]:
+        """Its acks within what is claimed, in the order of their starts."""
+        return sorted(ack for ack in self.acks if ack[1] <= self.claim())
 
 
 def parse(text: str) -> dict[str, Told]:
@@ -52,7 +64,7 @@ def parse(text: str) -> dict[str, Told]:
             continue
         told = answers.setdefault(words[0], Told())
         if word == "ack":
-            told.acks.append((int(words[1]), int(words[2])))
+            told.acks.append((int(words[1]), int(words[1]) + int(words[2]), line))
         elif word == "no":
             told.refusals.append(line)
         elif word == "last":

@@ -215,12 +215,12 @@ class Serving:
         return " ".join(texts.read(path).split()[2:])
 
     def move_on(self, stream: Stream, record: Sent, told: Told) -> None:
-        """The answer is taken over a copy of the resume file, which takes its place if the stream has at this position
-        the entry that the collector has."""
-        before, claim = stream.position(), told.claim()
-        lines = [f"ack {stream.id} {start} {count} 0 0" for start, count in told.acks]
-        if told.position is not None:
-            lines = [f"ack {stream.id} {before} {claim - before} 0 0"]
+        """The acks are taken over a copy of the resume file, which takes its place if the stream has at this position
+        the entry that the collector has. If none begins where the stream is, it goes out again from there."""
+        before, claim = stream.position(), told.reach(stream.position())
+        if claim == before:
+            return
+        lines = [line for _, _, line in told.usable()]
         copy = stream.path("resume.new")
         files.remove(copy)
         if before:
@@ -234,7 +234,7 @@ class Serving:
         words = texts.read(copy).split() if os.path.exists(copy) else ["resume", "0", "-", "-"]
         if words[1] != str(claim):
             self.renew(stream, f"the collector has {claim} entries of it, which it doesn't have")
-        elif told.key and told.key != " ".join(words[2:]):
+        elif told.key and claim == told.claim() and told.key != " ".join(words[2:]):
             self.renew(stream, f"its entry before {claim} isn't the one that the collector has, {told.key}")
         else:
             files.sync(copy)

@@ -242,11 +242,33 @@ def answers_by_position(row: Row, machine: Machine) -> None:
     machine.journal.grow(4)
     machine.send()
     source = machine.upload()[0]
-    machine.answers(f"no {source} 4 61 0\n{machine.last()}")
+    machine.answers(f"no {source} 4 61 0\n{machine.collect()}{machine.last()}")
     status, said = machine.send()
     row.expect("status", (status, "was refused" in said), (1, True))
     with open(f"{machine.folder}/streams/00000001/resume", encoding="ascii") as file:
         row.expect("the position", file.read().split()[1], "4")
+
+
+@ROWS.row
+def acks_further_on(row: Row, machine: Machine) -> None:
+    """The resume point is lost, and what is told begins behind it: nothing is deleted by a position alone. The stream
+    goes out again from its beginning, and goes on once that is acknowledged."""
+    machine.settings["RESEND_MINUTES"] = 0
+    machine.journal.grow(4)
+    machine.send()
+    machine.answers(machine.collect() + machine.last())
+    machine.journal.grow(2)
+    machine.send()
+    source = machine.upload()[0]
+    row.expect("the second upload", machine.upload()[1:], (4, 2))
+    os.unlink(f"{machine.folder}/streams/00000001/resume")
+    machine.answers(machine.collect(machine.files()[-1]) + machine.last())
+    row.expect("a run", machine.send()[0], 0)
+    row.expect("what goes out", machine.upload(), (source, 0, 6))
+    machine.answers(machine.collect(machine.files()[-1]) + machine.last())
+    machine.send()
+    with open(f"{machine.folder}/streams/00000001/resume", encoding="ascii") as file:
+        row.expect("the position", file.read().split()[1], "6")
 
 
 @ROWS.once
