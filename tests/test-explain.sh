@@ -3,25 +3,11 @@
 # the lines of answers and errors, and the status, are those of the same call without the option.
 set -uo pipefail
 . "$(dirname "$0")/expect.sh"
-
-folder=$(mktemp -d)
-trap 'rm -rf "$folder"' EXIT
-id=a0a1a2a3a4a5a6a7a8a9aaabacadaeaf
-export PYTHONPATH=tests
+. "$(dirname "$0")/shared/read_files.sh"
 python3 -B - "$folder" << 'MADE'
 import sqlite3
 import sys
-from samples import E1, E2, H1, stream
 folder = sys.argv[1]
-for name, data in {
-    "in": E1 + E2, "up": stream(E1, E2), "changed": stream(H1), "prose": b"8 bytes\n", "cut": E1[:20],
-    "no-number": E1.replace(b"__SEQNUM=1\n", b""), "empty": b"", "resume": b"?\n",
-    "garbage": b"all of this is prose\n" * 3,
-}.items():
-    with open(f"{folder}/{name}", "wb") as file:
-        file.write(data)
-with open(f"{folder}/cut-up", "wb") as file:
-    file.write(stream(E1)[:60])
 other = sqlite3.connect(f"{folder}/other.db")
 other.execute("CREATE TABLE t(x)")
 other.commit()
@@ -33,7 +19,6 @@ none.execute("DROP TABLE t")
 none.commit()
 none.close()
 MADE
-"$PROGRAM" collect "$folder/logs.db" "$folder/up" > "$folder/told" || differs "no database"
 
 # explains STATUS OUTPUT ERRORS EXPLANATION WORD..: the call as it is without the option, and then with it at each end
 # of the words. Without an EXPLANATION there is none.
@@ -79,16 +64,6 @@ while [[ ! -e $db-wal ]]; do sleep 0.1; done
 explains 3 "" "cannot open $db" "$db is in use by another program: *" check "$db"
 exec 9>&-
 wait
-
-# a folder of notes, and a database with another entry than is noted there
-explains 3 "" "cannot open $folder/up" "$folder/up is not a folder: *" \
-    collect --sequences "$folder/up" --files-from /dev/null "$folder/never.db"
-explains 3 "" "cannot open $folder/gone/notes" "$folder/gone/notes * a folder that is missing: *" \
-    collect --sequences "$folder/gone/notes" --files-from /dev/null "$folder/never.db"
-explains 0 "" "" "" collect --sequences "$folder/notes" --files-from /dev/null "$db"
-"$PROGRAM" collect "$folder/differs.db" "$folder/changed" > "$folder/told" || differs "no database that differs"
-explains 1 "" "bad 60 0" "an entry of $folder/differs.db isn't the one that is noted in $folder/notes: *" \
-    collect --sequences "$folder/notes" --files-from /dev/null "$folder/differs.db"
 
 # who may read and write; if the superuser tries, it is as nobody
 as_user() {

@@ -3,22 +3,7 @@
 # the status is that of the call without it, and other commands refuse the option.
 set -uo pipefail
 . "$(dirname "$0")/expect.sh"
-
-folder=$(mktemp -d)
-trap 'rm -rf "$folder"' EXIT
-id=a0a1a2a3a4a5a6a7a8a9aaabacadaeaf
-export PYTHONPATH=tests
-python3 -B - "$folder" << 'MADE'
-import sys
-from samples import E1, E2, FILE, head, stream
-for name, data in {
-    "in": E1 + E2, "up": stream(E1, E2), "none": stream(E1[:20], start=7), "bad": b"=x\n", "journal": FILE,
-    "cut": head(1)[:9], "prose": b"8 bytes\n",
-}.items():
-    with open(f"{sys.argv[1]}/{name}", "wb") as file:
-        file.write(data)
-MADE
-"$PROGRAM" collect "$folder/logs.db" "$folder/up" > "$folder/told" || differs "no database"
+. "$(dirname "$0")/shared/read_files.sh"
 
 # prints STATUS OBJECT WORD..: one object, whatever the order of its names, with the option at each end of the words
 prints() {
@@ -52,7 +37,7 @@ prints 0 "{$numbers, \"start\": 0, \"entries\": 2, \"left\": 0, \"number\": 2,
     \"id\": \"000102030405060708090a0b0c0d0e0f\"}" inspect "$folder/up"
 prints 0 "{$numbers, \"start\": 7, \"entries\": 0, \"left\": 20, \"id\": null, \"number\": null}" inspect "$folder/none"
 prints 1 '{"result": "bad", "code": 1, "name": "ShortHeader", "meaning": "an upload has fewer bytes than a header",
-    "place": 9}' inspect "$folder/cut"
+    "place": 9}' inspect "$folder/short-head"
 
 # all codes, as the table has them
 "$PROGRAM" codes > "$folder/codes"
