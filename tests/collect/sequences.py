@@ -84,7 +84,7 @@ class Union:
     def notes(self) -> dict[tuple[bytes, int], bytes]:
         """What is noted, by keys."""
         noted = {}
-        for path in {self.path(entry) for entry in self.all.entries.values()}:
+        for path in filter(os.path.exists, {self.path(entry) for entry in self.all.entries.values()}):
             sequence, window = path.split(os.sep)[-2:]
             for number, digest in notes_in(path):
                 noted[bytes.fromhex(sequence), number] = digest
