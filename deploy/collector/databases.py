@@ -5,6 +5,7 @@ databases/NAME.db.refused couldn't be opened, and others took its place. batch/N
 belong to it. databases/NAME.export has a finished database's entries as a stream, if the settings ask for that.
 Whatever is a link or no file at all is none of the collector's.
 """
+import contextlib
 import hashlib
 import itertools
 import os
@@ -23,7 +24,7 @@ LOG_WITH_A_PAGE = 56
 PAGE = 4096
 # A name that stands in a line of its own.
 NAME = re.compile(r"[!-.0-~][ -.0-~]*")
-DIGEST, REFUSED, LOG = ".sha256", ".refused", "-wal"
+DIGEST, REFUSED, LOG, GONE = ".sha256", ".refused", "-wal", "gone-"
 
 
 def path_of(name: str) -> str:
@@ -43,6 +44,22 @@ def files_of(name: str) -> list[str]:
     return [path + DIGEST, path + LOG, path, export, export + ".new", path + REFUSED]
 
 
+def gone_of(name: str) -> str:
+    """The file that says that a database is gone with right, while that can't be noted in `kept`."""
+    return f"{GONE}{name}"
+
+
+def leave_gone(name: str) -> None:
+    """Has a file of a closed database say that it is gone: a full disk has no room for another one."""
+    with contextlib.suppress(OSError):
+        files.move(path_of(name) + (DIGEST if is_finished(name) else REFUSED), gone_of(name))
+
+
+def names_gone() -> frozenset[str]:
+    """The databases of which a file says that they are gone."""
+    return frozenset(name.removeprefix(GONE) for name in files.names(".") if name.startswith(GONE))
+
+
 def possible_names(settings: Settings) -> Iterator[str]:
     """The names for a database that is begun now: the time, and the time with a number after it."""
     time_name = time.strftime(settings.database_name, time.gmtime())
@@ -60,7 +77,7 @@ def reserve(settings: Settings, in_use: Container[str]) -> str:
 
 def is_begun(name: str) -> bool:
     """Has uploads belong to a new database of this name, unless there is something of it already."""
-    if any(map(os.path.lexists, files_of(name))):
+    if any(map(os.path.lexists, [*files_of(name), gone_of(name)])):
         return False
     try:
         os.mkdir(os.path.join("batch", name))

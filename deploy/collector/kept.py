@@ -9,6 +9,8 @@
 
 All of it is in one file, so no part of it can be older than the rest. Earlier versions had `age`, which went by other
 clocks too, and a `kept` without it.
+
+While the disk has no room to note that a database is gone, a file `gone-NAME` says so, which was one of its files.
 """
 import contextlib
 import os
@@ -16,7 +18,7 @@ from typing import NamedTuple
 
 from shared import files
 
-from . import clock, source, state
+from . import clock, databases, source, state
 from .clock import Age, Moment
 from .report import report
 from .state import Damaged
@@ -77,6 +79,13 @@ def parsed(lines: list[str]) -> Kept:
 
 def read() -> Kept:
     """What was noted. If nothing was, or it isn't right, nothing is known of databases."""
+    kept, gone = read_file(), databases.names_gone()
+    return kept._replace(databases={name: days for name, days in kept.databases.items() if name not in gone},
+                         gone=kept.gone | gone)
+
+
+def read_file() -> Kept:
+    """What the file has."""
     try:
         lines = state.read_lines(PATH, unsummed=OLD_FORMAT)
         if lines is None or lines[:1] == [OLD_FORMAT]:
@@ -115,13 +124,15 @@ def least_age() -> float:
     return max(seen)
 
 
-def write(kept: Kept) -> None:
-    """Notes it. That it can't be noted is told: then more is kept, and not less."""
+def write(kept: Kept) -> bool:
+    """Notes it; whether it could be. That it can't be noted is told: then more is kept, and not less."""
     try:
         files.replace(PATH, text(kept))
         files.remove(OLD_AGE)
     except OSError as error:
         report(3, f"when databases were in use can't be noted: {error}")
+        return False
+    return True
 
 
 def note_gone(names: list[str]) -> None:
@@ -137,5 +148,6 @@ def note_settled() -> None:
     """Nothing names those that are gone any more."""
     with locked():
         kept = read()
-        if kept.gone:
-            write(kept._replace(gone=frozenset()))
+        if kept.gone and write(kept._replace(gone=frozenset())):
+            for name in databases.names_gone():
+                files.remove(databases.gone_of(name))

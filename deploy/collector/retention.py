@@ -84,11 +84,13 @@ def delete(names: list[str], closed: dict[str, float], age: float, why: str) -> 
         report(0, f"deleted: {databases.path_of(name)}, {age - closed[name]:.1f} days after its last upload{why}")
         try:
             kept.note_gone([name])
-            databases.delete(name)
         except OSError:
-            # on a full disk there is room to note it once it is gone
+            # On a full disk there may be room to note it once it is gone; until then a file that is there already does.
+            databases.leave_gone(name)
             databases.delete(name)
             kept.note_gone([name])
+        else:
+            databases.delete(name)
 
 
 def make_room(closed: dict[str, float], age: float, least: int) -> None:
@@ -145,17 +147,19 @@ def round_of(shared: collector.Shared) -> None:
         missing.look()
     with files.locked_now(BACKUP) as is_free:
         if is_free:
-            delete_old(shared.settings, {name: days for name, days in closed.items() if name in there}, noted.age.days)
+            delete_old(shared.settings, {name: days for name, days in closed.items() if name in there}, noted)
     expire_sources(noted.age.days, shared.settings)
 
 
-def delete_old(settings: Settings, closed: dict[str, float], age: float) -> None:
+def delete_old(settings: Settings, closed: dict[str, float], noted: Kept) -> None:
     """Deletes the databases whose days are over, or for which there is no room."""
+    age = noted.age.days
     delete(due(closed, age - settings.keep_days), closed, age, "")
     if settings.delete_oldest and files.free_bytes() <= settings.free_bytes:
         finished = {name: days for name, days in closed.items() if databases.is_finished(name)}
         make_room(finished, age, settings.free_bytes)
-    gone = frozenset(closed) - frozenset(databases.all_names())
+    # What a person says that he moves away may be there yet.
+    gone = (noted.gone | frozenset(closed)) - frozenset(databases.all_names())
     if gone:
         missing.settle(missing.Change(gone, frozenset()))
         kept.note_settled()

@@ -7,10 +7,12 @@ import glob
 import os
 import re
 import shutil
+import subprocess
 import sys
 import time
 
 from collector_case import DAY, SOURCE, Case, entries, tried, upload
+from forked import STOP_AT
 from trial_rows import Row, Rows
 
 ROWS: Rows = Rows()
@@ -84,6 +86,37 @@ def days_go_by(row: Row, case: Case) -> None:
     row.expect("not yet", case.collect(), (0, ""))
     case.later(days=0.02)
     row.expect("deleted", ("deleted" in case.collect()[1], case.names()), (True, []))
+
+
+@ROWS.once
+def no_room_for_files(row: Row, case: Case) -> None:
+    """The disk has room for no more files from some step of a run on, in which a database goes whose days are over: it
+    isn't missed, and what it had isn't stored again."""
+    case.set(KEEP_DAYS=3)
+    given, step, is_short, went = upload(entries(1, 5)), 1, True, 0
+    case.store(given)
+    case.later(days=3.1)
+    case.keep("before")
+    while is_short:
+        step += 4
+        case.put_back("before")
+        is_short = "No space left on device" in collect_without_files(case, step)
+        if not case.names():
+            went += 1
+            row.expect(f"step {step}: the next run", case.collect()[1].count("missing"), 0)
+            case.store(given)
+            row.expect(f"step {step}: it comes again", case.names(), [])
+            left = [name for name in os.listdir(case.folder) if name.startswith("gone-")]
+            row.expect(f"step {step}: what is left", left, [])
+    row.expect("steps at which it went", went > 2, True)
+
+
+def collect_without_files(case: Case, step: int) -> str:
+    """A run that can make no file from this step on; what it said."""
+    words = [*STOP_AT, f"{case.library}/collect-incoming", "--once", case.conf]
+    told = subprocess.run(words, env={**case.environment(), "FILES": "no", "STOP_AT": str(step)}, capture_output=True,
+                          check=False, timeout=600)
+    return told.stderr.decode()
 
 
 @ROWS.once
