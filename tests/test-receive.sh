@@ -97,20 +97,20 @@ expect 0 "" "" receive web "$folder/all"
 expect 0 "" "" collect
 expect 0 "" "" receive web "$folder/early"
 expect 0 "" "" collect
-expect 0 "~ack $id 0 10 0 0*" "" answers web
+expect 0 "ack $id 0 5 0 0"$'\n'"ack $id 0 10 10 0"$'\n'"last $id 10 $sequence 10" "" answers web
 upload 5 5 10 > "$folder/middle"
 expect 0 "" "" receive web "$folder/middle"
 expect 0 "" "" collect
 expect 0 "10 10" "" stored
 
-# what an upload has beyond what is acknowledged is stored, and no more of it; the answer joins all
+# what an upload has beyond what is acknowledged is stored, and no more of it
 upload 4 10 20 > "$folder/beyond"
 expect 0 "" "" receive web "$folder/beyond"
 expect 0 "" "" collect
-expect 0 "ack $id 0 14 4 0"$'\n'"last $id 14 $sequence 14" "" answers web
+expect 0 "ack $id 4 10 4 0"$'\n'"last $id 14 $sequence 14" "" answers web
 expect 0 "14 14" "" stored
 
-# one that begins behind the end is stored, and told as a gap; what lies between closes it
+# one that begins behind the end is stored, and told as a gap; what lies between is stored when it comes
 upload 16 2 20 > "$folder/behind"
 expect 0 "" "" receive web "$folder/behind"
 expect 1 "" "collect-incoming: a gap: web@$id goes on at entry 16, and 14 came before" collect
@@ -118,28 +118,30 @@ expect 0 "ack $id 16 2 2 0"$'\n'"last $id 18 $sequence 18" "" answers web
 upload 10 10 20 > "$folder/between"
 expect 0 "" "" receive web "$folder/between"
 expect 0 "" "" collect
-expect 0 "~ack $id 0 18 2 0*" "" answers web
+expect 0 "ack $id 10 10 4 0"$'\n'"last $id 20 $sequence 20" "" answers web
 expect 0 "" "" receive web "$folder/between"
 expect 0 "" "" collect
-expect 0 "ack $id 0 20 2 0"$'\n'"last $id 20 $sequence 20" "" answers web
+expect 0 "ack $id 10 10 0 0"$'\n'"last $id 20 $sequence 20" "" answers web
 expect 0 "20 20" "" stored
 
 # another entry under a stored key is 60 in the next database too, whatever it comes with
 TEXT=other upload 3 2 10 > "$folder/other"
 expect 0 "" "" receive web "$folder/other"
 expect 1 "" "~*no $id 3 60 0" collect
-expect 0 "no $id 3 60 0"$'\n'"last $id 20 $sequence 20" "" answers web
+expect 0 "no $id 3 60 0"$'\n'"ack $id 10 10 0 0"$'\n'"last $id 20 $sequence 20" "" answers web
 for part in 1 2 3; do
     expect 0 "" "" receive web "$folder/other"
     expect 1 "" "~*no $id 3 60 0" collect
 done
 expect 0 "20 20" "" stored
-# another key at an acknowledged place: the source isn't the one that it was
+# another key at a place that was acknowledged is another entry, and stored
 upload 3 2 10 | sed 's/^__SEQNUM=5$/__SEQNUM=50/' > "$folder/keys"
 expect 0 "" "" receive web "$folder/keys"
-expect 1 "" "~*no $id 3 70 1" collect
+expect 0 "" "" collect
+expect 0 "~ack $id 3 2 1 0*" "" answers web
+expect 0 "21 21" "" stored
 
-# a 60 that was told by another source's entry stays one in the next database, until a person forgets it
+# an entry under a key that another source's has is refused in each database, for as long as the other one is noted
 begin
 TEXT=first SOURCE=${id//a/b} upload 0 3 3 > "$folder/first"
 upload 0 5 5 > "$folder/second"
@@ -149,15 +151,14 @@ expect 1 "" "~*no $id 0 60 0" collect
 expect 0 "" "" receive mail "$folder/second"
 expect 1 "" "~*no $id 0 60 0" collect
 expect 0 "no $id 0 60 0" "" answers mail
-upload 0 4 5 > "$folder/second"
-expect 0 "" "" receive mail "$folder/second"
-expect 1 "" "~*no $id 0 60 0" collect
-expect 0 "" "" "$library/collect-incoming" --forget mail "$id" "$conf"
+expect 1 "" "~*nothing of mail@$id is set aside" "$library/collect-incoming" --forget mail "$id" "$conf"
+rm -r "$collector"/databases/*
+expect 1 "" "~*is missing*" collect
 expect 0 "" "" receive mail "$folder/second"
 expect 0 "" "" collect
-expect 0 "~ack $id 0 4 4 0*" "" answers mail
+expect 0 "~ack $id 0 5 5 0*" "" answers mail
 
-# what is known of a source is damaged: the others are answered, and its next upload begins anew
+# what is known of a source is damaged: the others are answered, and its next upload is
 begin
 expect 0 "" "" receive web "$folder/early"
 SOURCE=${id//a/b} sequence=${sequence//2/3} upload 0 3 3 > "$folder/other"
@@ -167,11 +168,7 @@ echo damaged > "$collector/sources/web/$id"
 expect 0 "ack ${id//a/b} 0 3 3 0"$'\n'"last ${id//a/b} 3 ${sequence//2/3} 3" "~answers: sources/web/$id: *" answers web
 expect 0 "" "" receive web "$folder/early"
 expect 3 "" "~*put aside as sources/web/$id.damaged*" collect
-expect 0 "~ack $id 0 5 5 0*" "" answers web
-rm "$collector/sources/web/$id.entries"
-expect 0 "" "" receive web "$folder/early"
-expect 3 "" "~*put aside as sources/web/$id.damaged*" collect
-expect 0 "~ack $id 0 5 5 0*" "" answers web
+expect 0 "~ack $id 0 5 0 0*" "" answers web
 
 # a journal file that comes again; and one that is refused, for another source has its key with another content
 begin TAKE_JOURNAL_FILES=yes
@@ -198,11 +195,7 @@ expect 0 "" "" receive web "$fixture"
 expect 1 "" "~*no $id 0 60 0" collect
 expect 0 "" "" receive web "$fixture"
 expect 1 "" "~*no $id 0 60 0" collect
-expect 0 "" "" "$library/collect-incoming" --forget web "$id" "$conf"
-expect 1 "" "~*no conflict of web@$id is kept" "$library/collect-incoming" --forget web "$id" "$conf"
-expect 0 "" "" receive web "$fixture"
-expect 0 "" "" collect
-expect 0 "~ack $id 0 1 1 0*" "" answers web
+expect 0 "no $id 0 60 0" "" answers web
 
 # Turns --------------------------------------------------------------------------------------------------------------
 
@@ -211,12 +204,13 @@ expect 0 "~ack $id 0 1 1 0*" "" answers web
 begin DATABASE_BYTES=1 UPLOADS_WAITING=100
 mkdir -p "$collector/incoming"
 for part in {10..49}; do
-    SOURCE=${id//a0a1/a0$part} upload 0 2 2 > "$collector/incoming/a@${id//a0a1/a0$part}.upload"
+    SOURCE=${id//a0a1/a0$part} sequence=${sequence:0:30}$part upload 0 2 2 \
+        > "$collector/incoming/a@${id//a0a1/a0$part}.upload"
 done
 touch -d "1 hour ago" "$collector"/incoming/*
-upload 0 2 2 > "$folder/one"
-for name in z c; do
-    expect 0 "" "" receive "$name" "$folder/one"
+for name in z:50 c:51; do
+    sequence=${sequence:0:30}${name#*:} upload 0 2 2 > "$folder/one"
+    expect 0 "" "" receive "${name%:*}" "$folder/one"
 done
 serve_in_background
 wait_for answered z "ack $id 0 2 "
@@ -421,7 +415,7 @@ for ((part = 0; part < 5000; part++)); do
     printf -v many '%032x' "$part"
     echo "ack $many 5 2 2 0" > "$collector/answers/web/$many.answer"
 done
-# which is also what an earlier version left: its answers are told again, and what comes again is stored again
+# which is also what an earlier version left: its answers are told again
 mkdir -p "$collector/incoming"
 cp "$folder/all" "$collector/incoming/web@$id.upload"
 expect 0 "" "" collect
@@ -430,7 +424,7 @@ expect 0 "" "" collect
 SOURCE=$(printf '%032x' 7) upload 3 7 10 > "$folder/late"
 expect 0 "" "" receive web "$folder/late"
 expect 0 "" "" collect
-[[ $(answers web) == *"ack $(printf '%032x' 7) 3 7 7 0"$'\n'"last $(printf '%032x' 7) 10 $sequence 10"* ]] ||
+[[ $(answers web) == *"ack $(printf '%032x' 7) 3 7 0 0"$'\n'"last $(printf '%032x' 7) 10 $sequence 10"* ]] ||
     differs "what an earlier version had acknowledged"
 
 # an upload that an earlier version was storing is finished in the same database

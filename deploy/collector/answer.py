@@ -1,9 +1,8 @@
-"""Keys, and answer lines: `ack` with what is acknowledged, or `no` with a code."""
+"""Keys, and answer lines of the program: `ack` with what is acknowledged, or `no` with a code."""
 from shared.records import NamedTuple
 
 # The codes of answers that are failures of the collector: the upload couldn't be read, the database failed, no memory.
 UNREAD, STORE_FAILED, NO_MEMORY = 61, 62, 63
-CONFLICT, NOT_THE_SAME = 60, 70
 
 
 class NoAnswer(Exception):
@@ -32,15 +31,17 @@ class Answer(NamedTuple):
         """Whether it acknowledges."""
         return self.code == 0
 
+    @property
+    def end(self) -> int:
+        """So many entries of the source are before the first one that it says nothing of."""
+        return self.start + self.count
 
-def acked(source: str, start: int, count: int, new: int, left: int) -> Answer:
-    """An answer that acknowledges."""
-    return Answer(f"ack {source} {start} {count} {new} {left}", source, start, count, new, left)
 
-
-def refused(source: str, start: int, code: int, place: int) -> Answer:
-    """An answer that refuses."""
-    return Answer(f"no {source} {start} {code} {place}", source, start, code=code, place=place)
+def number(word: str) -> int:
+    """A number of an answer; a ValueError if it isn't one."""
+    if not word.isascii() or not word.isdigit():
+        raise ValueError(f"no number: {word[:40]}")
+    return int(word)
 
 
 def read_answer(line: str) -> Answer:
@@ -48,10 +49,11 @@ def read_answer(line: str) -> Answer:
     words = line.split(" ")
     try:
         if words[0] == "ack" and len(words) == 6:
-            return acked(words[1], *map(int, words[2:]))
-        if words[0] == "no" and len(words) == 5:
-            start = 0 if words[2] == "-" else int(words[2])
-            return refused(words[1], start, int(words[3]), int(words[4]))._replace(text=line)
+            start, count, new, left = map(number, words[2:])
+            return Answer(line, words[1], start, count, new, left)
+        if words[0] == "no" and len(words) == 5 and number(words[3]) > 0:
+            start = 0 if words[2] == "-" else number(words[2])
+            return Answer(line, words[1], start, code=number(words[3]), place=number(words[4]))
     except ValueError:
         pass
     raise NoAnswer(f"not an answer: {line}")

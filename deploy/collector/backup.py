@@ -4,9 +4,10 @@
     FOLDER/state-NUMBER/            `kept` and `sources` as they were
     FOLDER/databases/NAME.db        each finished database, with its digest beside it as NAME.db.sha256
 
-The databases that there are when a backup begins are finished and copied, and then sources are, without what they know
-by databases that were begun since. So the copied sources call acknowledged what the copied databases have, all of that
-and nothing else. A backup into the same folder copies what is new.
+Sources are copied first, and then the databases that there are by then are finished and copied. So what the copied
+answers acknowledge is in the copied databases, or was in one that was deleted in time; if one can't be copied, the
+copied sources have no answers. Notes of sequences aren't copied: as a backup is put back they are made anew. A backup
+into the same folder copies what is new.
 """
 import os
 import re
@@ -18,10 +19,11 @@ from typing import NamedTuple
 from shared import files
 from shared.formats import is_id
 
-from . import databases, kept, missing, retention, source, state
+from . import databases, kept, missing, notes, retention, source, state
 from .report import report, status, tell
 
 MANIFEST, FORMAT = "backup", "backup 1"
+DIGEST_DIGITS = 64
 STATE = re.compile(r"state-[0-9]{1,9}")
 DIGEST_LINE = re.compile(rb"([0-9a-f]{64})  [^\n]*\n")
 # So long it may take to finish the present databases.
@@ -49,7 +51,7 @@ def read(folder: str) -> Backup:
             digest, name = line.split(" ", 1)
             if not databases.NAME.fullmatch(name):
                 raise ValueError("no name of a database")
-            digests[name] = state.hexadecimal(digest, source.DIGEST_DIGITS)
+            digests[name] = state.hexadecimal(digest, DIGEST_DIGITS)
         return Backup(state.number(lines[1]), lines[2], digests)
     except (ValueError, IndexError) as error:
         raise state.Damaged(f"{path}: {error}") from error
@@ -71,10 +73,13 @@ def make(folder: str) -> int:
         before = [name for name in files.names(folder) if STATE.fullmatch(name)]
         number = 1 + max((int(name.removeprefix("state-")) for name in before), default=0)
         copy_kept(os.path.join(folder, f"state-{number}"))
-        names = databases.all_names()
+        sources = os.path.join(folder, f"state-{number}", "sources")
+        copy_sources(sources)
+        names = [name for name in databases.all_names() if not databases.has_nothing(name)]
         wait_for_finished(names, running())
         copied = {name: digest for name in names if (digest := copy_database(name, folder))}
-        copy_sources(os.path.join(folder, f"state-{number}", "sources"), frozenset(names))
+        if len(copied) < len(names):
+            forget_answers(sources)
     os.sync()
     lines = [FORMAT, str(int(time.time())), f"state-{number}"]
     lines += [f"{digest} {name}" for name, digest in sorted(copied.items())]
@@ -92,25 +97,32 @@ def copy_kept(to: str) -> None:
             copy_file(kept.PATH, os.path.join(to, kept.PATH))
 
 
-def copy_sources(to: str, names: frozenset[str]) -> None:
-    """Copies what is known of sources by these databases, and by those that are gone."""
-    with kept.locked():
-        gone = kept.read().gone
+def copy_sources(to: str) -> None:
+    """Copies what is known of sources."""
     for machine in files.names("sources"):
-        if os.path.isdir(os.path.join("sources", machine)):
-            with source.locked(machine):
-                for name in source.names(machine):
-                    copy_source(os.path.join("sources", machine, name), os.path.join(to, machine, name))
-            for name in source.names(machine):
-                missing.forget_others(os.path.join(to, machine, name), names | gone)
+        for name in source.names(machine):
+            copy_source(os.path.join("sources", machine, name), os.path.join(to, machine, name))
 
 
 def copy_source(path: str, to: str) -> None:
-    """Copies a source's files. What counts of the records stands in the other one, so that is copied last."""
+    """Copies a source's file, which is always whole."""
     os.makedirs(os.path.dirname(to), exist_ok=True)
-    for end in (source.ENTRIES, ""):
-        if state.is_file(path + end):
-            copy_file(path + end, to + end)
+    if state.is_file(path):
+        copy_file(path, to)
+
+
+def forget_answers(sources: str) -> None:
+    """Copies of sources have no answers any more: something that they acknowledge isn't in the backup."""
+    for machine in files.names(sources):
+        for name in files.names(os.path.join(sources, machine)):
+            path = os.path.join(sources, machine, name)
+            try:
+                known = source.read(path)
+            except state.Damaged:
+                continue
+            if known:
+                known.forget_answers()
+                source.write(path, known)
 
 
 def copy_file(path: str, to: str) -> None:
@@ -193,7 +205,9 @@ def restore(folder: str) -> int:
     made = time.strftime("%Y-%m-%d %H:%M:%S UTC", time.gmtime(backup.made))
     report(0, f"put back as of {made}: {put} of {len(backup.databases)} databases, and what was known of {known} "
            "sources")
+    notes.begin_anew(forgets=False)
     missing.look()
+    notes.make_anew()
     return status()
 
 

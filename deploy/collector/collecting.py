@@ -20,7 +20,7 @@ class Collecting:
         # What it takes to open the database is added to what its first upload may take.
         self.opening = files.size(database) // costs.OPENED_BYTES
         # Tables whose fields are found by number, where there is no database yet: they are quicker, and smaller.
-        options = ["--tables", "3", *(["--then-export", export] if export else [])]
+        options = ["--sequences", program.SEQUENCES, "--tables", "3", *(["--then-export", export] if export else [])]
         self.process = subprocess.Popen(
             [program.path_of_program(), "collect", "--files-from", "-", *options, database], stdin=subprocess.PIPE,
             stdout=subprocess.PIPE, stderr=subprocess.PIPE, pass_fds=held, start_new_session=True)

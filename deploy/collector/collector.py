@@ -7,9 +7,10 @@ import time
 
 from shared import files
 
-from . import aside, costs, databases, program, shares, spool, storing
+from . import aside, costs, databases, noted, program, shares, spool, storing
 from .answer import NO_MEMORY, UNREAD
 from .collecting import Collecting
+from .holding import Holding
 from .report import report
 from .settings import Settings
 from .spool import Waiting
@@ -19,6 +20,8 @@ from .turn import Turn
 # An upload that can't be read, and a database that can't be begun, are tried again after so many seconds.
 AGAIN = 300.0
 FIRST_PAUSE = 2.0
+# For so long what a machine sends goes where something long of it went.
+LONG_SECONDS = 3600.0
 
 
 class Shared:
@@ -34,13 +37,18 @@ class Shared:
         self.turns = 0
         self.failed = self.is_full = False
         self.age = 0.0
+        # The day of the age at which notes were looked at last.
+        self.notes_day = -1
         self.lock = threading.Lock()
         self.in_use: set[str] = set()
         # Databases that an earlier run had left, and that something was stored in since the last look at their days.
         self.taken_up: set[str] = set()
+        # When each machine sent something long last.
+        self.long: dict[str, float] = {}
         # Machines of which an upload is being stored.
         self.at_work: set[str] = set()
         self.at_rest = threading.Condition()
+        self.holding = Holding()
 
     def reserve(self) -> str:
         """A name for a database that nobody else uses."""
@@ -71,6 +79,13 @@ class Shared:
             is_free = name not in self.in_use
             self.in_use.add(name)
             return is_free
+
+    def sends_long(self, upload: Waiting) -> bool:
+        """Whether an upload, or one that its machine sent of late, may take longer than a turn."""
+        now = time.monotonic()
+        if is_long(self.settings, os.path.join("incoming", upload.name)):
+            self.long[upload.machine] = now
+        return now - self.long.get(upload.machine, -LONG_SECONDS) < LONG_SECONDS
 
     def note(self, name: str) -> None:
         """Something is stored in a database that an earlier run had left."""
@@ -136,7 +151,7 @@ class Collector:
         self.turns = 0
         self.later: dict[str, float] = {}
         self.pause = self.not_before = 0.0
-        self.is_short = False
+        self.is_short = self.is_kept_waiting = False
 
     def run(self) -> None:
         """Stores what comes until it is told to stop; or, with `once`, until nothing waits. A mistake of this program
@@ -158,22 +173,23 @@ class Collector:
                 report(3, f"the round failed: {error}")
                 taken = 0
                 self.leave()
-            if self.once and taken == 0:
+            if self.once and taken == 0 and not self.is_kept_waiting:
                 break
             if taken == 0:
                 shared.stopping.wait(shared.settings.poll_seconds)
         self.finish()
 
     def is_mine(self, upload: Waiting) -> bool:
-        """Whether it stores this upload."""
-        settings = self.shared.settings
-        if not self.once and is_long(settings, os.path.join("incoming", upload.name)):
-            return self.number == settings.collectors
-        return self.number == spool.collector_of(upload.machine, settings.collectors)
+        """Whether it stores this upload: the last collector does if its machine sent something long of late, and else
+        one that has stored of its machine or its sequence already."""
+        number = self.shared.settings.collectors
+        is_long = not self.once and self.shared.sends_long(upload)
+        wanted = number if is_long else spool.collector_of(upload.machine, number)
+        return self.number == self.shared.holding.place(needed(upload), wanted, is_long)
 
     def take_turns(self) -> int:
         """Takes one upload of each machine; how many were taken."""
-        taken = 0
+        taken, self.is_kept_waiting = 0, False
         now = time.monotonic()
         self.later = {name: again for name, again in self.later.items() if again > now}
         busy = {upload.of for _, upload in spool.in_batches()}
@@ -193,7 +209,7 @@ class Collector:
     def take(self, upload: Waiting) -> bool:
         """Takes an upload that waits, and reads it while the program stores the one before. Whether it was there, and
         nobody is at work for its machine."""
-        if not self.shared.begin(upload.machine):
+        if not self.may_hold(upload) or not self.shared.begin(upload.machine):
             return False
         turn = None
         try:
@@ -209,6 +225,12 @@ class Collector:
             # Of what is long, one is in hand at a time.
             self.settle()
         return turn is not None
+
+    def may_hold(self, upload: Waiting) -> bool:
+        """Whether no other process holds what this upload needs, and none will as long as this collector has one."""
+        may = self.shared.holding.take(self.number, needed(upload))
+        self.is_kept_waiting |= not may
+        return may
 
     def begun(self, upload: Waiting) -> Turn | None:
         """An upload that belongs to the present database from now on, and is read; nothing if it isn't there. If the
@@ -304,8 +326,7 @@ class Collector:
         """An upload that costs too much is tried no more. What it left of its database is taken up later."""
         set_aside(self.shared.settings, self.name, upload, error)
         self.leave_process()
-        self.let_go()
-        self.shared.wake()
+        self.leave_name()
 
     def with_room(self, uploads: list[Waiting]) -> list[Waiting]:
         """Those that the disk has room for. That it hasn't is told once, until it has."""
@@ -323,7 +344,7 @@ class Collector:
         settings = self.shared.settings
         return self.process is not None and (
             time.monotonic() - self.began >= settings.database_seconds or self.turns != self.shared.turns
-            or databases.bytes_of(self.name) >= settings.database_bytes)
+            or self.shared.holding.is_asked(self.number) or databases.bytes_of(self.name) >= settings.database_bytes)
 
     def finish_if_due(self) -> None:
         """Ends a database whose end is due."""
@@ -338,13 +359,20 @@ class Collector:
         process, self.process = self.process, None
         if process.end():
             try:
-                databases.finish(self.name)
-                self.tally.say(self.name)
+                self.close_database()
             except OSError as error:
                 report(3, f"{databases.path_of(self.name)} can't be finished: {error}")
         else:
             report(3, f"closing {databases.path_of(self.name)} ended with status {process.status}: {process.errors}")
         self.let_go()
+
+    def close_database(self) -> None:
+        """The present database is finished; or it is deleted if all that came was stored elsewhere."""
+        if self.tally.is_empty() and program.entries_of(databases.path_of(self.name)) == 0:
+            databases.delete(self.name)
+            return
+        databases.finish(self.name)
+        self.tally.say(self.name)
 
     def leave(self) -> None:
         """Leaves a database that failed to whoever takes up what was left, and goes on with another one, after a
@@ -354,6 +382,12 @@ class Collector:
             report(3, f"{databases.path_of(self.name)} is left with status {process.status}: {process.errors}")
         self.pause = min(AGAIN, max(FIRST_PAUSE, 2 * self.pause))
         self.not_before = time.monotonic() + self.pause
+        self.leave_name()
+
+    def leave_name(self) -> None:
+        """The present database is taken up before anything else is stored; with `once` after all others."""
+        if not self.once:
+            self.shared.holding.leave()
         self.let_go()
         self.shared.wake()
 
@@ -375,6 +409,13 @@ class Collector:
             databases.release(self.name)
             self.shared.release(self.name)
             self.name = ""
+        self.shared.holding.let_go(self.number)
+
+
+def needed(upload: Waiting) -> list[str]:
+    """What one process at a time may hold of what an upload needs: its machine, and the sequence of its last entry."""
+    told = noted.known(os.path.join("incoming", upload.name))
+    return [upload.machine, *([told.last.sequence] if told and told.last else [])]
 
 
 def is_long(settings: Settings, path: str) -> bool:

@@ -8,7 +8,7 @@ from typing import NamedTuple
 from shared import files
 from shared.formats import is_id
 
-from . import aside, backup, databases, kept, program, renaming, retention, service, settings, source
+from . import aside, backup, databases, kept, missing, program, renaming, retention, service, settings
 from .report import tell
 from .settings import Settings, Wrong
 
@@ -79,28 +79,10 @@ def check(chosen: Settings) -> int:
 
 
 def forget(_: Settings, machine: str, name: str) -> int:
-    """Forgets the conflicts of a source, so that its upload is tried again; the status."""
+    """Forgets what was set aside of a source, so that its uploads may be as large as any again; the status."""
     if aside.forget(machine, name):
         return 0
-    if name not in source.names(machine):
-        return has_no_conflict(machine, name)
-    path = os.path.join("sources", machine, name)
-    with source.locked(machine):
-        try:
-            known = source.read(path)
-        except source.Damaged as error:
-            tell(f"collect-incoming: {error}")
-            return 3
-        if not known or not (known.conflicts or known.refused_files):
-            return has_no_conflict(machine, name)
-        known.conflicts, known.refused_files = {}, {}
-        source.write(path, known)
-    return 0
-
-
-def has_no_conflict(machine: str, name: str) -> int:
-    """Says that there is nothing to forget; the status."""
-    tell(f"collect-incoming: no conflict of {machine}@{name} is kept")
+    tell(f"collect-incoming: nothing of {machine}@{name} is set aside")
     return 1
 
 
@@ -143,4 +125,5 @@ TASKS = {
     "--moved": Task("DATABASE", moved),
     "--backup": Task("FOLDER", back_up),
     "--restore": Task("FOLDER", backup.restore, is_alone=True),
+    "--notes-anew": Task("", missing.make_notes_anew, is_alone=True),
 }

@@ -1,11 +1,12 @@
-"""Takes up the folder of an earlier version: answers/MACHINE/SOURCE.answer, and uploads that have no number."""
+"""Takes up the folder of an earlier version: answers/MACHINE/SOURCE.answer, uploads that have no number, and what was
+kept of sources in place of notes of sequences."""
 import os
 import re
 from collections.abc import Iterator
 
 from shared import files
 
-from . import answer, source, spool, state
+from . import answer, notes, source, spool, state
 from .report import report
 
 OLD_NAME = re.compile(r"([A-Za-z0-9][A-Za-z0-9._-]{0,63})@([0-9a-f]{32})\.upload")
@@ -13,9 +14,9 @@ OLD_NAME = re.compile(r"([A-Za-z0-9][A-Za-z0-9._-]{0,63})@([0-9a-f]{32})\.upload
 
 def source_of(said: answer.Answer, age: float) -> source.Source:
     """What an answer says of its source. A machine's uploads begin after what was acknowledged, so what comes behind it
-    leaves no gap. Which entries were acknowledged isn't known, so those that come again are stored again."""
-    known = source.Source(said, age)
-    known.before = said.start + said.count if said.is_ack else said.start
+    leaves no gap."""
+    known = source.Source(age)
+    known.answers, known.before = [said], said.end
     return known
 
 
@@ -60,6 +61,17 @@ def take_answers(age: float) -> None:
             os.rmdir(folder)
 
 
+def take_sources() -> None:
+    """Writes what is known of sources anew, as far as it is still kept. Records of their entries go."""
+    for machine, path, known in notes.sources():
+        if known.is_old:
+            with source.locked(machine):
+                source.write(path, known)
+    for machine in files.names("sources"):
+        for name in files.names(os.path.join("sources", machine), source.OLD_ENTRIES):
+            files.remove(os.path.join("sources", machine, name))
+
+
 def number_uploads(folder: str) -> None:
     """Gives uploads that have no number one, in the order of their times."""
     found = [match for match in map(OLD_NAME.fullmatch, files.names(folder)) if match]
@@ -71,6 +83,7 @@ def number_uploads(folder: str) -> None:
 def run(age: float) -> None:
     """Takes up what there is."""
     take_answers(age)
+    take_sources()
     number_uploads("incoming")
     for name in files.names("batch"):
         number_uploads(os.path.join("batch", name))

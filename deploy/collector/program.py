@@ -1,4 +1,4 @@
-"""What is asked of the program journal-collect: it decides what an upload has, cuts it, and stores it."""
+"""What is asked of the program journal-collect: it decides what an upload has, and stores it."""
 from __future__ import annotations
 
 import os
@@ -20,8 +20,8 @@ JOURNAL_FILE = 2
 GREATEST = 2**63 - 1
 # The code of an upload that has more than it may have.
 OVER_BOUNDS = 6
-PIECE = 1 << 20
-CUT = ".cut"
+# The folder with the notes of what is stored of each sequence, which the program writes and reads.
+SEQUENCES = "sequences"
 
 
 class Failed(Exception):
@@ -122,39 +122,6 @@ def header(path: str) -> tuple[int, str, int]:
     return head[8], head[16:32].hex(), int.from_bytes(head[START:START + 8], "little")
 
 
-def copy_body(path: str, body: str) -> None:
-    """Writes an upload's body to another file."""
-    with open(path, "rb") as file, open(body, "wb") as copy:
-        file.seek(HEAD)
-        while piece := file.read(PIECE):
-            copy.write(piece)
-
-
-def cut(path: str, upload: Upload, skipped: int, before: Key | None, count: int) -> str:
-    """A part of an upload of a stream, as an upload of its own: `count` entries after the first `skipped`, the last of
-    which has this key. The program cuts it, and refuses if another key stands there. Answers the new file's path."""
-    body, resume, made = path + ".body", path + ".resume", path + CUT
-    copy_body(path, body)
-    with open(resume, "w", encoding="ascii") as file:
-        file.write(f"resume {skipped} {before.sequence} {before.number}\n" if before else "resume 0 - -\n")
-    words = ["upload", "--whole", "--source", upload.source, "--resume", resume, "--limit", str(count), "export", body]
-    with open(made, "wb") as file:
-        status, _, errors = processes.run([path_of_program(), *words], output=file.fileno(), seconds=MOST_SECONDS)
-    if status != 0:
-        raise Failed(f"{path} can't be cut: {errors.decode(errors='replace').strip()}")
-    with open(made, "r+b") as file:
-        file.seek(START)
-        file.write((upload.start + skipped).to_bytes(8, "little"))
-    return made
-
-
-def remove_parts(path: str) -> None:
-    """Removes what `cut` made."""
-    for end in (".body", ".resume", CUT):
-        if os.path.exists(path + end):
-            os.unlink(path + end)
-
-
 def is_sound(database: str) -> bool:
     """Whether a database can be opened, and each of its rows is an entry."""
     return entries_of(database) is not None
@@ -165,3 +132,10 @@ def entries_of(database: str) -> int | None:
     status, said, _ = processes.run([path_of_program(), "check", database], seconds=MOST_SECONDS)
     words = said.decode(errors="replace").split()
     return int(words[1]) if status == 0 and words[:1] == ["ok"] else None
+
+
+def note_all(database: str) -> tuple[int, str]:
+    """Has the notes of sequences say of each entry of a database that it is stored: a status, and what was said."""
+    words = ["collect", "--sequences", SEQUENCES, "--files-from", os.devnull, database]
+    status, said, errors = processes.run([path_of_program(), *words], seconds=MOST_SECONDS)
+    return status, (said + errors).decode(errors="replace").strip()

@@ -5,12 +5,14 @@ import time
 
 from shared import files
 
-from . import collector, costs, databases, missing, program, spool, storing
+from . import collector, costs, databases, missing, notes, program, spool, storing
 from .collecting import Collecting
 from .report import report
 
 # A database that fails so often is set aside.
 TRIES = 3
+# What the program says of a database that has another entry than the one that is noted under its key.
+DIFFERS = "bad 60 "
 # Those that were set aside are looked at again after so many seconds.
 REFUSED_SECONDS = 600.0
 
@@ -32,6 +34,14 @@ class Recovery:
         if self.looked_at_refused is None or now - self.looked_at_refused >= REFUSED_SECONDS:
             self.looked_at_refused = now
             self.try_refused()
+        self.make_notes()
+        if collector.left_over(self.shared) or self.shared.holding.is_left:
+            with self.shared.holding.by_itself(lambda: self.shared.stops) as is_alone:
+                if is_alone:
+                    self.take_all_up()
+
+    def take_all_up(self) -> None:
+        """Takes up all that was left, while no collector has a process."""
         for name in collector.left_over(self.shared):
             if self.shared.stops:
                 return
@@ -44,21 +54,28 @@ class Recovery:
             finally:
                 self.shared.release(name)
 
+    def make_notes(self) -> None:
+        """Makes the notes of what is stored anew, if that is to be done, while no collector has a process."""
+        if notes.are_to_be_made():
+            with self.shared.holding.by_itself(lambda: self.shared.stops) as is_alone:
+                if is_alone:
+                    notes.make_anew(lambda: self.shared.stops)
+
     def take_up(self, name: str) -> None:
-        """Finishes one database. One that has nothing to take up needn't be opened."""
+        """Finishes one database. It is opened also if nothing waits for it: the notes may lack what it has."""
         uploads = spool.waiting_in(os.path.join("batch", name))
         if databases.has_nothing(name):
+            self.look_at_entries(name, 0)
             databases.delete(name)
         if not databases.is_own_file(name) or databases.is_refused(name) or databases.is_finished(name):
             self.give_back(name)
             return
-        if not uploads and not databases.log_has_pages(name):
-            self.finish(name)
-            return
         if not self.has_room(name, uploads):
             return
         databases.unlink_others(name)
-        self.shared.note(name)
+        self.look_at_entries(name, program.entries_of(databases.path_of(name)))
+        if uploads:
+            self.shared.note(name)
         process = self.shared.collecting(name)
         ended, is_cut, unsure = None, False, []
         try:
@@ -74,13 +91,21 @@ class Recovery:
             ended = error
         finally:
             is_well = process.end()
-        if is_cut:
-            # The next start goes on with this database, which may have what the uploads that are left have.
-            return
-        if ended is None and is_well:
+        # After a stop the next start goes on with this database, which may have what the uploads that are left have.
+        if not is_cut and ended is None and is_well:
             for upload in unsure:
                 spool.give_back(name, upload)
             self.finish(name)
+        elif not is_cut:
+            self.leave(name, process, ended)
+
+    def leave(self, name: str, process: Collecting, ended: program.Ended | None) -> None:
+        """What becomes of a database that failed."""
+        if process.errors.startswith(DIFFERS) and program.is_sound(databases.path_of(name)):
+            report(1, f"{databases.path_of(name)} has another entry than is noted: nothing more is stored in it "
+                   f"({process.errors})")
+            self.finish(name)
+            self.give_back(name)
         else:
             self.failed(name, f"status {process.status}: {process.errors or ended}", process.errors.startswith("bad "))
 
@@ -113,8 +138,12 @@ class Recovery:
         else:
             databases.finish(name)
         databases.release(name)
-        if entries is not None:
-            missing.look_at(name, entries)
+
+    def look_at_entries(self, name: str, entries: int | None) -> None:
+        """Looks whether a database has what was stored in it, if it is known how many entries it has, before anything
+        is answered by the notes of that."""
+        if entries is not None and missing.is_short(name, entries):
+            notes.make_anew(lambda: self.shared.stops)
 
     def failed(self, name: str, text: str, is_refused: bool) -> None:
         """Sets a database aside that is damaged, or fails again and again."""
@@ -123,8 +152,12 @@ class Recovery:
             report(3, f"{databases.path_of(name)} failed, and is tried again: {text}")
             return
         report(3, f"{databases.path_of(name)} was refused; another one takes its place: {text}")
+        if spool.waiting_in(os.path.join("batch", name)) and not program.is_sound(databases.path_of(name)):
+            # The notes may say that it has what waits, and what it has can't be read.
+            notes.begin_anew(forgets=False)
         databases.set_aside(name)
         self.give_back(name)
+        self.make_notes()
 
     def give_back(self, name: str) -> None:
         """Gives the uploads of a database that isn't used any more back to those that wait."""
@@ -139,18 +172,7 @@ class Recovery:
                 return
             if not databases.is_refused(name) or not program.is_sound(databases.path_of(name)):
                 continue
-            try:
-                self.begin_again(name)
-            except OSError as error:
-                report(3, f"{databases.path_of(name)} can't be finished: {error}")
-
-    def begin_again(self, name: str) -> None:
-        """One that was refused is finished; or it is taken up once more, if its log has something that it hasn't."""
-        if databases.log_has_pages(name):
-            if name in self.begun_again:
-                return
-            self.begun_again.add(name)
-            files.remove(databases.path_of(name) + databases.REFUSED)
-        else:
-            databases.finish(name)
-        report(0, f"{databases.path_of(name)} can be opened again")
+            if name not in self.begun_again:
+                self.begun_again.add(name)
+                files.remove(databases.path_of(name) + databases.REFUSED)
+                report(0, f"{databases.path_of(name)} can be opened again")

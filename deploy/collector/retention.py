@@ -8,7 +8,7 @@ import os
 
 from shared import files
 
-from . import clock, collector, databases, kept, missing, receiving, source, spool
+from . import clock, collector, databases, kept, missing, notes, receiving, source, spool
 from .clock import Age
 from .kept import Kept
 from .report import report, tell
@@ -133,7 +133,6 @@ def forget_sources(machine: str, seen: dict[str, float]) -> None:
         for path, days in seen.items():
             if last_seen(path) == days:
                 files.remove(path)
-                files.remove(path + source.ENTRIES)
 
 
 def round_of(shared: collector.Shared) -> None:
@@ -149,6 +148,18 @@ def round_of(shared: collector.Shared) -> None:
         if is_free:
             delete_old(shared.settings, {name: days for name, days in closed.items() if name in there}, noted)
     expire_sources(noted.age.days, shared.settings)
+    expire_notes(shared, noted.age.days)
+
+
+def expire_notes(shared: collector.Shared, age: float) -> None:
+    """Once a day of the collector's age, and at each start: notes go in whose window nothing was noted for long."""
+    if int(age) == shared.notes_day:
+        return
+    days = max(shared.settings.keep_days, shared.settings.keep_answers_days)
+    with shared.holding.by_itself(lambda: shared.stops) as is_alone:
+        if is_alone:
+            notes.expire(age, days)
+            shared.notes_day = int(age)
 
 
 def delete_old(settings: Settings, closed: dict[str, float], noted: Kept) -> None:
@@ -161,5 +172,4 @@ def delete_old(settings: Settings, closed: dict[str, float], noted: Kept) -> Non
     # What a person says that he moves away may be there yet.
     gone = (noted.gone | frozenset(closed)) - frozenset(databases.all_names())
     if gone:
-        missing.settle(missing.Change(gone, frozenset()))
-        kept.note_settled()
+        missing.settle(gone)

@@ -5,7 +5,7 @@ import time
 
 from shared import files
 
-from . import collector, migration, missing, program, recovery, renaming, retention, settings, shares
+from . import collector, migration, missing, notes, program, recovery, renaming, retention, settings, shares
 from .recent import recent
 from .report import report, status, tell
 
@@ -59,7 +59,8 @@ def listen(shared: collector.Shared) -> None:
 
 
 def serve(shared: collector.Shared, once: bool) -> None:
-    """Takes up what was left, and then stores what comes."""
+    """Takes up what was left, and then stores what comes. Nothing is answered before the notes have all that earlier
+    runs stored."""
     renaming.finish()
     missing.look()
     retention.look(shared)
@@ -67,9 +68,8 @@ def serve(shared: collector.Shared, once: bool) -> None:
     recent.begin(shared.settings, once)
     recent.clean()
     recovering = recovery.Recovery(shared)
-    if once:
-        recovering.run()
     retention.round_of(shared)
+    recovering.run()
     shared.look_for_room()
     threads = collector.begun(shared, once)
     if not once:
@@ -84,11 +84,11 @@ def serve(shared: collector.Shared, once: bool) -> None:
 
 def watch(shared: collector.Shared, recovering: recovery.Recovery) -> None:
     """What is done now and then, until it is to stop."""
-    rounds, recovered = time.monotonic(), None
+    rounds = recovered = time.monotonic()
     while not shared.stops:
         now = time.monotonic()
         try:
-            if recovered is None or now - recovered >= RECOVER_SECONDS:
+            if now - recovered >= RECOVER_SECONDS or shared.holding.is_left or notes.are_to_be_made():
                 recovering.run()
                 recovered = now
             if now - rounds >= ROUND_SECONDS:

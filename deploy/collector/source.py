@@ -1,22 +1,19 @@
-"""What is known of a source: which of its entries are acknowledged, and the last answer.
+"""What is known of a source: what the program answered to its uploads.
 
 It lies in sources/MACHINE/SOURCE, in lines, and is replaced whole:
 
-    source 2                        the version of this format
-    answer ack .. | no ..           the last answer
-    before POSITION                 an earlier version said that the entries before it are acknowledged
-    run BEGIN END SEQUENCE NUMBER   entries BEGIN to END - 1 are acknowledged, the last has this key; `- -`: not known
-    conflict POSITION IDENTITY      the entry at POSITION was refused with 60, and is as long as it is the same
-    file DIGEST DATABASE            a journal file that is acknowledged, and which database has it
-    refused DIGEST PLACE            a journal file that was refused with 60
-    stored RECORD DATABASE          the records from this one on are of entries that this database has
-    entries COUNT SUM               so many records of sources/MACHINE/SOURCE.entries count, which have this sum
+    source 3                        the version of this format
+    answer ack .. | no ..           the last line of the program; then earlier acks that reach further, the last first
+    last POSITION SEQUENCE NUMBER   POSITION entries were acknowledged, the last of which has this key
+    before POSITION                 no upload went beyond this position without a gap
+    gaps COUNT                      so many uploads began behind what had come before
+    stored COUNT DATABASE           the database that got its last new entries got so many of it
     seen DAYS                       the age of the collector, in days, when it was answered last
     sum SUM                         the sum of all lines before it
 
-In place of a database stands `/past` for one whose days are over, and `/unknown` if an earlier version stored there.
-Runs and records are of the source's streams. What a journal file has is known by the digest of the file alone. Records
-after COUNT are of a run that was stopped. Whoever changes a source's files has sources/MACHINE/lock.
+Answers are lines of the program as they are, and none is made of others. An ack that reaches no further than a later
+one goes: whoever sent the later upload had come to where that begins. Whoever changes a source's file has
+sources/MACHINE/lock.
 """
 from __future__ import annotations
 
@@ -27,74 +24,67 @@ from shared.formats import is_id
 from shared.records import NamedTuple
 
 from . import state
-from .answer import Answer, Key, NoAnswer, acked, read_answer
+from .answer import Answer, Key, NoAnswer, read_answer
 from .state import Damaged
 
-FORMAT, OLD_FORMAT = "source 2", "source 1"
-# The digits of ids and identities, of a file's digest, and of a sum.
-ID_DIGITS, DIGEST_DIGITS, SUM_DIGITS = 32, 64, 8
-RUNS = 64
-CONFLICTS = 64
-FILES = 64
-ENTRIES = ".entries"
-# What stands in place of a database whose days are over, and of one that isn't known.
-PAST, UNKNOWN = "/past", "/unknown"
+FORMAT = "source 3"
+# Earlier versions kept runs of positions, and a record of each entry beside the file.
+OLD_FORMATS, OLD_ENTRIES = ("source 1", "source 2"), ".entries"
+ID_DIGITS = 32
+ANSWERS = 64
 
 
-class Run(NamedTuple):
-    """Acknowledged entries without a gap."""
-    begin: int
-    end: int
-    last: Key | None
+class Last(NamedTuple):
+    """So many entries were acknowledged, and the last one has this key."""
+    position: int
+    key: Key
 
 
 class Source:
     """What is known of a source."""
 
-    def __init__(self, answer: Answer | None = None, seen: float = 0.0) -> None:
-        self.answer, self.seen = answer, seen
-        self.before = 0
-        self.runs: list[Run] = []
-        self.conflicts: dict[int, bytes] = {}
-        self.files: dict[str, str] = {}
-        self.stored: list[tuple[int, str]] = []
-        self.refused_files: dict[str, int] = {}
-        self.entries = self.sum = 0
+    def __init__(self, seen: float = 0.0) -> None:
+        self.answers: list[Answer] = []
+        self.last: Last | None = None
+        self.before = self.gaps = self.stored = 0
+        self.database = ""
+        self.seen = seen
         self.is_old = False
 
-    def run_at(self, position: int) -> Run | None:
-        """The run that has this position, or ends before it."""
-        return next((run for run in self.runs if run.begin <= position <= run.end), None)
+    def take(self, answer: Answer, last: Key | None) -> bool:
+        """Takes the program's answer to an upload, and the key of the upload's last entry, if that is known and the
+        upload is of a stream. Whether the upload left a gap."""
+        acks = [each for each in self.answers if each.is_ack]
+        if not answer.is_ack:
+            self.answers = [answer, *acks][:ANSWERS]
+            return False
+        further = [each for each in acks if each.end > answer.end]
+        if answer.count == 0:
+            self.answers = [answer, *further][:ANSWERS]
+            return False
+        # A journal file and a stream under one id have positions of their own.
+        self.answers = [answer, *further][:ANSWERS] if last and self.last else [answer]
+        if not (last and self.last) or answer.end >= self.last.position:
+            self.last = Last(answer.end, last) if last else None
+        is_gap = answer.start > self.before
+        self.before, self.gaps = max(self.before, answer.end), self.gaps + is_gap
+        return is_gap
 
-    def acknowledge(self, begin: int, end: int, last: Key | None) -> Run:
-        """From now on these entries are acknowledged too. The run that they are in."""
-        joined = Run(begin, end, last)
-        apart = []
-        for run in self.runs:
-            if run.end < begin or run.begin > end:
-                apart.append(run)
-                continue
-            if run.end > joined.end or (run.end == joined.end and joined.last is None):
-                joined = joined._replace(last=run.last)
-            joined = Run(min(joined.begin, run.begin), max(joined.end, run.end), joined.last)
-        # The shortest are given up if there are too many. Their entries are known by their keys all the same.
-        kept = sorted(apart, key=lambda run: run.begin - run.end)[:RUNS - 1]
-        self.runs = sorted([*kept, joined], key=lambda run: run.begin)
-        return joined
+    def store(self, database: str, count: int) -> None:
+        """A database got so many new entries of it."""
+        self.stored = count + (self.stored if self.database == database else 0)
+        self.database = database
+
+    def forget_answers(self) -> None:
+        """What it was told may be stored no more, so its machine isn't told that any more."""
+        self.answers, self.last = [], None
 
     def lines(self, waits: bool, source: str) -> list[str]:
-        """What its machine is told: the last answer, the last acknowledged entry before or of it, what waits."""
-        told = [self.answer.text] if self.answer else []
-        if self.runs:
-            start = self.answer.start if self.answer else 0
-            run = self.run_at(start) or self.runs[-1]
-            if run.last and run.end > 0:
-                told.append(f"last {source} {run.end} {run.last.sequence} {run.last.number}")
+        """What its machine is told: what the program answered, the last acknowledged entry, what waits."""
+        told = [answer.text for answer in self.answers]
+        if self.last:
+            told.append(f"last {source} {self.last.position} {self.last.key.sequence} {self.last.key.number}")
         return told + [f"waits {source}"] * waits
-
-    def joined_answer(self, source: str, run: Run, new: int, left: int) -> Answer:
-        """The ack of a whole run."""
-        return acked(source, run.begin, run.end - run.begin, new, left)
 
 
 # The file -------------------------------------------------------------------------------------------------------------
@@ -102,31 +92,19 @@ class Source:
 
 def text(source: Source) -> bytes:
     """What a source's file has."""
-    lines = [FORMAT]
-    if source.answer:
-        lines.append(f"answer {source.answer.text}")
-    if source.before:
-        lines.append(f"before {source.before}")
-    for run in source.runs:
-        key = f"{run.last.sequence} {run.last.number}" if run.last else "- -"
-        lines.append(f"run {run.begin} {run.end} {key}")
-    lines += [f"conflict {position} {identity.hex()}" for position, identity in source.conflicts.items()]
-    lines += [f"file {digest} {name}" for digest, name in list(source.files.items())[-FILES:]]
-    lines += [f"refused {digest} {place}" for digest, place in list(source.refused_files.items())[-FILES:]]
-    lines += [f"stored {record} {name}" for record, name in source.stored]
-    lines += [f"entries {source.entries} {source.sum:08x}", f"seen {source.seen:.4f}"]
-    return state.text_of(lines)
+    lines = [FORMAT, *(f"answer {answer.text}" for answer in source.answers)]
+    if source.last:
+        lines.append(f"last {source.last.position} {source.last.key.sequence} {source.last.key.number}")
+    lines += [f"before {source.before}"] * bool(source.before) + [f"gaps {source.gaps}"] * bool(source.gaps)
+    if source.database:
+        lines.append(f"stored {source.stored} {source.database}")
+    return state.text_of([*lines, f"seen {source.seen:.4f}"])
 
 
-def run_of(words: list[str]) -> Run:
-    """A run as its line has it."""
-    begin, end, sequence, number = words
-    last = None
-    if (sequence, number) != ("-", "-"):
-        last = Key(state.hexadecimal(sequence, ID_DIGITS), state.number(number))
-    if state.number(begin) >= state.number(end):
-        raise ValueError("a run without entries")
-    return Run(int(begin), int(end), last)
+def key_of(words: list[str]) -> Key:
+    """A key as a line has it."""
+    sequence, number = words
+    return Key(state.hexadecimal(sequence, ID_DIGITS), state.number(number))
 
 
 def take_line(source: Source, line: str) -> None:
@@ -134,55 +112,63 @@ def take_line(source: Source, line: str) -> None:
     name, _, rest = line.partition(" ")
     words = rest.split(" ")
     if name == "answer":
-        source.answer = read_answer(rest)
+        source.answers.append(read_answer(rest))
+    elif name == "last":
+        source.last = Last(state.number(words[0]), key_of(words[1:]))
     elif name == "before":
         source.before = state.number(rest)
-    elif name == "run":
-        source.runs.append(run_of(words))
-    elif name == "conflict":
-        source.conflicts[state.number(words[0])] = bytes.fromhex(state.hexadecimal(words[1], ID_DIGITS))
-    elif name == "file":
-        digest, _, database = rest.partition(" ")
-        source.files[state.hexadecimal(digest, DIGEST_DIGITS)] = database or UNKNOWN
-    elif name == "refused":
-        source.refused_files[state.hexadecimal(words[0], DIGEST_DIGITS)] = state.number(words[1])
+    elif name == "gaps":
+        source.gaps = state.number(rest)
     elif name == "stored":
-        source.stored.append((state.number(words[0]), rest.partition(" ")[2]))
-    elif name == "entries":
-        source.entries = state.number(words[0])
-        source.sum = 0 if source.is_old else int(state.hexadecimal(words[1], SUM_DIGITS), 16)
+        source.stored, source.database = state.number(words[0]), rest.partition(" ")[2]
     elif name == "seen":
         source.seen = state.decimal(rest)
     else:
         raise ValueError(f"an unknown line: {line[:80]}")
 
 
+def of_earlier_version(lines: list[str]) -> Source:
+    """What a file of an earlier version says, as far as it is still kept: the last answer, how far that came with the
+    key there, and when it was."""
+    source = Source()
+    source.is_old = True
+    keys: dict[int, list[str]] = {}
+    for line in lines[1:]:
+        name, _, rest = line.partition(" ")
+        words = rest.split(" ")
+        if name in ("answer", "seen"):
+            take_line(source, line)
+        elif name == "before":
+            source.before = max(source.before, state.number(rest))
+        elif name == "run":
+            source.before = max(source.before, state.number(words[1]))
+            keys[state.number(words[1])] = words[2:]
+    for answer in source.answers:
+        key = keys.get(answer.end, ["-"])
+        if answer.is_ack and key[0] != "-":
+            source.last = Last(answer.end, key_of(key))
+    return source
+
+
 def read(path: str) -> Source | None:
     """What is known of a source; None if nothing is."""
-    lines = state.read_lines(path, unsummed=OLD_FORMAT)
+    lines = state.read_lines(path, unsummed=OLD_FORMATS[0])
     if lines is None:
         return None
-    source = Source()
-    source.is_old = lines[:1] == [OLD_FORMAT]
     try:
-        if lines[:1] not in ([FORMAT], [OLD_FORMAT]):
+        if lines[:1] in ([each] for each in OLD_FORMATS):
+            return of_earlier_version(lines)
+        if lines[:1] != [FORMAT]:
             raise ValueError(f"doesn't begin with `{FORMAT}`")
+        source = Source()
         for line in lines[1:]:
             take_line(source, line)
         # There is one text for each value.
-        if not source.is_old and text(source) != state.text_of(lines):
+        if text(source) != state.text_of(lines):
             raise ValueError("a line isn't in its place")
     except (ValueError, IndexError, NoAnswer) as error:
         raise Damaged(f"{path}: {error}") from error
     return source
-
-
-def put_aside(path: str) -> str:
-    """Nobody reads a source's files any more; where the first of them is now."""
-    aside = files.put_aside(path)
-    if os.path.lexists(path + ENTRIES):
-        files.put_aside(path + ENTRIES)
-    return aside
 
 
 def write(path: str, source: Source, is_synced: bool = True) -> None:

@@ -30,6 +30,10 @@ class Tally:
         if is_first and new:
             report(0, f"stored {new} entries of {machine} in {databases.path_of(name)}: its first")
 
+    def is_empty(self) -> bool:
+        """Whether it got none."""
+        return not any(self.entries.values())
+
     def say(self, name: str) -> None:
         """Says it, in one line."""
         there = {machine: count for machine, count in self.entries.items() if count}

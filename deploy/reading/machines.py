@@ -13,7 +13,7 @@ from pathlib import Path
 from reading.failure import WRONG_CALL, Failure
 from shared import files
 
-SEQUENCE = re.compile(r"(?:run \d+ \d+ )?([0-9a-f]{32})(?: \d+)?")
+SEQUENCE = re.compile(r"(?:run \d+ \d+ |last \d+ )?([0-9a-f]{32})(?: \d+)?")
 SOURCE = re.compile(r"[0-9a-f]{32}|sequences")
 # What a person can read; more of a list says no more.
 MOST_NAMED = 8

@@ -64,15 +64,15 @@ def look_at_sources(machine: Machine) -> None:
 
 def add_source(machine: Machine, name: str, known: source.Source, path: str) -> None:
     """Adds what is known of one of its sources."""
-    machine.acknowledged += sum(max(0, run.end - run.begin) for run in known.runs)
-    machine.gaps += sum(run.begin > 0 for run in known.runs)
-    told = looking.status(path)
-    if known.answer is None or told is None:
+    machine.acknowledged += known.before
+    machine.gaps += known.gaps
+    told, last = looking.status(path), known.answers[0] if known.answers else None
+    if last is None or told is None:
         return
     if machine.last_answer is None or told.st_mtime > machine.last_answer:
-        machine.last_answer, machine.last_line = told.st_mtime, known.answer.text
-    if not known.answer.is_ack:
-        machine.refused.append(known.answer.text)
+        machine.last_answer, machine.last_line = told.st_mtime, last.text
+    if not last.is_ack:
+        machine.refused.append(last.text)
 
 
 def look_at_waiting(folder: str, machines: dict[str, Machine]) -> None:

@@ -3,12 +3,10 @@
 usage: python3 ack_rows.py LIBRARY [ROW..]
 """
 import gzip
-import hashlib
 import os
 import shutil
 import struct
 import sys
-import zlib
 
 from collector_case import HERE, SEQUENCE, SOURCE, Case, entries, file_upload, tried, upload
 from trial_rows import Row, Rows
@@ -34,7 +32,7 @@ def file_and_stream_under_one_id(row: Row, case: Case) -> None:
     row.expect("entries of the stream", case.numbers(), [1, 2, 3, 4, 5])
     # what the file had before makes no answer longer, and what comes behind it is stored too
     case.store(upload(entries(6, 9), start=5))
-    row.expect("the stream goes on", case.answers()[0], f"ack {SOURCE} 0 9 4 0")
+    row.expect("the stream goes on", case.answers()[0], f"ack {SOURCE} 5 4 4 0")
     row.expect("entries", (case.numbers(), sum(case.stored().values())), (list(range(1, 10)), 15))
 
 
@@ -48,39 +46,111 @@ def stream_and_file_under_one_id(row: Row, case: Case) -> None:
 
 
 @ROWS.once
-def another_journal_file(row: Row, case: Case) -> None:
-    """A file that was set back and has fewer entries is answered by what it has."""
-    case.store(file_upload(journal_file()))
-    shorter = bytearray(journal_file())
-    struct.pack_into("<Q", shorter, 152, 4)
-    status, said = case.store(file_upload(bytes(shorter)))
-    row.expect("status", (status, "isn't the one that came before" in said), (1, True))
-    row.expect("the answer", case.answers()[0].split()[:4], ["ack", SOURCE, "0", "4"])
+def journal_file_that_changes(row: Row, case: Case) -> None:
+    """A journal file comes with four of its entries, then with six, then with six again, then with four: each entry is
+    stored once, and each answer says what came."""
+    for count, new in ((4, 4), (6, 2), (6, 0), (4, 0)):
+        grown = bytearray(journal_file())
+        struct.pack_into("<Q", grown, 152, count)
+        row.expect(f"{count} entries", case.store(file_upload(bytes(grown))), (0, ""))
+        row.expect(f"{count} entries: the answer", case.answers()[0], f"ack {SOURCE} 0 {count} {new} 0")
+    row.expect("stored", sorted(case.stored().values()), [1] * 6)
+
+
+# One journal over all databases ---------------------------------------------------------------------------------------
+
+
+@ROWS.once
+def late_and_double(row: Row, case: Case) -> None:
+    """Uploads come twice, the later one first, and cut another way, each into a database of its own. What a machine is
+    told of them holds also what reaches further than the last one."""
+    for first, last, new in ((6, 9, 4), (1, 5, 5), (6, 9, 0), (1, 5, 0), (3, 12, 3), (2, 4, 0)):
+        case.store(upload(entries(first, last), start=first - 1))
+        row.expect(f"{first} to {last}", case.answers()[0], f"ack {SOURCE} {first - 1} {last - first + 1} {new} 0")
+    row.expect("what else is told", case.answers()[1:], [f"ack {SOURCE} 2 10 3 0", f"last {SOURCE} 12 {SEQUENCE} 12"])
+    row.expect("stored", case.numbers(), list(range(1, 13)))
+
+
+@ROWS.once
+def begun_anew(row: Row, case: Case) -> None:
+    """A stream is begun anew over the whole journal, under another id: only what is new of it is stored."""
+    case.store(upload(entries(1, 20)))
+    case.store(upload(entries(1, 25), name=OTHER))
+    row.expect("the answer", case.answers()[0], f"ack {OTHER} 0 25 5 0")
+    row.expect("stored", case.numbers(), list(range(1, 26)))
+
+
+@ROWS.once
+def one_entry_by_two_machines(row: Row, case: Case) -> None:
+    """Two machines send the same entries, into one database and into two: each is stored once, and acknowledged to
+    both."""
+    for machine in ("web", "mail"):
+        case.receive(upload(entries(1, 5)), machine)
+    row.expect("one database", case.collect(), (0, ""))
+    case.store(upload(entries(1, 9)), "db-1")
+    told = [case.answers(machine)[0] for machine in ("web", "mail", "db-1")]
+    row.expect("answers", told, [f"ack {SOURCE} 0 5 5 0", f"ack {SOURCE} 0 5 0 0", f"ack {SOURCE} 0 9 4 0"])
+    row.expect("stored", case.numbers(), list(range(1, 10)))
+
+
+@ROWS.once
+def another_entry_under_a_key(row: Row, case: Case) -> None:
+    """An entry under the key of another one is refused with 60, and nothing else of its upload is stored: whichever
+    source and machine it comes by, and whichever database has the other one."""
+    case.store(upload(entries(1, 5)))
+    mixed = [*entries(4, 4), *entries(5, 5, text="other"), *entries(6, 7)]
+    for machine, name in (("web", SOURCE), ("web", OTHER), ("mail", SOURCE)):
+        status, said = case.store(upload(mixed, start=3, name=name), machine)
+        row.expect(f"{machine}@{name}", (status, f"no {name} 3 60 1" in case.answers(machine)), (1, True))
+    row.expect("what web was told before", f"ack {SOURCE} 0 5 5 0" in case.answers(), True)
+    row.expect("stored", case.numbers(), [1, 2, 3, 4, 5])
+    # without that entry the others are taken
+    case.store(upload([*entries(4, 5), *entries(6, 7)], start=3))
+    row.expect("again", (case.answers()[1], case.numbers()), (f"ack {SOURCE} 3 4 2 0", list(range(1, 8))))
+
+
+@ROWS.once
+def conflict_within_an_upload(row: Row, case: Case) -> None:
+    """An upload that has two entries under one key says so of the second one, and leaves nothing."""
+    case.store(upload([*entries(1, 2), *entries(2, 2, text="other")]))
+    row.expect("refused", (case.answers(), case.numbers()), ([f"no {SOURCE} 0 60 2"], []))
+
+
+# What is kept of sources ----------------------------------------------------------------------------------------------
 
 
 @ROWS.once
 def folder_of_the_version_before(row: Row, case: Case) -> None:
-    """What it said of a file's positions isn't taken for those of a stream; what it knew of a stream is."""
+    """Of its sources the last answer is taken up. What they acknowledged is known by the databases: nothing is stored
+    twice, and nothing is taken for stored because of a position."""
     case.store(upload(entries(1, 4), name=OTHER))
-    old_file(case, OTHER, runs=f"run 0 4 {'20' * 16} 4\n", records=4)
-    old_file(case, SOURCE, runs=f"run 0 6 {'20' * 16} 6\nfile {'ab' * 32}\n", records=0)
-    status, said = case.store(upload(entries(1, 6, sequence="40" * 16)))
-    row.expect("a stream under the file's id", (status, case.answers()[-2]), (0, f"ack {SOURCE} 0 6 6 0"))
-    status, said = case.store(upload(entries(3, 8), start=2, name=OTHER))
-    row.expect("a stream goes on", (status, case.answers()[0]), (0, f"ack {OTHER} 0 8 4 0"))
+    shutil.rmtree(case.path("sequences"))
+    old_file(case, OTHER, f"run 0 4 {SEQUENCE} 4\nentries 4\n")
+    old_file(case, SOURCE, f"run 0 6 {SEQUENCE} 6\nfile {'ab' * 32}\nentries 0\n")
+    with open(case.path("sources", "web", f"{OTHER}.entries"), "wb") as file:
+        file.write(bytes(96))
+    row.expect("taken up", case.collect(), (0, ""))
+    row.expect("what is told", case.answers(), [
+        *(line for name in (OTHER, SOURCE) for line in
+          [f"ack {name} 0 4 4 0", *[f"last {name} 4 {SEQUENCE} 4"] * (name == OTHER)])])
+    row.expect("records", os.path.exists(case.path("sources", "web", f"{OTHER}.entries")), False)
+    case.store(upload(entries(1, 6, sequence="40" * 16)))
+    row.expect("a stream under the file's id", case.answers()[-2], f"ack {SOURCE} 0 6 6 0")
+    row.expect("a stream goes on", case.store(upload(entries(3, 8), start=2, name=OTHER)), (0, ""))
+    row.expect("its answer", case.answers()[0], f"ack {OTHER} 2 6 4 0")
     row.expect("entries", (case.numbers(), len(case.numbers("40" * 16))), (list(range(1, 9)), 6))
 
 
-def old_file(case: Case, name: str, runs: str, records: int) -> None:
-    """The file of a source, as the version before wrote it."""
+def old_file(case: Case, name: str, lines: str) -> None:
+    """The file of a source, as an earlier version wrote it."""
     os.makedirs(case.path("sources", "web"), exist_ok=True)
     with open(case.path("sources", "web", name), "w", encoding="ascii") as file:
-        file.write(f"source 1\nanswer ack {name} 0 4 4 0\n{runs}entries {records}\nseen 0.0000\n")
+        file.write(f"source 1\nanswer ack {name} 0 4 4 0\n{lines}seen 0.0000\n")
 
 
 @ROWS.once
 def positions_that_an_older_version_said(row: Row, case: Case) -> None:
-    """An answer of the first version is no evidence: what comes again is stored again, and behind it is no gap."""
+    """An answer of the first version is no evidence: what comes again is stored, and behind it is no gap."""
     os.makedirs(case.path("answers", "web"))
     with open(case.path("answers", "web", f"{SOURCE}.answer"), "w", encoding="ascii") as file:
         file.write(f"no {SOURCE} 1000 60 0\n")
@@ -92,82 +162,18 @@ def positions_that_an_older_version_said(row: Row, case: Case) -> None:
 
 
 @ROWS.once
-def changed_byte_of_a_run(row: Row, case: Case) -> None:
+def changed_byte(row: Row, case: Case) -> None:
     """A changed byte of a source's file doesn't make its answers longer: it is put aside, and told."""
     case.store(upload(entries(1, 5)))
     path = case.path("sources", "web", SOURCE)
     with open(path, "rb") as file:
         text = file.read()
     with open(path, "wb") as file:
-        file.write(text.replace(b"run 0 5 ", b"run 0 9 "))
+        file.write(text.replace(b" 0 5 5 0", b" 0 9 5 0"))
+    row.expect("what is told", case.answers(), [])
     status, said = case.store(upload(entries(1, 6)))
     row.expect("status", (status, "is put aside as" in said), (3, True))
-    row.expect("the answer", case.answers()[0], f"ack {SOURCE} 0 6 6 0")
-
-
-@ROWS.once
-def changed_record(row: Row, case: Case) -> None:
-    """A changed byte among the records refuses the source for one upload at most, and acknowledges nothing."""
-    for place in (3, 9, 20, 24 * 4 + 1):
-        case.store(upload(entries(1, 5)))
-        path = case.path("sources", "web", SOURCE)
-        with open(f"{path}.entries", "r+b") as file:
-            file.seek(place)
-            byte = file.read(1)
-            file.seek(place)
-            file.write(bytes([byte[0] ^ 1]))
-        status, said = case.store(upload(entries(1, 6)))
-        row.expect(f"{place}: status", (status, "its sum is another one" in said), (3, True))
-        row.expect(f"{place}: the answer", case.answers()[0], f"ack {SOURCE} 0 6 6 0")
-        shutil.rmtree(case.folder)
-
-
-@ROWS.once
-def record_of_another_position(row: Row, case: Case) -> None:
-    """Records that fit their sum are believed: what says so of an entry is its key and its content, and no position."""
-    case.store(upload(entries(1, 5)))
-    path = case.path("sources", "web", SOURCE)
-    with open(f"{path}.entries", "rb") as file:
-        records = file.read()
-    # the record of entry 3 is gone, and its position is in the run all the same
-    records = records[:48] + records[72:]
-    with open(f"{path}.entries", "wb") as file:
-        file.write(records)
-    lines = [line for line in open(path, encoding="ascii").read().split("\n")[:-2]]
-    lines = [f"entries 4 {zlib.crc32(records):08x}" if line.startswith("entries") else line for line in lines]
-    text = "".join(line + "\n" for line in lines).encode()
-    with open(path, "wb") as file:
-        file.write(text + b"sum %08x\n" % zlib.crc32(text))
-    case.store(upload(entries(3, 3), start=2))
-    row.expect("entry 3", case.numbers().count(3), 2)
-
-
-def identity(number: int, pairs: list[tuple[bytes, bytes]]) -> bytes:
-    """What every version has noted of an entry: of its key, and of its times with its pairs in their order."""
-    key = hashlib.blake2b(f"{SEQUENCE} {number}".encode(), digest_size=8)
-    content = hashlib.blake2b(b"%d %d" % (1_700_000_000_000_000 + number, number), digest_size=8)
-    for name, value in pairs:
-        content.update(b" %d %d %s%s" % (len(name), len(value), name, value))
-    return key.digest() + content.digest()
-
-
-@ROWS.once
-def what_is_noted_of_entries(row: Row, case: Case) -> None:
-    """A version that noted something else of an entry would store again what an earlier one has acknowledged. Neither
-    the order of fields, nor their spelling, nor one that comes twice changes it."""
-    texts = [b"__SEQNUM=%d\n__SEQNUM_ID=%s\n__MONOTONIC_TIMESTAMP=%d\n__REALTIME_TIMESTAMP=%d\n" % (
-        number, SEQUENCE.encode(), number, 1_700_000_000_000_000 + number) for number in (1, 2, 3)]
-    long = b"MESSAGE\n" + (3).to_bytes(8, "little") + b"a\nb\n"
-    spelled = b"PRIORITY\n" + (1).to_bytes(8, "little") + b"6\n"
-    case.store(upload([texts[0] + b"PRIORITY=6\nMESSAGE=a=b\n\n", b"\n" + long + texts[1] + b"PRIORITY=6\n\n",
-                       b"PRIORITY=6\nA=\n" + texts[2] + spelled + b"\n"]))
-    wanted = [identity(1, [(b"MESSAGE", b"a=b"), (b"PRIORITY", b"6")]),
-              identity(2, [(b"MESSAGE", b"a\nb"), (b"PRIORITY", b"6")]),
-              identity(3, [(b"A", b""), (b"PRIORITY", b"6")])]
-    with open(case.path("sources", "web", f"{SOURCE}.entries"), "rb") as file:
-        records = file.read()
-    row.expect("records", [record.hex() for record in struct.unpack("24s" * 3, records)], [
-        (at.to_bytes(8, "little") + each).hex() for at, each in enumerate(wanted)])
+    row.expect("the answer", case.answers()[0], f"ack {SOURCE} 0 6 1 0")
 
 
 @ROWS.once

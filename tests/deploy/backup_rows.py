@@ -77,16 +77,16 @@ def while_the_service_runs(row: Row, case: Case) -> None:
     service, backup = Service(row, case), f"{case.base}/backup"
     service.store(upload(entries(1, 5)), f"ack {SOURCE} 0 5 ")
     row.expect("backup", case.collect("--backup", backup), (0, ""))
-    service.store(upload(entries(6, 9), start=5), f"ack {SOURCE} 0 9 ")
+    service.store(upload(entries(6, 9), start=5), f"ack {SOURCE} 5 4 ")
     row.expect("again", case.collect("--backup", backup), (0, ""))
-    service.store(upload(entries(10, 12), start=9), f"ack {SOURCE} 0 12 ")
+    service.store(upload(entries(10, 12), start=9), f"ack {SOURCE} 9 3 ")
     said = service.stop()
     row.expect("what the service said", said, "")
     row.expect("digests", whole(case, backup), True)
     lose(case)
     status, said = case.collect("--restore", backup)
     row.expect("put back", (status, "2 of 2 databases" in said), (0, True))
-    row.expect("what is acknowledged", case.answers(), [f"ack {SOURCE} 0 9 4 0", f"last {SOURCE} 9 {'20' * 16} 9"])
+    row.expect("what is acknowledged", case.answers(), [f"ack {SOURCE} 5 4 4 0", f"last {SOURCE} 9 {'20' * 16} 9"])
     row.expect("entries", case.numbers(), list(range(1, 10)))
     # its machine goes on behind what it holds acknowledged: that is a gap, and told; and sends again what it still has
     status, said = case.store(upload(entries(13, 14), start=12))
@@ -100,8 +100,8 @@ def while_the_service_runs(row: Row, case: Case) -> None:
 @ROWS.once
 def what_comes_while_it_is_made(row: Row, case: Case) -> None:
     """The service is slow: after a backup has begun it stores another upload in the present database, before it
-    finishes that, and one in the next. The backup's databases and what it knows of sources agree: nothing of the first
-    is stored a second time, and the other one isn't called acknowledged."""
+    finishes that, and one in the next. The backup's databases have all that its answers acknowledge: nothing of the
+    first is stored a second time, and the other one isn't called acknowledged."""
     case.set(DATABASE_SECONDS=1000)
     service, backup = Service(row, case), f"{case.base}/backup"
     service.store(upload(entries(1, 5)), f"ack {SOURCE} 0 5 ")
@@ -113,26 +113,26 @@ def what_comes_while_it_is_made(row: Row, case: Case) -> None:
     time.sleep(0.5)
     case.receive(upload(entries(6, 9), start=5))
     service.process.send_signal(signal.SIGCONT)
-    service.wait_for(lambda: case.answers()[0].startswith(f"ack {SOURCE} 0 9 "))
+    service.wait_for(lambda: case.answers()[0].startswith(f"ack {SOURCE} 5 4 "))
     _, told = making.communicate(timeout=300)
     row.expect("backup", (making.returncode, told), (0, b""))
-    service.store(upload(entries(10, 12), start=9), f"ack {SOURCE} 0 12 ")
+    service.store(upload(entries(10, 12), start=9), f"ack {SOURCE} 9 3 ")
     service.stop()
     lose(case)
     row.expect("put back", case.collect("--restore", backup)[0], 0)
-    row.expect("what is acknowledged", case.answers()[0].split()[:4], ["ack", SOURCE, "0", str(len(case.numbers()))])
-    row.expect("entries", case.numbers(), list(range(1, len(case.numbers()) + 1)))
+    row.expect("what is acknowledged", case.answers()[0], f"ack {SOURCE} 0 5 5 0")
+    row.expect("entries", case.numbers(), list(range(1, 10)))
     case.store(upload(entries(1, 12)))
     row.expect("all of it again", case.numbers(), list(range(1, 13)))
 
 
 @ROWS.once
 def begun_while_it_is_made(row: Row, case: Case) -> None:
-    """A database that is begun while others are copied isn't in the backup, nor is what is known by it; that isn't
+    """A database that is begun while others are copied isn't in the backup, nor is an answer about it; that isn't
     told as something that is missing."""
     case.set(DATABASE_NAME="d")
     case.store(upload(entries(1, 5)))
-    # as it is read: the copies of databases are made, those of sources aren't
+    # as it is read: the copies of sources and of databases are made
     text = ("import sys; sys.path.insert(0, sys.argv[1]); from collector import backup, incoming; import subprocess; "
             "copy = backup.copy_database; backup.copy_database = lambda *words: (copy(*words), "
             "subprocess.run(sys.argv[4:], check=True))[0]; sys.exit(incoming.main(['--backup', *sys.argv[2:4]]))")
@@ -141,11 +141,11 @@ def begun_while_it_is_made(row: Row, case: Case) -> None:
                            f"{case.library}/collect-incoming", "--once", case.conf], env=case.environment(),
                           capture_output=True, check=False)
     row.expect("backup", (told.returncode, noticed(told.stderr.decode())), (0, ""))
-    row.expect("before", (case.answers()[0], case.names()), (f"ack {SOURCE} 0 9 4 0", ["d", "d-2"]))
+    row.expect("before", (case.answers()[0], case.names()), (f"ack {SOURCE} 5 4 4 0", ["d", "d-2"]))
     lose(case)
     status, said = case.collect("--restore", f"{case.base}/backup")
     row.expect("put back", (status, "is missing" in said, case.names()), (0, False, ["d"]))
-    row.expect("what is called acknowledged of the other one", case.answers(), [])
+    row.expect("what is called acknowledged", case.answers()[0], f"ack {SOURCE} 0 5 5 0")
     case.store(upload(entries(1, 9)))
     row.expect("it comes again", case.numbers(), list(range(1, 10)))
 
@@ -291,7 +291,7 @@ def power_is_lost(row: Row, case: Case) -> None:
     for number in stops(case, library, ["--backup", backup]):
         lose(case)
         status, said = case.collect("--restore", backup)
-        acked = int(case.answers()[0].split()[3])
+        acked = sum(map(int, case.answers()[0].split()[2:4]))
         row.expect(f"stop {number}: {said}", (status, acked in (3, 6), case.numbers()),
                    (0, True, list(range(1, acked + 1))))
         shutil.rmtree(backup)
@@ -314,7 +314,7 @@ def power_is_lost_as_it_is_put_back(row: Row, case: Case) -> None:
     for number in stops(case, library, ["--restore", backup]):
         status, said = case.collect("--restore", backup)
         row.expect(f"stop {number}: {said}", (status, case.answers()[0], case.numbers()),
-                   (0, f"ack {SOURCE} 0 6 3 0", list(range(1, 7))))
+                   (0, f"ack {SOURCE} 3 3 3 0", list(range(1, 7))))
 
 
 # Machines that get another name ---------------------------------------------------------------------------------------
@@ -329,7 +329,7 @@ def renamed(row: Row, case: Case) -> None:
     row.expect("what waits", (case.answers("web"), case.answers("www")[-1]), ([], f"waits {SOURCE}"))
     row.expect("it is stored", case.collect(), (0, ""))
     row.expect("it goes on", case.store(upload(entries(8, 12), start=7), "www"), (0, ""))
-    row.expect("entries", (case.answers("www")[0], case.numbers()), (f"ack {SOURCE} 0 12 3 0", list(range(1, 13))))
+    row.expect("entries", (case.answers("www")[0], case.numbers()), (f"ack {SOURCE} 7 5 3 0", list(range(1, 13))))
 
 
 @ROWS.once
@@ -359,7 +359,7 @@ def renamed_with_stops(row: Row, case: Case) -> None:
         old, new = case.answers("web"), case.answers("www")
         row.expect(f"stop {number}: {said}", (status, case.numbers()), (0, list(range(1, 10))))
         row.expect(f"stop {number}: answers", sorted(map(bool, (old, new))), [False, True])
-        row.expect(f"stop {number}", (old + new)[0], f"ack {SOURCE} 0 9 4 0")
+        row.expect(f"stop {number}", (old + new)[0], f"ack {SOURCE} 3 6 4 0")
 
 
 if __name__ == "__main__":

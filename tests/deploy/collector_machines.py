@@ -39,8 +39,6 @@ class Source:
         self.entries = []
         self.acked = 0
         self.is_closed = False
-        # The collector was restored: where what it knows of this source ends, it may not know the key.
-        self.is_restored = False
         # uploads that were made: where each begins, how many entries it has, and its file
         self.made = []
 
@@ -86,15 +84,31 @@ class Source:
     def take(self, lines: list[str]) -> list[list[str]]:
         """Takes the answers of the collector. Fails if they don't hold together."""
         own = [line.split(" ") for line in lines if line.split(" ")[1] == self.id]
-        acks = [words for words in own if words[0] == "ack"]
+        acks = sorted((int(words[2]), int(words[2]) + int(words[3])) for words in own if words[0] == "ack")
         lasts = [words for words in own if words[0] == "last"]
-        for words in acks:
-            start, count = int(words[2]), int(words[3])
-            if start <= self.acked < start + count:
-                self.acked = start + count
-            if count and (lasts or not self.is_restored):
-                self.world.expect(f"{self.machine}: last of an ack", [int(last[2]) for last in lasts], [start + count])
+        for start, end in acks:
+            if start <= self.acked:
+                self.acked = max(self.acked, end)
+        if any(start < end for start, end in acks):
+            self.world.expect(f"{self.machine}: last of its acks", [int(last[2]) for last in lasts],
+                              [max(end for _, end in acks)])
         for words in lasts:
             entry = self.entries[int(words[2]) - 1]
             self.world.expect(f"{self.machine}: the key of last", (words[3], int(words[4])), entry[:2])
         return [words for words in own if words[0] == "no"]
+
+
+class Mirror(Source):
+    """A stream that has the entries of another one: of a clone of its machine, or begun anew over the same journal."""
+
+    def __init__(self, original: Source, machine: str) -> None:
+        super().__init__(original.world, machine, original.sequence, original.number)
+        self.original = original
+
+    def grow(self, count: int) -> None:
+        """It gets some of the entries that it lacks."""
+        begin = len(self.entries)
+        with open(self.path("stream"), "ab") as file:
+            for entry in self.original.entries[begin:begin + count]:
+                file.write(entry_text(*entry))
+                self.entries.append(entry)

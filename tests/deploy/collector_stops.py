@@ -22,8 +22,8 @@ BUSY = 75
 
 
 class Stops(Trial):
-    """A collector's folder with uploads that wait: one that is cut, since its beginning is in an older database, and
-    one of another machine."""
+    """A collector's folder with uploads that wait: one whose beginning is in an older database, and one of another
+    machine."""
 
     def __init__(self, programs: str) -> None:
         super().__init__("collector's stops")
@@ -68,9 +68,9 @@ class Stops(Trial):
             time.sleep(0.05)
         what = f"killed before call {number}: {told.stderr}"
         self.expect(f"{what}: status", told.returncode in (0, 3), True)
-        for source, machine in ((self.web, "web"), (self.mail, "mail")):
+        for source, machine, start, count in ((self.web, "web", "3", "7"), (self.mail, "mail", "0", "4")):
             told = self.call("answers", [machine, self.conf]).stdout.decode().split("\n")
-            self.expect(f"{what}: answer", told[0].split(" ")[:4], ["ack", source.id, "0", str(len(source.entries))])
+            self.expect(f"{what}: answer", told[0].split(" ")[:4], ["ack", source.id, start, count])
             self.expect(f"{what}: waits", told[2:], [""])
         keys = []
         folder = os.path.join(self.collector, "databases")

@@ -1,9 +1,9 @@
-"""Rows of an upload that is read while the program stores another one: what a stop, a kill or a failure of either
+"""Rows of an upload that is looked at while the program stores another one: what a stop, a kill or a failure of either
 leaves.
 
 usage: python3 following_rows.py LIBRARY [ROW..]
 
-web's upload comes first. mail's has entries that are stored already, so reading it makes a part of it.
+web's upload comes first. mail's has entries that are stored already.
 """
 import glob
 import os
@@ -87,8 +87,8 @@ class Both:
         self.row.expect("waited in vain", True, False)
 
     def wait_until_read(self) -> None:
-        """web's upload is with the program, and mail's is read."""
-        self.wait_for(lambda: self.asked() == ["web"] and glob.glob(self.case.path("batch", "*", "*@mail@*.cut")))
+        """web's upload is with the program, and mail's is the next one."""
+        self.wait_for(lambda: self.asked() == ["web"] and glob.glob(self.case.path("batch", "*", "*@mail@*")))
 
     def asked(self) -> list[str]:
         """The machines whose uploads the program got."""

@@ -47,17 +47,20 @@ def at_once(row: Row, library: str) -> None:
 
 
 @ROWS.row
-def new_part_alone(row: Row, library: str) -> None:
-    """Of what comes again only what is new is kept; of what is refused, or has nothing new, nothing is."""
+def new_alone(row: Row, library: str) -> None:
+    """An upload of which something was stored before isn't kept: who reads would have that twice. Nor is one that is
+    refused."""
     with Collector(library) as collector:
         collector.start()
         collector.store(collector.upload(1, 3))
         collector.store(collector.upload(1, 3))
         row.same("the same again", read(collector), [1, 2, 3])
         collector.store(collector.upload(1, 5))
-        row.same("more", read(collector), [1, 2, 3, 4, 5])
+        row.same("more", read(collector), [1, 2, 3])
+        collector.store(collector.upload(6, 1, start=5))
+        row.same("what is new", read(collector), [1, 2, 3, 6])
         row.same("a conflict", collector.store(collector.upload(1, 6, text=b"other"))[:2], "no")
-        row.same("after a conflict", read(collector), [1, 2, 3, 4, 5])
+        row.same("after a conflict", read(collector), [1, 2, 3, 6])
         row.same("left", collector.names("batch", "") + collector.names("incoming", ""), [])
 
 

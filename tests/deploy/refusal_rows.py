@@ -2,6 +2,7 @@
 
 The collector's programs are there. Each row is tried with all in one database, and with another one each time.
 """
+import glob
 import itertools
 import os
 import re
@@ -91,11 +92,13 @@ def taken_fork(row: Row, machine: Deployed) -> None:
 
 @ROWS.once
 def again(row: Row, machine: Deployed) -> None:
-    """What is sent again is refused, since somebody has stored another entry under one of its keys: that one is put
-    aside, and the sequence isn't forked."""
+    """What is sent again is refused, since the collector lost what it had, and has another entry under one of its keys
+    by then: that one is put aside, and the sequence isn't forked."""
     machine.one_database = False
     machine.journal.grow(6)
     machine.settle()
+    for path in glob.glob(f"{machine.collector}/databases/*"):
+        os.unlink(path)
     machine.one_database = True
     own = machine.journal.seqnum_id
     upload_by_hand(machine, "other", "a" * 32, entry(own, 3, 1, "not this one"))
@@ -108,7 +111,8 @@ def again(row: Row, machine: Deployed) -> None:
     row.expect("the status in the end", told[-1][0], 0)
     row.expect("a file", os.listdir(f"{machine.folder}/refused"), [f"{own}-3.export"])
     stored = {message for _, message in messages(machine)}
-    row.expect("what isn't stored", {message for _, message in logged_of(machine)} - stored, set())
+    row.expect("what isn't stored", {message for _, message in logged_of(machine)} - stored,
+               {key[3] for key in machine.journal.keys() if key[:2] == (own, 3)})
 
 
 @ROWS.each

@@ -146,7 +146,7 @@ def locks_that_are_no_files(row: Row, case: Case) -> None:
             count += 2
             what = f"{kind} as {os.path.relpath(path, case.folder)}"
             row.expect(f"{what}: stored", (told, case.answers()[0].split()[:4]),
-                       ((0, ""), ["ack", SOURCE, "0", str(count)]))
+                       ((0, ""), ["ack", SOURCE, str(count - 2), "2"]))
             case.collect("--backup", f"{case.base}/backup")
     row.expect("what the links name", open(victim, encoding="ascii").read(), "a text that is somebody else's\n")
 

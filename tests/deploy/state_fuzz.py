@@ -28,7 +28,7 @@ SECONDS = 300
 SEQUENCES = {source(number): f"{number:032x}" for number in range(1, 6)}
 WRONG = ("Traceback", "Error(", "Exception")
 # Each try has an edit in each of these.
-AREAS = ("sources/web/", "sources/mail/", "(databases|batch|incoming)/.*(?<!db)$",
+AREAS = ("sources/web/", "sources/mail/", "(databases|batch|incoming)/.*(?<!db)$", "(sequences|windows)/",
          "(shares/|calls/|answers/.*/)?[^/]+$")
 # What is there only while a machine gets another name, or where an earlier version was.
 OTHERS = {"renaming": b"mail post\nsum %08x\n" % zlib.crc32(b"mail post\n"), "age": b"5.25 1764590400\n",
@@ -71,7 +71,7 @@ class Edit(edits.Edit):
     def may_sum(self, body: bytes) -> bool:
         """A sum that fits isn't damage, so what acknowledges less is left to chance, and what acknowledges more is
         not."""
-        return b"\nrun " not in body and b"\nanswer " not in body
+        return b"\nlast " not in body and b"\nanswer " not in body
 
 
 def run(library: str, program: str, words: list[str], folder: str) -> tuple[int, str]:
