@@ -66,7 +66,7 @@ awk -v to="$folder/page" \
     '/^\.Bd -literal/ { n++; on = 1; next } /^\.Ed$/ { on = 0 } on { gsub(/\\e/, "\\"); print > (to "-" n) }' \
     docs/journal-collect.1
 [[ $(find "$folder" -name 'guide-*' | wc -l) -eq 17 ]] || differs "a block of the guide isn't tried"
-[[ $(find "$folder" -name 'page-*' | wc -l) -eq 7 ]] || differs "an example of the man page isn't tried"
+[[ $(find "$folder" -name 'page-*' | wc -l) -eq 8 ]] || differs "an example of the man page isn't tried"
 blocks() {
     local moved='etc/(journal-collect|systemd/|cron|ssh/)|usr/lib/journal-collect|var/lib/journal-|backup'
     sed -E "s#(^|[^a-z/])/($moved)#\1$root/\2#g" "$folder/$1" | bash -e
@@ -240,11 +240,12 @@ expect 0 "" "" blocks page-1
 cp upload incoming/web.upload
 expect 0 "" "" blocks page-2
 expect 0 "" "" blocks page-3
-expect 0 "resume 300" "" blocks page-4
-expect 0 "" "" blocks page-5
-[[ $(blocks page-6 | wc -l) -eq 300 ]] || differs "a unit isn't shown for each entry: $(blocks page-6 | wc -l) lines"
+expect 0 "" "" blocks page-4
+expect 0 "resume 300" "" blocks page-5
+expect 0 "" "" blocks page-6
+[[ $(blocks page-7 | wc -l) -eq 300 ]] || differs "a unit isn't shown for each entry: $(blocks page-7 | wc -l) lines"
 if [[ -n $real_journalctl && -x /lib/systemd/systemd-journal-remote ]]; then
-    blocks page-7 > "$folder/told" 2> "$folder/errors" || differs "the page's journals: $(cat "$folder/errors")"
+    blocks page-8 > "$folder/told" 2> "$folder/errors" || differs "the page's journals: $(cat "$folder/errors")"
     [[ $(sort "$folder/told" | uniq | wc -l) -eq 300 ]] ||
         differs "what the page's --since shows: $(wc -l < "$folder/told") lines"
 fi
