@@ -1,6 +1,6 @@
 #!/usr/bin/env bash
-# `--json`: each line of `check`, `codes`, `inspect` and `verify` is an object that has the fields of the line by name;
-# the status is that of the call without it, and other commands refuse the option.
+# `--json`: each line of `check`, `codes`, `inspect`, `show` and `verify` is an object that has the words of the line by
+# name; the status is that of the call without it, and other commands refuse the option.
 set -uo pipefail
 . "$(dirname "$0")/expect.sh"
 . "$(dirname "$0")/shared/read_files.sh"
@@ -56,6 +56,65 @@ wanted = [{"code": int(code), "name": name, "meaning": meaning, "advice": advice
 sys.exit(not wanted or told != wanted)
 COMPARED
 
+# entries, with values of each kind: text as it is, and what people aren't shown as its size
+cat > "$folder/compare.py" << 'COMPARED'
+import json
+import struct
+import subprocess
+import sys
+from samples import SEQNUM_ID, stream
+program, folder = sys.argv[1:]
+VALUES = [
+    (None, "-"), (b"-", "-"), (b"[5 bytes]", "[5 bytes]"), (b'a "quoted" \\ tab\tulator', 'a "quoted" \\ tab\tulator'),
+    ("\u00e4\u20ac\U0001d11e".encode(), "\u00e4\u20ac\U0001d11e"), (b"", ""), (b" two  blanks ", " two  blanks "),
+    (b"\xff\xfe", "[2 bytes]"), (b"line\nline", "[9 bytes]"), ("\u202e".encode(), "[3 bytes]"),
+    (b"x" * 100_000, "x" * 100_000),
+]
+
+
+def entry(number: int, value: bytes | None) -> bytes:
+    field = b"" if value is None else b"MESSAGE\n" + struct.pack("<Q", len(value)) + value + b"\n"
+    return (b"__REALTIME_TIMESTAMP=1000000\n__MONOTONIC_TIMESTAMP=5\n__SEQNUM=%d\n__SEQNUM_ID=%s\nPRIORITY=6\n%s\n"
+            % (number, SEQNUM_ID.hex().encode(), field))
+
+
+def told(*words: str) -> list[dict[str, object]]:
+    done = subprocess.run([program, "show", f"{folder}/values.db", "--json", *words], stdout=subprocess.PIPE,
+                          check=True)
+    return [json.loads(line) for line in done.stdout.decode().splitlines()]
+
+
+with open(f"{folder}/values", "wb") as file:
+    file.write(stream(*(entry(number, value) for number, (value, _) in enumerate(VALUES, 1))))
+subprocess.run([program, "collect", f"{folder}/values.db", f"{folder}/values"], stdout=subprocess.DEVNULL, check=True)
+wanted = [{"id": SEQNUM_ID.hex(), "number": number, "realtime": 1000000, "monotonic": 5, "value": value}
+          for number, (_, value) in enumerate(VALUES, 1)]
+sys.exit(told() != wanted or told("--from", "2", "--to", "3") != wanted[1:3]
+         or told("--field", "PRIORITY") != [row | {"value": "6"} for row in wanted])
+COMPARED
+python3 -B "$folder/compare.py" "$PROGRAM" "$folder" || differs "show"
+
+# each object goes out as its line ends: with 20 MB of them a run takes hardly more memory than without them
+cat > "$folder/memory.py" << 'MEASURED'
+import os
+import subprocess
+import sys
+from samples import entry_text, stream
+program, folder = sys.argv[1:]
+
+
+def kilobytes(*words: str) -> int:
+    with subprocess.Popen([program, "show", f"{folder}/large.db", *words], stdout=subprocess.DEVNULL) as process:
+        return os.wait4(process.pid, 0)[2].ru_maxrss
+
+
+with open(f"{folder}/large", "wb") as file:
+    file.write(stream(*(entry_text(number, b"%06d" % number * 16_000) for number in range(1, 201))))
+subprocess.run([program, "collect", f"{folder}/large.db", f"{folder}/large"], stdout=subprocess.DEVNULL, check=True)
+sys.exit(kilobytes("--json") - kilobytes() > 5_000)
+MEASURED
+python3 -B "$folder/memory.py" "$PROGRAM" "$folder" || differs "the memory of show"
+
 # failures are lines on standard error, as without the option; and both options go together
 expect 3 "" "cannot open $folder/gone" "$PROGRAM" check --json "$folder/gone"
 expect 3 "" "~cannot open $folder/gone"$'\n'"explain: $folder/gone is missing: *" \
@@ -63,7 +122,7 @@ expect 3 "" "~cannot open $folder/gone"$'\n'"explain: $folder/gone is missing: *
 expect 1 '~{*"code":10,*}' "~explain: 10 EmptyName *" "$PROGRAM" --json --explain verify export "$folder/bad"
 expect 3 "" "write failed" bash -c "'$PROGRAM' --json codes > /dev/full"
 expect 0 "~*Usage: journal-collect check*" "" "$PROGRAM" check --json --help
-for command in collect export show migrate; do
+for command in collect export migrate; do
     expect 2 "" "~error: unexpected argument '--json' found*" "$PROGRAM" $command "$folder/logs.db" --json
 done
 finish

@@ -41,6 +41,7 @@ HERE_ALONE = {
         "export_journal", "show_journal", "count", "count_and_close", "export_after", "export_file", "check_export",
         "inspect_delivery", "open_or_make", "open_there", "open_old", "close_after", "close_opened", "check_name"),
     "jc_command": ("list_codes",),
+    "jc_json": ("object_of_answer", "object_of_code", "object_of_entry"),
 }
 APOSTROPHE = "'s", "'"
 # Traits of the standard library that say nothing by themselves.

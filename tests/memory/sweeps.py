@@ -341,12 +341,16 @@ def reading(trial: Trial, base: str) -> Iterator[Sweep]:
     journal.take(row)
     yield Listing(trial, "export", ["export"], base, journal.text())
     yield Listing(trial, "show", ["show", "--from", "1"], base, journal.lines())
+    entry = f'{{"id":"{samples.SEQNUM_ID.hex()}","number":1,"realtime":1000000,"monotonic":5,"value":"hi"}}\n'
+    yield Listing(trial, "show --json", ["show", "--json"], base, entry.encode())
     yield Listing(trial, "check", ["check"], base, b"ok 1\n")
     yield Migrate(trial, "migrate", older.earlier(trial, "closed"))
     yield Migrate(trial, "migrate to numbers", older.by_key(trial), ("migrate", "--tables", "3"))
     file = put(os.path.join(trial.folder(), "file"), samples.FILE)
     texts = put(os.path.join(trial.folder(), "texts"), samples.E1 + samples.E2)
     yield Sweep(trial, "verify export", ["verify", "export", texts], (b"ok 2 0\n", "", 0))
+    yield Sweep(trial, "verify --json", ["verify", "--json", "export", texts],
+                (b'{"result":"ok","entries":2,"left":0}\n', "", 0))
     yield Sweep(trial, "verify file", ["verify", "file", file], (b"ok 1 0\n", "", 0))
     upload, = trial.put([samples.stream(samples.E1, samples.E2)])
     line = f"upload {samples.SOURCE.hex()} 0 2 0 {samples.SEQNUM_ID.hex()} 2\n"

@@ -2,36 +2,44 @@
 #![tactic(auto)]
 
 pub use jc_command::command;
-use jc_command_shared::Failure;
+use jc_command_shared::{Failure, Status};
 use jc_explain::{EXPLAIN, Watched, explained, take_option};
-use jc_json::{JSON, has_objects, is_table, write_objects};
+use jc_json::{JSON, Lines, Objects, lines_of};
+use jc_progress::{Counted, Wiping, board_for};
 use sqlite::Unknown;
-use std::io::{Stderr, Write};
+use std::io::{IsTerminal, Stderr, Write};
 use std::process::ExitCode;
 use std::{env, io};
 
 fn main(rt: HostRuntime) -> ExitCode {
-    let mut errors = rt.stderr();
     let number = match given_words(&rt) {
-        Ok(words) => run(&rt, words, errors),
-        Err(failure) => failure.report(&mut errors).number(),
+        Ok(words) => run(&rt, words),
+        Err(failure) => failure.report(&mut rt.stderr()).number(),
     };
     ExitCode::from(number)
 }
 
-/// Does what the words ask for, as objects if they ask for these.
-fn run(rt: &HostRuntime, mut words: Vec<String>, errors: Stderr) -> u8 {
+/// Does what the words ask for: as objects if they ask for these, and with a line on a terminal that says how far it is.
+fn run(rt: &HostRuntime, mut words: Vec<String>) -> u8 {
     let explains = take_option(&mut words, EXPLAIN);
-    if !has_objects(&words) || !take_option(&mut words, JSON) {
-        return run_into(rt, words, explains, &mut rt.stdout(), errors);
+    let lines = take_lines(&mut words);
+    let board = board_for(rt, &words);
+    let mut errors = Wiping::new(rt.stderr(), board.is_some());
+    let objects = Objects::new(rt.alloc(), lines, rt.stdout());
+    let mut output = Counted::new(objects, board, rt.stdout().is_terminal());
+    let status = run_into(rt, words, explains, &mut output, &mut errors);
+    output.wipe();
+    match output.inner.end() {
+        // A run that has failed has said why.
+        Err(failure) if status != Status::Failed.number() => failure.report(&mut errors).number(),
+        _ => status,
     }
-    let as_table = is_table(&words);
-    let mut lines = Vec::new(rt.alloc());
-    let status = run_into(rt, words, explains, &mut lines, errors);
-    match write_objects(rt.alloc(), as_table, &lines, &mut rt.stdout()) {
-        Ok(()) => status,
-        Err(failure) => failure.report(&mut rt.stderr()).number(),
-    }
+}
+
+/// The lines that are to be objects, whose option is taken off the words.
+fn take_lines(words: &mut Vec<String>) -> Option<Lines> {
+    let lines = lines_of(words)?;
+    take_option(words, JSON).then_some(lines)
 }
 
 /// Does what the words ask for, and explains it if they ask for that too.
@@ -40,13 +48,13 @@ fn run_into<O: Write>(
     words: Vec<String>,
     explains: bool,
     output: &mut O,
-    mut errors: Stderr,
+    errors: &mut Wiping<Stderr>,
 ) -> u8 {
     let input = &mut rt.reader();
     // A commit syncs once, as under SQLite's `synchronous=FULL`.
     let start = Unknown;
     if !explains {
-        return command(rt, start, words, input, output, &mut errors);
+        return command(rt, start, words, input, output, errors);
     }
     let mut output = Watched::new(rt.alloc(), output);
     let mut errors = Watched::new(rt.alloc(), errors);

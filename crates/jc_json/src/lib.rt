@@ -1,7 +1,13 @@
-//! Answers as objects of JSON, one on each line.
+//! Lines as objects of JSON, one on each line.
 #![tactic(auto)]
 
 mod answers;
+mod codes;
+mod digits;
+mod entries;
+mod lines;
 mod objects;
+mod quoted;
 
-pub use objects::{JSON, has_objects, is_table, write_objects};
+pub use lines::{JSON, Lines, lines_of};
+pub use objects::Objects;

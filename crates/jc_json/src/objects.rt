@@ -1,72 +1,114 @@
-//! The lines of a command as objects.
+//! A writer of objects.
 
-ghost use Rattle.std.specs.Prelude.{◌≡◌, ◌⊎◌, IfErr};
+ghost use Rattle.std.specs.Prelude.{◌≡◌, ◌⊎◌, ◌∷◌, ◌++◌, [], OnOk, IfOk, IfErr};
+ghost use Rattle.std.specs.Io.KnownBytes.{Appends, Keeps};
+ghost use Rattle.jc_json.specs.Passing.{passed};
 
-use crate::answers::{object_of_code, object_of_line};
+use crate::Lines;
+use crate::answers::object_of_answer;
+use crate::codes::{is_advice, object_of_code};
+use crate::entries::object_of_entry;
 use jc_command_shared::{Failure, printed};
 use std::alloc::{AllocError, Global};
 use std::io::Write;
-use std::str;
+use std::{io, str};
 
-/// The option of the commands that have objects.
-pub const JSON: &str = "--json";
-
-/// Whether the command that these words name, the program's first, prints lines that are objects too.
-pub fn has_objects(words: &[String]) -> bool {
-    match command_of(words) {
-        Some(word) => matches!(word.as_str(), "check" | "codes" | "inspect" | "verify"),
-        None => false,
-    }
-}
-
-/// The word that names the command: the first one, or the one behind the option.
-fn command_of(words: &[String]) -> Option<&String> {
-    match words.get(1) {
-        Some(word) if word.as_str() == JSON => words.get(2),
-        word => word,
-    }
-}
-
-/// Whether the command prints the table of codes, and not help on it.
-pub fn is_table(words: &[String]) -> bool {
-    words.len() == 2 && words[1].as_str() == "codes"
-}
-
-/// Writes the lines that a command printed, each as an object; what is no answer, as help isn't, stays as it is. Those of
-/// the table of codes have a second line each, which is in the object too.
-pub fn write_objects<'a, O: Write>(
+/// A writer that passes lines on as objects, each as soon as its line has come to its end, or all bytes as they are if no
+/// objects are asked for. Without memory for an object it passes on no more.
+#[derive(Drop)]
+pub struct Objects<W: Write + Drop> {
+    inner: W,
+    lines: Option<Lines>,
     alloc: Global,
-    is_table: bool,
-    lines: &[u8],
-    output: &mut O,
-) -> Result<(), Failure<'a>>
-    ensures { IfErr result (λ failure. (failure ≡ Failure.WriteFailed) ⊎ (failure ≡ Failure.OutOfMemory)) }
-{
-    let told = objects_of(alloc, is_table, lines)?;
-    let written = output.write_all(told.as_bytes());
-    printed(written, output)
+    /// The line that has begun.
+    begun: Vec<u8>,
+    has_memory: bool,
 }
 
-/// The objects, or the lines that stay as they are.
-fn objects_of(alloc: Global, is_table: bool, lines: &[u8]) -> Result<String, AllocError> {
-    let mut told = String::new(alloc);
-    let text = str::from_utf8(lines).unwrap_or("");
-    for line in text.lines() {
-        if is_table {
-            if let Some(object) = object_of_code(alloc, line)? {
-                push_line(&mut told, object.as_str())?;
+impl<W: Write + Drop> Objects<W> {
+    pub fn new(alloc: Global, lines: Option<Lines>, inner: W) -> Objects<W> {
+        Objects {
+            inner,
+            lines,
+            alloc,
+            begun: Vec::new(alloc),
+            has_memory: true,
+        }
+    }
+
+    /// Passes on what has begun and has no end, and says whether memory was refused.
+    pub fn end(&mut self) -> Result<(), Failure<'static>>
+        ensures { IfErr result (λ failure. (failure ≡ Failure.WriteFailed) ⊎ (failure ≡ Failure.OutOfMemory)) }
+    {
+        if !self.has_memory {
+            return Err(Failure::OutOfMemory);
+        }
+        let written = self.inner.write_all(&self.begun);
+        self.begun.clear();
+        printed(written, &mut self.inner)
+    }
+
+    /// Takes bytes up to the end of a line, with which the line is passed on.
+    fn take(&mut self, lines: Lines, piece: &[u8], ends: bool) -> io::Result<()> {
+        if !self.has_memory {
+            return Ok(());
+        }
+        if self.begun.extend_from_slice(piece).is_err() {
+            self.has_memory = false;
+            return Ok(());
+        }
+        if ends { self.pass_on(lines) } else { Ok(()) }
+    }
+
+    /// Passes on the line that has come to its end.
+    fn pass_on(&mut self, lines: Lines) -> io::Result<()> {
+        match told_for(self.alloc, lines, self.begun.as_slice()) {
+            Ok(told) => {
+                self.begun.clear();
+                self.inner.write_all(&told)
             }
-        } else {
-            match object_of_line(alloc, line)? {
-                Some(object) => push_line(&mut told, object.as_str())?,
-                None => push_line(&mut told, line)?,
+            Err(_) => {
+                self.has_memory = false;
+                Ok(())
             }
         }
     }
-    Ok(told)
 }
 
-fn push_line(told: &mut String, line: &str) -> Result<(), AllocError> {
-    told.push_str(line)?;
-    told.push('\n')
+impl<W: Write + Drop> Write for Objects<W> {
+    ghost contents = { λ s. passed s.lines (W.contents s.inner) };
+
+    fn write(&mut self, buf: &[u8]) -> io::Result<usize> {
+        let Some(lines) = self.lines else {
+            return self.inner.write(buf);
+        };
+        let (length, ends) = match buf.iter().position(|byte| *byte == b'\n') {
+            Some(at) => (at + 1, true),
+            None => (buf.len(), false),
+        };
+        self.take(lines, &buf[..length], ends)?;
+        Ok(length)
+    }
+
+    fn flush(&mut self) -> io::Result<()> {
+        self.inner.flush()
+    }
+}
+
+/// What stands for a line, which ends with a newline: its object on a line, or the line itself if it has none, as help
+/// hasn't.
+fn told_for(alloc: Global, lines: Lines, line: &[u8]) -> Result<Vec<u8>, AllocError> {
+    let text = str::from_utf8(line).unwrap_or("").trim_end_matches('\n');
+    let object = match lines {
+        Lines::Answers => object_of_answer(alloc, text)?,
+        Lines::Codes if is_advice(text) => return Ok(Vec::new(alloc)),
+        Lines::Codes => object_of_code(alloc, text)?,
+        Lines::Entries => object_of_entry(alloc, text)?,
+    };
+    let mut told = match object {
+        Some(object) => object.into_bytes(),
+        None => return Vec::from_slice(alloc, line),
+    };
+    told.push(b'\n')?;
+    Ok(told)
 }

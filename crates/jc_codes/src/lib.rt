@@ -1,0 +1,6 @@
+//! What the table of codes says of one of them.
+#![tactic(auto)]
+
+mod table;
+
+pub use table::{Coded, row_about};

@@ -1,0 +1,27 @@
+-- What can be counted of a command.
+use Rattle.std.specs.Prelude.{◌≡◌, ◌==◌, ℕ, List, length, count_by, max, vec_len, IsNone, IsSomeAnd, Option, ⊤}
+use Rattle.jc_command_args.specs.declared.request.Request.{Request}
+use Rattle.jc_command_args.specs.declared.request.Request.TheVariants as request
+use Rattle.jc_progress.specs.declared.task.Task.{Task}
+use Rattle.jc_progress.specs.declared.task.Unit.{Unit}
+use Rattle.jc_progress.specs.declared.task.Unit.TheVariants.{Uploads, Listed, Exported, Shown, Checked, Migrated, Verified}
+
+-- how many of a unit there are in what was written
+abbrev pub units_in : Unit → List ℕ → ℕ
+units_in Exported bytes = length bytes
+units_in _ bytes = count_by (λ b. b == 10) bytes
+
+-- What is counted of a request: one upload at least, since standard input has one if none is named. Of one that takes no
+-- long time nothing is told.
+abbrev pub Counts : Request → Option Task → Type 0
+Counts (request.Collect database tables uploads then_export) found = IsSomeAnd found (λ task. task.unit ≡ Uploads (max (vec_len uploads) 1))
+Counts (request.CollectListed database tables list then_export) found = IsSomeAnd found (λ task. task.unit ≡ Listed)
+Counts (request.CollectIntoUnion database tables list sequences then_export) found = IsSomeAnd found (λ task. task.unit ≡ Listed)
+Counts (request.Export database) found = IsSomeAnd found (λ task. task.unit ≡ Exported)
+Counts (request.Show database field id first last) found = IsSomeAnd found (λ task. task.unit ≡ Shown)
+Counts (request.Check database) found = IsSomeAnd found (λ task. task.unit ≡ Checked)
+Counts (request.Migrate database tables) found = IsSomeAnd found (λ task. task.unit ≡ Migrated)
+Counts (request.Verify kind file) found = IsSomeAnd found (λ task. task.unit ≡ Verified)
+Counts (request.Upload source limit whole) found = IsNone found
+Counts (request.Ack source) found = IsNone found
+Counts _ found = ⊤
