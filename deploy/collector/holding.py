@@ -69,5 +69,10 @@ class Holding:
         finally:
             with self.change:
                 self.alone -= 1
-                self.is_left = False
                 self.change.notify_all()
+
+    def took_up(self) -> None:
+        """What was left was taken up, or tried."""
+        with self.change:
+            self.is_left = False
+            self.change.notify_all()

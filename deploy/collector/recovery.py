@@ -39,6 +39,7 @@ class Recovery:
             with self.shared.holding.by_itself(lambda: self.shared.stops) as is_alone:
                 if is_alone:
                     self.take_all_up()
+                    self.shared.holding.took_up()
 
     def take_all_up(self) -> None:
         """Takes up all that was left, while no collector has a process."""

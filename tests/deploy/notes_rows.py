@@ -30,6 +30,17 @@ def windows(case: Case, sequence: str = SEQUENCE) -> list[str]:
 
 
 @ROWS.once
+def left_until_it_is_taken_up(row: Row, case: Case) -> None:
+    """Whoever was alone for something else, as old notes go, has taken up nothing: what was left still stops others."""
+    text = ("import sys; sys.path.insert(0, sys.argv[1]); from collector.holding import Holding; holding = Holding()\n"
+            "holding.leave()\n"
+            "with holding.by_itself(lambda: False) as is_alone: print(is_alone)\n"
+            "print(holding.take(1, ['web'])); holding.took_up(); print(holding.take(1, ['web']))\n")
+    told = subprocess.run([sys.executable, "-BS", "-c", text, case.library], capture_output=True, check=False)
+    row.expect("what may be stored", (told.stdout.decode().split(), told.stderr), (["True", "False", "True"], b""))
+
+
+@ROWS.once
 def made_anew(row: Row, case: Case) -> None:
     """The notes are lost, or a person has them made anew: what databases have isn't stored again, nor does a finished
     one change."""
