@@ -3,10 +3,10 @@
 
 The page of contracts, which tools/contracts.py prints, has a section for each crate, and that on proofs for some. A
 claim there names a function in bold, and its clauses in brackets after it; `(unnamed)` is one clause without a name.
-`impl TRAIT for TYPE` in bold stands for a contract that the trait has. "`NAME` in `specs/FILE`" is a definition. Each
-of these has to be in the sources of that crate, and each public function of a library on the page of contracts. The
-list of what the main theorem rests on has to have all definitions that its own file uses, and what these use; that of
-jc_world those that are more.
+`impl TRAIT for TYPE` in bold stands for a contract that the trait has. "`NAME` in `specs/FILE`" is a definition, and
+"`NAME` in jc_CRATE's `specs/FILE`" one of another crate, wherever it stands. Each of these has to be in the sources of
+that crate, and each public function of a library on the page of contracts. The list of what the main theorem rests on
+has to have all definitions that its own file uses, and what these use; that of jc_world those that are more.
 """
 from __future__ import annotations
 
@@ -22,6 +22,7 @@ THEOREM = "What the main theorem rests on"
 ABOUT = {"The main theorem": "jc_collect"}
 CLAIM = re.compile(r"\*\*`([^`]+)`\*\*(?: \(([^)]*)\))?")
 DEFINITION = re.compile(r"`(\w+)` in `(specs/[\w/]+\.antt)`")
+ELSEWHERE = re.compile(r"`(\w+)`\s+in\s+(jc_\w+)'s\s+`(specs/[\w/]+\.antt)`")
 USED = re.compile(r"^use Rattle\.(jc_\w+)\.specs\.([A-Z][\w.]*?)\.\{", re.MULTILINE)
 BLOCK = re.compile(r"^(?:pub )?(impl|trait)\b(?:<(?:[^<>{]|<[^<>{]*>)*>)? ?(.*?)(?: where.*)?(?: \{)?$")
 FUNCTION = re.compile(r"^\s*(pub(?:\(\w+\))? )?fn (\w+)")
@@ -133,6 +134,18 @@ def mistaken_claims(title: str, text: str, sources: Sources) -> Iterator[str]:
         yield from (f"{title}: {name} has no clause {clause}" for clause in sorted(clauses - known))
 
 
+def has_definition(path: Path, name: str) -> bool:
+    """Whether a file has a definition of this name."""
+    return path.exists() and bool(re.search(rf"^\s*(?:\w+ )*{name}\b.* :", path.read_text(), re.MULTILINE))
+
+
+def mistaken_elsewhere(page: str) -> Iterator[str]:
+    """The definitions of other crates that a page names, and that aren't there."""
+    for name, crate, path in sorted(set(ELSEWHERE.findall(page))):
+        if not has_definition(ROOT / "crates" / crate / path, name):
+            yield f"{crate}: there is no {name} in {path}"
+
+
 def mistakes_in(title: str, text: str) -> Iterator[str]:
     """What a section says that its crate has not."""
     folder = ROOT / "crates" / title
@@ -142,8 +155,7 @@ def mistakes_in(title: str, text: str) -> Iterator[str]:
     sources = Sources(folder.glob("src/**/*.rt"))
     yield from mistaken_claims(title, text, sources)
     for name, path in DEFINITION.findall(text):
-        file = folder / path
-        if not file.exists() or not re.search(rf"^\s*(?:\w+ )*{name}\b.* :", file.read_text(), re.MULTILINE):
+        if not has_definition(folder / path, name):
             yield f"{title}: there is no {name} in {path}"
 
 
@@ -159,10 +171,12 @@ def main() -> int:
     pages = [ROOT / "docs/PROOFS.md", ROOT / "docs/CONTRACTS.md"]
     for place, path in enumerate(sys.argv[1:3]):
         pages[place] = Path(path)
-    found, printed = [sections(path.read_text()) for path in pages]
+    texts = [path.read_text() for path in pages]
+    found, printed = map(sections, texts)
     crates = {path.name for path in (ROOT / "crates").glob("jc_*") if (path / "specs").is_dir()}
     contracts = of_crates(printed)
     mistakes = [mistake for title, text in [*of_crates(found), *contracts] for mistake in mistakes_in(title, text)]
+    mistakes += [mistake for text in texts for mistake in mistaken_elsewhere(text)]
     mistakes += [mistake for title, text in contracts for mistake in left_out(title, text)]
     mistakes += [f"{crate} has no section" for crate in sorted(crates - {title for title, _ in contracts})]
     rests_on = definitions_below("jc_collect", ["Run"])
