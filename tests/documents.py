@@ -108,12 +108,11 @@ def toolchains() -> Iterator[str]:
 
 
 def lists() -> Iterator[str]:
-    """Crates that docs/ARCHITECTURE.md doesn't have in its tables, those that it has and aren't, and scripts that don't
-    say what they test."""
+    """Crates that docs/ARCHITECTURE.md lacks, those there that are none, and scripts that don't say what they test."""
     page = text_of("docs/ARCHITECTURE.md")
-    table = page.split("\n## Crates\n")[1].split("\n## ")[0]
+    groups = re.findall(r"^- .*(?:\n  .*)*", part_of(page, "Crates"), re.MULTILINE)
     crates = {it.split(":")[0] for it in text_of("crates.txt").splitlines() if it and it[0] != "#"}
-    for it in sorted(crates ^ set(re.findall(r"^\| (jc_\w+) \|", table, re.MULTILINE))):
+    for it in sorted(crates ^ set(re.findall(r"\bjc_\w+", " ".join(groups)))):
         yield f"docs/ARCHITECTURE.md: the crate {it} isn't both there and listed"
     for path in sorted((ROOT / "tests").glob("test-*.sh")):
         if not re.match(r"#!.*\n# \S", path.read_text()):
