@@ -61,8 +61,8 @@ changed docs/CONTRACTS.md 's/\*\*`export_reads_back`\*\*/**`export_reads`**/' \
 changed README.md 's/\(`Keeper::absorb`, /(`Keeper::absorbs`, /' \
     "README.md names Keeper::absorbs for a claim, and docs/CONTRACTS.md doesn't have it"
 changed docs/FORMATS.md 's/^\| 60 \|/| 59 |/' "~code (59, *code (60, *"
-changed docs/GUIDE.md 's/^\| 12, 14, 15 \|/| 12, 14, 16, 60 |/' \
+changed docs/GUIDE.md 's/^\| 33, 34, 36 \|/| 33, 16, 64 |/' \
     "docs/GUIDE.md doesn't say once what to do about code 16, or it is none
-docs/GUIDE.md doesn't say once what to do about code 60, or it is none"
+docs/GUIDE.md doesn't say once what to do about code 64, or it is none"
 changed docs/GUIDE.md 's/^## What to do about each code$/## Codes/' "docs/GUIDE.md says of no code what to do"
 finish

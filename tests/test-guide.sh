@@ -65,7 +65,7 @@ awk -v to="$folder/guide" '/^```sh$/ { n++; on = 1; next } /^```$/ { on = 0 } on
 awk -v to="$folder/page" \
     '/^\.Bd -literal/ { n++; on = 1; next } /^\.Ed$/ { on = 0 } on { gsub(/\\e/, "\\"); print > (to "-" n) }' \
     docs/journal-collect.1
-[[ $(find "$folder" -name 'guide-*' | wc -l) -eq 16 ]] || differs "a block of the guide isn't tried"
+[[ $(find "$folder" -name 'guide-*' | wc -l) -eq 15 ]] || differs "a block of the guide isn't tried"
 [[ $(find "$folder" -name 'page-*' | wc -l) -eq 8 ]] || differs "an example of the man page isn't tried"
 blocks() {
     local moved='etc/(journal-collect|systemd/|cron|ssh/)|usr/lib/journal-collect|var/lib/journal-|backup'
@@ -99,7 +99,7 @@ expect 0 "" "" blocks guide-4
 expect 0 "send: sent 300 entries in 1 uploads, 0 acknowledged" "" cat "$folder/send"
 expect 0 "" "~*stored 300 entries of web in databases/*.db: its first"$'\n'"*" \
     "$library/collect-incoming" --once "$root/etc/journal-collect/collector.conf"
-expect 0 "~ok 300"$'\n'"aaaaaaaaaaaaaaaaaaaaaaaaaaaaaaaa 1 1700000000000000 0 a0"$'\n'"*" "" blocks guide-10
+expect 0 "~ok 300"$'\n'"aaaaaaaaaaaaaaaaaaaaaaaaaaaaaaaa 1 1700000000000000 0 a0"$'\n'"*" "" blocks guide-9
 expect 0 "ok 300 0" "" journal-collect verify export "$HOME"/*.export
 
 # a fleet's keys: none, one with a wrong name and one that is cut off leave the file as it was
@@ -120,8 +120,9 @@ echo "ssh-ed25519 BBBB mail" > keys/mail.pub
 expect 0 "" "" blocks guide-5
 printf 'command="%s/serve %s",restrict ssh-ed25519 %s\n' "$library" mail "BBBB mail" "$library" web "AAAA web" |
     cmp - "$keys" || differs "the lines of a fleet's keys"
-expect 0 "2" "" blocks guide-6
-expect 0 "" "" blocks guide-8
+sed -n 's/.*`\(journalctl --since=yesterday [^`]*\)`.*/\1/p' "$here/docs/GUIDE.md" > "$folder/guide-count"
+expect 0 "2" "" blocks guide-count
+expect 0 "" "" blocks guide-7
 units=$root/etc/systemd/system
 for unit in send journal-files incoming; do
     grep -qx 'OnFailure=journal-collect-failed@%n.service' "$units/journal-collect-$unit.service.d/failed.conf" ||
@@ -149,11 +150,11 @@ expect 0 "" "" sh "$folder/tells"
 mkdir -p "$root/etc/cron.hourly"
 exec 9>> "$root/var/lib/journal-collect/lock"
 flock 9
-expect 0 "look: mail: nothing of it was ever stored" "" blocks guide-9
+expect 0 "look: mail: nothing of it was ever stored" "" blocks guide-8
 for name in x.db x.db.refused; do
     : > "$root/var/lib/journal-collect/databases/$name"
 done
-expect 0 "~*look: x.db: it was set aside*" "" blocks guide-9
+expect 0 "~*look: x.db: it was set aside*" "" blocks guide-8
 rm "$root"/var/lib/journal-collect/databases/x.db*
 exec 9>&-
 
@@ -162,8 +163,8 @@ expect 0 "" "" blocks guide-4
 
 # a database of an earlier program
 gzip -dc "$here/tests/fixtures/tables-1/closed.db.gz" > "$root/var/lib/journal-collect/databases/2026-01-01T00.db"
-expect 0 "ok 6" "" blocks guide-11
-expect 0 "" "" blocks guide-11
+expect 0 "ok 6" "" blocks guide-10
+expect 0 "" "" blocks guide-10
 
 # a backup, with entries that come meanwhile; the disk is lost, and the backup is put back, also over what is there
 databases=$root/var/lib/journal-collect/databases
@@ -183,29 +184,29 @@ END
     blocks guide-4
 }
 expect 0 "" "" grow 1 50
-expect 0 "" "" blocks guide-12
+expect 0 "" "" blocks guide-11
 expect 0 "" "" grow 101 150
 rm -rf "$root/var/lib/journal-collect"/{databases,sources,kept,incoming,batch}
-expect 0 "" "~collect-incoming: put back as of *databases, and what was known of *sources" blocks guide-13
+expect 0 "" "~collect-incoming: put back as of *databases, and what was known of *sources" blocks guide-12
 stored() { (cd "$databases" && for each in *.db; do journal-collect show "$each"; done | grep -c "$1"); }
 expect 0 "50" "" stored ' later [0-9]*$'
 (cd "$databases" && sha256sum --check --quiet ./*.sha256) || differs "the backup's digests"
 damaged=$(basename "$(find "$databases" -name '*.db' | sort | head -n 1)")
 echo more >> "$databases/$damaged"
-expect 0 "" "~collect-incoming: put back as of *: 1 of *" blocks guide-13
+expect 0 "" "~collect-incoming: put back as of *: 1 of *" blocks guide-12
 cmp "$root/backup/collector/databases/$damaged" "$databases/$damaged" || differs "a damaged database isn't mended"
 [[ -e $root/var/lib/journal-collect/damaged/$damaged ]] || differs "what was damaged isn't kept"
 
 rm "$JOURNAL"/{1,101}.journal
 
 # a machine gets another name
-expect 0 "" "" blocks guide-7
+expect 0 "" "" blocks guide-6
 grep -q 'serve www"' "$root/var/lib/journal-collect/.ssh/authorized_keys" || differs "the key of a renamed machine"
 [[ -d $root/var/lib/journal-collect/sources/www && ! -e $root/var/lib/journal-collect/sources/web ]] ||
     differs "what is known of a renamed machine"
 
 # by hand
-expect 0 "ok 300 0"$'\n'"resume 300" "" blocks guide-15
+expect 0 "ok 300 0"$'\n'"resume 300" "" blocks guide-14
 expect 0 "ok 300" "" journal-collect check logs.db
 
 # an entry that is too large
@@ -217,11 +218,11 @@ expect 0 "ok 300" "" journal-collect check logs.db
 } > large
 mv large stream
 expect 1 "~bad 12 *" "" journal-collect verify export stream
-expect 0 "" "~left out: *" blocks guide-16
+expect 0 "" "~left out: *" blocks guide-15
 expect 0 "ok 300 0" "" journal-collect verify export stream
 
 # removal: what the package doesn't remove goes, and systemd hears of it
-expect 0 "" "" blocks guide-14
+expect 0 "" "" blocks guide-13
 [[ -z $(find "$root/etc" -name '*journal-collect-*') ]] || differs "left by a removal: $(find "$root/etc")"
 [[ $(tail -n 2 "$folder/units") == "apt-get -y purge journal-collect"$'\n'"daemon-reload" ]] || differs "the removal"
 
