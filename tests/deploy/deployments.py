@@ -95,9 +95,10 @@ def stopped(program: str, disturbance: Disturbance) -> list[str]:
 class Programs(Deployment):
     """The programs of deploy/."""
 
-    # How many commands each has, in a common run; and how many undisturbed rounds bring everything home.
+    # How many commands each has, in a common run; and how many undisturbed rounds bring everything home at most. A run
+    # sends five uploads, and some hundred streams of a clone may wait.
     COUNT = {"send": 70, "receive": 25, "collect-incoming": 120}
-    QUIET = 60
+    QUIET = 400
     # How many connections a run has, as a rule.
     CONNECTIONS = 1
 
