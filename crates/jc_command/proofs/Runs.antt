@@ -4,9 +4,16 @@ use Rattle.std.specs.Prelude.{IfOk, IfErr, IfSome, Result, Ok, Err, if◌then◌
 use Rattle.std.specs.List.{list_any}
 use Rattle.std.specs.Io.KnownBytes.{Keeps}
 use Rattle.clap.specs.Words.{Text}
-use Rattle.sqlite_disk.specs.declared.Disk as disk
+use Rattle.sqlite_disk.specs.declared.Disk as disks
 use Rattle.sqlite_disk.specs.declared.Files.{Files}
 use Rattle.sqlite.specs.Recovery.{Image}
+use Rattle.jc_base.specs.declared.id.Key.{Key}
+use Rattle.jc_base.specs.Journal.{Journal}
+use Rattle.jc_base.specs.LogEntry.{LogEntry}
+use Rattle.jc_ledger.specs.Known.{Known}
+use Rattle.jc_ledger.specs.Lagging.{MayCatchUp}
+use Rattle.jc_command_args.specs.declared.request.Tables.{Tables}
+use Rattle.jc_collector.specs.IntoUnion.{LeadsIf}
 use Rattle.clap.specs.declared.error.kind.ErrorKind.{ErrorKind}
 use Rattle.clap.specs.declared.error.kind.ErrorKind.TheVariants as kind
 use Rattle.jc_base.specs.declared.fault.Ending.{Ending}
@@ -28,7 +35,7 @@ use Rattle.jc_collect.specs.declared.inspect.Inspected.TheVariants as inspected
 use Rattle.jc_collector.specs.Checked.{health_status}
 use Rattle.jc_collector.specs.Inspected.{inspected_status}
 use Rattle.jc_command_shared.specs.Failure.{status_of}
-use Rattle.jc_command.specs.Run.{Ends, FailsBy, Performs, Stops, StopsAsked}
+use Rattle.jc_command.specs.Run.{Begins, Devices, Ends, FailsBy, Leaves, leaves, Performs, Stops, StopsAsked}
 use Rattle.jc_command_shared.specs.Status.{number_of}
 use Rattle.jc_sender.specs.Verdict.{verdict_status}
 use Rattle.jc_command_args.specs.Words.{AreAnswered, AreWrong, AskFor}
@@ -53,30 +60,30 @@ judged_not_misused false true same = cc
 judged_not_misused false false same = cc
 
 -- what was asked for is performed
-pub performed : {D : Type 0} (image : Image) (g : disk.Ghosts D) (files : Option (Files D)) (words : List Text) (request : Request) (given output output' errors errors' : Option (List ℕ)) (status : Status)
-    → AskFor words request → Performs image g files request given output output' status → (status ≡ Success → Keeps errors errors')
-    → Ends image g files words given output output' errors errors' status
-performed image g files words request given output output' errors errors' Success asks does quiet = (quiet refl, inr (request, asks, does))
-performed image g files words request given output output' errors errors' Refused asks does quiet = inl (request, asks, does)
-performed image g files words request given output output' errors errors' Failed asks does quiet = (request, asks, does)
-performed image g files words (Verify k file) given output output' errors errors' Misused asks does quiet = absurd (not_misused does.ending does.printed.judged)
-performed image g files words (Upload source limit whole) given output output' errors errors' Misused asks does quiet = let same : Misused ≡ Success = does.0 in cc
-performed image g files words (Ack source) given output output' errors errors' Misused asks does quiet = let same : Misused ≡ Success = does.0 in cc
-performed image g files words (requests.Inspect file most_entries most_fields most_bytes) given output output' errors errors' Misused asks does quiet =
+pub performed : {D L : Type 0} (begun : Begins) (g : Devices D L) (left : Leaves D L) (words : List Text) (request : Request) (given output output' errors errors' : Option (List ℕ)) (status : Status)
+    → AskFor words request → Performs begun g left request given output output' status → (status ≡ Success → Keeps errors errors')
+    → Ends begun g left words given output output' errors errors' status
+performed begun g left words request given output output' errors errors' Success asks does quiet = (quiet refl, inr (request, asks, does))
+performed begun g left words request given output output' errors errors' Refused asks does quiet = inl (request, asks, does)
+performed begun g left words request given output output' errors errors' Failed asks does quiet = (request, asks, does)
+performed begun g left words (Verify k file) given output output' errors errors' Misused asks does quiet = absurd (not_misused does.ending does.printed.judged)
+performed begun g left words (Upload source limit whole) given output output' errors errors' Misused asks does quiet = let same : Misused ≡ Success = does.0 in cc
+performed begun g left words (Ack source) given output output' errors errors' Misused asks does quiet = let same : Misused ≡ Success = does.0 in cc
+performed begun g left words (requests.Inspect file most_entries most_fields most_bytes) given output output' errors errors' Misused asks does quiet =
     absurd (inspected_not_misused does.inspected does.printed.judged)
-performed image g files words (requests.Collect database tables uploads then_export) given output output' errors errors' Misused asks does quiet =
+performed begun g left words (requests.Collect database tables uploads then_export) given output output' errors errors' Misused asks does quiet =
     absurd (judged_not_misused (list_any is_failure does.printed.answers) (list_any is_refusal does.printed.answers) does.printed.is)
-performed image g files words (requests.CollectListed database tables list then_export) given output output' errors errors' Misused asks does quiet =
+performed begun g left words (requests.CollectListed database tables list then_export) given output output' errors errors' Misused asks does quiet =
     let printed = does.printed.printed.printed in
     absurd (judged_not_misused (list_any is_failure printed.answers) (list_any is_refusal printed.answers) printed.is)
-performed image g files words (requests.CollectIntoUnion database tables list sequences then_export) given output output' errors errors' Misused asks does quiet =
-    let printed = does.printed.printed in
+performed begun g left words (requests.CollectIntoUnion database tables list sequences then_export) given output output' errors errors' Misused asks does quiet =
+    let printed = does.printed.printed.printed in
     absurd (judged_not_misused (list_any is_failure printed.answers) (list_any is_refusal printed.answers) printed.is)
-performed image g files words (requests.Export database) given output output' errors errors' Misused asks does quiet = let same : Misused ≡ Success = does.0 in cc
-performed image g files words (requests.Show database field id first last) given output output' errors errors' Misused asks does quiet = let same : Misused ≡ Success = does.0 in cc
-performed image g files words requests.ListCodes given output output' errors errors' Misused asks does quiet = let same : Misused ≡ Success = does in cc
-performed image g files words (requests.Check database) given output output' errors errors' Misused asks does quiet = absurd (health_not_misused does.health does.printed.judged)
-performed image g files words (requests.Migrate database tables) given output output' errors errors' Misused asks does quiet = absurd (health_not_misused does.health does.printed.judged)
+performed begun g left words (requests.Export database) given output output' errors errors' Misused asks does quiet = let same : Misused ≡ Success = does.0 in cc
+performed begun g left words (requests.Show database field id first last) given output output' errors errors' Misused asks does quiet = let same : Misused ≡ Success = does.0 in cc
+performed begun g left words requests.ListCodes given output output' errors errors' Misused asks does quiet = let same : Misused ≡ Success = does in cc
+performed begun g left words (requests.Check database) given output output' errors errors' Misused asks does quiet = absurd (health_not_misused does.health does.printed.judged)
+performed begun g left words (requests.Migrate database tables) given output output' errors errors' Misused asks does quiet = absurd (health_not_misused does.health does.printed.judged)
 
 -- a failure's status is that of a device or memory, or another one
 device_or_not : (status : Status) → (status ≡ Failed) ⊎ (status ≢ Failed)
@@ -140,14 +147,14 @@ sorted kind.OutOfMemory = inr (inl refl)
 sorted _ = inr (inr (λ asked. elim asked [ inl e ↦ cc | inr e ↦ cc ], λ e. cc))
 
 -- the words are answered in place of a request
-ends_answered : {D : Type 0} (image : Image) (g : disk.Ghosts D) (files : Option (Files D)) (words : List Text) (k : ErrorKind) (r : Result Status Failure)
+ends_answered : {D L : Type 0} (begun : Begins) (g : Devices D L) (left : Leaves D L) (words : List Text) (k : ErrorKind) (r : Result Status Failure)
     (given output output' errors errors' : Option (List ℕ)) → AreAnswered words k
     → (IsAskedFor k → IfOk r (λ status. status ≡ Success) × IfErr r (λ why. why ≡ failures.WriteFailed) × Keeps errors errors')
     → (¬ IsAskedFor k → k ≢ kind.OutOfMemory → (r ≡ Ok Misused) × Keeps output output')
     → (k ≡ kind.OutOfMemory → r ≡ Err failures.OutOfMemory)
-    → IfOk r (Ends image g files words given output output' errors errors')
-ends_answered image g files words k r given output output' errors errors' answered asked mistaken memory =
-    let Goal : Result Status Failure → Type 0 = λ r. IfOk r (Ends image g files words given output output' errors errors') in
+    → IfOk r (Ends begun g left words given output output' errors errors')
+ends_answered begun g left words k r given output output' errors errors' answered asked mistaken memory =
+    let Goal : Result Status Failure → Type 0 = λ r. IfOk r (Ends begun g left words given output output' errors errors') in
     elim (sorted k) [
       | inl h ↦ shown r (asked h) h
       | inr rest ↦ elim rest [
@@ -158,22 +165,22 @@ ends_answered image g files words k r given output output' errors errors' answer
   where
     shown : (r : Result Status Failure)
         → IfOk r (λ status. status ≡ Success) × IfErr r (λ why. why ≡ failures.WriteFailed) × Keeps errors errors'
-        → IsAskedFor k → IfOk r (Ends image g files words given output output' errors errors')
+        → IsAskedFor k → IfOk r (Ends begun g left words given output output' errors errors')
     shown (Ok status) facts h =
-        subst (Ends image g files words given output output' errors errors') (sym facts.0) (facts.2, inl (k, h, answered))
+        subst (Ends begun g left words given output output' errors errors') (sym facts.0) (facts.2, inl (k, h, answered))
     shown (Err why) facts h = tt
 
 -- memory is refused, or the words are answered
-pub ends_words : {D : Type 0} (image : Image) (g : disk.Ghosts D) (files : Option (Files D)) (words : List Text) (k : ErrorKind) (r : Result Status Failure)
+pub ends_words : {D L : Type 0} (begun : Begins) (g : Devices D L) (left : Leaves D L) (words : List Text) (k : ErrorKind) (r : Result Status Failure)
     (given output output' errors errors' : Option (List ℕ)) → (k ≡ kind.OutOfMemory) ⊎ AreAnswered words k
     → (IsAskedFor k → IfOk r (λ status. status ≡ Success) × IfErr r (λ why. why ≡ failures.WriteFailed) × Keeps errors errors')
     → (¬ IsAskedFor k → k ≢ kind.OutOfMemory → (r ≡ Ok Misused) × Keeps output output')
     → (k ≡ kind.OutOfMemory → r ≡ Err failures.OutOfMemory)
-    → IfOk r (Ends image g files words given output output' errors errors')
-ends_words image g files words k r given output output' errors errors' (inl refused) asked mistaken memory =
-    subst (λ (r : Result Status Failure). IfOk r (Ends image g files words given output output' errors errors')) (sym (memory refused)) tt
-ends_words image g files words k r given output output' errors errors' (inr answered) asked mistaken memory =
-    ends_answered image g files words k r given output output' errors errors' answered asked mistaken memory
+    → IfOk r (Ends begun g left words given output output' errors errors')
+ends_words begun g left words k r given output output' errors errors' (inl refused) asked mistaken memory =
+    subst (λ (r : Result Status Failure). IfOk r (Ends begun g left words given output output' errors errors')) (sym (memory refused)) tt
+ends_words begun g left words k r given output output' errors errors' (inr answered) asked mistaken memory =
+    ends_answered begun g left words k r given output output' errors errors' answered asked mistaken memory
 
 -- a status is known by its number
 pub same_status : (s t : Status) → number_of s ≡ number_of t → s ≡ t
@@ -195,34 +202,34 @@ same_status Failed Misused e = cc
 same_status Failed Failed e = refl
 
 -- the status that a number says, over words that are the same
-pub by_number : {D : Type 0} (image : Image) (g : disk.Ghosts D) (files : Option (Files D)) (words texts : List Text) (given output output' errors errors' : Option (List ℕ)) (n : ℕ) (status wanted : Status)
-    → texts ≡ words → n ≡ number_of status → n ≡ number_of wanted → Ends image g files texts given output output' errors errors' status
-    → Ends image g files words given output output' errors errors' wanted
-by_number image g files words texts given output output' errors errors' n status wanted same is wants ends =
-    subst (Ends image g files words given output output' errors errors') (same_status status wanted (sym is ∙ wants))
-    (subst (λ (t : List Text). Ends image g files t given output output' errors errors' status) same ends)
+pub by_number : {D L : Type 0} (begun : Begins) (g : Devices D L) (left : Leaves D L) (words texts : List Text) (given output output' errors errors' : Option (List ℕ)) (n : ℕ) (status wanted : Status)
+    → texts ≡ words → n ≡ number_of status → n ≡ number_of wanted → Ends begun g left texts given output output' errors errors' status
+    → Ends begun g left words given output output' errors errors' wanted
+by_number begun g left words texts given output output' errors errors' n status wanted same is wants ends =
+    subst (Ends begun g left words given output output' errors errors') (same_status status wanted (sym is ∙ wants))
+    (subst (λ (t : List Text). Ends begun g left t given output output' errors errors' status) same ends)
 
 -- a run that stops short ends with the failure's status
-stops : {D : Type 0} (image : Image) (g : disk.Ghosts D) (files : Option (Files D)) (words : List Text) (given output output' errors errors' : Option (List ℕ)) (failure : Failure) (wanted : Status)
+stops : {D L : Type 0} (begun : Begins) (g : Devices D L) (left : Leaves D L) (words : List Text) (given output output' errors errors' : Option (List ℕ)) (failure : Failure) (wanted : Status)
     → status_of failure ≡ wanted → (wanted ≡ Refused) ⊎ (wanted ≡ Misused) → Stops words given output output' failure
-    → Ends image g files words given output output' errors errors' wanted
-stops image g files words given output output' errors errors' failure Success same which stopped = elim which [ inl e ↦ cc | inr e ↦ cc ]
-stops image g files words given output output' errors errors' failure Failed same which stopped = elim which [ inl e ↦ cc | inr e ↦ cc ]
-stops image g files words given output output' errors errors' failure Refused same which stopped = elim stopped [
+    → Ends begun g left words given output output' errors errors' wanted
+stops begun g left words given output output' errors errors' failure Success same which stopped = elim which [ inl e ↦ cc | inr e ↦ cc ]
+stops begun g left words given output output' errors errors' failure Failed same which stopped = elim which [ inl e ↦ cc | inr e ↦ cc ]
+stops begun g left words given output output' errors errors' failure Refused same which stopped = elim stopped [
   | inl failed ↦ let both : Failed ≡ Refused = sym failed ∙ same in cc
   | inr asked ↦ inr (subst (StopsAsked words given output output') same asked)
 ]
-stops image g files words given output output' errors errors' failure Misused same which stopped = elim stopped [
+stops begun g left words given output output' errors errors' failure Misused same which stopped = elim stopped [
   | inl failed ↦ let both : Failed ≡ Misused = sym failed ∙ same in cc
   | inr asked ↦ inr (subst (StopsAsked words given output output') same asked)
 ]
 
-pub stops_by_number : {D : Type 0} (image : Image) (g : disk.Ghosts D) (files : Option (Files D)) (words texts : List Text) (given output output' errors errors' : Option (List ℕ)) (n : ℕ)
+pub stops_by_number : {D L : Type 0} (begun : Begins) (g : Devices D L) (left : Leaves D L) (words texts : List Text) (given output output' errors errors' : Option (List ℕ)) (n : ℕ)
     (failure : Failure) (wanted : Status) → texts ≡ words → n ≡ number_of (status_of failure) → n ≡ number_of wanted
     → (wanted ≡ Refused) ⊎ (wanted ≡ Misused) → Stops texts given output output' failure
-    → Ends image g files words given output output' errors errors' wanted
-stops_by_number image g files words texts given output output' errors errors' n failure wanted same is wants which stopped =
-    stops image g files words given output output' errors errors' failure wanted (same_status (status_of failure) wanted (sym is ∙ wants)) which
+    → Ends begun g left words given output output' errors errors' wanted
+stops_by_number begun g left words texts given output output' errors errors' n failure wanted same is wants which stopped =
+    stops begun g left words given output output' errors errors' failure wanted (same_status (status_of failure) wanted (sym is ∙ wants)) which
     (subst (λ (t : List Text). Stops t given output output' failure) same stopped)
 
 -- ... and an answer in place of a request fails only where a device or memory does
@@ -255,3 +262,40 @@ misused_by_number words texts given output output' n failure same is wants stopp
       | inl failed ↦ let both : Failed ≡ Misused = sym failed ∙ status in cc
       | inr asked ↦ inr (subst (StopsAsked words given output output') status asked)
     ]
+
+-- ---- over a union of databases
+
+-- what is known and what came may be said in other words
+pub same_start : {known noted : Known} {past now : Journal} {came comes : LogEntry → Type 0} → ((k : Key) → known k ≡ noted k)
+    → ((e : LogEntry) → came e → comes e) → MayCatchUp noted past now came → MayCatchUp known past now comes
+same_start alike too lag = record {
+  noted = lag.noted;
+  kept = record {
+    noted = λ k. alike k ∙ lag.kept.noted k;
+    apart = lag.kept.apart;
+    have_come = λ e stored. too e (lag.kept.have_come e stored);
+  };
+  lags = lag.lags;
+}
+
+pub leads_from : {D : Type 0} {d : disks.Ghosts D} (made : Tables) (image : Image) (files : Files D) (Asked Holds : Journal → Type 0)
+    (Step : Journal → Journal → Type 0) → ((before : Journal) → Asked before → Holds before) → LeadsIf made image d files Holds Step
+    → LeadsIf made image d files Asked Step
+leads_from made image files Asked Holds Step each leads clean kind before begin asked = leads clean kind before begin (each before asked)
+
+-- ---- what was done, in other words
+
+pub performs_as : {D L : Type 0} (begun : Begins) (g : Devices D L) (files shown : Option (Files D)) (ledger noted : Option L) (request asked : Request)
+    (given old new : Option (List ℕ)) (status is : Status) → asked ≡ request → shown ≡ files → noted ≡ ledger → is ≡ status
+    → Performs begun g (leaves files ledger) request given old new status → Performs begun g (leaves shown noted) asked given old new is
+performs_as {D} {L} begun g files shown ledger noted request asked given old new status is same_request same_files same_ledger same_status does =
+    subst (λ (r : Request). Performs begun g (leaves shown noted) r given old new is) (sym same_request)
+    (subst (λ (f : Option (Files D)). Performs begun g (leaves f noted) request given old new is) (sym same_files)
+    (subst (λ (l : Option L). Performs begun g (leaves files l) request given old new is) (sym same_ledger)
+    (subst (Performs begun g (leaves files ledger) request given old new) (sym same_status) does)))
+
+pub ends_as : {D L : Type 0} (begun : Begins) (g : Devices D L) (left : Leaves D L) (words : List Text) (given output output' errors errors' : Option (List ℕ))
+    (status is : Status) → is ≡ status → Ends begun g left words given output output' errors errors' status
+    → Ends begun g left words given output output' errors errors' is
+ends_as begun g left words given output output' errors errors' status is same ends =
+    subst (Ends begun g left words given output output' errors errors') (sym same) ends

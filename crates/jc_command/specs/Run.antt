@@ -2,11 +2,19 @@
 use Rattle.std.specs.Prelude.{◌≡◌, ◌⊎◌, ◌∷◌, [], ⊤, ℕ, List, Option, IfSome, IsSomeAnd, MatchOption, length, map, option_map}
 use Rattle.std.specs.Io.KnownBytes.{Keeps}
 use Rattle.clap.specs.Words.{Text}
-use Rattle.sqlite_disk.specs.declared.Disk as disk
+use Rattle.sqlite_disk.specs.declared.Disk as disks
 use Rattle.sqlite_disk.specs.declared.Files.{Files}
 use Rattle.sqlite.specs.Recovery.{Image}
 use Rattle.jc_base.specs.Journal.{Journal}
+use Rattle.jc_base.specs.LogEntry.{LogEntry}
 use Rattle.jc_keeper.specs.Listing.{export_text}
+use Rattle.jc_ledger.specs.declared.ledger.Ledger as ledgers
+use Rattle.jc_ledger.specs.Kept.{NoneCollide}
+use Rattle.jc_ledger.specs.Known.{Known}
+use Rattle.jc_ledger.specs.Lagging.{MayCatchUp}
+use Rattle.jc_ledger_files.specs.declared.window_name.WindowName.{WindowName}
+use Rattle.jc_ledger_files.specs.NotesOf.{notes_of}
+use Rattle.jc_ledger_files.specs.Windows.{known_in}
 use Rattle.jc_collector.specs.declared.health.Health.{Health}
 use Rattle.jc_command_shared.specs.declared.failure.Failure.{Failure}
 use Rattle.jc_command_shared.specs.declared.failure.Failure.TheVariants.{CannotOpen, OutOfMemory, ReadFailed, WriteFailed}
@@ -21,7 +29,7 @@ use Rattle.jc_collector.specs.Checked.{IsHealth, PrintsHealth, count_line}
 use Rattle.jc_collector.specs.Database.{CheckFailsBy, CollectFailsBy, DatabaseFailsBy, ShowFailsBy}
 use Rattle.jc_command_shared.specs.Failure.{status_of}
 use Rattle.jc_collector.specs.Inspected.{PrintsSomeInspected}
-use Rattle.jc_collector.specs.IntoUnion.{UnionFailsBy}
+use Rattle.jc_collector.specs.IntoUnion.{LeadsIf, StoresNotedListed, UnionFailsBy}
 use Rattle.jc_collector.specs.Listed.{PrintsListed}
 use Rattle.jc_collector.specs.Earlier.{LeadsFrom}
 use Rattle.jc_collector.specs.Kinds.{LeadsIn, LeadsThere}
@@ -34,15 +42,42 @@ use Rattle.jc_command_args.specs.Words.{AreWrong, AskFor, AskForHelp}
 
 -- ---- what is done over a database
 
-module _ {D : Type 0} (image : Image) (g : disk.Ghosts D) (files : Option (Files D)) where
+-- What a run begins with: what its database's files have, what the files of sequences' windows note, the journal of the
+-- finished databases, and the entries that came in earlier runs.
+pub record Begins : Type 1 where
+  pub image : Image
+  pub noted : Known
+  pub past : Journal
+  pub came : LogEntry → Type 0
+
+abbrev pub begins_with : Image → (windows : WindowName → List ℕ) → (past : Journal) → (came : LogEntry → Type 0) → Begins
+begins_with image windows past came = record { image = image; noted = known_in (λ w. notes_of (windows w)); past = past; came = came }
+
+-- what is said of the disks of its database, and of the notes of sequences
+pub record Devices (D L : Type 0) : Type 1 where
+  pub disk : disks.Ghosts D
+  pub ledger : ledgers.Ghosts L
+
+abbrev pub devices : {D L : Type 0} → disks.Ghosts D → ledgers.Ghosts L → Devices D L
+devices d l = record { disk = d; ledger = l }
+
+-- what it leaves: the files of its database, closed, and the notes of sequences
+pub record Leaves (D L : Type 0) : Type 0 where
+  pub files : Option (Files D)
+  pub ledger : Option L
+
+abbrev pub leaves : {D L : Type 0} → Option (Files D) → Option L → Leaves D L
+leaves files ledger = record { files = files; ledger = ledger }
+
+module _ {D L : Type 0} (begun : Begins) (g : Devices D L) (left : Leaves D L) where
   -- A run ends with the files of its database, closed, and made such a step over the journal that they had, or over the empty
   -- one in tables that it made.
   abbrev pub Leads : (made : Tables) → (Journal → Journal → Type 0) → Type 0
-  Leads made Step = IsSomeAnd files (λ closed. LeadsIn made image g closed Step)
+  Leads made Step = IsSomeAnd left.files (λ closed. LeadsIn made begun.image g.disk closed Step)
 
   -- The same of a run that makes no tables.
   abbrev pub LeadsOn : (Journal → Journal → Type 0) → Type 0
-  LeadsOn Step = IsSomeAnd files (λ closed. LeadsThere image g closed Step)
+  LeadsOn Step = IsSomeAnd left.files (λ closed. LeadsThere begun.image g.disk closed Step)
 
   -- An answer to each upload was printed, and what they acknowledge is in the files. What one upload on standard input makes
   -- of the journal, and how it is answered.
@@ -58,25 +93,40 @@ module _ {D : Type 0} (image : Image) (g : disk.Ghosts D) (files : Option (Files
     pub kept : Leads made KeepsStored
     pub stores : Leads made (StoresListed list given status old new)
 
+  -- If what the files of sequences noted is what the finished databases have, and some of what the present one had, the notes
+  -- are sound at the end, and of the entries that came no two differ and have one key and one digest, then such a step was
+  -- made over the present database's journal.
+  abbrev pub LeadsNoted : (made : Tables) → ((known : Known) → (came : LogEntry → Type 0) → Journal → Journal → Type 0) → Type 0
+  LeadsNoted made Step =
+      IsSomeAnd left.files (λ closed. IsSomeAnd left.ledger (λ notes. LeadsIf made begun.image g.disk closed
+      (λ before. MayCatchUp begun.noted begun.past before begun.came × g.ledger.sound notes × NoneCollide (g.ledger.came notes))
+      (Step (g.ledger.known notes) (g.ledger.came notes))))
+
+  -- An answer to each upload that a list names was printed, and what they acknowledge is stored in the union of the finished
+  -- databases and the present one. What is noted then is what these have.
+  pub record CollectsIntoUnion (made : Tables) (list : List ℕ) (given old new : Option (List ℕ)) (status : Status) : Type 0 where
+    pub printed : PrintsListed list given status old new
+    pub stores : LeadsNoted made (λ known came. StoresNotedListed begun.past known came list given status old new)
+
   -- The line of what there is of a journal was printed. If the files are given back, it is that of the journal which they
   -- had, and they keep it.
   pub record Checks (old new : Option (List ℕ)) (status : Status) : Type 0 where
     pub health : Health
     pub is : IsHealth health
     pub printed : PrintsHealth health status old new
-    pub counted : MatchOption files (status ≡ Refused) (λ closed. LeadsThere image g closed (Prints count_line old new))
+    pub counted : MatchOption left.files (status ≡ Refused) (λ closed. LeadsThere begun.image g.disk closed (Prints count_line old new))
 
   -- The same of a journal in tables of an earlier kind, which the files then have in these.
   pub record Migrates (tables : Tables) (old new : Option (List ℕ)) (status : Status) : Type 0 where
     pub health : Health
     pub is : IsHealth health
     pub printed : PrintsHealth health status old new
-    pub moved : MatchOption files (status ≡ Refused) (λ closed. LeadsFrom tables image g closed (Prints count_line old new))
+    pub moved : MatchOption left.files (status ≡ Refused) (λ closed. LeadsFrom tables begun.image g.disk closed (Prints count_line old new))
 
   -- What standard output gains when a request is performed, over what standard input gives, the status, and what becomes of
   -- the files of its database: from `verify` a reading, from `inspect` what an upload says, from `upload` an upload, from
   -- `ack` a resume point, from `collect` an answer to each upload, from `export` and `show` a listing, and from `check` and
-  -- `migrate` what there is of a journal. What `collect` stores in a union of databases is said of `collect_into_union`.
+  -- `migrate` what there is of a journal.
   abbrev pub Performs : Request → (given old new : Option (List ℕ)) → Status → Type 0
   Performs (Verify kind file) given old new status = PrintsSomeReading kind status old new
   Performs (Inspect file most_entries most_fields most_bytes) given old new status = PrintsSomeInspected status old new
@@ -84,7 +134,7 @@ module _ {D : Type 0} (image : Image) (g : disk.Ghosts D) (files : Option (Files
   Performs (Ack source) given old new status = (status ≡ Success) × PrintsSomePoint source given old new
   Performs (Collect database tables uploads then_export) given old new status = Collects tables (length uploads.items) given old new status
   Performs (CollectListed database tables list then_export) given old new status = CollectsListed tables list.now given old new status
-  Performs (CollectIntoUnion database tables list sequences then_export) given old new status = PrintsListed list.now given status old new
+  Performs (CollectIntoUnion database tables list sequences then_export) given old new status = CollectsIntoUnion tables list.now given old new status
   Performs (request.Export database) given old new status = (status ≡ Success) × LeadsOn (Prints export_text old new)
   Performs (Show database field id first last) given old new status =
       (status ≡ Success)
@@ -123,10 +173,9 @@ FailsBy ListCodes given failure = failure ≡ WriteFailed
 -- ---- a run
 
 -- The arguments ask for something, and it is performed.
-abbrev pub PerformsAsked : {D : Type 0} → (image : Image) → disk.Ghosts D → (files : Option (Files D)) → List Text → (given old new : Option (List ℕ))
-    → Status → Type 0
-PerformsAsked image g files words given old new status =
-    (request : Request) × AskFor words request × Performs image g files request given old new status
+abbrev pub PerformsAsked : {D L : Type 0} → Begins → Devices D L → Leaves D L → List Text → (given old new : Option (List ℕ)) → Status → Type 0
+PerformsAsked begun g left words given old new status =
+    (request : Request) × AskFor words request × Performs begun g left request given old new status
 
 -- The arguments ask for something that fails with this status, before anything is printed.
 pub record StopsAsked (words : List Text) (given old new : Option (List ℕ)) (status : Status) : Type 0 where
@@ -139,20 +188,20 @@ pub record StopsAsked (words : List Text) (given old new : Option (List ℕ)) (s
 
 -- How a run over these arguments ends, by its status, unless something fails that is reported on standard error: what it
 -- prints on standard output, and that it prints nothing on standard error if all is well.
-abbrev pub Ends : {D : Type 0} → (image : Image) → disk.Ghosts D → (files : Option (Files D)) → List Text
+abbrev pub Ends : {D L : Type 0} → Begins → Devices D L → Leaves D L → List Text
     → (given output output' errors errors' : Option (List ℕ)) → Status → Type 0
-Ends image g files words given output output' errors errors' Success =
-    Keeps errors errors' × (AskForHelp words ⊎ PerformsAsked image g files words given output output' Success)
-Ends image g files words given output output' errors errors' Refused =
-    PerformsAsked image g files words given output output' Refused ⊎ StopsAsked words given output output' Refused
-Ends image g files words given output output' errors errors' Misused =
+Ends begun g left words given output output' errors errors' Success =
+    Keeps errors errors' × (AskForHelp words ⊎ PerformsAsked begun g left words given output output' Success)
+Ends begun g left words given output output' errors errors' Refused =
+    PerformsAsked begun g left words given output output' Refused ⊎ StopsAsked words given output output' Refused
+Ends begun g left words given output output' errors errors' Misused =
     (AreWrong words × Keeps output output') ⊎ StopsAsked words given output output' Misused
-Ends image g files words given output output' errors errors' Failed = PerformsAsked image g files words given output output' Failed
+Ends begun g left words given output output' errors errors' Failed = PerformsAsked begun g left words given output output' Failed
 
--- The same of a run that keeps the files to itself.
-abbrev pub EndsWithin : {D : Type 0} → (image : Image) → disk.Ghosts D → List Text → (given output output' errors errors' : Option (List ℕ)) → Status → Type 0
-EndsWithin {D} image g words given output output' errors errors' status =
-    (files : Option (Files D)) × Ends image g files words given output output' errors errors' status
+-- The same of a run that keeps what it leaves to itself.
+abbrev pub EndsWithin : {D L : Type 0} → Begins → Devices D L → List Text → (given output output' errors errors' : Option (List ℕ)) → Status → Type 0
+EndsWithin {D} {L} begun g words given output output' errors errors' status =
+    (left : Leaves D L) × Ends begun g left words given output output' errors errors' status
 
 -- If a run stops short, a device or memory failed, or something was asked for that is refused.
 abbrev pub Stops : List Text → (given output output' : Option (List ℕ)) → Failure → Type 0

@@ -1,6 +1,8 @@
 //! The program's commands as one function: its arguments, its streams and its status.
 #![tactic(auto)]
 
+mod begun;
 mod run;
 
-pub use run::{Ended, command, run_command};
+pub use begun::{Begun, BegunBy};
+pub use run::{Ended, Sequences, command, run_command};

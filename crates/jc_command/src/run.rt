@@ -6,8 +6,9 @@ ghost use Rattle.clap.specs.Words.{kind_of};
 ghost use Rattle.sqlite.specs.WalFiles.{image_at};
 ghost use Rattle.jc_command_args.specs.Answer.{IsAskedFor};
 ghost use Rattle.jc_command_shared.specs.Failure.{status_of};
-ghost use Rattle.jc_command.specs.Run.{Ends, EndsWithin, FailsBy, Performs, Stops};
+ghost use Rattle.jc_command.specs.Run.{Ends, EndsWithin, FailsBy, Performs, Stops, begins_with, devices, leaves};
 
+use crate::begun::{Begun, BegunBy};
 use clap::error::ErrorKind;
 use jc_collect::Bounds;
 use jc_collector::{
@@ -16,87 +17,100 @@ use jc_collector::{
 };
 use jc_command_args::{CODES, Request, parse};
 use jc_command_shared::{Failure, Status, printed};
+use jc_ledger::Ledger;
 use jc_sender::{ack, upload, verify};
-use jc_sequences::open_sequences;
+use jc_sequences::{FileSequences, open_sequences};
+use jc_union::NotedRun;
 use sqlite::{FileFrom, Files, Start};
 use sqlite_disk::Disk;
 use std::io::{Read, Write};
-use std::marker::Brand;
 
-/// What a run ended with: its status, and the files of its database, closed, if it had one open.
+/// The notes of sequences in files, of which `S` says what they had.
+pub type Sequences<'a, S> = FileSequences<'a, BegunBy<S>, BegunBy<S>>;
+
+/// What a run ended with: its status, and the files of its database, closed, if it had one open, with the notes of
+/// sequences, if it had those.
 #[derive(Drop)]
-pub struct Ended<S: Start> {
+pub struct Ended<S: Start, L: Ledger + Drop> {
     pub status: u8,
     pub files: Option<Files<FileFrom<S>>>,
+    pub ledger: Option<L>,
 }
 
 /// What was asked for is done.
 #[derive(Drop)]
-struct Done<S: Start> {
+struct Done<S: Start, L: Ledger + Drop> {
     status: Status,
     files: Option<Files<FileFrom<S>>>,
+    ledger: Option<L>,
 }
 
-impl<S: Start> Done<S> {
+impl<S: Start, L: Ledger + Drop> Done<S, L> {
     /// By a command that works on no database.
-    fn without(status: Status) -> Done<S>
+    fn without(status: Status) -> Done<S, L>
         ensures status { result.status ≡ status }
         ensures files { result.files ≡ None }
     {
         Done {
             status,
             files: None,
+            ledger: None,
         }
     }
 
     /// By a command that answers a status, and has closed its database.
-    fn closed(closed: Closed<Status, S>) -> Done<S>
+    fn closed(closed: Closed<Status, S>) -> Done<S, L>
         ensures status { result.status ≡ closed.value }
         ensures files { result.files ≡ Some closed.files }
     {
         Done {
             status: closed.value,
             files: Some(closed.files),
+            ledger: None,
         }
     }
 
     /// By a command over the union of databases, which has closed the present one.
-    fn noted(status: Status, files: Files<FileFrom<S>>) -> Done<S>
-        ensures status { result.status ≡ status }
-        ensures files { result.files ≡ Some files }
+    fn noted(run: NotedRun<FileFrom<S>, L>) -> Done<S, L>
+        ensures status { result.status ≡ run.status }
+        ensures files { result.files ≡ Some run.files }
+        ensures ledger { result.ledger ≡ Some run.ledger }
     {
         Done {
-            status,
-            files: Some(files),
+            status: run.status,
+            files: Some(run.files),
+            ledger: Some(run.ledger),
         }
     }
 
     /// By a command that lists a journal, and has closed its database.
-    fn listed(closed: Closed<(), S>) -> Done<S>
+    fn listed(closed: Closed<(), S>) -> Done<S, L>
         ensures status { result.status ≡ Status.Success }
         ensures files { result.files ≡ Some closed.files }
     {
         Done {
             status: Status::Success,
             files: Some(closed.files),
+            ledger: None,
         }
     }
 
     /// By a command that says what there is of a journal.
-    fn examined(examined: Examined<Status, S>) -> Done<S>
+    fn examined(examined: Examined<Status, S>) -> Done<S, L>
         ensures status { result.status ≡ examined.value }
         ensures files { result.files ≡ examined.files }
     {
         Done {
             status: examined.value,
             files: examined.files,
+            ledger: None,
         }
     }
 }
 
 /// Does what the arguments ask for, as `run_command` does, and answers the status to end with.
-pub fn command<S: Start, I: Read, O: Write, E: Write>(
-    rt: &HostRuntime,
+pub fn command<'a, S: Start + Begun, I: Read, O: Write, E: Write>(
+    rt: &'a HostRuntime,
     start: S,
     words: Vec<String>,
     input: &mut I,
@@ -104,11 +118,14 @@ pub fn command<S: Start, I: Read, O: Write, E: Write>(
     errors: &mut E,
 ) -> u8
     ensures status { result ≤ 3 }
-    ensures success { result ≡ 0 → EndsWithin (image_at S.Start) ⟦<FileFrom<S> as Disk>⟧ (map string_bytes words.items) (I.remaining input.old)
+    ensures success { result ≡ 0 → EndsWithin (begins_with (image_at S.Start) S.windows S.past S.came)
+        (devices ⟦<FileFrom<S> as Disk>⟧ ⟦<Sequences<'a, S> as Ledger>⟧) (map string_bytes words.items) (I.remaining input.old)
         (O.contents output.old) (O.contents output.new) (E.contents errors.old) (E.contents errors.new) Status.Success }
-    ensures refused { result ≡ 1 → EndsWithin (image_at S.Start) ⟦<FileFrom<S> as Disk>⟧ (map string_bytes words.items) (I.remaining input.old)
+    ensures refused { result ≡ 1 → EndsWithin (begins_with (image_at S.Start) S.windows S.past S.came)
+        (devices ⟦<FileFrom<S> as Disk>⟧ ⟦<Sequences<'a, S> as Ledger>⟧) (map string_bytes words.items) (I.remaining input.old)
         (O.contents output.old) (O.contents output.new) (E.contents errors.old) (E.contents errors.new) Status.Refused }
-    ensures misused { result ≡ 2 → EndsWithin (image_at S.Start) ⟦<FileFrom<S> as Disk>⟧ (map string_bytes words.items) (I.remaining input.old)
+    ensures misused { result ≡ 2 → EndsWithin (begins_with (image_at S.Start) S.windows S.past S.came)
+        (devices ⟦<FileFrom<S> as Disk>⟧ ⟦<Sequences<'a, S> as Ledger>⟧) (map string_bytes words.items) (I.remaining input.old)
         (O.contents output.old) (O.contents output.new) (E.contents errors.old) (E.contents errors.new) Status.Misused }
 {
     run_command(rt, start, words, input, output, errors).status
@@ -119,48 +136,55 @@ pub fn command<S: Start, I: Read, O: Write, E: Write>(
 /// What is asked for goes to `output`. A failure, or what is wrong with the arguments, goes to `errors`. With status 3
 /// something failed, and no clause says what went to either. `input` has the answers for `ack`, and for `collect` the
 /// upload if none is named, or their names if the list is `-`. `start` stands for what a database's files hold as they are
-/// opened, and the files that come back are those, closed.
-pub fn run_command<S: Start, I: Read, O: Write, E: Write>(
-    rt: &HostRuntime,
+/// opened, and those of sequences, and the files that come back are those.
+pub fn run_command<'a, S: Start + Begun, I: Read, O: Write, E: Write>(
+    rt: &'a HostRuntime,
     start: S,
     words: Vec<String>,
     input: &mut I,
     output: &mut O,
     errors: &mut E,
-) -> Ended<S>
+) -> Ended<S, Sequences<'a, S>>
     ensures status { result.status ≤ 3 }
-    ensures success { result.status ≡ 0 → Ends (image_at S.Start) ⟦<FileFrom<S> as Disk>⟧ result.files (map string_bytes words.items) (I.remaining input.old)
+    ensures success { result.status ≡ 0 → Ends (begins_with (image_at S.Start) S.windows S.past S.came)
+        (devices ⟦<FileFrom<S> as Disk>⟧ ⟦<Sequences<'a, S> as Ledger>⟧) (leaves result.files result.ledger) (map string_bytes words.items) (I.remaining input.old)
         (O.contents output.old) (O.contents output.new) (E.contents errors.old) (E.contents errors.new) Status.Success }
-    ensures refused { result.status ≡ 1 → Ends (image_at S.Start) ⟦<FileFrom<S> as Disk>⟧ result.files (map string_bytes words.items) (I.remaining input.old)
+    ensures refused { result.status ≡ 1 → Ends (begins_with (image_at S.Start) S.windows S.past S.came)
+        (devices ⟦<FileFrom<S> as Disk>⟧ ⟦<Sequences<'a, S> as Ledger>⟧) (leaves result.files result.ledger) (map string_bytes words.items) (I.remaining input.old)
         (O.contents output.old) (O.contents output.new) (E.contents errors.old) (E.contents errors.new) Status.Refused }
-    ensures misused { result.status ≡ 2 → Ends (image_at S.Start) ⟦<FileFrom<S> as Disk>⟧ result.files (map string_bytes words.items) (I.remaining input.old)
+    ensures misused { result.status ≡ 2 → Ends (begins_with (image_at S.Start) S.windows S.past S.came)
+        (devices ⟦<FileFrom<S> as Disk>⟧ ⟦<Sequences<'a, S> as Ledger>⟧) (leaves result.files result.ledger) (map string_bytes words.items) (I.remaining input.old)
         (O.contents output.old) (O.contents output.new) (E.contents errors.old) (E.contents errors.new) Status.Misused }
     // What was stored and printed before a failure of the answers' status is there too.
-    ensures failed { result.status ≡ 3 → IsSome result.files → Ends (image_at S.Start) ⟦<FileFrom<S> as Disk>⟧ result.files (map string_bytes words.items) (I.remaining input.old)
+    ensures failed { result.status ≡ 3 → IsSome result.files → Ends (begins_with (image_at S.Start) S.windows S.past S.came)
+        (devices ⟦<FileFrom<S> as Disk>⟧ ⟦<Sequences<'a, S> as Ledger>⟧) (leaves result.files result.ledger) (map string_bytes words.items) (I.remaining input.old)
         (O.contents output.old) (O.contents output.new) (E.contents errors.old) (E.contents errors.new) Status.Failed }
 {
     match answered(rt, start, words.as_slice(), input, output, errors) {
         Ok(done) => Ended {
             status: done.status.number(),
             files: done.files,
+            ledger: done.ledger,
         },
         Err(failure) => Ended {
             status: failure.report(errors).number(),
             files: None,
+            ledger: None,
         },
     }
 }
 
 /// Does what the arguments ask for, up to a failure.
-fn answered<'a, S: Start, I: Read, O: Write, E: Write>(
+fn answered<'a, 'w, S: Start + Begun, I: Read, O: Write, E: Write>(
     rt: &'a HostRuntime,
     start: S,
-    words: &'a [String],
+    words: &'w [String],
     input: &mut I,
     output: &mut O,
     errors: &mut E,
-) -> Result<Done<S>, Failure<'a>>
-    ensures ended { IfOk result (λ done. Ends (image_at S.Start) ⟦<FileFrom<S> as Disk>⟧ done.files (map string_bytes words.entry.now) (I.remaining input.old)
+) -> Result<Done<S, Sequences<'a, S>>, Failure<'w>>
+    ensures ended { IfOk result (λ done. Ends (begins_with (image_at S.Start) S.windows S.past S.came)
+        (devices ⟦<FileFrom<S> as Disk>⟧ ⟦<Sequences<'a, S> as Ledger>⟧) (leaves done.files done.ledger) (map string_bytes words.entry.now) (I.remaining input.old)
         (O.contents output.old) (O.contents output.new) (E.contents errors.old) (E.contents errors.new) done.status) }
     ensures stopped { IfErr result (Stops (map string_bytes words.entry.now) (I.remaining input.old) (O.contents output.old)
         (O.contents output.new)) }
@@ -172,15 +196,16 @@ fn answered<'a, S: Start, I: Read, O: Write, E: Write>(
 }
 
 #[tactic(auto, using(crate::proofs::Runs::unless_failed))]
-fn perform<'a, S: Start, I: Read, O: Write, E: Write>(
+fn perform<'a, 'w, S: Start + Begun, I: Read, O: Write, E: Write>(
     rt: &'a HostRuntime,
     start: S,
-    request: Request<'a>,
+    request: Request<'w>,
     input: &mut I,
     output: &mut O,
     errors: &mut E,
-) -> Result<Done<S>, Failure<'a>>
-    ensures performed { IfOk result (λ done. Performs (image_at S.Start) ⟦<FileFrom<S> as Disk>⟧ done.files request.entry (I.remaining input.old)
+) -> Result<Done<S, Sequences<'a, S>>, Failure<'w>>
+    ensures performed { IfOk result (λ done. Performs (begins_with (image_at S.Start) S.windows S.past S.came)
+        (devices ⟦<FileFrom<S> as Disk>⟧ ⟦<Sequences<'a, S> as Ledger>⟧) (leaves done.files done.ledger) request.entry (I.remaining input.old)
         (O.contents output.old) (O.contents output.new) done.status) }
     ensures quiet { IfOk result (λ done. done.status ≡ Status.Success → Keeps (E.contents errors.old) (E.contents errors.new)) }
     ensures failed { IfErr result (FailsBy request.entry (I.remaining input.old)) }
@@ -259,8 +284,8 @@ fn perform<'a, S: Start, I: Read, O: Write, E: Write>(
             sequences,
             then_export,
         } => {
-            let ledger = open_sequences(rt, sequences)?;
-            let run = collect_into_union::<S, _, Brand, _, _, _>(
+            let ledger = open_sequences::<BegunBy<S>, BegunBy<S>>(rt, sequences)?;
+            let run = collect_into_union::<S, _, BegunBy<S>, _, _, _>(
                 rt,
                 start,
                 ledger,
@@ -272,7 +297,7 @@ fn perform<'a, S: Start, I: Read, O: Write, E: Write>(
                 output,
                 errors,
             )?;
-            Ok(Done::noted(run.status, run.files))
+            Ok(Done::noted(run))
         }
         Request::Export { database } => Ok(Done::listed(export(rt, start, database, output)?)),
         Request::Show {

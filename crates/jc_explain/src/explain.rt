@@ -3,19 +3,20 @@
 ghost use Rattle.std.specs.Prelude.{◌≡◌, ◌≤◌, ℕ, List, Option as Maybe, map, string_bytes};
 ghost use Rattle.sqlite.specs.WalFiles.{image_at};
 ghost use Rattle.jc_command_shared.specs.declared.status.Status.{Status};
-ghost use Rattle.jc_command.specs.Run.{EndsWithin};
+ghost use Rattle.jc_command.specs.Run.{EndsWithin, begins_with, devices};
 
 use crate::Watched;
 use crate::telling::tell;
-use jc_command::command;
+use jc_command::{Begun, Sequences, command};
+use jc_ledger::Ledger;
 use sqlite::{FileFrom, Start};
 use sqlite_disk::Disk;
 use std::io::{Read, Write};
 
 /// Does what the arguments ask for, as `command` does. Then each line that refuses something or reports a failure is
 /// explained on `errors`.
-pub fn explained<S: Start, I: Read, O: Write + Drop, E: Write + Drop>(
-    rt: &HostRuntime,
+pub fn explained<'a, S: Start + Begun, I: Read, O: Write + Drop, E: Write + Drop>(
+    rt: &'a HostRuntime,
     start: S,
     words: Vec<String>,
     input: &mut I,
@@ -24,11 +25,14 @@ pub fn explained<S: Start, I: Read, O: Write + Drop, E: Write + Drop>(
 ) -> u8
     ensures status { result ≤ 3 }
     // `told` is what `errors` had before the explanations.
-    ensures success { result ≡ 0 → (told : Maybe (List ℕ)) × EndsWithin (image_at S.Start) ⟦<FileFrom<S> as Disk>⟧ (map string_bytes words.items)
+    ensures success { result ≡ 0 → (told : Maybe (List ℕ)) × EndsWithin (begins_with (image_at S.Start) S.windows S.past S.came)
+        (devices ⟦<FileFrom<S> as Disk>⟧ ⟦<Sequences<'a, S> as Ledger>⟧) (map string_bytes words.items)
         (I.remaining input.old) (O.contents output.old.inner) (O.contents output.new.inner) (E.contents errors.old.inner) told Status.Success }
-    ensures refused { result ≡ 1 → (told : Maybe (List ℕ)) × EndsWithin (image_at S.Start) ⟦<FileFrom<S> as Disk>⟧ (map string_bytes words.items)
+    ensures refused { result ≡ 1 → (told : Maybe (List ℕ)) × EndsWithin (begins_with (image_at S.Start) S.windows S.past S.came)
+        (devices ⟦<FileFrom<S> as Disk>⟧ ⟦<Sequences<'a, S> as Ledger>⟧) (map string_bytes words.items)
         (I.remaining input.old) (O.contents output.old.inner) (O.contents output.new.inner) (E.contents errors.old.inner) told Status.Refused }
-    ensures misused { result ≡ 2 → (told : Maybe (List ℕ)) × EndsWithin (image_at S.Start) ⟦<FileFrom<S> as Disk>⟧ (map string_bytes words.items)
+    ensures misused { result ≡ 2 → (told : Maybe (List ℕ)) × EndsWithin (begins_with (image_at S.Start) S.windows S.past S.came)
+        (devices ⟦<FileFrom<S> as Disk>⟧ ⟦<Sequences<'a, S> as Ledger>⟧) (map string_bytes words.items)
         (I.remaining input.old) (O.contents output.old.inner) (O.contents output.new.inner) (E.contents errors.old.inner) told Status.Misused }
 {
     let asked: Result<_, _> = words.clone();

@@ -2,31 +2,33 @@
 
 ghost use Rattle.std.specs.Prelude.{◌≡◌, false};
 ghost use Rattle.jc_ledger_files.specs.declared.window_name.WindowName.{WindowName};
-ghost use Rattle.jc_ledger_files.specs.Files.{AreClean, IsBlank, files_leave, files_seen};
+ghost use Rattle.jc_ledger_files.specs.Files.{AreClean, IsAsFound, files_leave, files_seen};
 
+use crate::found_file::FoundFile;
 use crate::open_files::OpenFiles;
 use crate::window_path::open_window;
 use jc_keeper::KeepStop;
-use jc_ledger_files::{Folder, WindowName};
+use jc_ledger_files::{Folder, Found, WindowName};
 use sqlite_disk::Disk;
 use sqlite_std_file::{File, OpenError};
 
-/// A folder in which each sequence has a folder, and each of its windows a file in that one.
+/// A folder in which each sequence has a folder, and each of its windows a file in that one. `F` stands for what these
+/// files have as they are opened.
 #[derive(Drop)]
-pub struct FileFolder<'a> {
+pub struct FileFolder<'a, F: Found> {
     rt: &'a HostRuntime,
-    path: &'a str,
-    open: OpenFiles<File>,
+    path: String,
+    open: OpenFiles<FoundFile<File, F>, F>,
     /// How often a file couldn't be opened, up to 2^64 - 1.
     failures: u64,
 }
 
-impl<'a> FileFolder<'a> {
+impl<'a, F: Found> FileFolder<'a, F> {
     /// The folder at `path`, which is there. Takes no memory.
-    pub(crate) fn new(rt: &'a HostRuntime, path: &'a str) -> FileFolder<'a>
-        ensures blank { (w : WindowName) → IsBlank (files_seen ⟦<File as Disk>⟧.seen result.open.kept.files w)
-            (files_leave ⟦<File as Disk>⟧.may_leave result.open.kept.files w) }
-        ensures clean { AreClean ⟦<File as Disk>⟧.is_clean result.open.kept.files }
+    pub(crate) fn new(rt: &'a HostRuntime, path: String) -> FileFolder<'a, F>
+        ensures found { (w : WindowName) → IsAsFound (F.found w) (files_seen F.found ⟦<FoundFile<File, F> as Disk>⟧.seen result.open.kept.files w)
+            (files_leave F.found ⟦<FoundFile<File, F> as Disk>⟧.may_leave result.open.kept.files w) }
+        ensures clean { AreClean ⟦<FoundFile<File, F> as Disk>⟧.is_clean result.open.kept.files }
         ensures whole { result.open.is_worn ≡ false }
     {
         FileFolder {
@@ -38,27 +40,26 @@ impl<'a> FileFolder<'a> {
     }
 }
 
-impl<'a> Folder<File> for FileFolder<'a> {
+impl<'a, F: Found> Folder<FoundFile<File, F>> for FileFolder<'a, F> {
     ghost use Rattle.std.specs.Prelude.{◌≡◌, false, refl};
     ghost use Rattle.std.proofs.Common.{inl};
     ghost use Rattle.std.specs.BTreeMap.{get};
     ghost use Rattle.jc_base.specs.Journal.{key_cmp};
     ghost use Rattle.jc_ledger_files.specs.Files.{AreClean, files_leave, files_seen, key_named, seen_stays};
 
-    // What a file has when it is opened no clause knows: it is taken to be empty, as `Unknown` says.
-    ghost seen = { λ f. files_seen ⟦<File as Disk>⟧.seen f.open.kept.files };
+    ghost seen = { λ f. files_seen F.found ⟦<FoundFile<File, F> as Disk>⟧.seen f.open.kept.files };
 
-    ghost may_leave = { λ f. files_leave ⟦<File as Disk>⟧.may_leave f.open.kept.files };
+    ghost may_leave = { λ f. files_leave F.found ⟦<FoundFile<File, F> as Disk>⟧.may_leave f.open.kept.files };
 
     // Nothing is known of a file that was closed, so nothing is claimed once one was.
-    ghost clean = { λ f. (f.open.is_worn ≡ false) × AreClean ⟦<File as Disk>⟧.is_clean f.open.kept.files };
+    ghost clean = { λ f. (f.open.is_worn ≡ false) × AreClean ⟦<FoundFile<File, F> as Disk>⟧.is_clean f.open.kept.files };
 
     ghost failures = { λ f. f.failures };
 
-    ghost seen_may_stay = { λ f w. seen_stays ⟦<File as Disk>⟧.seen ⟦<File as Disk>⟧.may_leave
+    ghost seen_may_stay = { λ f w. seen_stays (F.found w) ⟦<FoundFile<File, F> as Disk>⟧.seen ⟦<FoundFile<File, F> as Disk>⟧.may_leave
         (λ _. inl refl) (get key_cmp f.open.kept.files (key_named w)) };
 
-    fn lend(&mut self, name: WindowName) -> Result<File, KeepStop> {
+    fn lend(&mut self, name: WindowName) -> Result<FoundFile<File, F>, KeepStop> {
         match self.open.take(name) {
             Some(file) => {
                 if file.may_be_used() {
@@ -68,7 +69,7 @@ impl<'a> Folder<File> for FileFolder<'a> {
                 self.failures = self.failures.saturating_add(1);
                 Err(KeepStop::StoreFailed)
             }
-            None => match open_window(self.rt, self.path, name) {
+            None => match open_window(self.rt, &self.path, name) {
                 Ok(file) => Ok(file),
                 Err(OpenError::OutOfMemory) => Err(KeepStop::OutOfMemory),
                 Err(_closed) => {
@@ -79,7 +80,7 @@ impl<'a> Folder<File> for FileFolder<'a> {
         }
     }
 
-    fn give_back(&mut self, name: WindowName, file: File) {
+    fn give_back(&mut self, name: WindowName, file: FoundFile<File, F>) {
         self.open.put(name, file);
     }
 }

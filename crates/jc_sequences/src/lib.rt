@@ -2,9 +2,13 @@
 #![tactic(auto)]
 
 mod file_folder;
+mod file_record;
+mod found_file;
 mod open_files;
 mod opening;
 mod window_path;
 
 pub use file_folder::FileFolder;
+pub use file_record::FileRecord;
+pub use found_file::FoundFile;
 pub use opening::{FileSequences, open_sequences};

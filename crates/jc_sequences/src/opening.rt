@@ -1,44 +1,53 @@
 //! Notes of sequences, opened.
 
-ghost use Rattle.std.specs.Prelude.{◌≡◌, IfErr, IfOk};
+ghost use Rattle.std.specs.Prelude.{◌≡◌, ◌↔◌, IfErr, IfOk};
 ghost use Rattle.jc_base.specs.declared.id.Key.{Key};
+ghost use Rattle.jc_base.specs.LogEntry.{LogEntry};
+ghost use Rattle.jc_ledger_files.specs.NotesOf.{notes_of};
+ghost use Rattle.jc_ledger_files.specs.Windows.{known_in};
 
 use crate::file_folder::FileFolder;
+use crate::found_file::FoundFile;
 use crate::window_path::{make_folder, sync_folder};
 use jc_command_shared::Failure;
 use jc_ledger::Ledger;
-use jc_ledger_files::{AnyEntry, DiskWindows, FileLedger};
+use jc_ledger_files::{Arrivals, DiskWindows, FileLedger, Found, RecordedEntries};
 use sqlite_std_file::File;
 use std::{fs, io};
 
 /// The notes of sequences in the files of a folder.
-pub type FileSequences<'a> = FileLedger<DiskWindows<File, FileFolder<'a>>, AnyEntry>;
+pub type FileSequences<'a, F, A> = FileLedger<
+    DiskWindows<FoundFile<File, F>, FileFolder<'a, F>>,
+    RecordedEntries<A>,
+>;
 
 /// Opens the folder at `path`, or makes it. What is noted in it stays there.
-pub fn open_sequences<'a>(
+pub fn open_sequences<'a, 'p, F: Found, A: Arrivals>(
     rt: &'a HostRuntime,
-    path: &'a str,
-) -> Result<FileSequences<'a>, Failure<'a>>
-    // What its files have no clause knows: by `Unknown` that is nothing.
-    ensures sound { IfOk result (λ ledger. ⟦<FileSequences<'a> as Ledger>⟧.sound ledger) }
-    ensures none { IfOk result (λ ledger. (k : Key) → ⟦<FileSequences<'a> as Ledger>⟧.known ledger k ≡ None) }
+    path: &'p str,
+) -> Result<FileSequences<'a, F, A>, Failure<'p>>
+    ensures sound { IfOk result (λ ledger. ⟦<FileSequences<'a, F, A> as Ledger>⟧.sound ledger) }
+    // What is noted at first is what the files have as they are opened.
+    ensures known { IfOk result (λ ledger. (k : Key) → ⟦<FileSequences<'a, F, A> as Ledger>⟧.known ledger k ≡ known_in (λ w. notes_of (F.found w)) k) }
+    ensures came { IfOk result (λ ledger. (e : LogEntry) → ⟦<FileSequences<'a, F, A> as Ledger>⟧.came ledger e ↔ A.before e) }
     ensures failed { IfErr result (λ failure. failure ≡ Failure.CannotOpen path.entry) }
 {
-    if have_folder(rt, path).is_err() {
+    let Ok(folder) = have_folder(rt, path) else {
         return Err(Failure::CannotOpen(path));
-    }
-    let windows = DiskWindows::new(rt.alloc(), FileFolder::new(rt, path));
-    Ok(FileLedger::new(rt.alloc(), windows, AnyEntry))
+    };
+    let windows = DiskWindows::new(rt.alloc(), FileFolder::new(rt, folder));
+    Ok(FileLedger::new(rt.alloc(), windows, RecordedEntries::new()))
 }
 
-/// Makes the folder if there is none. It is there after a loss of power, too.
-fn have_folder(rt: &HostRuntime, path: &str) -> io::Result<()> {
-    if is_folder(rt, path) {
-        return Ok(());
+/// Makes the folder if there is none, and answers its path. It is there after a loss of power, too.
+fn have_folder(rt: &HostRuntime, path: &str) -> io::Result<String> {
+    if !is_folder(rt, path) {
+        make_folder(rt, path)?;
+        let parent = format!(in rt.alloc(); "{path}/..")?;
+        sync_folder(rt, &parent)?;
     }
-    make_folder(rt, path)?;
-    let parent = format!(in rt.alloc(); "{path}/..")?;
-    sync_folder(rt, &parent)
+    let folder = format!(in rt.alloc(); "{path}")?;
+    Ok(folder)
 }
 
 fn is_folder(rt: &HostRuntime, path: &str) -> bool {

@@ -1,8 +1,9 @@
 //! Where the file of a window lies.
 
-ghost use Rattle.std.specs.Prelude.{◌≡◌, List, [], ℕ, IfOk, IsTrue};
+ghost use Rattle.std.specs.Prelude.{◌≡◌, List, ℕ, IfOk, IsTrue};
 
-use jc_ledger_files::WindowName;
+use crate::found_file::FoundFile;
+use jc_ledger_files::{Found, WindowName};
 use sqlite_disk::{Disk, Files};
 use sqlite_std_file::{File, OpenError, Unknown, open};
 use std::fs::{DirBuilder, OpenFile};
@@ -24,15 +25,14 @@ pub(crate) fn sync_folder(rt: &HostRuntime, path: &str) -> io::Result<()> {
 
 /// Opens the file of a window, `FOLDER/SEQUENCE/NUMBER`, or makes it. It is locked until it is dropped. What was made here
 /// is there after a loss of power.
-pub(crate) fn open_window(
+pub(crate) fn open_window<F: Found>(
     rt: &HostRuntime,
     folder: &str,
     name: WindowName,
-) -> Result<File, OpenError>
-    // What it has no clause knows: by `Unknown` that is nothing.
-    ensures seen { IfOk result (λ file. ⟦<File as Disk>⟧.seen file ≡ []) }
-    ensures crash { IfOk result (λ file. (c : List ℕ) → ⟦<File as Disk>⟧.may_leave file c → c ≡ []) }
-    ensures usable { IfOk result (λ file. IsTrue (⟦<File as Disk>⟧.is_usable file)) }
+) -> Result<FoundFile<File, F>, OpenError>
+    ensures seen { IfOk result (λ file. ⟦<FoundFile<File, F> as Disk>⟧.seen file ≡ F.found name) }
+    ensures crash { IfOk result (λ file. (c : List ℕ) → ⟦<FoundFile<File, F> as Disk>⟧.may_leave file c → c ≡ F.found name) }
+    ensures usable { IfOk result (λ file. IsTrue (⟦<FoundFile<File, F> as Disk>⟧.is_usable file)) }
 {
     let alloc = rt.alloc();
     let digits = hex::encode(alloc, name.sequence.as_bytes())?;
@@ -46,5 +46,5 @@ pub(crate) fn open_window(
     // The file is locked, so nobody else uses the log of this name, which nothing is written to.
     let beside = format!(in alloc; "{path}-wal")?;
     let _ = fs::remove_file(rt, &beside);
-    Ok(db)
+    Ok(FoundFile::new(db, name))
 }

@@ -2,17 +2,17 @@
 
 ghost use Rattle.std.specs.Prelude.{◌≡◌, false, true, List, [], ℕ, IsTrue};
 ghost use Rattle.jc_ledger_files.specs.declared.window_name.WindowName.{WindowName};
-ghost use Rattle.jc_ledger_files.specs.Files.{IsBlank, files_leave, files_seen};
+ghost use Rattle.jc_ledger_files.specs.Files.{IsAsFound, files_leave, files_seen};
 
 use jc_keeper::KeepStop;
-use jc_ledger_files::{Folder, KeptFiles, WindowName};
+use jc_ledger_files::{Folder, Found, KeptFiles, NewFiles, WindowName};
 use sqlite_disk::{Disk, Fuse, Memory};
 use std::alloc::Global;
 
 /// Files in memory, each of which fails from a call on.
 #[derive(Drop)]
 pub struct MemoryFolder {
-    pub kept: KeptFiles<Fuse<Memory>>,
+    pub kept: KeptFiles<Fuse<Memory>, NewFiles>,
     /// How many calls a new file passes on.
     pub calls: u64,
     pub alloc: Global,
@@ -24,8 +24,8 @@ pub struct MemoryFolder {
 impl MemoryFolder {
     /// A folder without files. Takes no memory.
     pub fn new(alloc: Global, calls: u64) -> MemoryFolder
-        ensures files { (w : WindowName) → IsBlank (files_seen ⟦<Fuse<Memory> as Disk>⟧.seen result.kept.files w)
-            (files_leave ⟦<Fuse<Memory> as Disk>⟧.may_leave result.kept.files w) }
+        ensures files { (w : WindowName) → IsAsFound [] (files_seen ⟦<NewFiles as Found>⟧.found ⟦<Fuse<Memory> as Disk>⟧.seen result.kept.files w)
+            (files_leave ⟦<NewFiles as Found>⟧.found ⟦<Fuse<Memory> as Disk>⟧.may_leave result.kept.files w) }
         ensures whole { result.is_worn ≡ false }
     {
         MemoryFolder {
@@ -58,21 +58,21 @@ fn new_file(alloc: Global, calls: u64) -> Fuse<Memory>
 }
 
 impl Folder<Fuse<Memory>> for MemoryFolder {
-    ghost use Rattle.std.specs.Prelude.{◌≡◌, false, refl};
+    ghost use Rattle.std.specs.Prelude.{◌≡◌, [], false, refl};
     ghost use Rattle.std.proofs.Common.{inl};
     ghost use Rattle.std.specs.BTreeMap.{get};
     ghost use Rattle.jc_base.specs.Journal.{key_cmp};
     ghost use Rattle.jc_ledger_files.specs.Files.{files_leave, files_seen, key_named, seen_stays};
 
-    ghost seen = { λ f. files_seen ⟦<Fuse<Memory> as Disk>⟧.seen f.kept.files };
+    ghost seen = { λ f. files_seen ⟦<NewFiles as Found>⟧.found ⟦<Fuse<Memory> as Disk>⟧.seen f.kept.files };
 
-    ghost may_leave = { λ f. files_leave ⟦<Fuse<Memory> as Disk>⟧.may_leave f.kept.files };
+    ghost may_leave = { λ f. files_leave ⟦<NewFiles as Found>⟧.found ⟦<Fuse<Memory> as Disk>⟧.may_leave f.kept.files };
 
     ghost clean = { λ f. f.is_worn ≡ false };
 
     ghost failures = { λ f. f.failures };
 
-    ghost seen_may_stay = { λ f w. seen_stays ⟦<Fuse<Memory> as Disk>⟧.seen ⟦<Fuse<Memory> as Disk>⟧.may_leave
+    ghost seen_may_stay = { λ f w. seen_stays [] ⟦<Fuse<Memory> as Disk>⟧.seen ⟦<Fuse<Memory> as Disk>⟧.may_leave
         (λ _. inl refl) (get key_cmp f.kept.files (key_named w)) };
 
     fn lend(&mut self, name: WindowName) -> Result<Fuse<Memory>, KeepStop> {

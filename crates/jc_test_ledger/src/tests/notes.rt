@@ -4,7 +4,7 @@ use super::ledgers::{NEVER, bytes_of, folder_of, folder_with, note, noted, opene
 use crate::{MemoryFolder, new_windows};
 use jc_keeper::KeepStop;
 use jc_ledger::Ledger;
-use jc_ledger_files::{AnyEntry, FileLedger, Windows};
+use jc_ledger_files::{FileLedger, NoneBefore, RecordedEntries, Windows};
 use jc_test_samples::{ENTRY, ENTRY_2, ENTRY_3, numbered_entry};
 use std::process::Abort;
 use std::test::Fail;
@@ -112,11 +112,12 @@ fn six_windows_are_looked_into(rt: HostRuntime) -> Result<(), Fail> {
     Ok(())
 }
 
-/// A ledger that keeps no entries, over a new folder. Once it is shut it fails, and counts that.
+/// A ledger that keeps entries for proofs alone, over a new folder. Once it is shut it fails, and counts that.
 #[test]
 fn a_shut_ledger_fails(rt: HostRuntime) -> Result<(), Fail> {
     let alloc = rt.alloc();
-    let mut ledger = FileLedger::new(alloc, new_windows(alloc), AnyEntry);
+    let entries = RecordedEntries::<NoneBefore>::new();
+    let mut ledger = FileLedger::new(alloc, new_windows(alloc), entries);
     assert!(rt; ledger.begin().is_ok());
     ledger.windows.shut();
     assert!(rt; matches!(ledger.begin(), Err(KeepStop::StoreFailed)));

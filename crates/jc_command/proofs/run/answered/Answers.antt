@@ -1,15 +1,14 @@
 -- A request is performed; what clap answers in place of one is printed.
 use Rattle.std.proofs.Common.{None, map, rules, string_bytes}
 use Rattle.clap.specs.Words.{kind_of}
-use Rattle.sqlite.specs.WalFiles.{image_at}
 use Rattle.jc_command.specs.Run.{Stops}
-use Rattle.jc_command.proofs.Runs.{at_err, at_ok, failed, performed, ends_words, stops_answered, IfErr-both, IfOk-both}
+use Rattle.jc_command.proofs.Runs.{at_err, at_ok, failed, performed, ends_as, ends_words, stops_answered, IfErr-both, IfOk-both}
 use Rattle.jc_command.proofs.run.answered.Goals as goal
 
 pub returns-in-Ok-clause-ended : goal.returns-in-Ok-clause-ended
 returns-in-Ok-clause-ended g c =
     IfOk-both c.perform.result _ _ _
-    (λ done does quiet. performed (image_at g.S.Start) _ done.files (map string_bytes c.args.words.now) c.in-Ok.request (g.I.Read.remaining c.args.input.now)
+    (λ done does quiet. performed _ _ _ (map string_bytes c.args.words.now) c.in-Ok.request (g.I.Read.remaining c.args.input.now)
     (g.O.Write.contents c.args.output.now) (g.O.Write.contents c.perform.new.output) (g.E.Write.contents c.args.errors.now)
     (g.E.Write.contents c.perform.new.errors) done.status c.in-Ok.ensures.request does quiet)
     c.perform.ensures.performed c.perform.ensures.quiet
@@ -30,9 +29,9 @@ returns-in_ok-answer_words-in-Err-clause-ended g c =
     let errors = g.E.Write.contents c.args.errors.now in
     let errors' = g.E.Write.contents c.answer_words.new.errors in
     let prints = c.answer_words.ensures in
-    rw (c.without.ensures.files, c.without.ensures.status)
+    ends_as _ _ _ _ _ _ _ _ _ _ _ c.without.ensures.status
     (at_ok c.answer_words.result c.in_ok-answer_words-in-Err.field-0 _ c.in_ok-answer_words-in-Err.was
-    (ends_words (image_at g.S.Start) _ None words (kind_of c.in-Err.answer) c.answer_words.result given output output' errors errors'
+    (ends_words _ _ _ words (kind_of c.in-Err.answer) c.answer_words.result given output output' errors errors'
     c.in-Err.ensures.answer prints.asked prints.mistaken prints.memory))
 
 pub returns-in_err-answer_words-in-Err-clause-stopped : goal.returns-in_err-answer_words-in-Err-clause-stopped

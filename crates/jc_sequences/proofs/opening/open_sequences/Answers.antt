@@ -1,11 +1,12 @@
-use Rattle.std.proofs.Common.{sym, ◌∙◌}
+use Rattle.std.proofs.Common.{List, ℕ, ap, sym, ◌∙◌}
 use Rattle.jc_ledger_files.specs.NotesOf.{notes_of}
+use Rattle.jc_ledger_files.specs.Noted.{noted}
 use Rattle.jc_ledger_files.specs.Windows.{window_of}
 use Rattle.jc_sequences.proofs.opening.open_sequences.Goals as goal
 
 pub new-windows-requires : goal.new-windows-requires
-new-windows-requires c = λ _ w file left. (c.new.ensures.blank w).only file left ∙ sym (c.new.ensures.blank w).same
+new-windows-requires g c = λ _ w file left. (c.new.ensures.found w).only file left ∙ sym (c.new.ensures.found w).same
 
-pub returns-clause-none : goal.returns-clause-none
-unfolding notes_of
-returns-clause-none c = λ k. rw c.new-2.ensures.windows (rw c.new-windows.ensures.folder (rw ((c.new.ensures.blank (window_of k)).same, notes_of)))
+pub returns-clause-known : goal.returns-clause-known
+returns-clause-known g c = λ k.
+    rw c.new-3.ensures.windows (rw c.new-windows.ensures.folder (ap (λ (file : List ℕ). noted (notes_of file) k.seqnum) (c.new.ensures.found (window_of k)).same))

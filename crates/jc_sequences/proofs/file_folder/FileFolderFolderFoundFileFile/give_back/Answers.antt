@@ -1,6 +1,6 @@
-use Rattle.jc_sequences.proofs.file_folder.FileFolderFolderFile.give_back.Goals as goal
+use Rattle.jc_sequences.proofs.file_folder.FileFolderFolderFoundFileFile.give_back.Goals as goal
 
 pub returns-clause-clean : goal.returns-clause-clean
-returns-clause-clean c = λ clean.
+returns-clause-clean g c = λ clean.
     let both = c.put.ensures.clean clean.0 clean.1 in
     ((c.put.ensures.worn clean.0, both.1), both.0)

@@ -1,0 +1,18 @@
+-- What was written is what the file has, and a crash may tear it.
+use lib.Seq.{take-length}
+use Rattle.jc_sequences.proofs.Calls.{follows, holds_written, torn_same, torn_written}
+use Rattle.jc_sequences.proofs.found_file.FoundFileDisk.write_at.Goals as goal
+
+pub returns-in-Ok-clause-written : goal.returns-in-Ok-clause-written
+returns-in-Ok-clause-written g c = rw c.note.ensures (λ some. holds_written _ _ _ (take-length c.args.bytes.now))
+
+pub returns-in-Ok-clause-others : goal.returns-in-Ok-clause-others
+returns-in-Ok-clause-others g c = rw c.note.ensures (torn_written _ _ _ (take-length c.args.bytes.now))
+
+pub returns-in-Ok-clause-crash : goal.returns-in-Ok-clause-crash
+returns-in-Ok-clause-crash g c =
+    rw c.note.ensures (λ left may. follows _ c.args.bytes.now _ _ _ _ (torn_written _ _ _ (take-length c.args.bytes.now)) left may)
+
+pub returns-in-Err-clause-crash : goal.returns-in-Err-clause-crash
+returns-in-Err-clause-crash g c =
+    rw c.note-in-Err.ensures (λ left may. follows _ c.args.bytes.now _ _ _ _ (torn_same _ _ _) left may)
