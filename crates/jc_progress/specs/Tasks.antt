@@ -1,5 +1,8 @@
 -- What can be counted of a command.
-use Rattle.std.specs.Prelude.{◌≡◌, ◌==◌, ℕ, List, length, count_by, max, vec_len, IsNone, IsSomeAnd, Option, ⊤}
+use Rattle.std.specs.Prelude.{◌≡◌, ◌==◌, ◌≤◌, ◌+◌, ℕ, List, length, count_by, max, vec_len, IsNone, IsSomeAnd, Option, Some, None}
+use Rattle.std.specs.Time.{instant_nanos}
+use Rattle.std.specs.declared.time.Instant.{Instant}
+use Rattle.jc_command_args.specs.Words.{AskFor}
 use Rattle.jc_command_args.specs.declared.request.Request.{Request}
 use Rattle.jc_command_args.specs.declared.request.Request.TheVariants as request
 use Rattle.jc_progress.specs.declared.task.Task.{Task}
@@ -24,4 +27,14 @@ Counts (request.Migrate database tables) found = IsSomeAnd found (λ task. task.
 Counts (request.Verify kind file) found = IsSomeAnd found (λ task. task.unit ≡ Verified)
 Counts (request.Upload source limit whole) found = IsNone found
 Counts (request.Ack source) found = IsNone found
-Counts _ found = ⊤
+Counts (request.Inspect file most_entries most_fields most_bytes) found = IsNone found
+Counts request.ListCodes found = IsNone found
+
+-- What words ask for, by what is counted of it.
+abbrev pub IsTaskOf : (words : List (List ℕ)) → Task → Type 0
+IsTaskOf words task = (request : Request) × AskFor words request × Counts request (Some task)
+
+-- A second has gone by since the last line. Where no time is known none is told.
+abbrev pub IsDue : (told : Option Instant) → (now : Instant) → Type 0
+IsDue None now = ⊥
+IsDue (Some told) now = instant_nanos told + 1000000000 ≤ instant_nanos now
