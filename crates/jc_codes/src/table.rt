@@ -1,7 +1,8 @@
 //! What a code means, and what to do about it.
 
-ghost use Rattle.std.specs.Prelude.{◌≡◌, ◌∷◌, ◌++◌, ℕ, List, IfOk, IfSome};
-ghost use Rattle.jc_codes.specs.Rows.{IsRow, SaysRow};
+ghost use Rattle.std.specs.Prelude.{ℕ, List, IfOk, MatchOption};
+ghost use Rattle.jc_codes.specs.Rows.{IsBelow, IsRow, SaysRow};
+ghost use Rattle.jc_codes.specs.declared.table.Coded.{Coded as Row};
 
 use jc_command_args::CODES;
 use std::alloc::{AllocError, Global};
@@ -16,7 +17,7 @@ pub struct Coded {
 
 /// The lines of the table about a code: none if it isn't there.
 pub fn row_about(alloc: Global, code: u64) -> Result<Option<Coded>, AllocError>
-    ensures { IfOk result (λ found. IfSome found (IsRow code CODES.now)) }
+    ensures { IfOk result (λ found. MatchOption found ((row : Row) → ¬ IsRow code CODES.now row) (IsRow code CODES.now)) }
 {
     let number = format!(in alloc; "{code} ")?;
     match CODES.strip_prefix(number.as_str()) {
@@ -25,10 +26,11 @@ pub fn row_about(alloc: Global, code: u64) -> Result<Option<Coded>, AllocError>
     }
 }
 
-/// The lines that begin with a number, behind a line's end.
+/// The lines that begin with a number, behind another line.
 fn row_behind(alloc: Global, number: &str) -> Result<Option<Coded>, AllocError>
-    ensures { IfOk result (λ found. IfSome found (λ row. (before rest : List ℕ) × (CODES.now ≡ before ++ 10 ∷ (number.now ++ rest))
-        × SaysRow rest row)) }
+    ensures { IfOk result (λ found. MatchOption found
+        ((rest : List ℕ) (row : Row) → IsBelow number.now CODES.now rest → ¬ SaysRow rest row)
+        (λ row. (rest : List ℕ) × IsBelow number.now CODES.now rest × SaysRow rest row)) }
 {
     let begin = format!(in alloc; "\n{number}")?;
     match CODES.split_once(begin.as_str()) {
@@ -39,7 +41,7 @@ fn row_behind(alloc: Global, number: &str) -> Result<Option<Coded>, AllocError>
 
 /// What two lines say, the first of which begins behind its number.
 fn row_of(rest: &'static str) -> Option<Coded>
-    ensures { IfSome result (SaysRow rest.now) }
+    ensures { MatchOption result ((row : Row) → ¬ SaysRow rest.now row) (SaysRow rest.now) }
 {
     let (line, below) = rest.split_once('\n')?;
     let (name, meaning) = line.trim().split_once(' ')?;
