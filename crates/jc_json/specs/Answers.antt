@@ -1,5 +1,5 @@
 -- The objects of what `check`, `verify` and `inspect` found.
-use Rattle.std.specs.Prelude.{◌≡◌, ◌==◌, ◌⊎◌, ◌++◌, ◌∷◌, ℕ, List, [], IsTrue, codes, decimal, bytes_eq, if◌then◌else◌}
+use Rattle.std.specs.Prelude.{◌≡◌, ◌⊎◌, ◌++◌, ◌∷◌, ℕ, List, IsTrue, codes, decimal, bytes_eq, if◌then◌else◌}
 use Rattle.json.specs.Print.{quoted}
 use Rattle.jc_codes.specs.Rows.{IsRow}
 use Rattle.jc_codes.specs.declared.table.Coded.{Coded}

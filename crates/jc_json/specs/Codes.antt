@@ -1,8 +1,12 @@
 -- The objects of the table of codes.
-use Rattle.std.specs.Prelude.{◌≡◌, ◌++◌, ◌∷◌, ℕ, List, [], codes, decimal}
+use Rattle.std.specs.Prelude.{◌≡◌, ◌++◌, ℕ, List, codes, decimal}
 use Rattle.json.specs.Print.{quoted}
 use Rattle.jc_codes.specs.Rows.{IsRow}
 use Rattle.jc_codes.specs.declared.table.Coded.{Coded}
+
+-- a line that stands below that of a code: it begins with 24 blanks
+abbrev pub StandsBelow : (line : List ℕ) → Type 0
+StandsBelow line = (rest : List ℕ) × (line ≡ codes "                        " ++ rest)
 
 -- the object of a code, with what the table says of it
 abbrev pub code_object : (code : ℕ) (row : Coded) → List ℕ

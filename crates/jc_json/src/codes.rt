@@ -1,7 +1,7 @@
 //! The objects of the table of codes.
 
-ghost use Rattle.std.specs.Prelude.{◌≡◌, IfOk, IfSome, string_bytes};
-ghost use Rattle.jc_json.specs.Codes.{IsCode};
+ghost use Rattle.std.specs.Prelude.{◌≡◌, ◌↔◌, IfOk, IfSome, IsTrue, string_bytes};
+ghost use Rattle.jc_json.specs.Codes.{IsCode, StandsBelow};
 
 use crate::quoted::quoted;
 use jc_codes::row_about;
@@ -12,7 +12,9 @@ use std::alloc::{AllocError, Global};
 const ADVICE: &str = "                        ";
 
 /// Whether a line stands below that of a code, whose object has it.
-pub fn is_advice(line: &str) -> bool {
+pub fn is_advice(line: &str) -> bool
+    ensures { IsTrue result ↔ StandsBelow line.now }
+{
     line.starts_with(ADVICE)
 }
 

@@ -1,6 +1,6 @@
 //! A writer of objects.
 
-ghost use Rattle.std.specs.Prelude.{◌≡◌, ◌⊎◌, ◌∷◌, ◌++◌, [], OnOk, IfOk, IfErr};
+ghost use Rattle.std.specs.Prelude.{◌≡◌, ◌⊎◌, ◌∷◌, ◌++◌, [], true, OnOk, IfOk, IfErr};
 ghost use Rattle.std.specs.Io.KnownBytes.{Appends, Keeps};
 ghost use Rattle.jc_json.specs.Passing.{passed};
 
@@ -26,7 +26,12 @@ pub struct Objects<W: Write + Drop> {
 }
 
 impl<W: Write + Drop> Objects<W> {
-    pub fn new(alloc: Global, lines: Option<Lines>, inner: W) -> Objects<W> {
+    pub fn new(alloc: Global, lines: Option<Lines>, inner: W) -> Objects<W>
+        ensures inner { result.inner ≡ inner }
+        ensures lines { result.lines ≡ lines }
+        ensures begun { result.begun.items ≡ [] }
+        ensures has_memory { result.has_memory ≡ true }
+    {
         Objects {
             inner,
             lines,
