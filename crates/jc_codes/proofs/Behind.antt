@@ -20,10 +20,10 @@ module _ (begin text : List ℕ) where
       let here : drop (length a.before) text ≡ 10 ∷ (begin ++ rest) = at_place a.before rest a.there in
       let there : drop (length b.before) text ≡ 10 ∷ (begin ++ other) = at_place b.before other b.there in
       elim (cases_order (length a.before) (length b.before)) [
-        inl same ↦ append_cancel_left (10 ∷ begin) rest other (sym here ∙ (ap (λ n. drop n text) same ∙ there))
-      | inr order ↦ elim order [
-          inl earlier ↦ absurd (b.first (length a.before) rest earlier here)
-        | inr later ↦ absurd (a.first (length b.before) other later there)
+        | inl same ↦ append_cancel_left (10 ∷ begin) rest other (sym here ∙ (ap (λ n. drop n text) same ∙ there))
+        | inr order ↦ elim order [
+          | inl earlier ↦ absurd (b.first (length a.before) rest earlier here)
+          | inr later ↦ absurd (a.first (length b.before) other later there)
         ]
       ]
 
@@ -47,7 +47,7 @@ module _ (begin text : List ℕ) where
   -- a row, or none, of the line that was found
   pub row_there : (o : Option Coded) (rest : List ℕ) → IsBelow begin text rest → MatchOption o ((row : Coded) → ¬ SaysRow rest row) (SaysRow rest)
       → MatchOption o ((other : List ℕ) (row : Coded) → IsBelow begin text other → ¬ SaysRow other row)
-        (λ row. (behind : List ℕ) × IsBelow begin text behind × SaysRow behind row)
+      (λ row. (behind : List ℕ) × IsBelow begin text behind × SaysRow behind row)
   row_there None rest there none = λ other row is says. none row (subst (λ (r : List ℕ). SaysRow r row) (one_rest other rest is there) says)
   row_there (Some row) rest there says = (rest, there, says)
 
@@ -57,17 +57,17 @@ module _ (code : ℕ) (table : List ℕ) where
       → MatchOption o ((row : Coded) → ¬ SaysRow rest row) (SaysRow rest) → MatchOption o ((row : Coded) → ¬ IsRow code table row) (IsRow code table)
   row_at_once None rest whole none = λ row is.
       elim is.begins [
-        at_once again ↦
-          let same : is.rest ≡ rest = append_cancel_left (decimal code ++ codes " ") is.rest rest (sym again ∙ whole) in
-          none row (subst (λ (r : List ℕ). SaysRow r row) same is.says)
-      | below lacks there ↦ lacks rest whole
+        | at_once again ↦
+            let same : is.rest ≡ rest = append_cancel_left (decimal code ++ codes " ") is.rest rest (sym again ∙ whole) in
+            none row (subst (λ (r : List ℕ). SaysRow r row) same is.says)
+        | below lacks there ↦ lacks rest whole
       ]
   row_at_once (Some row) rest whole says = record { rest = rest; begins = at_once whole; says = says }
 
   -- it doesn't
   pub row_below : (o : Option Coded) → ((other : List ℕ) → table ≢ (decimal code ++ codes " ") ++ other)
       → MatchOption o ((rest : List ℕ) (row : Coded) → IsBelow (decimal code ++ codes " ") table rest → ¬ SaysRow rest row)
-        (λ row. (rest : List ℕ) × IsBelow (decimal code ++ codes " ") table rest × SaysRow rest row)
+      (λ row. (rest : List ℕ) × IsBelow (decimal code ++ codes " ") table rest × SaysRow rest row)
       → MatchOption o ((row : Coded) → ¬ IsRow code table row) (IsRow code table)
   row_below None lacks none = λ row is. elim is.begins [ at_once whole ↦ lacks is.rest whole | below _ there ↦ none is.rest row there is.says ]
   row_below (Some row) lacks (rest, there, says) = record { rest = rest; begins = below lacks there; says = says }
