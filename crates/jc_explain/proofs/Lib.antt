@@ -1,0 +1,4 @@
+mod GoingOut
+mod PlainLines
+mod WordParts
+mod WordPlaces

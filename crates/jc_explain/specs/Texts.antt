@@ -1,11 +1,9 @@
 -- What explanations say.
-use Rattle.std.specs.Prelude.{◌≡◌, ◌⊎◌, ◌++◌, ◌∷◌, ℕ, List, [], codes, decimal}
-use Rattle.std.specs.Str.{trim}
+use Rattle.std.specs.Prelude.{ℕ, List, [], codes, ⊤}
 use Rattle.jc_command_shared.specs.declared.failure.Failure.{Failure}
 use Rattle.jc_command_shared.specs.declared.failure.Failure.TheVariants as failure
 use Rattle.jc_explain.specs.declared.cause.Cause.{Cause}
 use Rattle.jc_explain.specs.declared.cause.Cause.TheVariants as cause
-use Rattle.jc_explain.specs.declared.table.Coded.{Coded}
 
 -- what stands behind the name of a file that can't be used
 abbrev pub text_of : Cause → List ℕ
@@ -43,23 +41,10 @@ advice_of failure.StoreFailed = codes "the database failed while it was read or 
 advice_of failure.OutOfMemory = codes "memory was refused: give the command more, or begin another database"
 advice_of _ = []
 
--- What two lines say, the first of which begins behind its number.
-pub record SaysRow (rest : List ℕ) (row : Coded) : Type 0 where
-  pub line : List ℕ
-  pub meaning : List ℕ
-  pub advice : List ℕ
-  pub after : List ℕ
-  pub lines : rest ≡ line ++ 10 ∷ (advice ++ 10 ∷ after)
-  pub words : trim line ≡ row.name.now ++ 32 ∷ meaning
-  pub means : row.meaning.now ≡ trim meaning
-  pub advised : row.advice.now ≡ trim advice
-
--- a text that stands at the beginning of a line, and what comes behind it
-abbrev pub BeginsLine : (begin text rest : List ℕ) → Type 0
-BeginsLine begin text rest = (text ≡ begin ++ rest) ⊎ ((before : List ℕ) × (text ≡ before ++ 10 ∷ (begin ++ rest)))
-
--- A table says this of a code, in the line that begins with its number and in the one below.
-pub record IsRow (code : ℕ) (table : List ℕ) (row : Coded) : Type 0 where
-  pub rest : List ℕ
-  pub begins : BeginsLine (decimal code ++ codes " ") table rest
-  pub says : SaysRow rest row
+-- a failure whose line has no number in it, and which a command ends with
+abbrev pub IsPlain : Failure → Type 0
+IsPlain (failure.Bad _) = ⊥
+IsPlain failure.SourceChanged = ⊥
+IsPlain (failure.BadAnswer _) = ⊥
+IsPlain failure.WordsAreNoText = ⊥
+IsPlain _ = ⊤

@@ -1,5 +1,5 @@
 -- An option among the words of a command line.
-use Rattle.std.specs.Prelude.{◌≡◌, ◌≤◌, ℕ, Bool, true, false, List, IsSomeAnd, slice_get}
+use Rattle.std.specs.Prelude.{◌≡◌, ◌≢◌, ◌⊎◌, ◌<◌, ◌≤◌, ℕ, Bool, true, false, List, IfSome, IsSomeAnd, codes, length, slice_get}
 use Rattle.std.specs.List.{remove}
 
 module _ {W : Type 0} (text : W → List ℕ) (option : List ℕ) where
@@ -7,7 +7,18 @@ module _ {W : Type 0} (text : W → List ℕ) (option : List ℕ) where
   abbrev pub IsAt : List W → ℕ → Type 0
   IsAt words at = (1 ≤ at) × IsSomeAnd (slice_get words at) (λ word. text word ≡ option)
 
-  -- The option is taken off the words, and nothing else is.
+  -- No word before this place, behind the program's name, is the option, or `--`, which ends the options.
+  abbrev pub IsClear : List W → ℕ → Type 0
+  IsClear words before =
+      (at : ℕ) → at < before → 1 ≤ at → IfSome (slice_get words at) (λ word. (text word ≢ option) × (text word ≢ codes "--"))
+
+  -- The option isn't there, or stands behind `--`.
+  abbrev pub IsMissing : List W → Type 0
+  IsMissing words =
+      IsClear words (length words)
+      ⊎ ((end : ℕ) × IsClear words end × (1 ≤ end) × IsSomeAnd (slice_get words end) (λ word. text word ≡ codes "--"))
+
+  -- The option is taken off the words where it stands first, and nothing else is. It is left only if it is missing.
   abbrev pub Takes : (old new : List W) → Bool → Type 0
-  Takes old new true = (at : ℕ) × IsAt old at × (new ≡ remove old at)
-  Takes old new false = new ≡ old
+  Takes old new true = (at : ℕ) × IsAt old at × IsClear old at × (new ≡ remove old at)
+  Takes old new false = IsMissing old × (new ≡ old)

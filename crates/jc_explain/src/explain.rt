@@ -4,10 +4,12 @@ ghost use Rattle.std.specs.Prelude.{◌≡◌, ◌≤◌, ℕ, List, Option as M
 ghost use Rattle.sqlite.specs.WalFiles.{image_at};
 ghost use Rattle.jc_command_shared.specs.declared.status.Status.{Status};
 ghost use Rattle.jc_command.specs.Run.{EndsWithin, begins_with, devices};
+ghost use Rattle.jc_explain.specs.Explanations.{TellsOn};
 
 use crate::Watched;
 use crate::telling::tell;
 use jc_command::{Begun, Sequences, command};
+use jc_command_args::CODES;
 use jc_ledger::Ledger;
 use sqlite::{FileFrom, Start};
 use sqlite_disk::Disk;
@@ -24,16 +26,19 @@ pub fn explained<'a, S: Start + Begun, I: Read, O: Write + Drop, E: Write + Drop
     errors: &mut Watched<E>,
 ) -> u8
     ensures status { result ≤ 3 }
-    // `told` is what `errors` had before the explanations.
+    // `told` is what `errors` had before the explanations, and what came then goes on from there.
     ensures success { result ≡ 0 → (told : Maybe (List ℕ)) × EndsWithin (begins_with (image_at S.Start) S.windows S.past S.came)
         (devices ⟦<FileFrom<S> as Disk>⟧ ⟦<Sequences<'a, S> as Ledger>⟧) (map string_bytes words.items)
-        (I.remaining input.old) (O.contents output.old.inner) (O.contents output.new.inner) (E.contents errors.old.inner) told Status.Success }
+        (I.remaining input.old) (O.contents output.old.inner) (O.contents output.new.inner) (E.contents errors.old.inner) told Status.Success
+        × TellsOn (map string_bytes words.items) CODES.now told (E.contents errors.new.inner) }
     ensures refused { result ≡ 1 → (told : Maybe (List ℕ)) × EndsWithin (begins_with (image_at S.Start) S.windows S.past S.came)
         (devices ⟦<FileFrom<S> as Disk>⟧ ⟦<Sequences<'a, S> as Ledger>⟧) (map string_bytes words.items)
-        (I.remaining input.old) (O.contents output.old.inner) (O.contents output.new.inner) (E.contents errors.old.inner) told Status.Refused }
+        (I.remaining input.old) (O.contents output.old.inner) (O.contents output.new.inner) (E.contents errors.old.inner) told Status.Refused
+        × TellsOn (map string_bytes words.items) CODES.now told (E.contents errors.new.inner) }
     ensures misused { result ≡ 2 → (told : Maybe (List ℕ)) × EndsWithin (begins_with (image_at S.Start) S.windows S.past S.came)
         (devices ⟦<FileFrom<S> as Disk>⟧ ⟦<Sequences<'a, S> as Ledger>⟧) (map string_bytes words.items)
-        (I.remaining input.old) (O.contents output.old.inner) (O.contents output.new.inner) (E.contents errors.old.inner) told Status.Misused }
+        (I.remaining input.old) (O.contents output.old.inner) (O.contents output.new.inner) (E.contents errors.old.inner) told Status.Misused
+        × TellsOn (map string_bytes words.items) CODES.now told (E.contents errors.new.inner) }
 {
     let asked: Result<_, _> = words.clone();
     let status = command(rt, start, words, input, output, errors);

@@ -7,15 +7,16 @@ mod cause;
 mod explain;
 mod looking;
 mod said;
+mod seen;
 mod subject;
-mod table;
 mod telling;
+mod texts;
 mod watched;
+mod why;
 mod words;
 
 pub use cause::Cause;
 pub use explain::explained;
 pub use said::{advice, failure_of};
-pub use table::{Coded, row_about};
 pub use watched::Watched;
 pub use words::{EXPLAIN, take_option};

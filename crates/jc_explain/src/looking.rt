@@ -1,15 +1,18 @@
 //! What the system says of a file that couldn't be used.
 
+ghost use Rattle.std.specs.Prelude.{IfSome, Contains, map};
+ghost use Rattle.jc_explain.specs.Causes.{IsOfClosed, IsOfNoFolder, IsOfNoJournal, IsOfUnread};
+
 use crate::Cause;
+use crate::seen::{
+    Log, MAGIC, Place, Seen, cause_closed, cause_no_folder, cause_no_journal, cause_unopened,
+    cause_unread,
+};
 use jc_command_shared::{folder_and_name, open_file, read_front};
-use std::alloc::Global;
 use std::fs::{Metadata, OpenOptions};
 use std::io::ErrorKind;
 use std::os::unix::fs::MetadataExt;
 use std::{fs, io};
-
-/// The first bytes of a database (SQLite's file format, "The Database Header").
-const MAGIC: &[u8; 16] = b"SQLite format 3\0";
 
 /// The smallest page of a database: a shorter log has none.
 const PAGE: u64 = 512;
@@ -18,102 +21,99 @@ const PAGE: u64 = 512;
 const CELLS: usize = 103;
 
 /// Why the file at `path` can't be read. A pipe or a device can.
-pub fn why_unread(rt: &HostRuntime, path: &str) -> Cause {
-    match fs::metadata(rt, path) {
-        Ok(found) if found.is_dir() => Cause::Folder,
-        Ok(_) if open_file(rt, path).is_err() => Cause::Unreadable,
-        Ok(_) => Cause::Unknown,
-        Err(error) => why_unfound(rt, path, &error),
-    }
+pub fn why_unread(rt: &HostRuntime, path: &str) -> Cause
+    ensures { IsOfUnread result }
+{
+    let place = place_at(rt, path);
+    let is_readable = match place {
+        Place::File | Place::Special => open_file(rt, path).is_ok(),
+        _ => false,
+    };
+    cause_unread(place, is_readable)
 }
 
 /// Why the file at `path` can't be opened as a database. `makes` says that one that is missing would be made.
-pub fn why_closed(rt: &HostRuntime, path: &str, makes: bool) -> Cause {
+pub fn why_closed(rt: &HostRuntime, path: &str, makes: bool) -> Cause
+    ensures { IsOfClosed makes result }
+{
     match fs::metadata(rt, path) {
-        Ok(found) => why_unusable(rt, path, &found, makes),
-        Err(error) => match why_unfound(rt, path, &error) {
-            Cause::Missing if makes => Cause::Unmade,
-            cause => cause,
-        },
+        Ok(found) if found.is_file() => cause_closed(&seen_at(rt, path, &found), makes),
+        found => cause_unopened(place_of(rt, path, &found), makes),
     }
 }
 
 /// Why the folder at `path`, which is made if it is missing, can't be used.
-pub fn why_no_folder(rt: &HostRuntime, path: &str) -> Cause {
-    match fs::metadata(rt, path) {
-        Ok(found) if found.is_dir() => Cause::Unknown,
-        Ok(_) => Cause::NotFolder,
-        Err(error) => match why_unfound(rt, path, &error) {
-            Cause::Missing => Cause::Unmade,
-            cause => cause,
+pub fn why_no_folder(rt: &HostRuntime, path: &str) -> Cause
+    ensures { IsOfNoFolder result }
+{
+    cause_no_folder(place_at(rt, path))
+}
+
+/// Why the file at `path` is taken for no journal's database.
+pub fn why_no_journal(rt: &HostRuntime, path: &str) -> Cause
+    ensures { IsOfNoJournal result }
+{
+    let front = front_of(rt, path, MAGIC.len() as u64);
+    cause_no_journal(front.as_deref())
+}
+
+/// The first of these paths at which there is a folder, of which no bytes can be read.
+pub fn folder_among<'a>(rt: &HostRuntime, paths: &[&'a str]) -> Option<&'a str>
+    ensures { IfSome result (λ path. Contains (map (λ name. name.now) paths.now) path.now) }
+{
+    for path in paths {
+        if place_at(rt, path) == Place::Folder {
+            return Some(path);
+        }
+    }
+    None
+}
+
+/// What there is at a path.
+fn place_at(rt: &HostRuntime, path: &str) -> Place {
+    place_of(rt, path, &fs::metadata(rt, path))
+}
+
+/// What there is at a path of which the system says this.
+fn place_of(rt: &HostRuntime, path: &str, found: &io::Result<Metadata>) -> Place {
+    match found {
+        Ok(found) if found.is_dir() => Place::Folder,
+        Ok(found) if found.is_file() => Place::File,
+        Ok(_) => Place::Special,
+        Err(error) => match error.kind() {
+            ErrorKind::NotFound if has_folder(rt, path) => Place::Missing,
+            ErrorKind::NotFound | ErrorKind::NotADirectory => Place::NoFolder,
+            ErrorKind::PermissionDenied => Place::Closed,
+            _ => Place::Unknown,
         },
     }
 }
 
-/// Why the file at `path` is taken for no journal's database.
-pub fn why_no_journal(rt: &HostRuntime, path: &str) -> Cause {
-    match front_of(rt, path, MAGIC.len() as u64) {
-        Some(head) if head.as_slice() != MAGIC.as_slice() => Cause::NotDatabase,
-        _ => Cause::OtherTables,
+/// Whether the folder is there in which a file of this name would lie.
+fn has_folder(rt: &HostRuntime, path: &str) -> bool {
+    let (folder, _) = folder_and_name(path);
+    fs::metadata(rt, folder).is_ok_and(|found| found.is_dir())
+}
+
+/// What is seen of a regular file.
+fn seen_at(rt: &HostRuntime, path: &str, found: &Metadata) -> Seen {
+    Seen {
+        is_readable: open_file(rt, path).is_ok(),
+        is_empty: found.len() <= 1,
+        is_writable: !is_read_only(rt, path),
+        has_second_name: found.nlink() != 1,
+        has_rollback_journal: has_beside(rt, path, "-journal", 1),
+        has_no_tables: has_no_tables(rt, path) && !has_beside(rt, path, "-wal", PAGE),
+        log: log_of(rt, path),
     }
 }
 
-/// Whether the file at `path` is a folder, of which no bytes can be read.
-pub fn is_folder(rt: &HostRuntime, path: &str) -> bool {
-    fs::metadata(rt, path).is_ok_and(|found| found.is_dir())
-}
-
-fn why_unfound(rt: &HostRuntime, path: &str, error: &io::Error) -> Cause {
-    match error.kind() {
-        ErrorKind::NotFound => {
-            let (folder, _) = folder_and_name(path);
-            if is_folder(rt, folder) {
-                Cause::Missing
-            } else {
-                Cause::NoFolder
-            }
-        }
-        ErrorKind::NotADirectory => Cause::NoFolder,
-        ErrorKind::PermissionDenied => Cause::Unreadable,
-        _ => Cause::Unknown,
-    }
-}
-
-/// Why a database that is there can't be opened: what it is, then who may, and at last what else has it open.
-fn why_unusable(rt: &HostRuntime, path: &str, found: &Metadata, makes: bool) -> Cause {
-    if found.is_dir() {
-        return Cause::Folder;
-    }
-    if !found.is_file() {
-        return Cause::NotRegular;
-    }
-    if open_file(rt, path).is_err() {
-        return Cause::Unreadable;
-    }
-    if !makes && found.len() <= 1 {
-        return Cause::Empty;
-    }
-    if is_read_only(rt, path) {
-        return Cause::Unwritable;
-    }
-    if found.nlink() != 1 {
-        return Cause::SecondName;
-    }
-    why_refused(rt, path, makes)
-}
-
-/// Why a database that may be written, and has no other name, can't be opened.
-fn why_refused(rt: &HostRuntime, path: &str, makes: bool) -> Cause {
-    if has_beside(rt, path, "-journal", 1) {
-        return Cause::Unfinished;
-    }
-    if !makes && has_no_tables(rt, path) && !has_beside(rt, path, "-wal", PAGE) {
-        return Cause::NoTables;
-    }
+/// What there is of the log of a database.
+fn log_of(rt: &HostRuntime, path: &str) -> Log {
     match format!(in rt.alloc(); "{path}-wal") {
-        Ok(log) if fs::symlink_metadata(rt, log.as_str()).is_err() => Cause::InUseOrNoLog,
-        Ok(log) if is_read_only(rt, log.as_str()) => Cause::LogClosed,
-        _ => Cause::InUse,
+        Ok(log) if fs::symlink_metadata(rt, log.as_str()).is_err() => Log::Missing,
+        Ok(log) if is_read_only(rt, log.as_str()) => Log::Closed,
+        _ => Log::Writable,
     }
 }
 

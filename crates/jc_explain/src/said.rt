@@ -1,17 +1,19 @@
 //! Lines of failures, and what to do about them.
 
-ghost use Rattle.std.specs.Prelude.{◌≡◌, IfSome};
+ghost use Rattle.std.specs.Prelude.{◌≡◌, ◌≢◌, MatchOption};
 ghost use Rattle.jc_command_shared.specs.Failure.{line_of};
-ghost use Rattle.jc_explain.specs.Texts.{advice_of};
+ghost use Rattle.jc_command_shared.specs.declared.failure.Failure.{Failure as Told};
+ghost use Rattle.jc_explain.specs.Texts.{IsPlain, advice_of};
 
 use jc_command_shared::Failure;
 
 /// What begins the line of a file that can't be opened.
 const CANNOT_OPEN: &str = "cannot open ";
 
-/// The failure whose line this is, if that has no number in it.
+/// The failure whose line this is, if it is one that has no number in it.
 pub fn failure_of<'a>(line: &'a str) -> Option<Failure<'a>>
-    ensures { IfSome result (λ failure. line_of failure ≡ line.now) }
+    ensures { MatchOption result ((failure : Told) → IsPlain failure → line_of failure ≢ line.now)
+        (λ failure. IsPlain failure × (line_of failure ≡ line.now)) }
 {
     if let Some(path) = line.strip_prefix(CANNOT_OPEN) {
         return Some(Failure::CannotOpen(path));

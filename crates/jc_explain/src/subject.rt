@@ -1,5 +1,8 @@
 //! The files that a command works on.
 
+ghost use Rattle.std.specs.Prelude.{[], true, false, Some, None, IfOk, map, option_map, string_bytes};
+ghost use Rattle.jc_explain.specs.Subjects.{Concerns, IsAbout, IsSubjectOf, ReadsSource};
+
 use jc_command_args::{Request, Source, parse};
 use std::alloc::{AllocError, Global};
 
@@ -18,14 +21,18 @@ pub struct Subject<'a> {
 }
 
 /// What the words ask to be worked on: nothing if they ask for nothing.
-pub fn subject_of<'a>(alloc: Global, words: &'a [String]) -> Result<Subject<'a>, AllocError> {
+pub fn subject_of<'a>(alloc: Global, words: &'a [String]) -> Result<Subject<'a>, AllocError>
+    ensures { IfOk result (IsSubjectOf (map string_bytes words.entry.now)) }
+{
     match parse(alloc, words) {
         Ok(request) => subject_in(alloc, request),
         Err(_) => Ok(over_database(alloc, None, false)),
     }
 }
 
-fn subject_in<'a>(alloc: Global, request: Request<'a>) -> Result<Subject<'a>, AllocError> {
+fn subject_in<'a>(alloc: Global, request: Request<'a>) -> Result<Subject<'a>, AllocError>
+    ensures { IfOk result (Concerns request.entry) }
+{
     match request {
         Request::Collect {
             database,
@@ -58,16 +65,17 @@ fn subject_in<'a>(alloc: Global, request: Request<'a>) -> Result<Subject<'a>, Al
     }
 }
 
-fn of_source<'a>(alloc: Global, source: Source<'a>) -> Result<Subject<'a>, AllocError> {
+fn of_source<'a>(alloc: Global, source: Source<'a>) -> Result<Subject<'a>, AllocError>
+    ensures { IfOk result (ReadsSource source.entry) }
+{
     let files = Vec::from_slice(alloc, &[source.resume, source.file])?;
     Ok(over_files(files, false))
 }
 
-fn collecting<'a>(
-    database: &'a str,
-    sequences: Option<&'a str>,
-    files: Vec<&'a str>,
-) -> Subject<'a> {
+fn collecting<'a>(database: &'a str, sequences: Option<&'a str>, files: Vec<&'a str>) -> Subject<'a>
+    ensures { IsAbout result (Some database.entry.now) true (option_map (λ path. path.now) sequences.entry)
+        (map (λ path. path.now) files.entry.items) true }
+{
     Subject {
         database: Some(database),
         makes: true,
@@ -77,7 +85,9 @@ fn collecting<'a>(
     }
 }
 
-fn over_database<'a>(alloc: Global, database: Option<&'a str>, answers: bool) -> Subject<'a> {
+fn over_database<'a>(alloc: Global, database: Option<&'a str>, answers: bool) -> Subject<'a>
+    ensures { IsAbout result (option_map (λ path. path.now) database.entry) false None [] answers }
+{
     Subject {
         database,
         makes: false,
@@ -87,7 +97,9 @@ fn over_database<'a>(alloc: Global, database: Option<&'a str>, answers: bool) ->
     }
 }
 
-fn over_files<'a>(files: Vec<&'a str>, answers: bool) -> Subject<'a> {
+fn over_files<'a>(files: Vec<&'a str>, answers: bool) -> Subject<'a>
+    ensures { IsAbout result None false None (map (λ path. path.now) files.entry.items) answers }
+{
     Subject {
         database: None,
         makes: false,

@@ -19,6 +19,7 @@ pub struct Watched<W: Write + Drop> {
 impl<W: Write + Drop> Watched<W> {
     pub fn new(alloc: Global, inner: W) -> Watched<W>
         ensures inner { result.inner ≡ inner }
+        ensures kept { result.kept.items ≡ [] }
     {
         Watched {
             inner,
@@ -29,6 +30,8 @@ impl<W: Write + Drop> Watched<W> {
     /// The bytes that are kept. From here on others are.
     pub fn take_kept(&mut self, alloc: Global) -> Vec<u8>
         ensures inner { self.new.inner ≡ self.old.inner }
+        ensures kept { result.items ≡ self.old.kept.items }
+        ensures anew { self.new.kept.items ≡ [] }
     {
         std::mem::replace(&mut self.kept, Vec::new(alloc))
     }

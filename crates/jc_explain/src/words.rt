@@ -1,7 +1,7 @@
 //! Options of all commands among the words of a command line.
 
-ghost use Rattle.std.specs.Prelude.{◌<◌, IfSome, length, string_bytes};
-ghost use Rattle.jc_explain.specs.Words.{IsAt, Takes};
+ghost use Rattle.std.specs.Prelude.{◌<◌, IfNone, IfSome, length, string_bytes};
+ghost use Rattle.jc_explain.specs.Words.{IsAt, IsClear, IsMissing, Takes};
 
 /// The option of all commands.
 pub const EXPLAIN: &str = "--explain";
@@ -26,7 +26,8 @@ pub fn take_option(words: &mut Vec<String>, option: &str) -> bool
 /// Where the option stands first.
 fn place_of_option(words: &[String], option: &str) -> Option<usize>
     ensures within { IfSome result (λ at. at < length words.now) }
-    ensures found { IfSome result (IsAt string_bytes option.now words.now) }
+    ensures found { IfSome result (λ at. IsAt string_bytes option.now words.now at × IsClear string_bytes option.now words.now at) }
+    ensures missing { IfNone result (IsMissing string_bytes option.now words.now) }
 {
     for at in 1..words.len() {
         let word = words[at].as_str();

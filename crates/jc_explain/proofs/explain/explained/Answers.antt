@@ -1,14 +1,83 @@
--- What is kept of the output is taken off beside it.
+-- What is kept of the output is taken off beside it, and explanations come behind.
+use Rattle.std.proofs.Common.{◌≡◌, ◌∙◌, [], inl, ap, map, string_bytes}
+use Rattle.jc_command_args.specs.declared.codes.TheConstants.{CODES}
+use Rattle.jc_explain.proofs.GoingOut.{keeps_same, part_of_copies, same_words, tells_part}
 use Rattle.jc_explain.proofs.explain.explained.Goals as goal
 
 pub returns-in-Ok-clause-success : goal.returns-in-Ok-clause-success
 returns-in-Ok-clause-success g c = λ number.
-    (g.E.Write.contents c.command-status.new.errors.inner, rw c.take_kept-answers.ensures.inner (c.command-status.ensures.success number))
+    let copies : map string_bytes c.deref.result.now ≡ map string_bytes c.args.words.items =
+    ap (λ xs. map string_bytes xs) c.deref.ensures.value ∙ same_words string_bytes c.args.words.items c.in-Ok.asked.items c.in-Ok.ensures.cases.0 in
+    let stays : g.E.Write.contents c.take_kept-failures.new.self.inner ≡ g.E.Write.contents c.command-status.new.errors.inner =
+    ap g.E.Write.contents c.take_kept-failures.ensures.inner in
+    let part = tells_part (map string_bytes c.deref.result.now) CODES.now c.deref-in-Ok.result.now c.deref-in-Ok-2.result.now
+    (g.E.Write.contents c.take_kept-failures.new.self.inner) (g.E.Write.contents c.tell.new.to) c.tell.result c.tell.ensures.ok c.tell.ensures.err in (
+      g.E.Write.contents c.command-status.new.errors.inner,
+      rw c.take_kept-answers.ensures.inner (c.command-status.ensures.success number),
+      (
+        c.deref-in-Ok.result.now,
+        c.deref-in-Ok-2.result.now,
+        part_of_copies CODES.now c.deref-in-Ok.result.now c.deref-in-Ok-2.result.now (map string_bytes c.deref.result.now) (map string_bytes c.args.words.items)
+            (g.E.Write.contents c.take_kept-failures.new.self.inner) (g.E.Write.contents c.command-status.new.errors.inner) (g.E.Write.contents c.tell.new.to)
+            copies stays part,
+      ),
+    )
 
 pub returns-in-Ok-clause-refused : goal.returns-in-Ok-clause-refused
 returns-in-Ok-clause-refused g c = λ number.
-    (g.E.Write.contents c.command-status.new.errors.inner, rw c.take_kept-answers.ensures.inner (c.command-status.ensures.refused number))
+    let copies : map string_bytes c.deref.result.now ≡ map string_bytes c.args.words.items =
+    ap (λ xs. map string_bytes xs) c.deref.ensures.value ∙ same_words string_bytes c.args.words.items c.in-Ok.asked.items c.in-Ok.ensures.cases.0 in
+    let stays : g.E.Write.contents c.take_kept-failures.new.self.inner ≡ g.E.Write.contents c.command-status.new.errors.inner =
+    ap g.E.Write.contents c.take_kept-failures.ensures.inner in
+    let part = tells_part (map string_bytes c.deref.result.now) CODES.now c.deref-in-Ok.result.now c.deref-in-Ok-2.result.now
+    (g.E.Write.contents c.take_kept-failures.new.self.inner) (g.E.Write.contents c.tell.new.to) c.tell.result c.tell.ensures.ok c.tell.ensures.err in (
+      g.E.Write.contents c.command-status.new.errors.inner,
+      rw c.take_kept-answers.ensures.inner (c.command-status.ensures.refused number),
+      (
+        c.deref-in-Ok.result.now,
+        c.deref-in-Ok-2.result.now,
+        part_of_copies CODES.now c.deref-in-Ok.result.now c.deref-in-Ok-2.result.now (map string_bytes c.deref.result.now) (map string_bytes c.args.words.items)
+            (g.E.Write.contents c.take_kept-failures.new.self.inner) (g.E.Write.contents c.command-status.new.errors.inner) (g.E.Write.contents c.tell.new.to)
+            copies stays part,
+      ),
+    )
 
 pub returns-in-Ok-clause-misused : goal.returns-in-Ok-clause-misused
 returns-in-Ok-clause-misused g c = λ number.
-    (g.E.Write.contents c.command-status.new.errors.inner, rw c.take_kept-answers.ensures.inner (c.command-status.ensures.misused number))
+    let copies : map string_bytes c.deref.result.now ≡ map string_bytes c.args.words.items =
+    ap (λ xs. map string_bytes xs) c.deref.ensures.value ∙ same_words string_bytes c.args.words.items c.in-Ok.asked.items c.in-Ok.ensures.cases.0 in
+    let stays : g.E.Write.contents c.take_kept-failures.new.self.inner ≡ g.E.Write.contents c.command-status.new.errors.inner =
+    ap g.E.Write.contents c.take_kept-failures.ensures.inner in
+    let part = tells_part (map string_bytes c.deref.result.now) CODES.now c.deref-in-Ok.result.now c.deref-in-Ok-2.result.now
+    (g.E.Write.contents c.take_kept-failures.new.self.inner) (g.E.Write.contents c.tell.new.to) c.tell.result c.tell.ensures.ok c.tell.ensures.err in (
+      g.E.Write.contents c.command-status.new.errors.inner,
+      rw c.take_kept-answers.ensures.inner (c.command-status.ensures.misused number),
+      (
+        c.deref-in-Ok.result.now,
+        c.deref-in-Ok-2.result.now,
+        part_of_copies CODES.now c.deref-in-Ok.result.now c.deref-in-Ok-2.result.now (map string_bytes c.deref.result.now) (map string_bytes c.args.words.items)
+            (g.E.Write.contents c.take_kept-failures.new.self.inner) (g.E.Write.contents c.command-status.new.errors.inner) (g.E.Write.contents c.tell.new.to)
+            copies stays part,
+      ),
+    )
+
+pub returns-in_default-clause-success : goal.returns-in_default-clause-success
+returns-in_default-clause-success g c = λ number. (
+  g.E.Write.contents c.command-status.new.errors.inner,
+  c.command-status.ensures.success number,
+  ([], [], inl (keeps_same (g.E.Write.contents c.command-status.new.errors.inner))),
+)
+
+pub returns-in_default-clause-refused : goal.returns-in_default-clause-refused
+returns-in_default-clause-refused g c = λ number. (
+  g.E.Write.contents c.command-status.new.errors.inner,
+  c.command-status.ensures.refused number,
+  ([], [], inl (keeps_same (g.E.Write.contents c.command-status.new.errors.inner))),
+)
+
+pub returns-in_default-clause-misused : goal.returns-in_default-clause-misused
+returns-in_default-clause-misused g c = λ number. (
+  g.E.Write.contents c.command-status.new.errors.inner,
+  c.command-status.ensures.misused number,
+  ([], [], inl (keeps_same (g.E.Write.contents c.command-status.new.errors.inner))),
+)
