@@ -199,7 +199,7 @@ Ends begun g left words given output output' errors errors' Misused =
 Ends begun g left words given output output' errors errors' Failed = PerformsAsked begun g left words given output output' Failed
 
 -- The same of a run that keeps what it leaves to itself.
-abbrev pub EndsWithin : {D L : Type 0} → Begins → Devices D L → List Text → (given output output' errors errors' : Option (List ℕ)) → Status → Type 0
+unfoldable pub EndsWithin : {D L : Type 0} → Begins → Devices D L → List Text → (given output output' errors errors' : Option (List ℕ)) → Status → Type 0
 EndsWithin {D} {L} begun g words given output output' errors errors' status =
     (left : Leaves D L) × Ends begun g left words given output output' errors errors' status
 

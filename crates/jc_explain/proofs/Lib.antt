@@ -2,3 +2,4 @@ mod GoingOut
 mod PlainLines
 mod WordParts
 mod WordPlaces
+mod Within

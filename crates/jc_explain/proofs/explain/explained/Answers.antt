@@ -2,6 +2,7 @@
 use Rattle.std.proofs.Common.{◌≡◌, ◌∙◌, [], inl, ap, map, string_bytes}
 use Rattle.jc_command_args.specs.declared.codes.TheConstants.{CODES}
 use Rattle.jc_explain.proofs.GoingOut.{keeps_same, part_of_copies, same_words, tells_part}
+use Rattle.jc_explain.proofs.Within.{within_as}
 use Rattle.jc_explain.proofs.explain.explained.Goals as goal
 
 pub returns-in-Ok-clause-success : goal.returns-in-Ok-clause-success
@@ -13,7 +14,7 @@ returns-in-Ok-clause-success g c = λ number.
     let part = tells_part (map string_bytes c.deref.result.now) CODES.now c.deref-in-Ok.result.now c.deref-in-Ok-2.result.now
     (g.E.Write.contents c.take_kept-failures.new.self.inner) (g.E.Write.contents c.tell.new.to) c.tell.result c.tell.ensures.ok c.tell.ensures.err in (
       g.E.Write.contents c.command-status.new.errors.inner,
-      rw c.take_kept-answers.ensures.inner (c.command-status.ensures.success number),
+      within_as _ _ _ _ _ _ _ _ _ _ (ap g.O.Write.contents c.take_kept-answers.ensures.inner) (c.command-status.ensures.success number),
       (
         c.deref-in-Ok.result.now,
         c.deref-in-Ok-2.result.now,
@@ -32,7 +33,7 @@ returns-in-Ok-clause-refused g c = λ number.
     let part = tells_part (map string_bytes c.deref.result.now) CODES.now c.deref-in-Ok.result.now c.deref-in-Ok-2.result.now
     (g.E.Write.contents c.take_kept-failures.new.self.inner) (g.E.Write.contents c.tell.new.to) c.tell.result c.tell.ensures.ok c.tell.ensures.err in (
       g.E.Write.contents c.command-status.new.errors.inner,
-      rw c.take_kept-answers.ensures.inner (c.command-status.ensures.refused number),
+      within_as _ _ _ _ _ _ _ _ _ _ (ap g.O.Write.contents c.take_kept-answers.ensures.inner) (c.command-status.ensures.refused number),
       (
         c.deref-in-Ok.result.now,
         c.deref-in-Ok-2.result.now,
@@ -51,7 +52,7 @@ returns-in-Ok-clause-misused g c = λ number.
     let part = tells_part (map string_bytes c.deref.result.now) CODES.now c.deref-in-Ok.result.now c.deref-in-Ok-2.result.now
     (g.E.Write.contents c.take_kept-failures.new.self.inner) (g.E.Write.contents c.tell.new.to) c.tell.result c.tell.ensures.ok c.tell.ensures.err in (
       g.E.Write.contents c.command-status.new.errors.inner,
-      rw c.take_kept-answers.ensures.inner (c.command-status.ensures.misused number),
+      within_as _ _ _ _ _ _ _ _ _ _ (ap g.O.Write.contents c.take_kept-answers.ensures.inner) (c.command-status.ensures.misused number),
       (
         c.deref-in-Ok.result.now,
         c.deref-in-Ok-2.result.now,
