@@ -26,14 +26,15 @@ with open(f"{sys.argv[1]}/large.export", "wb") as file:
 MADE
 "$PROGRAM" collect "$folder/large.db" "$folder/large" > "$folder/told" || differs "no large database"
 size='1[0-9].[0-9] MB'
+# A command that takes more than a second, as on a busy machine, tells it again.
 large=$folder/large.db
-expect 0 "~${cleared}check: reads a database of $size$cleared" "" on_terminal "$folder/told" "$PROGRAM" check "$large"
+expect 0 "~+(${cleared}check: reads a database of $size)$cleared" "" on_terminal "$folder/told" "$PROGRAM" check "$large"
 [[ $(< "$folder/told") == "ok 20" ]] || differs "what check prints: $(< "$folder/told")"
-expect 0 "~${cleared}check: reads a database of $size${cleared}ok 20"$'\r' "" on_terminal - "$PROGRAM" check "$large"
-expect 0 "${clear}verify: reads 12.0 MB$clear" "" \
+expect 0 "~+(${cleared}check: reads a database of $size)${cleared}ok 20"$'\r' "" on_terminal - "$PROGRAM" check "$large"
+expect 0 "~+(${cleared}verify: reads 12.0 MB)$cleared" "" \
     on_terminal "$folder/told" "$PROGRAM" verify export "$folder/large.export"
 cp "$large" "$folder/copy.db"
-expect 0 "~${cleared}migrate: reads and writes a database of $size$cleared" "" \
+expect 0 "~+(${cleared}migrate: reads and writes a database of $size)$cleared" "" \
     on_terminal "$folder/told" "$PROGRAM" migrate --tables 3 "$folder/copy.db"
 for words in "check $large" "verify export $folder/large.export" "show $large"; do
     # shellcheck disable=SC2086 # these are words
