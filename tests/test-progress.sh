@@ -30,7 +30,8 @@ size='1[0-9].[0-9] MB'
 large=$folder/large.db
 expect 0 "~+(${cleared}check: reads a database of $size)$cleared" "" on_terminal "$folder/told" "$PROGRAM" check "$large"
 [[ $(< "$folder/told") == "ok 20" ]] || differs "what check prints: $(< "$folder/told")"
-expect 0 "~+(${cleared}check: reads a database of $size)${cleared}ok 20"$'\r' "" on_terminal - "$PROGRAM" check "$large"
+expect 0 "~+(${cleared}check: reads a database of $size)${cleared}ok 20"$'\r' "" \
+    on_terminal - "$PROGRAM" check "$large"
 expect 0 "~+(${cleared}verify: reads 12.0 MB)$cleared" "" \
     on_terminal "$folder/told" "$PROGRAM" verify export "$folder/large.export"
 cp "$large" "$folder/copy.db"
