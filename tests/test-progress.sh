@@ -28,7 +28,8 @@ MADE
 size='1[0-9].[0-9] MB'
 # A command that takes more than a second, as on a busy machine, tells it again.
 large=$folder/large.db
-expect 0 "~+(${cleared}check: reads a database of $size)$cleared" "" on_terminal "$folder/told" "$PROGRAM" check "$large"
+expect 0 "~+(${cleared}check: reads a database of $size)$cleared" "" \
+    on_terminal "$folder/told" "$PROGRAM" check "$large"
 [[ $(< "$folder/told") == "ok 20" ]] || differs "what check prints: $(< "$folder/told")"
 expect 0 "~+(${cleared}check: reads a database of $size)${cleared}ok 20"$'\r' "" \
     on_terminal - "$PROGRAM" check "$large"
