@@ -22,12 +22,12 @@ def delivery(dice: Random, machines: list[Machine], made: list[bytes]) -> bytes:
     sound = machine.stream(first, last)
     other = machine.other(dice.randrange(count))
     return dice.choice((
-        sound, sound, machine.file(last), machine.file(last),
-        sound[:dice.randint(0, len(sound))], machine.file(last)[:dice.randint(0, 1000)],
-        sound + b"=x\n", sound + b"A\n" + bytes(8) + b"x", sound + b"A=1\n\n",
-        other, sound + other[48:] + b"=x", b"X" + sound[1:],
-        *(dice.choice(made or [sound]) for _ in range(4)),
-    ))
+        *[lambda: sound] * 2, *[lambda: machine.file(last)] * 2,
+        lambda: sound[:dice.randint(0, len(sound))], lambda: machine.file(last)[:dice.randint(0, 1000)],
+        lambda: sound + b"=x\n", lambda: sound + b"A\n" + bytes(8) + b"x", lambda: sound + b"A=1\n\n",
+        lambda: other, lambda: sound + other[48:] + b"=x", lambda: b"X" + sound[1:],
+        *[lambda: dice.choice(made or [sound])] * 4,
+    ))()
 
 
 def collect(

@@ -2,20 +2,20 @@
 
 Every line is the one that a single database with all their entries would answer, and each key stands in one of them.
 So it is over any uploads of machines that share sequences, over turns, runs that are killed within any call, databases
-that are deleted, and notes that are made anew from the databases that are there.
+that are deleted, and notes that are made anew from the databases that are there. A sequence belongs to the machine that
+first brought a new entry of it, whatever comes between, until a person says another thing.
 """
 from __future__ import annotations
 
-import copy
 import os
 import shutil
 import signal
 import sys
-from random import Random
+from pathlib import Path
 
-from make import Machine
+import whose
+from brought import NAMES, Brought, Machines, listed
 from model import Entry, Journal, read_stream
-from runs import delivery
 from trial import PROGRAM, Trial, as_output, run, status_of
 
 sys.path.insert(0, os.path.join(os.path.dirname(os.path.abspath(__file__)), "..", "stops"))
@@ -23,23 +23,10 @@ import device  # noqa: E402
 
 ROUNDS = int(os.environ.get("ROUNDS", "30"))
 STEPS = 25
-# Calls that change a file, of a run with a few uploads.
-CALLS = 60
-
-
-def machines(dice: Random) -> list[Machine]:
-    """Machines: one alone; one whose entries come by two sources; one that was set back, and logged other entries under
-    the numbers that it gave before; and one beyond the first window of numbers."""
-    alone, first = Machine(dice, dice.randint(1, 30)), Machine(dice, dice.randint(2, 30))
-    again, back = copy.copy(first), copy.copy(first)
-    again.source, back.source = dice.randbytes(16), dice.choice((first.source, dice.randbytes(16)))
-    place = dice.randrange(len(first.entries))
-    back.entries = first.entries[:place] + [entry._replace(realtime=entry.realtime ^ 1)
-                                            for entry in first.entries[place:]]
-    far = Machine(dice, dice.randint(2, 20))
-    beyond = 4096 * dice.choice((1, 2, 1 << 40)) - len(far.entries) // 2
-    far.entries = [entry._replace(seqnum=entry.seqnum + beyond) for entry in far.entries]
-    return [alone, first, again, back, far]
+# Calls that change a file, of those that device.c names so: the first that may be the last one, those before the first
+# upload, and those for each.
+CALLS = {"": (1, 30, 18), "o": (1, 4, 14), "l": (15, 20, 3)}
+Entries = dict[tuple[bytes, int], Entry]
 
 
 class Union:
@@ -50,97 +37,128 @@ class Union:
         self.base = trial.folder()
         self.sequences = os.path.join(self.base, "sequences")
         self.databases: list[str] = []
+        # The files of databases, and the entries that the program found in them.
+        self.read: dict[str, tuple[list[bytes], list[Entry]]] = {}
         self.journal = Journal()
         # Entries that are known, though their database was deleted.
-        self.gone: dict[tuple[bytes, int], Entry] = {}
-        self.machines = machines(self.dice)
-        self.made: list[bytes] = []
-        self.stops = self.turns = 0
+        self.gone: Entries = {}
+        self.machines = Machines(self.dice)
+        self.stops = self.turns = self.others = 0
+        # A stop may have left entries that aren't noted.
+        self.is_noted = True
         self.turn()
 
     def turn(self) -> None:
         """Another database is the present one. The one before it has been closed, and all of it is noted."""
+        if not self.is_noted:
+            self.note()
         if not self.databases or os.path.exists(self.databases[-1]):
             self.turns += 1
             folder = os.path.join(self.base, f"{self.turns}")
             os.mkdir(folder)
             self.databases.append(os.path.join(folder, "db"))
 
-    def words(self, names: list[str]) -> list[str]:
+    def words(self, brought: list[Brought]) -> list[str]:
         """A run over the present database with these uploads."""
-        path = os.path.join(self.base, "list")
-        with open(path, "w", encoding="utf-8") as file:
-            file.write("".join(f"{name}\n" for name in names))
+        path = listed(self.dice, self.base, brought)
         return ["collect", "--sequences", self.sequences, "--tables", self.dice.choice("23"), "--files-from", path,
                 self.databases[-1]]
 
-    def uploads(self) -> list[bytes]:
-        uploads = [delivery(self.dice, self.machines, self.made) for _ in range(self.dice.randint(0, 4))]
-        self.made += uploads
-        return uploads
+    def take(self, each: Brought) -> str:
+        """The line that answers an upload."""
+        line = self.journal.take(each.upload, each.machine)
+        self.others += line.split(" ")[3] == "71"
+        return line
 
-    def collect(self) -> None:
-        uploads = self.uploads()
-        lines = [self.journal.take(upload) for upload in uploads]
-        told = run(*self.words(self.trial.put(uploads)))
-        self.trial.expect(f"{self.what}: answers", told, (as_output(lines), "", status_of(lines)))
+    def collect(self, what: str, brought: list[Brought]) -> None:
+        lines = [self.take(each) for each in brought]
+        told = run(*self.words(brought))
+        self.trial.expect(f"{self.what}: {what}", told, (as_output(lines), "", status_of(lines)))
+        self.trial.expect(f"{self.what}: {what}: owners", self.owners(), self.journal.owners)
+        self.is_noted = True
 
     def stop(self) -> None:
-        """A run is killed before or within a call that changes a file. All that it acknowledged is stored, and of the
-        next upload all or nothing."""
-        uploads = self.uploads()
+        """A run is killed before or within a call that changes a file."""
+        brought = self.machines.some()
         journals, lines = [self.journal.copy()], []
-        for upload in uploads:
-            lines.append(self.journal.take(upload))
+        for each in brought:
+            lines.append(self.take(each))
             journals.append(self.journal.copy())
-        words = [PROGRAM, *self.words(self.trial.put(uploads))]
-        mode, number = self.dice.choice("kh"), self.dice.randint(1, CALLS)
-        (output, errors, status), calls = device.run(self.trial.library, mode, number, 10**12, words)
+        words = [PROGRAM, *self.words(brought)]
+        mode, only = self.dice.choice("kh"), self.dice.choice(list(CALLS))
+        first, before, each = CALLS[only]
+        number = self.dice.randint(first, before + each * len(brought))
+        (output, errors, status), calls = device.run(self.trial.library, mode, number, 10**12, words, only=only)
         ends = ("", -signal.SIGKILL) if calls else ("", status_of(lines))
-        told = output.decode().split("\n")[:-1]
         self.trial.expect(f"{self.what}: a run that is stopped", (as_output(lines).startswith(output), errors, status),
                           (True, *ends))
         self.stops += bool(calls)
-        found = self.stored()
-        for journal in journals[len(told):len(told) + 2]:
-            if found == {key: entry for key, entry in journal.entries.items() if key not in self.gone}:
-                self.journal = journal
-                break
-        else:
-            self.trial.expect(f"{self.what}: stopped within call {number} of mode {mode}", found, "what was told")
-        self.note()
+        self.is_noted = False
+        told = output.count(b"\n")
+        self.found(f"{self.what}: stopped within call {number} {only} of mode {mode}", journals[told:told + 2])
+
+    def found(self, what: str, journals: list[Journal]) -> None:
+        """All that the run acknowledged is stored, and of the next upload all or nothing. Sequences of that one may be
+        its machine's though it isn't stored, but not the other way round."""
+        stored, owners = self.stored(), self.owners()
+        claimed = journals[-1].owners.items()
+        for journal in journals:
+            if stored == self.there(journal) and journal.owners.items() <= owners.items() <= claimed:
+                self.journal = Journal(journal.entries.values(), owners)
+                return
+        self.trial.expect(what, (stored, owners), "what was told")
 
     def note(self) -> None:
         """What a stop left stored, but not noted, is noted."""
-        self.trial.expect(f"{self.what}: noted", run(*self.words([])), (b"", "", 0))
+        self.collect("noted", [])
 
-    def stored(self) -> dict[tuple[bytes, int], Entry]:
+    def owners(self) -> dict[bytes, str]:
+        return whose.owners(self.sequences, NAMES)
+
+    def there(self, journal: Journal) -> Entries:
+        """What the databases that weren't deleted have of a journal."""
+        return {key: entry for key, entry in journal.entries.items() if key not in self.gone}
+
+    def stored(self) -> Entries:
         """The entries of all databases. No key stands in two of them."""
-        found: dict[tuple[bytes, int], Entry] = {}
+        found: Entries = {}
         for database in self.databases:
-            copied = self.trial.copy(database)
-            output, errors, status = run("export", copied)
-            if (errors, status) == (f"cannot open {copied}\n", 3) and database == self.databases[-1]:
-                continue
-            self.trial.expect(f"{self.what}: export", (errors, status), ("", 0))
-            for entry in read_stream(output):
+            for entry in self.entries_in(database):
                 self.trial.expect(f"{self.what}: a key that stands twice", entry.key in found, False)
                 found[entry.key] = entry
-            shutil.rmtree(os.path.dirname(copied))
         return found
+
+    def entries_in(self, database: str) -> list[Entry]:
+        """What a database has. The program reads it again if its files have changed."""
+        copied = self.trial.copy(database)
+        files = [path.read_bytes() for path in sorted(Path(copied).parent.iterdir())]
+        if database not in self.read or self.read[database][0] != files:
+            self.read[database] = files, self.exported(database, copied)
+        shutil.rmtree(os.path.dirname(copied))
+        return self.read[database][1]
+
+    def exported(self, database: str, copied: str) -> list[Entry]:
+        output, errors, status = run("export", copied)
+        if (errors, status) == (f"cannot open {copied}\n", 3) and database == self.databases[-1]:
+            return []
+        self.trial.expect(f"{self.what}: export", (errors, status), ("", 0))
+        return list(read_stream(output))
 
     def delete(self) -> None:
         """A database is deleted. What it had stays known."""
         if len(self.databases) > 1:
             database = self.databases.pop(self.dice.randrange(len(self.databases) - 1))
-            output, _, _ = run("export", database)
-            self.gone |= {entry.key: entry for entry in read_stream(output)}
+            self.gone |= {entry.key: entry for entry in self.entries_in(database)}
             shutil.rmtree(os.path.dirname(database))
 
     def note_anew(self) -> None:
         """The notes are lost, and are made anew from the databases, in any order. What the deleted ones had isn't known
-        any more."""
-        shutil.rmtree(self.sequences, ignore_errors=True)
+        any more. Whose a sequence is stays known, or is lost, too."""
+        if self.dice.random() < 0.7:
+            whose.lose_notes(self.sequences)
+        else:
+            shutil.rmtree(self.sequences, ignore_errors=True)
+            self.journal.owners = {}
         present = self.databases[-1]
         for database in self.dice.sample(self.databases, len(self.databases)):
             if os.path.exists(database):
@@ -152,24 +170,32 @@ class Union:
             del self.journal.entries[key]
         self.gone = {}
 
+    def say_whose(self) -> None:
+        """A person says that a sequence is nobody's, or another machine's."""
+        if owners := self.journal.owners:
+            sequence, machine = self.dice.choice(sorted(owners)), self.dice.choice((None, *NAMES))
+            if machine is None:
+                whose.release(self.sequences, sequence)
+                del owners[sequence]
+            else:
+                whose.give(self.sequences, sequence, machine)
+                owners[sequence] = machine
+
     def step(self) -> None:
-        steps = [self.collect] * 6 + [self.stop] * 4 + [self.turn] * 2 + [self.delete, self.note_anew]
-        self.dice.choice(steps)()
+        steps = [lambda: self.collect("answers", self.machines.some())] * 6 + [self.stop] * 4 + [self.turn] * 2
+        self.dice.choice([*steps, self.delete, self.note_anew, *[self.say_whose] * 2])()
 
     def end(self) -> None:
         """All machines send all that they have, and then all that was sent comes once more."""
-        for uploads in ([each.stream(0, len(each.entries)) for each in self.machines], self.made):
-            lines = [self.journal.take(upload) for upload in uploads]
-            told = run(*self.words(self.trial.put(uploads)))
-            self.trial.expect(f"{self.what}: at its end", told, (as_output(lines), "", status_of(lines)))
-        stored = {key: entry for key, entry in self.journal.entries.items() if key not in self.gone}
-        self.trial.expect(f"{self.what}: what is stored", self.stored() == stored, True)
+        self.collect("at its end", self.machines.all())
+        self.collect("once more", self.machines.again())
+        self.trial.expect(f"{self.what}: what is stored", self.stored() == self.there(self.journal), True)
 
 
 def main() -> None:
     with Trial("turns") as trial:
         trial.library = device.built(trial.base)
-        stops = databases = 0
+        counts = [0, 0, 0]
         for number in range(ROUNDS):
             union = Union(trial, f"round {number}")
             for _ in range(STEPS):
@@ -177,9 +203,11 @@ def main() -> None:
                 if trial.mistakes:
                     break
             union.end()
-            stops, databases = stops + union.stops, databases + union.turns
+            counts = [before + now for before, now in zip(counts, (union.stops, union.turns, union.others))]
             shutil.rmtree(union.base)
-        trial.finish(f"{ROUNDS} rounds", f"{stops} stops", f"{databases} databases")
+        stops, databases, others = counts
+        trial.finish(f"{ROUNDS} rounds", f"{stops} stops", f"{databases} databases",
+                     f"{others} uploads with entries of another machine's sequence")
 
 
 if __name__ == "__main__":

@@ -1,7 +1,7 @@
 -- The numbers of the codes. (own)
 use Rattle.std.specs.Prelude.{ℕ}
 use Rattle.jc_base.specs.declared.fault.Code.{Code}
-use Rattle.jc_base.specs.declared.fault.Code.TheVariants.{ShortHeader, BadMagic, BadKind, BadReserved, Incomplete, EmptyName, NameTooLong, ValueTooLong, MissingNewline, TooManyFields, EntryTooLong, DuplicateMeta, NoRealtime, NoMonotonic, NoSeqnum, NoSeqnumId, BadNumber, BadId, ZeroSeqnum, FileShort, BadSignature, BadHeaderSize, Compressed, Compact, UnknownIncompatible, Sealed, BadState, Truncated, TooManyEntries, ChainEnds, BadOffset, BadType, BadSize, ChainBack, CompressedObject, BadData, FileTooLong, Conflict, ReadFailed, StoreFailed, OutOfMemory, NotAJournal, BadRow, WriteFailed, OldSchema, SourceChanged}
+use Rattle.jc_base.specs.declared.fault.Code.TheVariants.{ShortHeader, BadMagic, BadKind, BadReserved, Incomplete, EmptyName, NameTooLong, ValueTooLong, MissingNewline, TooManyFields, EntryTooLong, DuplicateMeta, NoRealtime, NoMonotonic, NoSeqnum, NoSeqnumId, BadNumber, BadId, ZeroSeqnum, FileShort, BadSignature, BadHeaderSize, Compressed, Compact, UnknownIncompatible, Sealed, BadState, Truncated, TooManyEntries, ChainEnds, BadOffset, BadType, BadSize, ChainBack, CompressedObject, BadData, FileTooLong, Conflict, ReadFailed, StoreFailed, OutOfMemory, NotAJournal, BadRow, WriteFailed, OldSchema, SourceChanged, NotTheOwner}
 
 abbrev pub number_of : Code → ℕ
 number_of ShortHeader = 1
@@ -50,3 +50,4 @@ number_of BadRow = 65
 number_of WriteFailed = 66
 number_of OldSchema = 67
 number_of SourceChanged = 70
+number_of NotTheOwner = 71

@@ -100,6 +100,8 @@ pub enum Code {
     OldSchema = 67,
     /// 70: a source's entries no longer go on from the resume point.
     SourceChanged = 70,
+    /// 71: an entry's sequence belongs to another machine.
+    NotTheOwner = 71,
 }
 
 impl Code {

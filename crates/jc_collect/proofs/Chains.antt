@@ -8,8 +8,8 @@ use Rattle.jc_base.specs.LogEntry.{LogEntry}
 use Rattle.jc_upload.specs.declared.answer.Answer.{Answer}
 use Rattle.jc_upload.specs.declared.answer.Answer.TheVariants.{Ack, No}
 use Rattle.jc_collect.specs.Accepted.{IsMarked, StoredBefore, AreAccepted, IsStoredBefore}
-use Rattle.jc_collect.specs.Answer.{is_failure}
-use Rattle.jc_collect.specs.Chain.{Turn, IsChain, journal_before, uploads_of, failed_of, acknowledged_of, is_acknowledged, AreTaken}
+use Rattle.jc_collect.specs.Answer.{is_set_aside}
+use Rattle.jc_collect.specs.Chain.{Turn, IsChain, journal_before, uploads_of, aside_of, acknowledged_of, is_acknowledged, AreTaken}
 use Rattle.jc_collect.specs.Position.{IsPosition}
 use Rattle.jc_collect.proofs.Lists.{none_not_some, length_more}
 use Rattle.jc_collect.proofs.OneMore.{SaysOnce, is_ack, stored_more, stored_back, are_more}
@@ -43,9 +43,9 @@ nothing_marked i h = none_not_some true h
 
 -- ---- what is known of a chain so far
 
-record SoFar (limits : Limits) (start : Journal) (uploads : List (List ℕ)) (failed marks : List Bool) (journals : ℕ → Journal) (last : Journal) : Type 0 where
-  all : length failed ≡ length uploads
-  accepted : AreAccepted limits start uploads failed marks
+record SoFar (limits : Limits) (start : Journal) (uploads : List (List ℕ)) (aside marks : List Bool) (journals : ℕ → Journal) (last : Journal) : Type 0 where
+  all : length aside ≡ length uploads
+  accepted : AreAccepted limits start uploads aside marks
   stored : (i : ℕ) → i ≤ length uploads → IsStoredBefore limits start uploads marks i (journals i)
   at_end : IsStoredBefore limits start uploads marks (length uploads) last
 
@@ -63,14 +63,14 @@ so_far_none limits start journals same = record {
     nothing : (i : ℕ) → IsStoredBefore limits start [] [] i start
     nothing i e = (λ s. inl s, λ h. ⊎_elim (λ s. s) (λ w. absurd (nothing_marked w.earlier w.marked)) h)
 
-module _ (once : SaysOnce) (limits : Limits) (start : Journal) (uploads : List (List ℕ)) (failed marks : List Bool) (journals : ℕ → Journal) (last : Journal)
-    (so : SoFar limits start uploads failed marks journals last) (upload : List ℕ) (answer : Answer) (after : Journal)
+module _ (once : SaysOnce) (limits : Limits) (start : Journal) (uploads : List (List ℕ)) (aside marks : List Bool) (journals : ℕ → Journal) (last : Journal)
+    (so : SoFar limits start uploads aside marks journals last) (upload : List ℕ) (answer : Answer) (after : Journal)
     (position : IsPosition limits upload last answer after) where
-  marks_more : AreAccepted limits start (uploads ++ upload ∷ []) (failed ++ is_failure answer ∷ []) (marks ++ is_ack answer ∷ [])
+  marks_more : AreAccepted limits start (uploads ++ upload ∷ []) (aside ++ is_set_aside answer ∷ []) (marks ++ is_ack answer ∷ [])
   marks_more =
-      are_more limits uploads upload start marks (is_ack answer) so.accepted.each failed (is_failure answer) so.all so.accepted
-      (right_mark once limits uploads upload start last marks so.accepted.each so.at_end failed so.all answer position.answers)
-      (only_mark once limits uploads upload start last marks so.accepted.each so.at_end failed so.all answer position.answers)
+      are_more limits uploads upload start marks (is_ack answer) so.accepted.each aside (is_set_aside answer) so.all so.accepted
+      (right_mark once limits uploads upload start last marks so.accepted.each so.at_end aside so.all answer position.answers)
+      (only_mark once limits uploads upload start last marks so.accepted.each so.at_end aside so.all answer position.answers)
 
   end_more : IsStoredBefore limits start (uploads ++ upload ∷ []) (marks ++ is_ack answer ∷ []) (length (uploads ++ upload ∷ [])) after
   end_more = stored_next once limits uploads upload start last marks so.accepted.each so.at_end answer after position.leaves
@@ -84,9 +84,9 @@ module _ (once : SaysOnce) (limits : Limits) (start : Journal) (uploads : List (
   )
 
   so_far_more : (others : ℕ → Journal) → ((i : ℕ) → i ≤ length uploads → others i ≡ journals i) → ((i : ℕ) → length uploads < i → others i ≡ after)
-      → SoFar limits start (uploads ++ upload ∷ []) (failed ++ is_failure answer ∷ []) (marks ++ is_ack answer ∷ []) others after
+      → SoFar limits start (uploads ++ upload ∷ []) (aside ++ is_set_aside answer ∷ []) (marks ++ is_ack answer ∷ []) others after
   so_far_more others same new = record {
-    all = length_more failed (is_failure answer) ∙ (ap (λ n. n + 1) so.all ∙ sym (length_more uploads upload));
+    all = length_more aside (is_set_aside answer) ∙ (ap (λ n. n + 1) so.all ∙ sym (length_more uploads upload));
     accepted = marks_more;
     stored = λ i low. at i low (cases_lt (length uploads) i);
     at_end = end_more;
@@ -104,21 +104,21 @@ module _ (once : SaysOnce) (limits : Limits) (start : Journal) (uploads : List (
 
 module _ (once : SaysOnce) (limits : Limits) (start : Journal) where
   abbrev Knows : List Turn → Journal → Type 0
-  Knows turns last = SoFar limits start (uploads_of turns) (failed_of turns) (map (λ (turn : Turn). is_ack turn.answer) turns) (journal_before start turns) last
+  Knows turns last = SoFar limits start (uploads_of turns) (aside_of turns) (map (λ (turn : Turn). is_ack turn.answer) turns) (journal_before start turns) last
 
   knows_more : (turns : List Turn) (last : Journal) (turn : Turn) → Knows turns last → IsPosition limits turn.upload last turn.answer turn.after → Knows (turns ++ turn ∷ []) turn.after
   knows_more turns last turn so position =
       let uploads = map-append (λ (t : Turn). t.upload) turns (turn ∷ []) in
-      let failed = map-append (λ (t : Turn). is_failure t.answer) turns (turn ∷ []) in
+      let aside = map-append (λ (t : Turn). is_set_aside t.answer) turns (turn ∷ []) in
       let marks = map-append (λ (t : Turn). is_ack t.answer) turns (turn ∷ []) in
       let size : length (uploads_of turns) ≡ length turns = length-map turns (λ (t : Turn). t.upload) in
-      let more = so_far_more once limits start (uploads_of turns) (failed_of turns) (map (λ (t : Turn). is_ack t.answer) turns) (journal_before start turns) last so
+      let more = so_far_more once limits start (uploads_of turns) (aside_of turns) (map (λ (t : Turn). is_ack t.answer) turns) (journal_before start turns) last so
       turn.upload turn.answer turn.after position (journal_before start (turns ++ turn ∷ []))
       (λ i low. before_same start turns turn i (omega (arith, low, size)))
       (λ i high. before_last start turns turn i (omega (arith, high, size))) in
-      subst (λ (us : List (List ℕ)). SoFar limits start us (failed_of (turns ++ turn ∷ [])) (map (λ (t : Turn). is_ack t.answer) (turns ++ turn ∷ [])) (journal_before start (turns ++ turn ∷ [])) turn.after) (sym uploads)
-      (subst (λ (fs : List Bool). SoFar limits start (uploads_of turns ++ turn.upload ∷ []) fs (map (λ (t : Turn). is_ack t.answer) (turns ++ turn ∷ [])) (journal_before start (turns ++ turn ∷ [])) turn.after) (sym failed)
-      (subst (λ (ms : List Bool). SoFar limits start (uploads_of turns ++ turn.upload ∷ []) (failed_of turns ++ is_failure turn.answer ∷ []) ms (journal_before start (turns ++ turn ∷ [])) turn.after) (sym marks) more))
+      subst (λ (us : List (List ℕ)). SoFar limits start us (aside_of (turns ++ turn ∷ [])) (map (λ (t : Turn). is_ack t.answer) (turns ++ turn ∷ [])) (journal_before start (turns ++ turn ∷ [])) turn.after) (sym uploads)
+      (subst (λ (fs : List Bool). SoFar limits start (uploads_of turns ++ turn.upload ∷ []) fs (map (λ (t : Turn). is_ack t.answer) (turns ++ turn ∷ [])) (journal_before start (turns ++ turn ∷ [])) turn.after) (sym aside)
+      (subst (λ (ms : List Bool). SoFar limits start (uploads_of turns ++ turn.upload ∷ []) (aside_of turns ++ is_set_aside turn.answer ∷ []) ms (journal_before start (turns ++ turn ∷ [])) turn.after) (sym marks) more))
 
   knows_all : (rest turns : List Turn) (last : Journal) → Knows turns last → IsChain limits last rest → (end : Journal) × Knows (turns ++ rest) end
   knows_all [] turns last so chain = (last, subst (λ (ts : List Turn). Knows ts last) (sym (append-nil turns)) so)
@@ -137,7 +137,7 @@ module _ (once : SaysOnce) (limits : Limits) (start : Journal) where
       let marks = same_marks turns in
       let size : length (uploads_of turns) ≡ length turns = length-map turns (λ (t : Turn). t.upload) in
       record {
-        accepted = subst (λ (ms : List Bool). AreAccepted limits start (uploads_of turns) (failed_of turns) ms) marks so.accepted;
+        accepted = subst (λ (ms : List Bool). AreAccepted limits start (uploads_of turns) (aside_of turns) ms) marks so.accepted;
         stored = λ i low. subst (λ (ms : List Bool). IsStoredBefore limits start (uploads_of turns) ms i (journal_before start turns i)) marks (so.stored i (omega (arith, low, size)));
         kept = λ i j low high e s.
             (so.stored j (omega (arith, high, size)) e).1

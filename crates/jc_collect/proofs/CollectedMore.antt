@@ -15,7 +15,7 @@ use Rattle.jc_keeper.specs.Agree.{IsStored}
 use Rattle.jc_upload.specs.declared.answer.Answer.{Answer}
 use Rattle.jc_upload.specs.declared.answer.Answer.TheVariants.{Ack, No}
 use Rattle.jc_collect.specs.Accepted.{IsMarked, SaysAt, AreAccepted, IsStoredBefore}
-use Rattle.jc_collect.specs.Answer.{IsTaken, is_failure}
+use Rattle.jc_collect.specs.Answer.{IsTaken, is_set_aside}
 use Rattle.jc_collect.specs.Position.{Answers, Joins, Leaves, IsPosition, FailsUnread, HasCode, HasCause, HasGivenFewer}
 use Rattle.jc_collect.specs.Run.{Seen, left_at, AnswersAt, AcksStored, AreCaused, Collected}
 use Rattle.jc_collect.proofs.Lists.{none_not_some, get_last, get_more, get_cases, length_more}
@@ -67,19 +67,19 @@ module _ (once : SaysOnce) (limits : Limits) (uploads : List (List ℕ)) (upload
     (answers : List Answer) (answer : Answer)
     (was : Collected limits uploads before mid answers)
     (now : IsPosition limits upload mid.journal answer after.journal) where
-  all_failed : length (map is_failure answers) ≡ length uploads
-  all_failed = length-map answers is_failure ∙ was.each
+  all_aside : length (map is_set_aside answers) ≡ length uploads
+  all_aside = length-map answers is_set_aside ∙ was.each
 
-  marks_more : AreAccepted limits before.journal (uploads ++ upload ∷ []) (map is_failure (answers ++ answer ∷ [])) (was.accepted ++ is_ack answer ∷ [])
+  marks_more : AreAccepted limits before.journal (uploads ++ upload ∷ []) (map is_set_aside (answers ++ answer ∷ [])) (was.accepted ++ is_ack answer ∷ [])
   marks_more =
-      subst (λ (failed : List Bool). AreAccepted limits before.journal (uploads ++ upload ∷ []) failed (was.accepted ++ is_ack answer ∷ []))
-      (sym (map-append is_failure answers (answer ∷ [])))
+      subst (λ (aside : List Bool). AreAccepted limits before.journal (uploads ++ upload ∷ []) aside (was.accepted ++ is_ack answer ∷ []))
+      (sym (map-append is_set_aside answers (answer ∷ [])))
       (are_more limits uploads upload before.journal was.accepted (is_ack answer) was.are_accepted.each
-      (map is_failure answers) (is_failure answer) all_failed was.are_accepted
+      (map is_set_aside answers) (is_set_aside answer) all_aside was.are_accepted
       (right_mark once limits uploads upload before.journal mid.journal was.accepted was.are_accepted.each was.stored
-      (map is_failure answers) all_failed answer now.answers)
+      (map is_set_aside answers) all_aside answer now.answers)
       (only_mark once limits uploads upload before.journal mid.journal was.accepted was.are_accepted.each was.stored
-      (map is_failure answers) all_failed answer now.answers))
+      (map is_set_aside answers) all_aside answer now.answers))
 
   same_before : (mark : Bool) (i : ℕ) (journal : Journal) → i ≤ length uploads
       → IsStoredBefore limits before.journal uploads was.accepted i journal

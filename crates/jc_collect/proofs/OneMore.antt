@@ -76,11 +76,11 @@ module _ (limits : Limits) (uploads : List (List ℕ)) (upload : List ℕ) where
     pub stored_back : (i : ℕ) (e : LogEntry) → i ≤ length uploads → StoredBefore limits start (uploads ++ upload ∷ []) (accepted ++ mark ∷ []) i e → StoredBefore limits start uploads accepted i e
     stored_back i e low h = ⊎_elim (λ s. inl s) (λ w. inr (was_back i e low w)) h
 
-    module _ (failed : List Bool) (fails : Bool) (all : length failed ≡ length uploads) where
-      accepted_more : (i : ℕ) → i < length uploads → IsAcceptedAt limits start uploads failed accepted i
-          → IsAcceptedAt limits start (uploads ++ upload ∷ []) (failed ++ fails ∷ []) (accepted ++ mark ∷ []) i
+    module _ (aside : List Bool) (put : Bool) (all : length aside ≡ length uploads) where
+      accepted_more : (i : ℕ) → i < length uploads → IsAcceptedAt limits start uploads aside accepted i
+          → IsAcceptedAt limits start (uploads ++ upload ∷ []) (aside ++ put ∷ []) (accepted ++ mark ∷ []) i
       accepted_more i within h = record {
-        passed = λ m. h.passed (get_back failed fails i true (omega (arith, within, all)) m);
+        passed = λ m. h.passed (get_back aside put i true (omega (arith, within, all)) m);
         reading = h.reading;
         says = says_more i h.reading h.says;
         left = h.left;
@@ -93,10 +93,10 @@ module _ (limits : Limits) (uploads : List (List ℕ)) (upload : List ℕ) where
           back e w = ⊎_elim (λ s. inl (stored_back i e (omega (arith, within)) s)) (λ c. inr c) w
 
       accepted_back : (i : ℕ) → i < length uploads
-          → IsAcceptedAt limits start (uploads ++ upload ∷ []) (failed ++ fails ∷ []) (accepted ++ mark ∷ []) i
-          → IsAcceptedAt limits start uploads failed accepted i
+          → IsAcceptedAt limits start (uploads ++ upload ∷ []) (aside ++ put ∷ []) (accepted ++ mark ∷ []) i
+          → IsAcceptedAt limits start uploads aside accepted i
       accepted_back i within h = record {
-        passed = λ m. h.passed (get_more failed fails i true m);
+        passed = λ m. h.passed (get_more aside put i true m);
         reading = h.reading;
         says = says_back i h.reading within h.says;
         left = h.left;
@@ -109,17 +109,17 @@ module _ (limits : Limits) (uploads : List (List ℕ)) (upload : List ℕ) where
           more e w = ⊎_elim (λ s. inl (stored_more i e s)) (λ c. inr c) w
 
       -- the set with one more mark, where that one is right
-      pub are_more : AreAccepted limits start uploads failed accepted
-          → (mark ≡ true → IsAcceptedAt limits start (uploads ++ upload ∷ []) (failed ++ fails ∷ []) (accepted ++ mark ∷ []) (length uploads))
-          → (IsAcceptedAt limits start (uploads ++ upload ∷ []) (failed ++ fails ∷ []) (accepted ++ mark ∷ []) (length uploads) → mark ≡ true)
-          → AreAccepted limits start (uploads ++ upload ∷ []) (failed ++ fails ∷ []) (accepted ++ mark ∷ [])
+      pub are_more : AreAccepted limits start uploads aside accepted
+          → (mark ≡ true → IsAcceptedAt limits start (uploads ++ upload ∷ []) (aside ++ put ∷ []) (accepted ++ mark ∷ []) (length uploads))
+          → (IsAcceptedAt limits start (uploads ++ upload ∷ []) (aside ++ put ∷ []) (accepted ++ mark ∷ []) (length uploads) → mark ≡ true)
+          → AreAccepted limits start (uploads ++ upload ∷ []) (aside ++ put ∷ []) (accepted ++ mark ∷ [])
       are_more before right only = record {
         each = length_more accepted mark ∙ ap (λ n. n + 1) each ∙ sym (length_more uploads upload);
         are = λ i. (to i, fro i);
       }
         where
           In : ℕ → Type 0
-          In = λ i. IsAcceptedAt limits start (uploads ++ upload ∷ []) (failed ++ fails ∷ []) (accepted ++ mark ∷ []) i
+          In = λ i. IsAcceptedAt limits start (uploads ++ upload ∷ []) (aside ++ put ∷ []) (accepted ++ mark ∷ []) i
 
           to : (i : ℕ) → IsMarked (accepted ++ mark ∷ []) i → In i
           to i m =

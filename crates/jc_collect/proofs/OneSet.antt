@@ -23,10 +23,10 @@ same_marks (b ∷ p) [] long h = absurd (omega (arith, long))
 same_marks (b ∷ p) (c ∷ q) long h =
     ap (λ x. x ∷ p) (same_head b c (h 0)) ∙ ap (λ l. c ∷ l) (same_marks p q (omega (arith, long)) (λ i. h (suc i)))
 
-module _ (limits : Limits) (start : Journal) (uploads : List (List ℕ)) (failed : List Bool) where
+module _ (limits : Limits) (start : Journal) (uploads : List (List ℕ)) (aside : List Bool) where
   -- what is accepted at a position depends on the marks before it alone
   accepted_along : (p q : List Bool) (i : ℕ) → ((j : ℕ) → j < i → IsMarked q j → IsMarked p j)
-      → IsAcceptedAt limits start uploads failed p i → IsAcceptedAt limits start uploads failed q i
+      → IsAcceptedAt limits start uploads aside p i → IsAcceptedAt limits start uploads aside q i
   accepted_along p q i before h = record {
     passed = h.passed;
     reading = h.reading;
@@ -43,7 +43,7 @@ module _ (limits : Limits) (start : Journal) (uploads : List (List ℕ)) (failed
           → StoredBefore limits start uploads p i e ⊎ Contains h.reading.entries e
       along e w = ⊎_elim (λ s. inl (⊎_elim (λ x. inl x) (λ x. inr (was e x)) s)) (λ c. inr c) w
 
-  module _ (p q : List Bool) (a : AreAccepted limits start uploads failed p) (b : AreAccepted limits start uploads failed q) where
+  module _ (p q : List Bool) (a : AreAccepted limits start uploads aside p) (b : AreAccepted limits start uploads aside q) where
     mark_same : (n i : ℕ) → i < n → MarkSame p q i
     mark_same zero i h = absurd (omega (arith, h))
     mark_same (suc n) i h = (

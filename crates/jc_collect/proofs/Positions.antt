@@ -12,7 +12,7 @@ use Rattle.jc_keeper.specs.Agree.{Agree, IsStored, StandsIn}
 use Rattle.jc_upload.specs.declared.answer.Answer.{Answer}
 use Rattle.jc_upload.specs.declared.answer.Answer.TheVariants.{Ack, No}
 use Rattle.jc_collect.specs.Accepted.{SaysEntry, WasAccepted, StoredBefore, IsAcceptedAt, IsStoredBefore}
-use Rattle.jc_collect.specs.Answer.{IsAnswerTo, IsFailure, IsTaken, ReportsConflict, ReportsFault, is_failure, is_failure_code}
+use Rattle.jc_collect.specs.Answer.{IsAnswerTo, IsSetAside, IsTaken, ReportsConflict, ReportsFault, is_set_aside, is_set_aside_code}
 use Rattle.jc_collect.specs.Position.{Answers, Joins, Leaves}
 use Rattle.jc_upload.specs.Says.{Says}
 use Rattle.jc_collect.proofs.Lists.{get_last, get_cases, length_more}
@@ -24,13 +24,13 @@ module _ (once : SaysOnce) (limits : Limits) (uploads : List (List ℕ)) (upload
     (stored : IsStoredBefore limits start uploads accepted (length uploads) mid) where
   -- ---- whether the upload is accepted
 
-  module _ (failed : List Bool) (all : length failed ≡ length uploads) where
-    abbrev In : (fails mark : Bool) → Type 0
-    In fails mark = IsAcceptedAt limits start (uploads ++ upload ∷ []) (failed ++ fails ∷ []) (accepted ++ mark ∷ []) (length uploads)
+  module _ (aside : List Bool) (all : length aside ≡ length uploads) where
+    abbrev In : (put mark : Bool) → Type 0
+    In put mark = IsAcceptedAt limits start (uploads ++ upload ∷ []) (aside ++ put ∷ []) (accepted ++ mark ∷ []) (length uploads)
 
     taken_accepted : (of : Id128 × ℕ) (count new left : ℕ) (mark : Bool) → IsTaken limits upload mid of count new left → In false mark
     taken_accepted of count new left mark t = record {
-      passed = λ m. marked_false (sym (get_last failed false) ∙ ap (λ k. slice_get (failed ++ false ∷ []) k) all ∙ m);
+      passed = λ m. marked_false (sym (get_last aside false) ∙ ap (λ k. slice_get (aside ++ false ∷ []) k) all ∙ m);
       reading = t.reading;
       says = says_last limits uploads upload t.reading (inr (t.head, t.says));
       left = left;
@@ -71,22 +71,22 @@ module _ (once : SaysOnce) (limits : Limits) (uploads : List (List ℕ)) (upload
           (λ (w : ReportsFault mid a.reading code place). not_faulty a.reading w.fault says w.ended)
           a.why
 
-    no_accepted : (of : Option (Id128 × ℕ)) (code place : ℕ) (fails mark : Bool)
-        → MatchBool fails (IsFailure upload (No of code place)) (IsAnswerTo limits upload mid (No of code place)) → ¬ In fails mark
+    no_accepted : (of : Option (Id128 × ℕ)) (code place : ℕ) (put mark : Bool)
+        → MatchBool put (IsSetAside limits upload (No of code place)) (IsAnswerTo limits upload mid (No of code place)) → ¬ In put mark
     no_accepted of code place true mark a h =
-        h.passed (ap (λ k. slice_get (failed ++ true ∷ []) k) (sym all) ∙ get_last failed true)
+        h.passed (ap (λ k. slice_get (aside ++ true ∷ []) k) (sym all) ∙ get_last aside true)
     no_accepted of code place false mark a h = not_refused mark h of code place a
 
-    pub right_mark : (answer : Answer) → Answers limits upload mid answer → is_ack answer ≡ true → In (is_failure answer) (is_ack answer)
+    pub right_mark : (answer : Answer) → Answers limits upload mid answer → is_ack answer ≡ true → In (is_set_aside answer) (is_ack answer)
     right_mark (Ack source from count new left) a h = taken_accepted (source, from) count new left true a
     right_mark (No of code place) a h = absurd (never h)
       where
         never : ¬ (false ≡ true)
         never e = cc
 
-    pub only_mark : (answer : Answer) → Answers limits upload mid answer → In (is_failure answer) (is_ack answer) → is_ack answer ≡ true
+    pub only_mark : (answer : Answer) → Answers limits upload mid answer → In (is_set_aside answer) (is_ack answer) → is_ack answer ≡ true
     only_mark (Ack source from count new left) a h = refl
-    only_mark (No of code place) a h = absurd (no_accepted of code place (is_failure_code code) false a h)
+    only_mark (No of code place) a h = absurd (no_accepted of code place (is_set_aside_code code) false a h)
 
   -- ---- what is stored then
 

@@ -40,20 +40,20 @@ StoredBefore limits start uploads accepted i e = IsStored start e ⊎ WasAccepte
 abbrev pub NoneDiffer : (LogEntry → Type 0) → Type 0
 NoneDiffer In = (e f : LogEntry) → In e → In f → e.key ≡ f.key → e ≡ f
 
--- An upload is accepted: no failure was reported of it, it ends without a fault, and its entries agree with each other
--- and with all that is stored before it.
-pub record IsAcceptedAt (limits : Limits) (start : Journal) (uploads : List (List ℕ)) (failed accepted : List Bool) (i : ℕ) : Type 0 where
-  pub passed : ¬ IsMarked failed i
+-- An upload is accepted: it wasn't set aside, it ends without a fault, and its entries agree with each other and with all
+-- that is stored before it.
+pub record IsAcceptedAt (limits : Limits) (start : Journal) (uploads : List (List ℕ)) (aside accepted : List Bool) (i : ℕ) : Type 0 where
+  pub passed : ¬ IsMarked aside i
   pub reading : Reading
   pub says : SaysAt limits uploads i reading
   pub left : ℕ
   pub ended : reading.ending ≡ End left
   pub agrees : NoneDiffer (λ e. StoredBefore limits start uploads accepted i e ⊎ Contains reading.entries e)
 
--- The one set of accepted positions, if these positions failed.
-pub record AreAccepted (limits : Limits) (start : Journal) (uploads : List (List ℕ)) (failed accepted : List Bool) : Type 0 where
+-- The one set of accepted positions, if those at these positions were set aside.
+pub record AreAccepted (limits : Limits) (start : Journal) (uploads : List (List ℕ)) (aside accepted : List Bool) : Type 0 where
   pub each : length accepted ≡ length uploads
-  pub are : (i : ℕ) → IsMarked accepted i ↔ IsAcceptedAt limits start uploads failed accepted i
+  pub are : (i : ℕ) → IsMarked accepted i ↔ IsAcceptedAt limits start uploads aside accepted i
 
 -- The journal has what is stored before a position, and nothing else.
 abbrev pub IsStoredBefore : Limits → (start : Journal) → (uploads : List (List ℕ)) → (accepted : List Bool) → ℕ → Journal → Type 0

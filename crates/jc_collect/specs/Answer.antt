@@ -1,7 +1,7 @@
 -- The answer to an upload over a journal. (own)
-use Rattle.std.specs.Prelude.{ℕ, ◌≡◌, ◌+◌, ◌⊎◌, ◌==◌, ◌||◌, Bool, false, IsTrue, List, length, Some, None}
+use Rattle.std.specs.Prelude.{ℕ, ◌≡◌, ◌+◌, ◌<◌, ◌⊎◌, ◌==◌, ◌||◌, Bool, false, IsTrue, List, length, Some, None}
 use Rattle.std.specs.FinMap.{len}
-use Rattle.jc_base.specs.declared.fault.Code.TheVariants.{Conflict, ReadFailed, StoreFailed, OutOfMemory}
+use Rattle.jc_base.specs.declared.fault.Code.TheVariants.{Conflict, ReadFailed, StoreFailed, OutOfMemory, NotTheOwner}
 use Rattle.jc_base.specs.declared.fault.Ending.TheVariants.{End, Bad}
 use Rattle.jc_base.specs.declared.fault.Fault.{Fault}
 use Rattle.jc_base.specs.declared.id.Id128.{Id128}
@@ -73,7 +73,7 @@ IsAnswerTo limits upload journal (Ack source start count new left) = IsTaken lim
 IsAnswerTo limits upload journal (No None code place) = IsUnread upload code place
 IsAnswerTo limits upload journal (No (Some of) code place) = IsRefused limits upload journal of code place
 
--- ---- a failure in place of the answer
+-- ---- an upload that is set aside: what is answered isn't decided by the upload and the journal
 
 -- reading, the store or memory failed
 abbrev pub is_failure_code : ℕ → Bool
@@ -82,6 +82,14 @@ is_failure_code code = code == number_of ReadFailed || code == number_of StoreFa
 abbrev pub is_failure : Answer → Bool
 is_failure (Ack source start count new left) = false
 is_failure (No of code place) = is_failure_code code
+
+-- ... or a sequence belongs to another machine
+abbrev pub is_set_aside_code : ℕ → Bool
+is_set_aside_code code = is_failure_code code || code == number_of NotTheOwner
+
+abbrev pub is_set_aside : Answer → Bool
+is_set_aside (Ack source start count new left) = false
+is_set_aside (No of code place) = is_set_aside_code code
 
 -- A failure once the header was read.
 pub record FailsBehind (upload : List ℕ) (of : Id128 × ℕ) (code place : ℕ) : Type 0 where
@@ -97,8 +105,17 @@ pub record FailsBefore (code place : ℕ) : Type 0 where
   pub failure : code ≡ number_of ReadFailed
   pub at : place ≡ 0
 
--- A failure is reported, with the source and the start if the header was read.
-abbrev pub IsFailure : (upload : List ℕ) → Answer → Type 0
-IsFailure upload (Ack source start count new left) = ⊥
-IsFailure upload (No None code place) = FailsBefore code place
-IsFailure upload (No (Some of) code place) = FailsBehind upload of code place
+-- The sequence of an entry belongs to another machine: the entry's number is the place.
+pub record IsNotOwned (limits : Limits) (upload : List ℕ) (of : Id128 × ℕ) (code place : ℕ) : Type 0 where
+  pub head : UploadHead
+  pub reading : Reading
+  pub says : SaysBehind limits upload head reading
+  pub named : of ≡ named_by head
+  pub number : code ≡ number_of NotTheOwner
+  pub within : place < length reading.entries
+
+-- Why an upload is set aside, with the source and the start if the header was read.
+abbrev pub IsSetAside : Limits → (upload : List ℕ) → Answer → Type 0
+IsSetAside limits upload (Ack source start count new left) = ⊥
+IsSetAside limits upload (No None code place) = FailsBefore code place
+IsSetAside limits upload (No (Some of) code place) = FailsBehind upload of code place ⊎ IsNotOwned limits upload of code place

@@ -1,12 +1,12 @@
 -- What taking up the body of an upload does to a journal, and what is answered. (own)
 use Rattle.std.specs.Prelude.{ℕ, ◌≡◌, List, Option, Some, None, Result, Ok, Err, ⊤}
-use Rattle.jc_base.specs.declared.fault.Code.TheVariants.{Conflict as ConflictCode}
+use Rattle.jc_base.specs.declared.fault.Code.TheVariants.{Conflict as ConflictCode, NotTheOwner as NotTheOwnerCode}
 use Rattle.jc_base.specs.declared.limits.Limits.{Limits}
 use Rattle.jc_base.specs.Fault.{number_of}
 use Rattle.jc_base.specs.Reading.{Reading}
 use Rattle.jc_base.specs.Journal.{Journal}
 use Rattle.jc_keeper.specs.declared.keeper.Absorbed.{Absorbed}
-use Rattle.jc_keeper.specs.declared.keeper.Absorbed.TheVariants.{Taken, Conflict, Bad}
+use Rattle.jc_keeper.specs.declared.keeper.Absorbed.TheVariants.{Taken, Conflict, NotTheOwner, Bad}
 use Rattle.jc_keeper.specs.declared.keeper.KeepStop.{KeepStop}
 use Rattle.jc_keeper.specs.Absorb.{Step}
 use Rattle.jc_keeper.specs.Keeping.{code_of_stop}
@@ -32,5 +32,6 @@ AbsorbsBody Says before (Ok absorbed) after = (reading : Reading) × Says readin
 abbrev pub answer_to : UploadHead → Result Absorbed KeepStop → Answer
 answer_to head (Ok (Taken count new left)) = Ack head.source head.start count new left
 answer_to head (Ok (Conflict number)) = No (Some (named_by head)) (number_of ConflictCode) number
+answer_to head (Ok (NotTheOwner number)) = No (Some (named_by head)) (number_of NotTheOwnerCode) number
 answer_to head (Ok (Bad fault)) = No (Some (named_by head)) (number_of fault.code) fault.place
 answer_to head (Err stop) = No (Some (named_by head)) (number_of (code_of_stop stop)) 0

@@ -7,7 +7,7 @@ use Rattle.jc_keeper.specs.Agree.{IsStored}
 use Rattle.jc_upload.specs.declared.answer.Answer.{Answer}
 use Rattle.jc_upload.specs.declared.answer.Answer.TheVariants.{Ack, No}
 use Rattle.jc_collect.specs.Accepted.{AreAccepted, IsStoredBefore}
-use Rattle.jc_collect.specs.Answer.{is_failure}
+use Rattle.jc_collect.specs.Answer.{is_set_aside}
 use Rattle.jc_collect.specs.Position.{IsPosition}
 
 -- An upload that was delivered: what was answered, and what is stored afterwards.
@@ -31,9 +31,9 @@ journal_before start (turn ∷ turns) (suc i) = journal_before turn.after turns 
 abbrev pub uploads_of : List Turn → List (List ℕ)
 uploads_of turns = map (λ turn. turn.upload) turns
 
--- the positions at which a failure was answered
-abbrev pub failed_of : List Turn → List Bool
-failed_of turns = map (λ turn. is_failure turn.answer) turns
+-- the positions at which an upload was set aside
+abbrev pub aside_of : List Turn → List Bool
+aside_of turns = map (λ turn. is_set_aside turn.answer) turns
 
 abbrev pub is_acknowledged : Answer → Bool
 is_acknowledged (Ack source start count new left) = true
@@ -45,7 +45,7 @@ acknowledged_of turns = map (λ turn. is_acknowledged turn.answer) turns
 
 -- The acknowledged uploads are the accepted ones, and what is stored before each position is by them.
 pub record AreTaken (limits : Limits) (start : Journal) (turns : List Turn) : Type 0 where
-  pub accepted : AreAccepted limits start (uploads_of turns) (failed_of turns) (acknowledged_of turns)
+  pub accepted : AreAccepted limits start (uploads_of turns) (aside_of turns) (acknowledged_of turns)
   pub stored : (i : ℕ) → i ≤ length turns
       → IsStoredBefore limits start (uploads_of turns) (acknowledged_of turns) i (journal_before start turns i)
   -- what is stored stays

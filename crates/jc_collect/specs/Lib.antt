@@ -3,6 +3,7 @@ pub mod Accepted
 pub mod Position
 pub mod Delivered
 pub mod Run
+pub mod RunLaws
 pub mod Crash
 pub mod Part
 pub mod Whole

@@ -13,12 +13,12 @@ use Rattle.jc_keeper.specs.Agree.{HasBoth}
 use Rattle.jc_upload.specs.declared.answer.Answer.{Answer}
 use Rattle.jc_upload.specs.declared.answer.Answer.TheVariants.{Ack, No}
 use Rattle.jc_upload.specs.Says.{Says}
-use Rattle.jc_collect.specs.Answer.{IsAnswerTo, IsFailure, is_failure}
+use Rattle.jc_collect.specs.Answer.{IsAnswerTo, IsSetAside, is_set_aside}
 
--- A failure is reported, or else the answer to the upload.
+-- The upload is set aside, or else this is the answer to it.
 abbrev pub Answers : Limits → (upload : List ℕ) → Journal → Answer → Type 0
 Answers limits upload journal answer =
-    MatchBool (is_failure answer) (IsFailure upload answer) (IsAnswerTo limits upload journal answer)
+    MatchBool (is_set_aside answer) (IsSetAside limits upload answer) (IsAnswerTo limits upload journal answer)
 
 -- The journal afterwards has the entries of the one before and of the upload, and no others.
 pub record Joins (limits : Limits) (upload : List ℕ) (before after : Journal) : Type 0 where

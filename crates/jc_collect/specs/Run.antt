@@ -3,7 +3,7 @@ use Rattle.std.specs.Prelude.{ℕ, ◌≡◌, ◌+◌, ◌<◌, ◌≤◌, Bool,
 use Rattle.std.specs.List.{All, flat_map}
 use Rattle.std.specs.Io.KnownBytes.{Appends}
 use Rattle.jc_base.specs.declared.fault.Code.{Code}
-use Rattle.jc_base.specs.declared.fault.Code.TheVariants.{ReadFailed, StoreFailed}
+use Rattle.jc_base.specs.declared.fault.Code.TheVariants.{ReadFailed, StoreFailed, NotTheOwner}
 use Rattle.jc_base.specs.declared.id.Id128.{Id128}
 use Rattle.jc_base.specs.declared.limits.Limits.{Limits}
 use Rattle.jc_base.specs.Device.{Rose}
@@ -15,7 +15,7 @@ use Rattle.jc_upload.specs.Answer.{IsAnswer, answer_text}
 use Rattle.jc_upload.specs.declared.answer.Answer.{Answer}
 use Rattle.jc_upload.specs.declared.answer.Answer.TheVariants.{Ack}
 use Rattle.jc_collect.specs.Accepted.{SaysAt, AreAccepted, IsStoredBefore}
-use Rattle.jc_collect.specs.Answer.{is_failure}
+use Rattle.jc_collect.specs.Answer.{is_set_aside}
 use Rattle.jc_collect.specs.Position.{Answers, FailsUnread, HasCode, HasGivenFewer}
 use Rattle.jc_collect.specs.declared.runs.RunEnd.{RunEnd}
 use Rattle.jc_collect.specs.declared.runs.RunEnd.TheVariants.{Done, Stopped}
@@ -36,7 +36,7 @@ seen journal store_failures read_failures left written =
 abbrev pub left_at : Seen → ℕ → Option (List ℕ)
 left_at seen i = slice_index_or seen.left i None
 
--- The answer at a position is the one over what is stored before it, or it reports a failure.
+-- The answer at a position is the one over what is stored before it, or it says why the upload was set aside.
 pub record AnswersAt (limits : Limits) (start : Journal) (uploads : List (List ℕ)) (accepted : List Bool) (i : ℕ) (answer : Answer) : Type 0 where
   pub upload : List ℕ
   pub at : slice_get uploads i ≡ Some upload
@@ -51,17 +51,17 @@ pub record AcksStored (limits : Limits) (uploads : List (List ℕ)) (i count : �
   pub all : count ≡ length reading.entries
   pub stored : All (IsStored journal) reading.entries
 
--- A failure with this code is reported only at positions whose count has risen.
-abbrev pub AreCaused : Code → List Answer → (Counted : ℕ → Type 0) → Type 0
-AreCaused code answers Counted =
-    (i : ℕ) (answer : Answer) → slice_get answers i ≡ Some answer → HasCode answer code → Counted i
+-- This code is answered only at positions of which this holds.
+abbrev pub AreCaused : Code → List Answer → (Caused : ℕ → Type 0) → Type 0
+AreCaused code answers Caused =
+    (i : ℕ) (answer : Answer) → slice_get answers i ≡ Some answer → HasCode answer code → Caused i
 
 -- These uploads were collected in order, and answered so.
 pub record Collected (limits : Limits) (uploads : List (List ℕ)) (before after : Seen) (answers : List Answer) : Type 0 where
   pub each : length answers ≡ length uploads
   -- the accepted positions, and the answers over what is stored before each
   pub accepted : List Bool
-  pub are_accepted : AreAccepted limits before.journal uploads (map is_failure answers) accepted
+  pub are_accepted : AreAccepted limits before.journal uploads (map is_set_aside answers) accepted
   pub answered : (i : ℕ) (answer : Answer) → slice_get answers i ≡ Some answer
       → AnswersAt limits before.journal uploads accepted i answer
   -- what is stored at the end
@@ -70,7 +70,7 @@ pub record Collected (limits : Limits) (uploads : List (List ℕ)) (before after
   pub acknowledged : (i : ℕ) (source : Id128) (start count new left : ℕ) → slice_get answers i ≡ Some (Ack source start count new left)
       → AcksStored limits uploads i count after.journal
   pub kept : (e : LogEntry) → IsStored before.journal e → IsStored after.journal e
-  -- failures have causes
+  -- failures are reported only where a count has risen
   pub reads : AreCaused ReadFailed answers (λ i. Rose (slice_index before.read_failures i) (slice_index after.read_failures i))
   pub stores : AreCaused StoreFailed answers (λ _. Rose before.store_failures after.store_failures)
   -- and one is reported without source and start only if fewer bytes came of a stream than a header has
@@ -125,6 +125,16 @@ pub record AreWrittenUpTo (count written : ℕ) (before now : Option (List ℕ))
 abbrev pub WritesEach : (deliveries : ℕ) → (before now : Option (List ℕ)) → RunEnd → Type 0
 WritesEach deliveries before now Done = AreWritten deliveries before now
 WritesEach deliveries before now (Stopped done written) = (done < deliveries) × AreWrittenUpTo done written before now
+
+-- The same, and this holds of the answers, that of the line at which it stopped too.
+abbrev pub WritesWith : (Holds : List Answer → Type 0) → (deliveries : ℕ) → (before now : Option (List ℕ)) → RunEnd → Type 0
+WritesWith Holds deliveries before now Done = (wrote : AreWritten deliveries before now) × Holds wrote.answers
+WritesWith Holds deliveries before now (Stopped done written) =
+    (done < deliveries) × (wrote : AreWrittenUpTo done written before now) × Holds (wrote.answers ++ wrote.last ∷ [])
+
+-- That a sequence belongs to another machine is answered only if it may belong to one.
+abbrev pub OnlyIfOwned : (HasOwners : Type 0) → List Answer → Type 0
+OnlyIfOwned HasOwners answers = AreCaused NotTheOwner answers (λ _. HasOwners)
 
 -- A run stops only if the sink's count of failures has risen.
 pub record SinkFailed (before now : ℕ) (end : RunEnd) : Type 0 where

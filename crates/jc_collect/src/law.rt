@@ -9,10 +9,10 @@ ghost use Rattle.jc_collect.specs.Answer.{IsAnswerTo};
 
 use jc_upload::one_saying;
 
-/// Over the same journal, uploads and failures no two sets of positions are the accepted ones. Does nothing.
+/// Over the same journal and uploads, if the same ones were set aside, no two sets of positions are the accepted ones. Does nothing.
 pub fn one_set_accepted()
-    ensures { (limits : Limits) (start : Journal) (uploads : List (List ℕ)) (failed p q : List Bool) →
-        AreAccepted limits start uploads failed p → AreAccepted limits start uploads failed q → p ≡ q }
+    ensures { (limits : Limits) (start : Journal) (uploads : List (List ℕ)) (aside p q : List Bool) →
+        AreAccepted limits start uploads aside p → AreAccepted limits start uploads aside q → p ≡ q }
 {}
 
 /// What is stored before a position is one journal. Does nothing.

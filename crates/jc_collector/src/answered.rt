@@ -17,7 +17,7 @@ use crate::database::{FileKeeper, Opened, OpenedFiles, open_or_make};
 use crate::then_export::export_after;
 use jc_base::ByteStream;
 use jc_collect::Delivery;
-use jc_collector_answers::{answer_all, answer_names};
+use jc_collector_answers::{NameLines, answer_all, answer_names};
 use jc_command_args::Tables;
 use jc_command_shared::{Failure, Status};
 use jc_database::sound_leaves_journals;
@@ -207,6 +207,6 @@ fn answer_lines_over<'a, S: Start, T: Listed, L: BufRead, O: Write, E: Write>(
 {
     // Does nothing: from its contract the proof has what might have been left before.
     sound_leaves_journals(keeper);
-    let answered = answer_names(rt, keeper, names, output, errors);
+    let answered = answer_names(rt, keeper, names, NameLines::Uploads, output, errors);
     export_after(rt, keeper, answered, then_export)
 }

@@ -19,7 +19,7 @@ ghost use Rattle.jc_collector.specs.Listed.{PrintsListed};
 use crate::database::{FileKeeper, Opened, check_name, open_or_make};
 use crate::listed::INPUT;
 use crate::then_export::{check_export, export_after};
-use jc_collector_answers::answer_names;
+use jc_collector_answers::{NameLines, answer_names};
 use jc_command_args::Tables;
 use jc_command_shared::{Failure, Status, open_file};
 use jc_ledger::{Ledger, Past};
@@ -210,7 +210,8 @@ fn join_over<
         Ok(union) => union,
         Err(stop) => return Err(why_no_union(stop)),
     };
-    let answered = answer_names(rt, &mut union, names, output, errors);
+    let lines = NameLines::MachinesAndUploads;
+    let answered = answer_names(rt, &mut union, names, lines, output, errors);
     let done = export_after(rt, &mut union.present, answered, then_export);
     close_union(union, done)
 }

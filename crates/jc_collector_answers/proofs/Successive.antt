@@ -12,8 +12,6 @@ use Rattle.std.proofs.lemmas.List.Folds.{list_any-append}
 use Rattle.jc_base.specs.declared.fault.Code.TheVariants.{ReadFailed}
 use Rattle.jc_base.specs.Fault.{number_of}
 use Rattle.jc_collect.specs.Answer.{is_failure}
-use Rattle.jc_collect.specs.Each.{Held, HoldsEach, NoneAcknowledged}
-use Rattle.jc_collect.specs.EachLaws.{holds_none, holds_then}
 use Rattle.jc_collect.specs.Run as run
 use Rattle.jc_command_shared.specs.Lines.{lines_of, with_byte}
 use Rattle.jc_command_shared.specs.OutputLaws.{Appends-kept}
@@ -21,7 +19,7 @@ use Rattle.jc_command_shared.specs.declared.status.Status.{Status}
 use Rattle.jc_command_shared.specs.declared.status.Status.TheVariants.{Success, Refused, Misused, Failed}
 use Rattle.jc_collector_answers.specs.Answered.{PrintsAnswers, is_refusal, judged, worse}
 use Rattle.jc_collector_answers.specs.Named.{LosesLine, PrintsNamed}
-use Rattle.jc_collector_answers.specs.Tied.{NamedWith, PrintsFront, PrintsWith}
+use Rattle.jc_collector_answers.specs.Tied.{AreUnread, NamedWith, PrintsFront, PrintsWith}
 use Rattle.jc_upload.specs.Answer.{IsAnswer, answer_text}
 use Rattle.jc_upload.specs.declared.answer.Answer.{Answer}
 use Rattle.jc_upload.specs.declared.answer.Answer.TheVariants.{No}
@@ -164,66 +162,68 @@ ends_named text rest status old now (count, printed, came) none = record { count
 
 pub unread_with : (code : ℕ) (bytes line : List ℕ) (old mid new : Option (List ℕ)) → Appends old mid bytes → Keeps mid new
     → bytes ≡ line → line ≡ answer_text (No None code 0) → IsAnswer (No None code 0) → code ≡ number_of ReadFailed
-    → PrintsWith NoneAcknowledged 1 Failed old new
+    → PrintsWith AreUnread 1 Failed old new
 unfolding unread_printed
 unread_with code bytes line old mid new out keeps same is lawful failed =
-    record { shown = unread_printed code bytes line old mid new out keeps same is lawful failed; holds = tt }
+    record { shown = unread_printed code bytes line old mid new out keeps same is lawful failed; holds = (failed, tt) }
 
 -- Each name so far was answered, and this holds of the answers.
-abbrev pub HoldsSoFar : (text rest : Option (List ℕ)) → Status → (before now : Held) → (old new : Option (List ℕ)) → Type 0
-HoldsSoFar text rest status before now old new = (way : IsUnderWay text rest status old new) × HoldsEach before now way.1.answers
+abbrev pub HoldsSoFar : (Holds : List Answer → Type 0) → (text rest : Option (List ℕ)) → Status → (old new : Option (List ℕ)) → Type 0
+HoldsSoFar Holds text rest status old new = (way : IsUnderWay text rest status old new) × Holds way.1.answers
 
-pub holds_first : (text old : Option (List ℕ)) (now : Held) → HoldsSoFar text text Success now now old old
+pub holds_first : (Holds : List Answer → Type 0) → Holds [] → (text old : Option (List ℕ)) → HoldsSoFar Holds text text Success old old
 unfolding begins
-holds_first text old now = (begins text old, holds_none now)
+holds_first Holds none text old = (begins text old, none)
 
-pub holds_on_to : (text rest next : Option (List ℕ)) (status more : Status) (before mid now : Held) (old was new : Option (List ℕ))
-    → HoldsSoFar text rest status before mid old was → LosesLine rest next → PrintsWith (HoldsEach mid now) 1 more was new
-    → (mid.Sound → before.Sound) → (now.Sound → mid.Sound) → HoldsSoFar text next (worse status more) before now old new
-unfolding goes_on_to prints_both
-holds_on_to text rest next status more before mid now old was new ((count, printed, came), holds) loses answered earlier later = (
-  goes_on_to text rest next status more old was new (count, printed, came) loses answered.shown,
-  holds_then before mid now printed.answers answered.shown.answers holds answered.holds earlier later,
-)
+-- what holds of some answers, and of others behind them
+module _ (First Then Both : List Answer → Type 0) (joins : (one others : List Answer) → First one → Then others → Both (one ++ others)) where
+  pub holds_on_to : (text rest next : Option (List ℕ)) (status more : Status) (old was new : Option (List ℕ))
+      → HoldsSoFar First text rest status old was → LosesLine rest next → PrintsWith Then 1 more was new
+      → HoldsSoFar Both text next (worse status more) old new
+  unfolding goes_on_to prints_both
+  holds_on_to text rest next status more old was new ((count, printed, came), holds) loses answered = (
+    goes_on_to text rest next status more old was new (count, printed, came) loses answered.shown,
+    joins printed.answers answered.shown.answers holds answered.holds,
+  )
 
-pub holds_named : (text rest : Option (List ℕ)) (status : Status) (before now : Held) (old new : Option (List ℕ))
-    → HoldsSoFar text rest status before now old new → IfSome rest (λ left. left ≡ []) → NamedWith (HoldsEach before now) text status old new
-unfolding ends_named
-holds_named text rest status before now old new ((count, printed, came), holds) none =
-    record { shown = ends_named text rest status old new (count, printed, came) none; holds = holds }
+  -- ... and where printing one more failed
+  pub holds_front_on : (text rest : Option (List ℕ)) (status : Status) (old was new : Option (List ℕ))
+      → HoldsSoFar First text rest status old was → PrintsFront Then was new → PrintsFront Both old new
+  holds_front_on text rest status old was new ((count, printed, came), holds) front =
+      let lines = run.lines_of_answers printed.answers in
+      let others = run.lines_of_answers front.answers in
+      let part = take front.bytes (run.lines_of_answers front.more) in
+      let both : run.lines_of_answers (printed.answers ++ front.answers) ≡ lines ++ others
+      = flat_map-append answer_text printed.answers front.answers in
+      record {
+        answers = printed.answers ++ front.answers;
+        more = front.more;
+        one = front.one;
+        bytes = front.bytes;
+        printed = subst (λ (l : List ℕ). Appends old new l) (sym (append_assoc lines others part) ∙ ap (λ (l : List ℕ). l ++ part) (sym both))
+            (Appends-trans old was new lines (others ++ part) printed.printed front.printed);
+        holds = subst Both (sym (append_assoc printed.answers front.answers front.more))
+            (joins printed.answers (front.answers ++ front.more) holds front.holds);
+      }
 
--- all that were answered, where no more is
-pub holds_front : (text rest : Option (List ℕ)) (status : Status) (before now : Held) (old new : Option (List ℕ))
-    → HoldsSoFar text rest status before now old new → PrintsFront (HoldsEach before now) old new
-holds_front text rest status before now old new ((count, printed, came), holds) = record {
-  answers = printed.answers;
-  more = [];
-  one = omega arith;
-  bytes = 0;
-  printed = subst (λ (l : List ℕ). Appends old new l) (sym (append-nil (run.lines_of_answers printed.answers))) printed.printed;
-  holds = subst (λ (l : List Answer). HoldsEach before now l) (sym (append-nil printed.answers)) holds;
-}
+module _ (Holds : List Answer → Type 0) where
+  pub holds_named : (text rest : Option (List ℕ)) (status : Status) (old new : Option (List ℕ))
+      → HoldsSoFar Holds text rest status old new → IfSome rest (λ left. left ≡ []) → NamedWith Holds text status old new
+  unfolding ends_named
+  holds_named text rest status old new ((count, printed, came), holds) none =
+      record { shown = ends_named text rest status old new (count, printed, came) none; holds = holds }
 
--- ... and where printing one more failed
-pub holds_front_on : (text rest : Option (List ℕ)) (status : Status) (before mid now : Held) (old was new : Option (List ℕ))
-    → HoldsSoFar text rest status before mid old was → PrintsFront (HoldsEach mid now) was new
-    → (mid.Sound → before.Sound) → (now.Sound → mid.Sound) → PrintsFront (HoldsEach before now) old new
-holds_front_on text rest status before mid now old was new ((count, printed, came), holds) front earlier later =
-    let lines = run.lines_of_answers printed.answers in
-    let others = run.lines_of_answers front.answers in
-    let part = take front.bytes (run.lines_of_answers front.more) in
-    let both : run.lines_of_answers (printed.answers ++ front.answers) ≡ lines ++ others
-    = flat_map-append answer_text printed.answers front.answers in
-    record {
-      answers = printed.answers ++ front.answers;
-      more = front.more;
-      one = front.one;
-      bytes = front.bytes;
-      printed = subst (λ (l : List ℕ). Appends old new l) (sym (append_assoc lines others part) ∙ ap (λ (l : List ℕ). l ++ part) (sym both))
-          (Appends-trans old was new lines (others ++ part) printed.printed front.printed);
-      holds = subst (λ (l : List Answer). HoldsEach before now l) (sym (append_assoc printed.answers front.answers front.more))
-          (holds_then before mid now printed.answers (front.answers ++ front.more) holds front.holds earlier later);
-    }
+  -- all that were answered, where no more is
+  pub holds_front : (text rest : Option (List ℕ)) (status : Status) (old new : Option (List ℕ))
+      → HoldsSoFar Holds text rest status old new → PrintsFront Holds old new
+  holds_front text rest status old new ((count, printed, came), holds) = record {
+    answers = printed.answers;
+    more = [];
+    one = omega arith;
+    bytes = 0;
+    printed = subst (λ (l : List ℕ). Appends old new l) (sym (append-nil (run.lines_of_answers printed.answers))) printed.printed;
+    holds = subst Holds (sym (append-nil printed.answers)) holds;
+  }
 
 -- once a failure or a refusal, never a success again
 pub success_of : (one other : Status) → worse one other ≡ Success → (one ≡ Success) × (other ≡ Success)

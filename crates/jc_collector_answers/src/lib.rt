@@ -4,9 +4,11 @@
 mod answer_sink;
 mod answering;
 mod judged;
+mod name_lines;
 mod named;
 mod uploads;
 
 pub use answering::answer_all;
+pub use name_lines::NameLines;
 pub use named::answer_names;
 pub use uploads::{Upload, open_upload, open_uploads};

@@ -94,4 +94,6 @@ pub const CODES: &str = "1   ShortHeader         an upload has fewer bytes than 
                         `migrate` puts its entries into newer tables
 70  SourceChanged       a source's entries no longer go on from the resume point
                         put the old stream back, or take a new id and remove the resume file
+71  NotTheOwner         an entry's sequence belongs to another machine; the place is its number, from 0
+                        the machine is a copy of that one, or renamed: the guide, \"A machine that was set back\"
 ";

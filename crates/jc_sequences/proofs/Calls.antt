@@ -1,5 +1,5 @@
 -- What a call makes of a file that is read off the record of its calls.
-use Rattle.std.proofs.Common.{◌≡◌, ◌⊎◌, ◌&&◌, ℕ, Bool, false, List, ◌∷◌, length, take, IsTrue, refl, sym, subst, inl, inr, arith}
+use Rattle.std.proofs.Common.{◌≡◌, ◌&&◌, ℕ, Bool, false, List, ◌∷◌, length, take, IsTrue, refl, sym, subst, inl, inr, arith}
 use Rattle.std.proofs.lemmas.Bool.{and_parts}
 use Rattle.sqlite_disk.specs.Disk.{Holds, Torn}
 use Rattle.sqlite_disk.specs.Events.{agrees, overlaid}

@@ -1,12 +1,14 @@
 //! A folder with a file for each window.
 
-ghost use Rattle.std.specs.Prelude.{◌≡◌, false};
+ghost use Rattle.std.specs.Prelude.{◌≡◌, ◌≢◌, ◌≤◌, false};
+ghost use Rattle.jc_keeper.specs.declared.keeper.KeepStop.TheVariants.{ReadFailed, StoreFailed};
+ghost use Rattle.jc_base.specs.Device.{Rose};
 ghost use Rattle.jc_ledger_files.specs.declared.window_name.WindowName.{WindowName};
 ghost use Rattle.jc_ledger_files.specs.Files.{AreClean, IsAsFound, files_leave, files_seen};
 
 use crate::found_file::FoundFile;
 use crate::open_files::OpenFiles;
-use crate::window_path::open_window;
+use crate::window_path::{open_window, usable};
 use jc_keeper::KeepStop;
 use jc_ledger_files::{Folder, Found, WindowName};
 use sqlite_disk::Disk;
@@ -18,7 +20,7 @@ use sqlite_std_file::{File, OpenError};
 pub struct FileFolder<'a, F: Found> {
     rt: &'a HostRuntime,
     path: String,
-    open: OpenFiles<FoundFile<File, F>, F>,
+    open: OpenFiles<File, F>,
     /// How often a file couldn't be opened, up to 2^64 - 1.
     failures: u64,
 }
@@ -38,6 +40,22 @@ impl<'a, F: Found> FileFolder<'a, F> {
             failures: 0,
         }
     }
+
+    /// Why no file is lent, which is counted unless memory was refused.
+    fn count(&mut self, error: OpenError) -> KeepStop
+        ensures never_read { result ≢ ReadFailed }
+        ensures never_falls { self.old.failures ≤ self.new.failures }
+        ensures store { result ≡ StoreFailed → Rose self.old.failures self.new.failures }
+        ensures open { self.new.open ≡ self.old.open }
+    {
+        match error {
+            OpenError::OutOfMemory => KeepStop::OutOfMemory,
+            _closed => {
+                self.failures = self.failures.saturating_add(1);
+                KeepStop::StoreFailed
+            }
+        }
+    }
 }
 
 impl<'a, F: Found> Folder<FoundFile<File, F>> for FileFolder<'a, F> {
@@ -51,7 +69,7 @@ impl<'a, F: Found> Folder<FoundFile<File, F>> for FileFolder<'a, F> {
 
     ghost may_leave = { λ f. files_leave F.found ⟦<FoundFile<File, F> as Disk>⟧.may_leave f.open.kept.files };
 
-    // Nothing is known of a file that was closed, so nothing is claimed once one was.
+    // Nothing is known of a file that was lost, so nothing is claimed once one was.
     ghost clean = { λ f. (f.open.is_worn ≡ false) × AreClean ⟦<FoundFile<File, F> as Disk>⟧.is_clean f.open.kept.files };
 
     ghost failures = { λ f. f.failures };
@@ -61,21 +79,16 @@ impl<'a, F: Found> Folder<FoundFile<File, F>> for FileFolder<'a, F> {
 
     fn lend(&mut self, name: WindowName) -> Result<FoundFile<File, F>, KeepStop> {
         match self.open.take(name) {
-            Some(file) => {
-                if file.may_be_used() {
-                    return Ok(file);
+            Some(file) => match usable(self.rt, &self.path, name, file) {
+                Ok(file) => Ok(file),
+                Err(error) => {
+                    self.open.is_worn = true;
+                    Err(self.count(error))
                 }
-                self.open.is_worn = true;
-                self.failures = self.failures.saturating_add(1);
-                Err(KeepStop::StoreFailed)
-            }
+            },
             None => match open_window(self.rt, &self.path, name) {
                 Ok(file) => Ok(file),
-                Err(OpenError::OutOfMemory) => Err(KeepStop::OutOfMemory),
-                Err(_closed) => {
-                    self.failures = self.failures.saturating_add(1);
-                    Err(KeepStop::StoreFailed)
-                }
+                Err(error) => Err(self.count(error)),
             },
         }
     }

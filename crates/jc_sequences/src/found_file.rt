@@ -2,6 +2,7 @@
 
 ghost use Rattle.std.specs.Prelude.{◌≡◌, List, ℕ, IsTrue};
 ghost use Rattle.sqlite_disk.specs.Events.{raised, replay};
+ghost use Rattle.jc_sequences.specs.Closed.{StaysAs};
 
 use crate::file_record::FileRecord;
 use jc_ledger_files::{Found, WindowName};
@@ -19,11 +20,13 @@ const WRITTEN: u64 = 3;
 
 const FLUSHED: u64 = 5;
 
-/// The file of a window, which had what `F` says when it was opened. It is read off that and the record of its calls, as
-/// the toolchain reads a database's file: each method makes the call that it notes, and notes its answer.
+/// The file of a window, which had what `F` says when it was opened first. It is read off that and the record of its calls,
+/// as the toolchain reads a database's file: each method makes the call that it notes, and notes its answer. What it has
+/// stays known while it is closed.
 #[derive(Drop)]
 pub struct FoundFile<D: Disk, F: Found> {
-    disk: D,
+    /// It is closed if there is none.
+    disk: Option<D>,
     /// Only clauses read it.
     name: WindowName,
     found: PhantomData<F>,
@@ -45,7 +48,7 @@ impl<D: Disk, F: Found> FoundFile<D, F> {
         let mut calls = FileRecord::new();
         calls.note(&[SETTLED, 0, 0, 1], &[]);
         FoundFile {
-            disk,
+            disk: Some(disk),
             name,
             found: PhantomData,
             calls,
@@ -56,6 +59,28 @@ impl<D: Disk, F: Found> FoundFile<D, F> {
                 refused: 0,
             },
         }
+    }
+
+    /// Whether it is open.
+    pub(crate) fn is_open(&self) -> bool {
+        self.disk.is_some()
+    }
+}
+
+impl<D: Disk + Drop, F: Found> FoundFile<D, F> {
+    /// Closes it.
+    pub(crate) fn close(&mut self)
+        ensures stays { StaysAs ⟦<FoundFile<D, F> as Disk>⟧.seen ⟦<FoundFile<D, F> as Disk>⟧.may_leave ⟦<FoundFile<D, F> as Disk>⟧.is_clean self.old self.new }
+    {
+        self.disk = None;
+    }
+
+    /// The same file is opened again, and has what it had.
+    pub(crate) fn open_again(&mut self, disk: D)
+        ensures stays { StaysAs ⟦<FoundFile<D, F> as Disk>⟧.seen ⟦<FoundFile<D, F> as Disk>⟧.may_leave ⟦<FoundFile<D, F> as Disk>⟧.is_clean self.old self.new }
+        ensures usable { ⟦<FoundFile<D, F> as Disk>⟧.is_usable self.new ≡ ⟦<FoundFile<D, F> as Disk>⟧.is_usable self.old }
+    {
+        self.disk = Some(disk);
     }
 }
 
@@ -69,28 +94,40 @@ fn count_if(rises: bool, count: u64) -> u64
     count
 }
 
-fn measure<D: Disk>(disk: &mut D) -> io::Result<usize> {
+fn measure<D: Disk>(disk: &mut Option<D>) -> io::Result<usize> {
+    let Some(disk) = disk else {
+        return Err(io::ErrorKind::Other.into());
+    };
     if !disk.may_be_used() {
         return Err(io::ErrorKind::Other.into());
     }
     disk.len()
 }
 
-fn read<D: Disk>(disk: &mut D, at: usize, buf: &mut [u8]) -> io::Result<()> {
+fn read<D: Disk>(disk: &mut Option<D>, at: usize, buf: &mut [u8]) -> io::Result<()> {
+    let Some(disk) = disk else {
+        return Err(io::ErrorKind::Other.into());
+    };
     if !disk.may_be_used() {
         return Err(io::ErrorKind::Other.into());
     }
     disk.read_at(at, buf)
 }
 
-fn write<D: Disk>(disk: &mut D, at: usize, bytes: &[u8]) -> io::Result<()> {
+fn write<D: Disk>(disk: &mut Option<D>, at: usize, bytes: &[u8]) -> io::Result<()> {
+    let Some(disk) = disk else {
+        return Err(io::ErrorKind::Other.into());
+    };
     if !disk.may_be_used() {
         return Err(io::ErrorKind::Other.into());
     }
     disk.write_at(at, bytes)
 }
 
-fn flush<D: Disk>(disk: &mut D) -> io::Result<()> {
+fn flush<D: Disk>(disk: &mut Option<D>) -> io::Result<()> {
+    let Some(disk) = disk else {
+        return Err(io::ErrorKind::Other.into());
+    };
     if !disk.may_be_used() {
         return Err(io::ErrorKind::Other.into());
     }

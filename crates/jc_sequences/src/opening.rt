@@ -1,9 +1,11 @@
 //! Notes of sequences, opened.
 
 ghost use Rattle.std.specs.Prelude.{◌≡◌, ◌↔◌, IfErr, IfOk};
+ghost use Rattle.jc_base.specs.declared.id.Id128.{Id128};
 ghost use Rattle.jc_base.specs.declared.id.Key.{Key};
 ghost use Rattle.jc_base.specs.LogEntry.{LogEntry};
 ghost use Rattle.jc_ledger_files.specs.NotesOf.{notes_of};
+ghost use Rattle.jc_ledger_files.specs.Owned.{owner_in};
 ghost use Rattle.jc_ledger_files.specs.Windows.{known_in};
 
 use crate::file_folder::FileFolder;
@@ -29,25 +31,29 @@ pub fn open_sequences<'a, 'p, F: Found, A: Arrivals>(
     ensures sound { IfOk result (λ ledger. ⟦<FileSequences<'a, F, A> as Ledger>⟧.sound ledger) }
     // What is noted at first is what the files have as they are opened.
     ensures known { IfOk result (λ ledger. (k : Key) → ⟦<FileSequences<'a, F, A> as Ledger>⟧.known ledger k ≡ known_in (λ w. notes_of (F.found w)) k) }
+    // ... and so is whom sequences belong to. Windows of owners are behind those of all entries.
+    ensures owner { IfOk result (λ ledger. (s : Id128) → ⟦<FileSequences<'a, F, A> as Ledger>⟧.owner ledger s ≡ owner_in (λ w. notes_of (F.found w)) s) }
     ensures came { IfOk result (λ ledger. (e : LogEntry) → ⟦<FileSequences<'a, F, A> as Ledger>⟧.came ledger e ↔ A.before e) }
     ensures failed { IfErr result (λ failure. failure ≡ Failure.CannotOpen path.entry) }
 {
-    let Ok(folder) = have_folder(rt, path) else {
+    let Ok((windows, owners)) = have_folder(rt, path) else {
         return Err(Failure::CannotOpen(path));
     };
-    let windows = DiskWindows::new(rt.alloc(), FileFolder::new(rt, folder));
-    Ok(FileLedger::new(rt.alloc(), windows, RecordedEntries::new()))
+    let windows = DiskWindows::new(rt.alloc(), FileFolder::new(rt, windows));
+    let owners = DiskWindows::new(rt.alloc(), FileFolder::new(rt, owners));
+    Ok(FileLedger::new(rt.alloc(), windows, owners, RecordedEntries::new()))
 }
 
-/// Makes the folder if there is none, and answers its path. It is there after a loss of power, too.
-fn have_folder(rt: &HostRuntime, path: &str) -> io::Result<String> {
+/// Makes the folder if there is none, and answers its path, twice. It is there after a loss of power, too.
+fn have_folder(rt: &HostRuntime, path: &str) -> io::Result<(String, String)> {
     if !is_folder(rt, path) {
         make_folder(rt, path)?;
         let parent = format!(in rt.alloc(); "{path}/..")?;
         sync_folder(rt, &parent)?;
     }
-    let folder = format!(in rt.alloc(); "{path}")?;
-    Ok(folder)
+    let windows = format!(in rt.alloc(); "{path}")?;
+    let owners = format!(in rt.alloc(); "{path}")?;
+    Ok((windows, owners))
 }
 
 fn is_folder(rt: &HostRuntime, path: &str) -> bool {

@@ -2,5 +2,7 @@
 
 mod ledgers;
 mod notes;
+mod owners;
+mod owners_stopped;
 mod stops;
 mod unions;

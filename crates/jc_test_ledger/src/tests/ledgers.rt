@@ -1,5 +1,7 @@
 //! Ledgers over folders, and what is noted in them.
 
+ghost use Rattle.std.specs.Prelude.{◌≡◌, true};
+
 use crate::MemoryFolder;
 use jc_base::{Entry, Id128, Key, Limits};
 use jc_export::read_all;
@@ -18,20 +20,52 @@ pub(super) type Files = FileLedger<DiskWindows<Fuse<Memory>, MemoryFolder>, Each
 /// More calls than there are.
 pub(super) const NEVER: u64 = u64::MAX;
 
-/// A ledger over the files of a folder. Nothing is claimed of them.
+/// A ledger over the files of a folder, with those of owners in another one that is new. Nothing is claimed of them.
 pub(super) fn opened(alloc: Global, folder: MemoryFolder) -> Files {
-    let worn = MemoryFolder {
-        is_worn: true,
-        ..folder
-    };
-    FileLedger::new(alloc, DiskWindows::new(alloc, worn), EachEntry::new(alloc))
+    opened_with(alloc, folder, MemoryFolder::unclaimed(alloc, NEVER))
 }
 
-/// The folder of a ledger that ends.
+/// A ledger over the files of two folders: that of notes, and that of owners. Nothing is claimed of them.
+pub(super) fn opened_with(alloc: Global, folder: MemoryFolder, owners: MemoryFolder) -> Files {
+    let windows = DiskWindows::new(alloc, worn(folder));
+    let owners = DiskWindows::new(alloc, worn(owners));
+    FileLedger::new(alloc, windows, owners, EachEntry::new(alloc))
+}
+
+/// A folder of whose files nothing is claimed.
+fn worn(folder: MemoryFolder) -> MemoryFolder
+    ensures { result.is_worn ≡ true }
+{
+    MemoryFolder {
+        is_worn: true,
+        ..folder
+    }
+}
+
+/// The folder of the notes of a ledger that ends.
 pub(super) fn folder_of(ledger: Files) -> MemoryFolder {
-    let FileLedger { windows, .. } = ledger;
-    let DiskWindows { folder, .. } = windows;
+    let (folder, _owners) = folders_of(ledger);
     folder
+}
+
+/// The folders of a ledger that ends: that of notes, and that of owners.
+pub(super) fn folders_of(ledger: Files) -> (MemoryFolder, MemoryFolder) {
+    let FileLedger {
+        windows,
+        owners,
+        ..
+    } = ledger;
+    let DiskWindows { folder, .. } = windows;
+    let DiskWindows { folder: owned, .. } = owners;
+    (folder, owned)
+}
+
+/// The ledger of one that ends, after a loss of power.
+pub(super) fn after_a_loss(alloc: Global, ledger: Files) -> Result<Files, Fail> {
+    let (folder, owners) = folders_of(ledger);
+    let folder = crashed(alloc, folder, NEVER)?;
+    let owners = crashed(alloc, owners, NEVER)?;
+    Ok(opened_with(alloc, folder, owners))
 }
 
 /// The folder after a loss of power: each file has what was synced, and new files fail after so many calls.
@@ -113,7 +147,11 @@ pub(super) fn note(
 }
 
 /// How many of the entries with these texts are noted. None is noted as another one.
-pub(super) fn noted(alloc: Global, ledger: &mut Files, texts: &[&[u8]]) -> Result<u64, Fail> {
+pub(super) fn noted<L: Ledger>(
+    alloc: Global,
+    ledger: &mut L,
+    texts: &[&[u8]],
+) -> Result<u64, Fail> {
     let mut count = 0u64;
     let all = entries(alloc, texts)?;
     for entry in &all {

@@ -19,7 +19,7 @@ const TORN: &[u8] = b"\x01\x02\0\0\0\0\0\0\0\
     \xb9\xea\x36\x12\x4d\x80\xec\x1c\xd3\x2c\x98\x40\x8c\x49\x41\x57\
     \x16\x85\xc1\x52\x58\x3c\xea\xa8\x95\xd6\x08\x03\x38\xed\xf6";
 
-fn same_bytes(rt: &impl Abort, got: &[u8], wanted: &[u8]) {
+pub(super) fn same_bytes(rt: &impl Abort, got: &[u8], wanted: &[u8]) {
     assert!(rt;
         got == wanted,
         "got {}\nwanted {}",
@@ -117,7 +117,7 @@ fn six_windows_are_looked_into(rt: HostRuntime) -> Result<(), Fail> {
 fn a_shut_ledger_fails(rt: HostRuntime) -> Result<(), Fail> {
     let alloc = rt.alloc();
     let entries = RecordedEntries::<NoneBefore>::new();
-    let mut ledger = FileLedger::new(alloc, new_windows(alloc), entries);
+    let mut ledger = FileLedger::new(alloc, new_windows(alloc), new_windows(alloc), entries);
     assert!(rt; ledger.begin().is_ok());
     ledger.windows.shut();
     assert!(rt; matches!(ledger.begin(), Err(KeepStop::StoreFailed)));

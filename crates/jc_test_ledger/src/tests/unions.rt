@@ -1,20 +1,21 @@
 //! A union whose notes stand in files.
 
-use super::ledgers::{Files, NEVER, entries, folder_of, opened};
+use super::ledgers::{NEVER, entries, folder_of, opened};
 use crate::MemoryFolder;
 use jc_base::{Ending, ListSource};
 use jc_keeper::{Absorbed, KeepStop, Keeper, MapKeeper};
-use jc_ledger::{EmptyShelf, UnionKeeper};
+use jc_ledger::{EmptyShelf, Ledger, UnionKeeper};
 use jc_test_samples::{CHANGED_ENTRY, ENTRY, ENTRY_2, ENTRY_3};
 use std::alloc::Global;
 use std::collections::VecDeque;
 use std::process::Abort;
 use std::test::Fail;
 
-type Union = UnionKeeper<MapKeeper, Files, EmptyShelf>;
+/// A union of one database in a map.
+pub(super) type Union<L> = UnionKeeper<MapKeeper, L, EmptyShelf>;
 
 /// What becomes of an upload with these entries.
-fn absorbed<K: Keeper>(
+pub(super) fn absorbed<K: Keeper>(
     alloc: Global,
     keeper: &mut K,
     texts: &[&[u8]],
@@ -24,14 +25,14 @@ fn absorbed<K: Keeper>(
     Ok(keeper.absorb(&mut source))
 }
 
-fn is_taken(outcome: Result<Absorbed, KeepStop>, wanted: (u64, u64)) -> bool {
+pub(super) fn is_taken(outcome: Result<Absorbed, KeepStop>, wanted: (u64, u64)) -> bool {
     match outcome {
         Ok(Absorbed::Taken { count, new, .. }) => (count, new) == wanted,
         _ => false,
     }
 }
 
-fn union(alloc: Global, ledger: Files) -> Union {
+pub(super) fn union<L: Ledger>(alloc: Global, ledger: L) -> Union<L> {
     UnionKeeper::new(alloc, MapKeeper::new(alloc), ledger, EmptyShelf)
 }
 

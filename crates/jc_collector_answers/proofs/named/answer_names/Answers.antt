@@ -2,7 +2,10 @@
 use Rattle.std.proofs.Common.{rules, ◌≡◌, ◌∙◌, [], IfSome, subst, sym}
 use Rattle.std.proofs.KnownBytes.{Keeps-refl, Keeps-trans}
 use Rattle.jc_command_shared.specs.declared.status.Status.{Status}
-use Rattle.jc_collect.specs.Each.{held}
+use Rattle.jc_collect.specs.Each.{HoldsEach, held}
+use Rattle.jc_collect.specs.EachLaws.{holds_none, holds_then}
+use Rattle.jc_collect.specs.Run.{OnlyIfOwned}
+use Rattle.jc_collect.specs.RunLaws.{owned_none, owned_then}
 use Rattle.jc_collector_answers.specs.Named.{LosesLine}
 use Rattle.jc_collector_answers.proofs.Losing.{loses_none, loses_then}
 use Rattle.jc_collector_answers.proofs.Successive.{HoldsSoFar, IsUnderWay, begins, ends_named, goes_on_to, holds_first, holds_front, holds_front_on, holds_named, holds_on_to, success_of}
@@ -26,7 +29,7 @@ returns-in_err-answered-clause-crash_kept g c =
     λ clean made.
     let keeper = g.K.Keeper in
     let given = c.in_err-answered.ensures in
-    loses_then (keeper.may_leave c.args.keeper.now) (keeper.may_leave c.names.keeper) (keeper.may_leave c.answer_name.new.keeper)
+    loses_then (keeper.may_leave c.args.keeper.now) (keeper.may_leave c.names.keeper) (keeper.may_leave c.answer_line.new.keeper)
     (keeper.sound c.args.keeper.now) (keeper.sound c.names.keeper) (keeper.journal c.args.keeper.now) (keeper.journal c.names.keeper)
     (c.names.invariant.crash_kept (given.clean clean) made) (given.crash_kept clean (c.names.invariant.made made)) c.names.invariant.before
     (λ was. c.names.invariant.kept was made)
@@ -42,7 +45,7 @@ names-preserved g c =
     let text = g.L.Read.remaining c.args.names.now in
     let next = g.L.Read.remaining c.read_name.new.names in
     let old = g.O.Write.contents c.args.output.now in
-    let now = g.O.Write.contents c.answer_name.new.output in
+    let now = g.O.Write.contents c.answer_line.new.output in
     let status = c.names.status in
     let answered = c.in_ok-answered.answered in
     let given = c.in_ok-answered.ensures in
@@ -54,13 +57,13 @@ names-preserved g c =
       quiet = λ is.
           let both = success_of status answered (sym c.worse-status.ensures ∙ is) in
           Keeps-trans (g.E.Write.contents c.args.errors.now) (g.E.Write.contents c.names.errors)
-          (g.E.Write.contents c.answer_name.new.errors) (c.names.invariant.quiet both.0) (given.quiet both.1);
+          (g.E.Write.contents c.answer_line.new.errors) (c.names.invariant.quiet both.0) (given.quiet both.1);
       before = λ sound. c.names.invariant.before (given.before sound);
       clean = λ clean. c.names.invariant.clean (given.clean clean);
       made = λ made. given.made (c.names.invariant.made made);
       crash_kept = λ clean made.
           let keeper = g.K.Keeper in
-          loses_then (keeper.may_leave c.args.keeper.now) (keeper.may_leave c.names.keeper) (keeper.may_leave c.answer_name.new.keeper)
+          loses_then (keeper.may_leave c.args.keeper.now) (keeper.may_leave c.names.keeper) (keeper.may_leave c.answer_line.new.keeper)
           (keeper.sound c.args.keeper.now) (keeper.sound c.names.keeper) (keeper.journal c.args.keeper.now) (keeper.journal c.names.keeper)
           (c.names.invariant.crash_kept (given.clean clean) made) (given.crash_kept clean (c.names.invariant.made made)) c.names.invariant.before
           (λ was. c.names.invariant.kept was made);
@@ -70,10 +73,18 @@ names-preserved g c =
           let keeper = g.K.Keeper in
           let first = held (keeper.journal c.args.keeper.now) (keeper.sound c.args.keeper.now) (keeper.may_leave c.args.keeper.now) in
           let mid = held (keeper.journal c.names.keeper) (keeper.sound c.names.keeper) (keeper.may_leave c.names.keeper) in
-          let late = held (keeper.journal c.answer_name.new.keeper) (keeper.sound c.answer_name.new.keeper) (keeper.may_leave c.answer_name.new.keeper) in
-          subst (λ (s : Status). HoldsSoFar text next s first late old now) (sym c.worse-status.ensures)
-          (holds_on_to text (g.L.Read.remaining c.names.names) next status answered first mid late old (g.O.Write.contents c.names.output) now
-          (c.names.invariant.each (given.clean clean) made) loses (given.each clean (c.names.invariant.made made)) c.names.invariant.before given.before);
+          let late = held (keeper.journal c.answer_line.new.keeper) (keeper.sound c.answer_line.new.keeper) (keeper.may_leave c.answer_line.new.keeper) in
+          subst (λ (s : Status). HoldsSoFar (HoldsEach first late) text next s old now) (sym c.worse-status.ensures)
+          (holds_on_to (HoldsEach first mid) (HoldsEach mid late) (HoldsEach first late)
+          (λ one others h k. holds_then first mid late one others h k c.names.invariant.before given.before)
+          text (g.L.Read.remaining c.names.names) next status answered old (g.O.Write.contents c.names.output) now
+          (c.names.invariant.each (given.clean clean) made) loses (given.each clean (c.names.invariant.made made)));
+      owner =
+          let owned = OnlyIfOwned g.K.Keeper.has_owners in
+          subst (λ (s : Status). HoldsSoFar owned text next s old now) (sym c.worse-status.ensures)
+          (holds_on_to owned owned owned (owned_then g.K.Keeper.has_owners)
+          text (g.L.Read.remaining c.names.names) next status answered old (g.O.Write.contents c.names.output) now
+          c.names.invariant.owner loses given.owner);
     }
 
 pub returns-then-not-branch-clause-each : goal.returns-then-not-branch-clause-each
@@ -84,8 +95,15 @@ returns-then-not-branch-clause-each g c =
     let keeper = g.K.Keeper in
     let first = held (keeper.journal c.args.keeper.now) (keeper.sound c.args.keeper.now) (keeper.may_leave c.args.keeper.now) in
     let mid = held (keeper.journal c.names.keeper) (keeper.sound c.names.keeper) (keeper.may_leave c.names.keeper) in
-    holds_named (g.L.Read.remaining c.args.names.now) rest c.names.status first mid (g.O.Write.contents c.args.output.now)
+    holds_named (HoldsEach first mid) (g.L.Read.remaining c.args.names.now) rest c.names.status (g.O.Write.contents c.args.output.now)
     (g.O.Write.contents c.names.output) (c.names.invariant.each clean made) none
+
+pub returns-then-not-branch-clause-owner : goal.returns-then-not-branch-clause-owner
+returns-then-not-branch-clause-owner g c =
+    let rest = g.L.Read.remaining c.names.names in
+    let none : IfSome rest (λ left. left ≡ []) = search rules in
+    holds_named (OnlyIfOwned g.K.Keeper.has_owners) (g.L.Read.remaining c.args.names.now) rest c.names.status (g.O.Write.contents c.args.output.now)
+    (g.O.Write.contents c.names.output) c.names.invariant.owner none
 
 pub returns-in_err-answered-clause-each_unprinted : goal.returns-in_err-answered-clause-each_unprinted
 returns-in_err-answered-clause-each_unprinted g c =
@@ -93,12 +111,23 @@ returns-in_err-answered-clause-each_unprinted g c =
     let keeper = g.K.Keeper in
     let first = held (keeper.journal c.args.keeper.now) (keeper.sound c.args.keeper.now) (keeper.may_leave c.args.keeper.now) in
     let mid = held (keeper.journal c.names.keeper) (keeper.sound c.names.keeper) (keeper.may_leave c.names.keeper) in
-    let late = held (keeper.journal c.answer_name.new.keeper) (keeper.sound c.answer_name.new.keeper) (keeper.may_leave c.answer_name.new.keeper) in
+    let late = held (keeper.journal c.answer_line.new.keeper) (keeper.sound c.answer_line.new.keeper) (keeper.may_leave c.answer_line.new.keeper) in
     let given = c.in_err-answered.ensures in
     for_any _ c.from_residual-in_err-answered.result
-    (holds_front_on (g.L.Read.remaining c.args.names.now) (g.L.Read.remaining c.names.names) c.names.status first mid late
-    (g.O.Write.contents c.args.output.now) (g.O.Write.contents c.names.output) (g.O.Write.contents c.answer_name.new.output)
-    (c.names.invariant.each (given.clean clean) made) (given.each_unprinted clean (c.names.invariant.made made)) c.names.invariant.before given.before)
+    (holds_front_on (HoldsEach first mid) (HoldsEach mid late) (HoldsEach first late)
+    (λ one others h k. holds_then first mid late one others h k c.names.invariant.before given.before)
+    (g.L.Read.remaining c.args.names.now) (g.L.Read.remaining c.names.names) c.names.status
+    (g.O.Write.contents c.args.output.now) (g.O.Write.contents c.names.output) (g.O.Write.contents c.answer_line.new.output)
+    (c.names.invariant.each (given.clean clean) made) (given.each_unprinted clean (c.names.invariant.made made)))
+
+pub returns-in_err-answered-clause-owner_unprinted : goal.returns-in_err-answered-clause-owner_unprinted
+returns-in_err-answered-clause-owner_unprinted g c =
+    let owned = OnlyIfOwned g.K.Keeper.has_owners in
+    for_any _ c.from_residual-in_err-answered.result
+    (holds_front_on owned owned owned (owned_then g.K.Keeper.has_owners)
+    (g.L.Read.remaining c.args.names.now) (g.L.Read.remaining c.names.names) c.names.status
+    (g.O.Write.contents c.args.output.now) (g.O.Write.contents c.names.output) (g.O.Write.contents c.answer_line.new.output)
+    c.names.invariant.owner c.in_err-answered.ensures.owner_unprinted)
 
 pub returns-in_err-read_name-clause-each_unprinted : goal.returns-in_err-read_name-clause-each_unprinted
 returns-in_err-read_name-clause-each_unprinted g c =
@@ -107,8 +136,14 @@ returns-in_err-read_name-clause-each_unprinted g c =
     let first = held (keeper.journal c.args.keeper.now) (keeper.sound c.args.keeper.now) (keeper.may_leave c.args.keeper.now) in
     let mid = held (keeper.journal c.names.keeper) (keeper.sound c.names.keeper) (keeper.may_leave c.names.keeper) in
     for_any _ c.from_residual.result
-    (holds_front (g.L.Read.remaining c.args.names.now) (g.L.Read.remaining c.names.names) c.names.status first mid
+    (holds_front (HoldsEach first mid) (g.L.Read.remaining c.args.names.now) (g.L.Read.remaining c.names.names) c.names.status
     (g.O.Write.contents c.args.output.now) (g.O.Write.contents c.names.output) (c.names.invariant.each clean made))
+
+pub returns-in_err-read_name-clause-owner_unprinted : goal.returns-in_err-read_name-clause-owner_unprinted
+returns-in_err-read_name-clause-owner_unprinted g c =
+    for_any _ c.from_residual.result
+    (holds_front (OnlyIfOwned g.K.Keeper.has_owners) (g.L.Read.remaining c.args.names.now) (g.L.Read.remaining c.names.names) c.names.status
+    (g.O.Write.contents c.args.output.now) (g.O.Write.contents c.names.output) c.names.invariant.owner)
 
 pub returns-clause-each_unprinted : goal.returns-clause-each_unprinted
 returns-clause-each_unprinted g c =
@@ -116,8 +151,13 @@ returns-clause-each_unprinted g c =
     let keeper = g.K.Keeper in
     let first = held (keeper.journal c.args.keeper.now) (keeper.sound c.args.keeper.now) (keeper.may_leave c.args.keeper.now) in
     let mid = held (keeper.journal c.names.keeper) (keeper.sound c.names.keeper) (keeper.may_leave c.names.keeper) in
-    holds_front (g.L.Read.remaining c.args.names.now) (g.L.Read.remaining c.names.names) c.names.status first mid
+    holds_front (HoldsEach first mid) (g.L.Read.remaining c.args.names.now) (g.L.Read.remaining c.names.names) c.names.status
     (g.O.Write.contents c.args.output.now) (g.O.Write.contents c.names.output) (c.names.invariant.each clean made)
+
+pub returns-clause-owner_unprinted : goal.returns-clause-owner_unprinted
+returns-clause-owner_unprinted g c =
+    holds_front (OnlyIfOwned g.K.Keeper.has_owners) (g.L.Read.remaining c.args.names.now) (g.L.Read.remaining c.names.names) c.names.status
+    (g.O.Write.contents c.args.output.now) (g.O.Write.contents c.names.output) c.names.invariant.owner
 
 pub names-init : goal.names-init
 names-init g c =
@@ -135,5 +175,6 @@ names-init g c =
           loses_none (keeper.may_leave c.args.keeper.now) (keeper.sound c.args.keeper.now) (keeper.journal c.args.keeper.now);
       recovers = λ clean made leaves. leaves;
       kept = λ sound made e stored. stored;
-      each = λ clean made. holds_first text old first;
+      each = λ clean made. holds_first (HoldsEach first first) (holds_none first) text old;
+      owner = holds_first (OnlyIfOwned g.K.Keeper.has_owners) (owned_none g.K.Keeper.has_owners) text old;
     }

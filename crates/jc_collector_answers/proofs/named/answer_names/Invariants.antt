@@ -2,7 +2,8 @@ use Rattle.std.proofs.Common.{◌≡◌}
 use Rattle.std.specs.Io.KnownBytes.{Keeps}
 use Rattle.jc_base.specs.LogEntry.{LogEntry}
 use Rattle.jc_collect.specs.Crash.{LosesNothing}
-use Rattle.jc_collect.specs.Each.{held}
+use Rattle.jc_collect.specs.Each.{HoldsEach, held}
+use Rattle.jc_collect.specs.Run.{OnlyIfOwned}
 use Rattle.jc_command_shared.specs.declared.status.Status.TheVariants.{Success}
 use Rattle.jc_keeper.specs.Agree.{IsStored}
 use Rattle.jc_collector_answers.proofs.Successive.{HoldsSoFar, IsUnderWay}
@@ -23,8 +24,10 @@ invariant-names g l = record {
   kept : g.K.Keeper.sound l.keeper → g.K.Keeper.made l.fn.keeper
       → (e : LogEntry) → IsStored (g.K.Keeper.journal l.fn.keeper) e → IsStored (g.K.Keeper.journal l.keeper) e;
   each : g.K.Keeper.clean l.keeper → g.K.Keeper.made l.fn.keeper
-      → HoldsSoFar (g.L.Read.remaining l.fn.names) (g.L.Read.remaining l.names) l.status
-      (held (g.K.Keeper.journal l.fn.keeper) (g.K.Keeper.sound l.fn.keeper) (g.K.Keeper.may_leave l.fn.keeper))
-      (held (g.K.Keeper.journal l.keeper) (g.K.Keeper.sound l.keeper) (g.K.Keeper.may_leave l.keeper))
+      → HoldsSoFar
+      (HoldsEach (held (g.K.Keeper.journal l.fn.keeper) (g.K.Keeper.sound l.fn.keeper) (g.K.Keeper.may_leave l.fn.keeper))
+      (held (g.K.Keeper.journal l.keeper) (g.K.Keeper.sound l.keeper) (g.K.Keeper.may_leave l.keeper)))
+      (g.L.Read.remaining l.fn.names) (g.L.Read.remaining l.names) l.status (g.O.Write.contents l.fn.output) (g.O.Write.contents l.output);
+  owner : HoldsSoFar (OnlyIfOwned g.K.Keeper.has_owners) (g.L.Read.remaining l.fn.names) (g.L.Read.remaining l.names) l.status
       (g.O.Write.contents l.fn.output) (g.O.Write.contents l.output);
 }

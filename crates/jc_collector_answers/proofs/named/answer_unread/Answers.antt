@@ -24,6 +24,6 @@ returns-clause-printed g c = let refused = returns-clause-refused g c in refused
 
 pub returns-then-not-flushed-clause-front : goal.returns-then-not-flushed-clause-front
 returns-then-not-flushed-clause-front g c =
-    front_of_one (No None c.number.result 0) tt c.write_front-count.result c.bytes.result.now c.line-line.result (g.O.Write.contents c.args.output.now)
+    front_of_one (No None c.number.result 0) (c.number.ensures, tt) c.write_front-count.result c.bytes.result.now c.line-line.result (g.O.Write.contents c.args.output.now)
     (g.O.Write.contents c.write_front-count.new.output) (g.O.Write.contents c.flushed.new.output) c.write_front-count.ensures.front
     c.flushed.ensures.keeps c.bytes.ensures.value c.line-line.ensures.text

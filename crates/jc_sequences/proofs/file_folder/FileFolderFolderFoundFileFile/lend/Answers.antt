@@ -1,22 +1,20 @@
-use Rattle.std.proofs.Common.{rules, sym, ◌∙◌}
+use Rattle.std.proofs.Common.{sym, ◌∙◌}
 use Rattle.jc_sequences.proofs.file_folder.FileFolderFolderFoundFileFile.lend.Goals as goal
 
-pub returns-then-may_be_used-clause-clean : goal.returns-then-may_be_used-clause-clean
-returns-then-may_be_used-clause-clean g c = λ clean file. (sym c.take.ensures.worn ∙ clean.0, c.in-Some.ensures.clean clean.1 file)
+pub returns-in-Ok-open_window-clause-clean : goal.returns-in-Ok-open_window-clause-clean
+returns-in-Ok-open_window-clause-clean g c = λ clean _. (sym c.take.ensures.worn ∙ clean.0, c.in-None.ensures.clean clean.1)
+
+pub returns-in-Err-open_window-clause-others : goal.returns-in-Err-open_window-clause-others
+returns-in-Err-open_window-clause-others g c = λ _. rw c.count-in-Err-open_window.ensures.open c.take.ensures.others
+
+pub returns-in-Err-open_window-clause-refused : goal.returns-in-Err-open_window-clause-refused
+returns-in-Err-open_window-clause-refused g c = λ _. rw c.count-in-Err-open_window.ensures.open c.in-None.ensures.all
+
+pub returns-in-Err-open_window-clause-clean : goal.returns-in-Err-open_window-clause-clean
+returns-in-Err-open_window-clause-clean g c = λ clean.
+    let before = rw c.count-in-Err-open_window.ensures.open at clean in
+    (sym c.take.ensures.worn ∙ before.0, c.in-None.ensures.clean before.1)
 
 pub returns-in-Ok-clause-clean : goal.returns-in-Ok-clause-clean
-returns-in-Ok-clause-clean g c = λ clean _. (sym c.take.ensures.worn ∙ clean.0, c.in-None.ensures.clean clean.1)
-
-pub returns-in-Err-OutOfMemory-clause-clean : goal.returns-in-Err-OutOfMemory-clause-clean
-returns-in-Err-OutOfMemory-clause-clean g c = λ clean. (sym c.take.ensures.worn ∙ clean.0, c.in-None.ensures.clean clean.1)
-
-pub returns-in-Err : goal.returns-in-Err
-returns-in-Err g c = record {
-  file = λ _. tt;
-  usable = tt;
-  others = λ _. c.take.ensures.others;
-  refused = λ _. c.in-None.ensures.all;
-  clean = λ clean. (sym c.take.ensures.worn ∙ clean.0, c.in-None.ensures.clean clean.1);
-  store = search rules;
-  never_read = search rules;
-}
+returns-in-Ok-clause-clean g c = λ clean is.
+    (sym c.take.ensures.worn ∙ clean.0, c.in-Some.ensures.clean clean.1 (rw c.in-Ok.ensures.stays.clean at is))
