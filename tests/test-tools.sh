@@ -5,6 +5,8 @@
 set -uo pipefail
 . "$(dirname "$0")/expect.sh"
 cd "$(dirname "$0")/.." || exit
+# it spares parallel.py the toolchain, and so would let the whole gate run here
+unset RT_JOBS
 
 new_folder
 tools=$PWD/tools

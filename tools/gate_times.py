@@ -1,6 +1,5 @@
 """Runs the gate, and says where its processor time goes: for each crate its proof, its tests, the code that `clang`
-makes of it, its edits tried one by one and its edits in batches, in processor seconds, and the largest memory of one
-process.
+makes of it and its edits, in processor seconds, and the largest memory of one process.
 
 usage: python3 tools/gate_times.py [COMMAND ..]
 
@@ -23,7 +22,7 @@ from dataclasses import dataclass
 
 EVERY = 0.25
 TICKS = os.sysconf("SC_CLK_TCK")
-KINDS = ("proof", "tests", "code", "edits one by one", "edits in batches")
+KINDS = ("proof", "tests", "code", "edits")
 
 
 @dataclass
@@ -114,11 +113,8 @@ def _read(number: int, file: str) -> str:
 
 def kind_of(words: list[str], folder: str) -> str:
     """What a command of the checker is for, by its arguments and the folder that it works in."""
-    kept = words[words.index("--incremental") + 1] if "--incremental" in words else ""
-    if os.path.basename(kept).startswith("refused-"):
-        return "edits in batches"
-    if folder.startswith("rt-edit-"):
-        return "edits one by one"
+    if folder.startswith("refused-"):
+        return "edits"
     return "tests" if "--test" in words else "proof"
 
 

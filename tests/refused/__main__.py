@@ -2,12 +2,13 @@
 
 usage: python3 tests/refused [--only CRATE] [--list] [--beside]
 
-An edit gives one function another body, in CONTRIBUTING.md's form. Many are applied at once, one a function, and each
-is judged by what the check says of its own function, while all others are taken at their word: a promise of
-that function must be refused. It may name goals that are left open, as they aren't what it is about. It fails if it
-doesn't apply, changes more than a body, leaves open what is no goal, can't be read, or if its function is proved, or
-refused only by arithmetic, by bounds or by what a call requires. At the end each function must be proved
-without its edits, and so must the crate, unless its library is built from the sources as they are.
+An edit gives one function another body, in CONTRIBUTING.md's form. Many are applied at once, one a function, where a
+copy under another name counts as one, and each is judged by what the check says of its own function, while all others
+and the lemmas are taken at their word: a promise of that function must be refused. It may name goals that are left
+open, as they aren't what it is about. It fails if it doesn't apply, changes more than a body, leaves open what is no
+goal, can't be read, or if its function is proved, or refused only by arithmetic, by bounds or by what a call requires.
+At the end each function must be proved without its edits, and so must the crate, unless its library is built from the
+sources as they are.
 
 The libraries below a crate are taken as `rt ci` left them, and built if they aren't there or older than their sources.
 With --beside an `rt ci` runs meanwhile, and its words come on standard input until it ends: a crate's edits are judged
@@ -21,7 +22,6 @@ from __future__ import annotations
 import argparse
 import os
 import sys
-import tempfile
 from concurrent.futures import ThreadPoolExecutor
 from functools import partial
 from typing import Any
@@ -75,8 +75,7 @@ def _judge(crate: Any, ci: Ci, turns: Turns) -> list[Outcome]:
     if (lacking := libraries_stand(crate, ci.standing)) is not None:
         outcomes = [Outcome("", False, f"its library {lacking} is NOT BUILT")]
     else:
-        with tempfile.TemporaryDirectory(prefix="refused-") as kept:
-            outcomes = judge(crate, kept, turn, say, ci.standing)
+        outcomes = judge(crate, turn, say, ci.standing)
     for it in outcomes:
         say(f"refused {crate.name}{'/' * bool(it.name)}{it.name}: {it.text}")
     return outcomes

@@ -12,6 +12,7 @@ from typing import Any
 import toolchain
 from edits import Edit
 from functions import Function
+from lemmas import leave_lemmas_open
 
 # A proof that is left open: it says what there is to prove, and takes it at its word.
 OPEN_PROOF = """\
@@ -37,13 +38,12 @@ at_its_word = ?
 """
 
 
-def check(
-    crate: Any, texts: dict[str, str], words: list[str], kept: str, taken: list[Function], edits: list[Edit]
-) -> Any:
+def check(crate: Any, texts: dict[str, str], words: list[str], taken: list[Function], edits: list[Edit]) -> Any:
     """What a check of the crate with these texts, by their path in it, ended with and said. The functions `taken` are
-    taken at their word: whatever their bodies are, the others are judged by what their contracts say. Of the edited
-    functions the goals are left open that their edits name."""
-    with tempfile.TemporaryDirectory(prefix="rt-edit-") as room:
+    taken at their word: whatever their bodies are, the others are judged by what their contracts say. If there are
+    edits, so are the lemmas; and of the edited functions the goals are left open that their edits name. It keeps no
+    work for another check, as it costs more than it saves."""
+    with tempfile.TemporaryDirectory(prefix="refused-") as room:
         for part in toolchain.rt().rtlib.PARTS:
             if os.path.isdir(os.path.join(crate.folder, part)):
                 shutil.copytree(os.path.join(crate.folder, part), os.path.join(room, part))
@@ -53,15 +53,37 @@ def check(
             _write(os.path.join(room, "proofs", "AtItsWord.antt"), AT_ITS_WORD)
             with open(os.path.join(room, "proofs", "Lib.antt"), "a", encoding="utf-8") as modules:
                 modules.write("mod AtItsWord\n")
+            leave_lemmas_open(room, crate.name)
+        for edit in edits:
+            if edit.function.copy_of is not None:
+                _copy_proofs(room, edit.function.copy_of, edit.function)
         for it in taken:
             _leave_open(room, it)
         for edit in edits:
             _leave_goals_open(room, edit)
         rtlib = toolchain.rt().rtlib
         flags = ["--jobs", "1", *(["--allow-holes"] if edits else []), *words]
-        command = [*rtlib.guarded(), rtlib.RATTLE, "check", *crate.words(flags, keeps=False), "--incremental", kept]
+        command = [*rtlib.guarded(), rtlib.RATTLE, "check", *crate.words(flags, keeps=False)]
         streams: Any = {"stdin": subprocess.DEVNULL, "stdout": subprocess.PIPE, "stderr": subprocess.STDOUT}
         return subprocess.run(command, cwd=room, **streams, text=True, errors="replace", check=False)
+
+
+def _copy_proofs(room: str, function: Function, copy: Function) -> None:
+    """Gives a copy of a function what is written of the function's proof. Each file of it must name modules that the
+    checker makes for this proof, in whose place the copy's are named, and no other file may name any, but for the
+    theorem: over modules of the other a goal would be refused for that alone."""
+    [written], [copied] = function.proofs, copy.proofs
+    crate, *path = function.symbols[0].split("::")
+    name = re.compile(rf"\b(Rattle\.{crate}\.(?:proofs|specs\.contracts)\.{re.escape('.'.join(path))})(?=\.(?!Met\b))")
+    for at, _, files in os.walk(os.path.join(room, "proofs")):
+        for file in (os.path.join(at, it) for it in files):
+            with open(file, encoding="utf-8") as it:
+                text, count = name.subn(lambda found: found[1] + copied[len(written) :], it.read())
+            is_own = os.path.relpath(at, room) == written
+            if is_own != bool(count):
+                raise ValueError(f"{os.path.relpath(file, room)}: {function.symbols[0]} can't be copied")
+            if is_own:
+                _write(os.path.join(room, copied, os.path.basename(file)), text)
 
 
 def _leave_open(room: str, function: Function) -> None:

@@ -3,7 +3,8 @@
 from __future__ import annotations
 
 import os
-from dataclasses import dataclass
+from collections import Counter
+from dataclasses import dataclass, replace
 from functools import cached_property
 from typing import Any
 
@@ -35,18 +36,27 @@ NO_BODY = b"loop {}"
 
 
 class Sources:
-    """The functions and the files of a crate, unedited."""
+    """The functions and the files of a crate, unedited, and copies of functions at the ends of the files."""
 
     def __init__(self, crate: Any) -> None:
         self.crate = crate
+        self._texts: dict[str, bytes] = {}
 
     @cached_property
     def functions(self) -> list[Function]:
         return functions_of(self.crate)
 
     def text(self, file: str) -> bytes:
-        with open(os.path.join(self.crate.folder, file), "rb") as it:
-            return it.read()
+        if file not in self._texts:
+            with open(os.path.join(self.crate.folder, file), "rb") as it:
+                self._texts[file] = it.read()
+        return self._texts[file]
+
+    def copied(self, function: Function, number: int) -> Function:
+        """The same function under another name, which from now on stands behind the others."""
+        made, self._texts[function.file] = function.copied(self.text(function.file), number)
+        self.functions.append(made)
+        return made
 
     def with_bodies(self, edits: list[Edit], taken: list[Function]) -> dict[str, str]:
         """The texts of the files that change, by their path in the crate, if these functions have the edits' bodies and
@@ -71,7 +81,20 @@ def read_edits(sources: Sources) -> tuple[list[Edit], list[BadEdit]]:
     folder = os.path.join(sources.crate.folder, "refused")
     names = sorted(os.listdir(folder)) if os.path.isdir(folder) else []
     read = [_read_edit(sources, os.path.join(folder, it)) for it in names]
-    return [it for it in read if isinstance(it, Edit)], [it for it in read if isinstance(it, BadEdit)]
+    edits, bad = [it for it in read if isinstance(it, Edit)], [it for it in read if isinstance(it, BadEdit)]
+    return _beside_one_another(sources, edits), bad
+
+
+def _beside_one_another(sources: Sources, edits: list[Edit]) -> list[Edit]:
+    """The edits, of which each has a function of its own: where a function that can be copied has several, all but the
+    first are edits of copies."""
+    counts: Counter[Function] = Counter()
+    apart = []
+    for it in edits:
+        counts[it.function] += 1
+        is_first = counts[it.function] == 1 or it.function.place is None
+        apart.append(it if is_first else replace(it, function=sources.copied(it.function, counts[it.function])))
+    return apart
 
 
 def _read_edit(sources: Sources, path: str) -> Edit | BadEdit:

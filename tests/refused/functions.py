@@ -2,7 +2,8 @@
 
 from __future__ import annotations
 
-from dataclasses import dataclass
+import re
+from dataclasses import dataclass, replace
 from itertools import zip_longest
 from typing import Any
 
@@ -10,15 +11,48 @@ import toolchain
 
 
 @dataclass(frozen=True)
+class Place:
+    """Where a function that can be copied begins in its file, and its name; and what opens the block that it is in, if
+    it is in one, with what is imported there."""
+
+    first: int
+    name: range
+    block: bytes
+
+
+@dataclass(frozen=True)
 class Function:
     """A function with a body, which has the bytes `start` to `end` of `file`, both braces among them; `lines` are
-    those of the whole function, its clauses among them. The checker calls it by one of `symbols`."""
+    those of the whole function, its clauses among them. The checker calls it by one of `symbols`. A trait's method and
+    a member of a cycle can't be copied; a copy is known by the function that it is of."""
 
     symbols: tuple[str, ...]
     file: str
     start: int
     end: int
     lines: range
+    place: Place | None = None
+    copy_of: Function | None = None
+
+    def copied(self, text: bytes, number: int) -> tuple[Function, bytes]:
+        """The same function under another name, and the text of its file with it at the end."""
+        assert self.place is not None
+        first, name, block = self.place.first, self.place.name, self.place.block
+        before = text + b"\n" + block
+        added = b"_%d" % number
+        copy = text[first : name.stop] + added + text[name.stop : self.end]
+        moved = len(before) - first + len(added)
+        begin = before.count(b"\n") + 1
+        made = replace(
+            self,
+            symbols=(f"{self.symbols[0]}_{number}",),
+            start=self.start + moved,
+            end=self.end + moved,
+            lines=range(begin, begin + copy.count(b"\n") + 1),
+            place=None,
+            copy_of=self,
+        )
+        return made, before + copy + (b"}" if block else b"") + b"\n"
 
     @property
     def asked(self) -> str:
@@ -44,7 +78,23 @@ def _function(crate: str, source: Any, read: Any) -> Function:
     first, last = (text[:at].count(b"\n") + 1 for at in (read.first, read.end))
     owners = _owners(source, read) if read.block else [read.module]
     symbols = tuple("::".join([crate, *it, read.name]) for it in owners)
-    return Function(symbols, read.file, read.opens, read.end, range(first, last + 1))
+    return Function(symbols, read.file, read.opens, read.end, range(first, last + 1), _place(text, read))
+
+
+def _place(text: bytes, read: Any) -> Place | None:
+    """Where a function can be copied from, if it can: a copy at the end of its file is in the same module, and in a
+    block with the same head, attributes among it, and the same imports."""
+    module = re.sub(r"^/(lib|main)$|/mod$", "", read.file.removeprefix("src").removesuffix(".rt"))
+    if read.in_trait or read.in_cycle or module != "".join(f"/{it}" for it in read.module):
+        return None
+    if not read.block:
+        return Place(read.first, range(*read.named), b"")
+    opens, closes = read.block.span
+    head = re.search(rb"\n((?:#\[[^\n]*\]\n)*impl\b[^{}]*)\Z", text[:opens])
+    if head is None or head.string[: head.start()].endswith(b"]"):
+        return None
+    imports = re.findall(rb"^    ghost use [^;]*;", text[opens:closes], re.M)
+    return Place(read.first, range(*read.named), b"\n".join([head[1] + b"{", *imports]) + b"\n")
 
 
 def _owners(source: Any, read: Any) -> list[tuple[str, ...]]:

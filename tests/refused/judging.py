@@ -54,16 +54,12 @@ def next_batch(waiting: list[Waiting]) -> list[Waiting]:
 
 
 class Judge:
-    """Judges a crate's edits over its libraries as they are built, each check in a turn of its own, and keeps its
-    checks' work in the folder `kept`."""
+    """Judges a crate's edits over its libraries as they are built, each check in a turn of its own."""
 
-    def __init__(
-        self, crate: Any, kept: str, turn: Turn, say: Callable[[str], None], standing: Container[str]
-    ) -> None:
+    def __init__(self, crate: Any, turn: Turn, say: Callable[[str], None], standing: Container[str]) -> None:
         self.crate = crate
         # the crates whose libraries are known to be built from the sources as they are
         self.standing = standing
-        self.kept = kept
         self.turn = turn
         self.say = say
         self.sources = Sources(crate)
@@ -114,7 +110,7 @@ class Judge:
         texts = self.sources.with_bodies(edits, taken)
         with self.turn():
             self.say(f"{self.crate.name}: a check {f'of {len(edits)} edits' if edits else 'without edits'}")
-            ran = check(self.crate, texts, asked, self.kept, taken, edits)
+            ran = check(self.crate, texts, asked, taken, edits)
         return Report(ran.returncode, ran.stdout, set(texts))
 
 
@@ -127,13 +123,12 @@ def _outcome(edit: Edit, ruling: Ruling) -> Outcome:
 
 def judge(
     crate: Any,
-    kept: str,
     turn: Turn = nullcontext,
     say: Callable[[str], None] = print,
     standing: Container[str] = (),
 ) -> list[Outcome]:
     """The outcomes of a crate's folder refused/: one for each file in it, and one for the crate without them."""
-    it = Judge(crate, kept, turn, say, standing)
+    it = Judge(crate, turn, say, standing)
     edits, bad = read_edits(it.sources)
     return [_bad(edit) for edit in bad] + it.outcomes(edits)
 

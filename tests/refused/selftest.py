@@ -11,6 +11,7 @@ from typing import Any
 import toolchain
 from functions import Function
 from judging import Outcome, judge
+from lemmas import unfolded_in, with_lemmas_open
 from verdicts import Report
 
 LIBRARY = """\
@@ -18,6 +19,7 @@ LIBRARY = """\
 #![tactic(auto)]
 
 ghost use Rattle.std.specs.Prelude.{◌≡◌, ◌<◌, ◌≤◌, ◌+◌, ◌↔◌, IsTrue, IsSome, IfSome};
+ghost use Rattle.small.specs.Twice.{twice};
 
 pub fn is_digit(number: u64) -> bool
     ensures { IsTrue result ↔ number < 10 }
@@ -88,6 +90,31 @@ impl Kept {
     {
         self.number = number;
     }
+
+    pub fn raised(&self) -> u64
+        requires { self.now.number < 10 }
+        ensures { result ≡ self.now.number + 10 }
+    {
+        let ten = 10;
+        self.number + ten
+    }
+}
+
+pub fn doubled(number: u64) -> u64
+    requires { number < 10 }
+    ensures { result ≡ twice number }
+{
+    number + number
+}
+
+#[tactic(auto, using(crate::proofs::Lemmas::twice_shown))]
+impl Kept {
+    pub fn twofold(&self) -> u64
+        requires { self.now.number < 10 }
+        ensures { result ≡ twice self.now.number }
+    {
+        self.number + self.number
+    }
 }
 
 pub trait Starts: Sized {
@@ -102,6 +129,46 @@ impl Starts for Kept {
 }
 """
 
+# What the library defines, what it proves of that, and an answer that cites it; by their path in the crate.
+PROOFS = {
+    "specs/Lib.antt": "pub mod Twice\n",
+    "specs/Twice.antt": """\
+use Rattle.std.specs.Prelude.{ℕ, ◌+◌}
+
+unfoldable pub twice : ℕ → ℕ
+twice n = n + n
+""",
+    "proofs/Lib.antt": "pub mod Lemmas\n",
+    "proofs/Lemmas.antt": """\
+use Rattle.std.proofs.Common.{◌≡◌, ℕ, ◌+◌, refl}
+use Rattle.small.specs.Twice.{twice}
+
+pub twice_is : (n : ℕ) → twice n ≡ n + n
+unfolding twice
+twice_is n = refl
+
+pub thrice : ℕ → ℕ
+thrice n = n + n + n
+
+-- it unfolds another by name, which so has to keep what it is
+abbrev pub thrice_is : (n : ℕ) → thrice n ≡ n + n + n
+unfolding thrice
+thrice_is n = refl
+
+pub twice_shown : (n : ℕ) → twice n ≡ n + n
+twice_shown n =
+    twice_is n
+""",
+    "proofs/doubled/Answers.antt": """\
+use Rattle.std.proofs.Common.{sym}
+use Rattle.small.proofs.Lemmas.{twice_is}
+use Rattle.small.proofs.doubled.Goals as goal
+
+pub returns : goal.returns
+returns c = sym (twice_is c.args.number)
+""",
+}
+
 REFUSED = "refused, as it must be: "
 PASSED = "NOT REFUSED: nothing of it is refused"
 UNREAD = "NOT REFUSED: the checker's words can't be read"
@@ -115,15 +182,24 @@ EDITS: Edits = {
     "all-left-open": ("let first = 0;", "let first = 1;", PASSED),
     "another-answer": ("number <= 9", "number <= 8", REFUSED + "returns"),
     "another-answer-of-a-trait": ("3 + 4", "3 + 5", REFUSED + "returns"),
+    "another-answer-of-the-same": ("number <= 9", "number <= 10", REFUSED + "returns"),
+    "another-answer-of-the-same-trait": ("3 + 4", "4 + 4", REFUSED + "returns"),
     "beside-a-refused-function": ("{ Some(number) }", "{ Some(0) }", REFUSED + "returns"),
     "clause-turned": ("≡ number + 1", "≡ number + 2", "BAD EDIT: it changes more than the body"),
+    "double-of-another": ("    number + number", "    number + 9", REFUSED + "returns"),
+    "double-otherwise": ("    number + number", "    let other = number; number + other", PASSED),
+    "double-with-eight": ("    number + number", "    number + 8", REFUSED + "returns"),
     "hidden-by-a-refused-function": ("    if is_digit(number) {", "    if !!is_digit(number) {", PASSED),
     "no-goal-left-open": ("let none = 0;", "let none = 1;", NO_GOAL + "returns-clause-high"),
     "one-left-open": ("let least = 0;", "let least = 1;", REFUSED + "returns-clause-none"),
     "only-arithmetic": ("    given", "    given + 1 - 1", UNTELLING + "overflow_add"),
+    "raised-by-nine": ("let ten = 10;", "let ten = 9;", REFUSED + "returns"),
+    "raised-otherwise": ("let ten = 10;", "let ten = 5 + 5;", PASSED),
     "same-meaning": ("if one < other {", "if one <= other {", PASSED),
     "same-text": ("let one = 1;", "let one = 1;", "BAD EDIT: it changes nothing"),
     "stands-nowhere": ("number <= 10", "number <= 11", "BAD EDIT: an 'old:' text is in src/lib.rt 0 times"),
+    "twofold-of-another": ("self.number + self.number", "self.number + 9", REFUSED + "returns"),
+    "twofold-otherwise": ("self.number + self.number", "let one = self.number; one + self.number", PASSED),
 }
 
 # The goals that edits leave open.
@@ -142,8 +218,14 @@ UNREADABLE: Edits = {
 
 ONE = {"another-answer": EDITS["another-answer"]}
 PROVED = "without its edits it is proved"
-# Other texts of the library: one under whose contract the edit's body is proved, and one that isn't proved.
-WEAKER = LIBRARY.replace("number <= 9", "number <= 8").replace("result ↔ number < 10", "result ↔ number < 9")
+# An edit of a function whose answer cites a lemma that is gone, beside another.
+TWICE_IS = """\
+pub twice_is : (n : ℕ) → twice n ≡ n + n
+unfolding twice
+twice_is n = refl
+"""
+GONE = {**ONE, "double-of-another": (*EDITS["double-of-another"][:2], PASSED)}
+# Another text of the library, which isn't proved.
 WRONG = LIBRARY.replace("3 + 4", "3 + 3")
 
 
@@ -158,19 +240,92 @@ fn small::derived: no holes
 only=5 holes=1
 """
 
+# What a check says if a lemma can't be read: over it nothing is judged. An answer that can't be read is another matter.
+BROKEN = """\
+./proofs/{}.antt:9:5: error: expected a declaration, found `}}`
+fn small::edited: no proof: expected answers in ./proofs/edited/Answers.antt; `search` did not prove `returns`
+only=1 holes=1
+"""
+
+# Lemmas, and what is left of them if they are taken at their word.
+LEMMAS = """\
+-- Lemmas.
+module _ (a : ℕ) where
+  both : (b : ℕ) → Both
+      a b
+  -- by its parts
+  unfolding Both
+  both zero = record {
+    one = refl;
+  }
+  both (suc b) = both b
+
+  seen : (b : ℕ) → a ≡ b
+  seen b = refl
+
+pub given : Bare _
+given = record { read = a }
+
+pub named : a ≡ b
+named = refl
+
+last : a ≡ b
+last = refl
+
+abbrev shown : a ≡ b
+unfolding renamed
+  seen
+shown = refl
+"""
+OPENED = """\
+-- Lemmas.
+module _ (a : ℕ) where
+  both : (b : ℕ) → Both
+      a b
+  both = at_its_word
+
+  seen : (b : ℕ) → a ≡ b
+  seen b = refl
+
+pub given : Bare _
+given = record { read = a }
+
+pub named : a ≡ b
+named = refl
+
+last : a ≡ b
+last = at_its_word
+
+abbrev shown : a ≡ b
+unfolding renamed
+  seen
+shown = refl
+"""
+# In other files: one of them by another name, and one that isn't theirs.
+UNFOLDING = """\
+use Rattle.small.proofs.Lemmas.{named as renamed}
+#[tactic(auto, unfolding(crate::specs::Twice::twice))]
+"""
+
 
 def main() -> int:
     toolchain.rt().rtlib.guarded()
     edited = Function(("small::edited",), "src/lib.rt", 0, 0, range(0))
     refused = Report(1, BESIDE, set()).refused_beside([edited])
     failures = [] if refused == ["small::alone"] else [f"beside an edit: reported {refused}"]
+    for name, is_read in (("Lemmas", False), ("of/Lemmas", False), ("edited/Answers", True), ("AtItsWord", True)):
+        if (Report(1, BROKEN.format(name), set()).unread() is None) != is_read:
+            failures.append(f"an error in {name}: {'not ' * is_read}judged")
+    if (opened := with_lemmas_open(LEMMAS, unfolded_in(LEMMAS + UNFOLDING))) != OPENED:
+        failures.append(f"lemmas taken at their word: {opened}")
     with tempfile.TemporaryDirectory(prefix="refused-test-") as root:
         small = Small(root)
-        failures += small.failures("over work on another text", LIBRARY, ONE, PROVED, before=WEAKER)
+        failures += small.failures("not built", LIBRARY, ONE, PROVED)
         small.build(LIBRARY)
         failures += small.failures("as it is", LIBRARY, EDITS, PROVED)
         failures += small.failures("built", LIBRARY, UNREADABLE, PROVED)
-        failures += small.failures("changed since it was built", WRONG, ONE, "without its edits it is NOT PROVED")
+        _write(os.path.join(small.folder, "proofs", "Lemmas.antt"), PROOFS["proofs/Lemmas.antt"].replace(TWICE_IS, ""))
+        failures += small.failures("changed since it was built", WRONG, GONE, "without its edits it is NOT PROVED")
     for it in failures:
         print(f"tests/refused: {it}")
     if not failures:
@@ -185,6 +340,8 @@ class Small:
         self.root = root
         self.folder = os.path.join(root, "crates", "small")
         _write(os.path.join(root, "crates.txt"), "small:\n")
+        for path, proof in PROOFS.items():
+            _write(os.path.join(self.folder, path), proof)
 
     def crate(self, text: str) -> Any:
         """The library with this text."""
@@ -195,11 +352,10 @@ class Small:
     def build(self, text: str) -> None:
         self.crate(text).build_rlib(["--jobs", "1"], anew=False)
 
-    def failures(self, case: str, text: str, edits: Edits, of_crate: str, before: str = "") -> list[str]:
-        """What is reported otherwise than it must be of the edits of the library, and of itself without them, over work
-        on the text `before`, if it is given."""
+    def failures(self, case: str, text: str, edits: Edits, of_crate: str) -> list[str]:
+        """What is reported otherwise than it must be of the edits of the library, and of itself without them."""
         wanted = {f"{name}.edit": told for name, (_, _, told) in edits.items()} | {"": of_crate}
-        told = {it.name: it for it in self._outcomes(self.crate(text), edits, before)}
+        told = {it.name: it for it in self._outcomes(self.crate(text), edits)}
         failures = [f"{case}: nothing is reported of {it or 'the library'}" for it in wanted.keys() - told.keys()]
         failures += [f"{case}: what isn't an edit is reported: {it}" for it in told.keys() - wanted.keys()]
         for name in wanted.keys() & told.keys():
@@ -210,17 +366,13 @@ class Small:
                 failures.append(f"{case}: {of}: reported {outcome.text!r}, and not {wanted[name]!r}")
         return failures
 
-    def _outcomes(self, small: Any, edits: Edits, before: str) -> list[Outcome]:
+    def _outcomes(self, small: Any, edits: Edits) -> list[Outcome]:
         folder = os.path.join(self.folder, "refused")
         shutil.rmtree(folder, ignore_errors=True)
         for name, (old, new, _) in edits.items():
             left_open = "".join(f"open: {it}\n" for it in LEFT_OPEN.get(name, []))
             _write(os.path.join(folder, f"{name}.edit"), f"file: src/lib.rt\nold: {old}\nnew: {new}\n{left_open}")
-        with tempfile.TemporaryDirectory(prefix="refused-") as kept:
-            if before:
-                ran = toolchain.rt().checked(small, {"src/lib.rt": before}, ["--jobs", "1"], kept)
-                assert "fn small::is_digit: proved\n" in ran.stdout, ran.stdout
-            return judge(small, kept)
+        return judge(small)
 
 
 def _write(file: str, text: str) -> None:

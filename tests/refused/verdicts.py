@@ -38,6 +38,11 @@ CALLED = re.compile(r"(?:; |no proof: )it [^;]*?((?:`[^`]+`(?:, | and )?)+), whi
 NO_GOAL = re.compile(r"(?:\./)?(proofs/\S+)/Answers\.antt:\d+:\d+: error: `([^`]+)`: `goal\.\2`: .* has no ")
 # A proof file that names what the edit took away says nothing of the contract.
 STALE = re.compile(r"has no field|is not in scope|has no `|was not admitted")
+# A lemma that isn't admitted. What rests on it would be refused for that alone.
+LEMMA = re.compile(
+    r"(?:\./)?proofs/(?!AtItsWord\.)(?:\S+/)?(?!Answers\.|Invariants\.|Proof\.)\w+\.antt:\d+:\d+: "
+    r"(?:error|.* is not admitted)"
+)
 # A goal of the function's own promises: its clauses, a loop's invariant, or what its type always keeps. The other goals
 # are of arithmetic, of bounds, of an end, or of what a call requires.
 PROMISE = re.compile(r"returns(-|$)|invariant_of-|(?!.*-requires(-|$)).*-(init|preserved)(-|$)")
@@ -83,7 +88,7 @@ class Report:
         """The line that shows that the crate wasn't judged, if it wasn't."""
         rt = toolchain.rt()
         for line in self.lines:
-            if rt.unread(line, self.edited) or rt.rtlib.STALE.search(line):
+            if rt.unread(line, self.edited) or rt.rtlib.STALE.search(line) or LEMMA.match(line):
                 return line
         if self.status in (0, 1) and JUDGED.match(self.lines[-1]):
             return None
