@@ -3,12 +3,13 @@
  *   k  the program is killed before the call
  *   h  half of what a call writes is written, and then the program is killed
  *   f  the call fails with EIO, and does nothing
- *   n  none is interfered with, and each that changes a file is noted
+ *   n  each that changes a file is noted, and the program is killed before the one that comes after DEVICE_LAST, if
+ *      that isn't 0
  * Reads are counted in mode f if DEVICE_READS is 1, and not in the other modes. If DEVICE_ONLY names a file, calls on
  * others are left alone and not counted. Each call that was interfered with, and in mode n each change, is written to
- * the descriptor DEVICE_NOTE: an operation and a file as two bytes, an offset and a length as eight bytes each, and
- * then as many bytes. The files are d, a path that ends in "/db", l, one that ends in "/db-wal", and o, any other; 1 is
- * standard output. Standard output and standard error never fail.
+ * the descriptor DEVICE_NOTE: an operation and a file as two bytes, an offset, the length of the path and that of what
+ * is written as eight bytes each, then the path, and then what is written. The files are d, a path that ends in "/db",
+ * l, one that ends in "/db-wal", and o, any other; 1 is standard output. Standard output and standard error never fail.
  * It is compiled without headers, so what it needs of the C library is declared here. */
 typedef __SIZE_TYPE__ size_t;
 typedef __PTRDIFF_TYPE__ ssize_t;
@@ -24,73 +25,28 @@ int strcmp(const char *left, const char *right);
 
 #define NEXT(name) dlsym((void *)-1L, name)
 
-enum { IO_ERROR = 5, KILL = 9, CREATES = 0100, DESCRIPTORS = 1024 };
+enum { IO_ERROR = 5, KILL = 9, CREATES = 0100, DESCRIPTORS = 1024, LONGEST = 1024 };
 
 static unsigned long first, last, made;
 static int note, reads;
-static char mode = '-', only, kinds[DESCRIPTORS];
+static char mode = '-', only, paths[DESCRIPTORS][LONGEST];
+static const char standard_output[] = "standard output";
 
 #include "../shared/preloaded.h"
 
-__attribute__((constructor)) static void begin(void)
+static void remember(int descriptor, const char *path)
 {
-    const char *asked = getenv("DEVICE_MODE"), *file = getenv("DEVICE_ONLY");
-    first = number_in("DEVICE_FIRST");
-    last = number_in("DEVICE_LAST");
-    reads = (int)number_in("DEVICE_READS");
-    note = (int)number_in("DEVICE_NOTE");
-    only = file ? *file : 0;
-    kinds[1] = '1';
-    made = 0;
-    mode = asked ? *asked : '-';
+    size_t at = 0;
+    if (descriptor < 0 || descriptor >= DESCRIPTORS)
+        return;
+    for (; path[at] && at < LONGEST - 1; at++)
+        paths[descriptor][at] = path[at];
+    paths[descriptor][at] = 0;
 }
 
-static ssize_t put(int descriptor, const void *bytes, size_t size)
+static const char *path_of(int descriptor)
 {
-    return ((ssize_t(*)(int, const void *, size_t))NEXT("write"))(descriptor, bytes, size);
-}
-
-static char kind_of(int descriptor)
-{
-    char kind = descriptor >= 0 && descriptor < DESCRIPTORS ? kinds[descriptor] : 0;
-    return kind ? kind : 'o';
-}
-
-static void tell(char operation, char kind, off_t offset, size_t size, const void *bytes)
-{
-    struct __attribute__((packed)) {
-        char operation, kind;
-        off_t offset;
-        size_t size;
-    } head = {operation, kind, offset, size};
-    put(note, &head, sizeof head);
-    if (bytes)
-        put(note, bytes, size);
-}
-
-/* Whether a call has to fail. If the program is to be killed within it, this returns in mode h alone, with `half`
- * set. */
-static int interferes(char operation, char kind, off_t offset, size_t size, const void *bytes, int *half)
-{
-    int is_read = operation == 'r';
-    if (mode == '-' || (is_read && !(mode == 'f' && reads)) || (mode == 'f' && kind == '1') || (only && kind != only))
-        return 0;
-    made++;
-    if (mode == 'n') {
-        tell(operation, kind, offset, size, bytes);
-        return 0;
-    }
-    if (made < first || made > last)
-        return 0;
-    tell(operation, kind, offset, 0, 0);
-    if (mode == 'h' && half && size > 1) {
-        *half = 1;
-        return 0;
-    }
-    if (mode != 'f')
-        raise(KILL);
-    *__errno_location() = IO_ERROR;
-    return 1;
+    return descriptor >= 0 && descriptor < DESCRIPTORS ? paths[descriptor] : "";
 }
 
 static int ends_in(const char *path, const char *end)
@@ -101,31 +57,89 @@ static int ends_in(const char *path, const char *end)
 
 static char kind_at(const char *path)
 {
+    if (strcmp(path, standard_output) == 0)
+        return '1';
     return ends_in(path, "/db") ? 'd' : ends_in(path, "/db-wal") ? 'l' : 'o';
+}
+
+__attribute__((constructor)) static void begin(void)
+{
+    const char *asked = getenv("DEVICE_MODE"), *file = getenv("DEVICE_ONLY");
+    first = number_in("DEVICE_FIRST");
+    last = number_in("DEVICE_LAST");
+    reads = (int)number_in("DEVICE_READS");
+    note = (int)number_in("DEVICE_NOTE");
+    only = file ? *file : 0;
+    remember(1, standard_output);
+    made = 0;
+    mode = asked ? *asked : '-';
+}
+
+static ssize_t put(int descriptor, const void *bytes, size_t size)
+{
+    return ((ssize_t(*)(int, const void *, size_t))NEXT("write"))(descriptor, bytes, size);
+}
+
+static void tell(char operation, char kind, const char *path, off_t offset, size_t size, const void *bytes)
+{
+    struct __attribute__((packed)) {
+        char operation, kind;
+        off_t offset;
+        size_t length, size;
+    } head = {operation, kind, offset, strlen(path), bytes ? size : 0};
+    put(note, &head, sizeof head);
+    put(note, path, head.length);
+    put(note, bytes, head.size);
+}
+
+/* Whether a call has to fail. If the program is to be killed within it, this returns in mode h alone, with `half`
+ * set. */
+static int interferes(char operation, const char *path, off_t offset, size_t size, const void *bytes, int *half)
+{
+    char kind = kind_at(path);
+    int is_read = operation == 'r';
+    if (mode == '-' || (is_read && !(mode == 'f' && reads)) || (mode == 'f' && kind == '1') || (only && kind != only))
+        return 0;
+    made++;
+    if (mode == 'n') {
+        if (last && made > last)
+            raise(KILL);
+        tell(operation, kind, path, offset, size, bytes);
+        return 0;
+    }
+    if (made < first || made > last)
+        return 0;
+    tell(operation, kind, path, offset, 0, 0);
+    if (mode == 'h' && half && size > 1) {
+        *half = 1;
+        return 0;
+    }
+    if (mode != 'f')
+        raise(KILL);
+    *__errno_location() = IO_ERROR;
+    return 1;
 }
 
 int open(const char *path, int flags, unsigned mode_of_file)
 {
-    char kind = kind_at(path);
     int descriptor;
-    if (interferes(flags & CREATES ? 'c' : 'r', kind, 0, 0, 0, 0))
+    if (interferes(flags & CREATES ? 'c' : 'r', path, 0, 0, 0, 0))
         return -1;
     descriptor = ((call_with_path)NEXT("open"))(path, flags, mode_of_file);
-    if (descriptor >= 0 && descriptor < DESCRIPTORS)
-        kinds[descriptor] = kind;
+    remember(descriptor, path);
     return descriptor;
 }
 
 ssize_t read(int descriptor, void *bytes, size_t size)
 {
-    if (interferes('r', kind_of(descriptor), 0, size, 0, 0))
+    if (interferes('r', path_of(descriptor), 0, size, 0, 0))
         return -1;
     return ((ssize_t(*)(int, void *, size_t))NEXT("read"))(descriptor, bytes, size);
 }
 
 ssize_t pread(int descriptor, void *bytes, size_t size, off_t offset)
 {
-    if (interferes('r', kind_of(descriptor), offset, size, 0, 0))
+    if (interferes('r', path_of(descriptor), offset, size, 0, 0))
         return -1;
     return ((ssize_t(*)(int, void *, size_t, off_t))NEXT("pread"))(descriptor, bytes, size, offset);
 }
@@ -134,7 +148,7 @@ ssize_t write(int descriptor, const void *bytes, size_t size)
 {
     int half = 0;
     ssize_t written;
-    if (descriptor != 2 && interferes('w', kind_of(descriptor), -1, size, bytes, &half))
+    if (descriptor != 2 && interferes('w', path_of(descriptor), -1, size, bytes, &half))
         return -1;
     written = put(descriptor, bytes, half ? size / 2 : size);
     if (half)
@@ -146,7 +160,7 @@ ssize_t pwrite(int descriptor, const void *bytes, size_t size, off_t offset)
 {
     int half = 0;
     ssize_t written;
-    if (interferes('w', kind_of(descriptor), offset, size, bytes, &half))
+    if (interferes('w', path_of(descriptor), offset, size, bytes, &half))
         return -1;
     written = ((ssize_t(*)(int, const void *, size_t, off_t))NEXT("pwrite"))(
         descriptor, bytes, half ? size / 2 : size, offset);
@@ -157,35 +171,42 @@ ssize_t pwrite(int descriptor, const void *bytes, size_t size, off_t offset)
 
 int ftruncate(int descriptor, off_t length)
 {
-    if (interferes('t', kind_of(descriptor), length, 0, 0, 0))
+    if (interferes('t', path_of(descriptor), length, 0, 0, 0))
         return -1;
     return ((int (*)(int, off_t))NEXT("ftruncate"))(descriptor, length);
 }
 
 int fsync(int descriptor)
 {
-    if (interferes('s', kind_of(descriptor), 0, 0, 0, 0))
+    if (interferes('s', path_of(descriptor), 0, 0, 0, 0))
         return -1;
     return ((int (*)(int))NEXT("fsync"))(descriptor);
 }
 
 int fdatasync(int descriptor)
 {
-    if (interferes('s', kind_of(descriptor), 0, 0, 0, 0))
+    if (interferes('s', path_of(descriptor), 0, 0, 0, 0))
         return -1;
     return ((int (*)(int))NEXT("fdatasync"))(descriptor);
 }
 
 int rename(const char *from, const char *to)
 {
-    if (interferes('m', kind_at(to), 0, 0, 0, 0))
+    if (interferes('m', to, 0, 0, 0, 0))
         return -1;
     return ((int (*)(const char *, const char *))NEXT("rename"))(from, to);
 }
 
 int unlink(const char *path)
 {
-    if (interferes('u', kind_at(path), 0, 0, 0, 0))
+    if (interferes('u', path, 0, 0, 0, 0))
         return -1;
     return ((int (*)(const char *))NEXT("unlink"))(path);
+}
+
+int mkdir(const char *path, unsigned mode_of_folder)
+{
+    if (interferes('k', path, 0, 0, 0, 0))
+        return -1;
+    return ((int (*)(const char *, unsigned))NEXT("mkdir"))(path, mode_of_folder);
 }

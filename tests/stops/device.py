@@ -10,14 +10,15 @@ from typing import NamedTuple
 
 import preload
 
-HEAD = struct.Struct("<ccqQ")
+HEAD = struct.Struct("<ccqQQ")
 SECTOR = 512
 
 
 class Call(NamedTuple):
-    """A call on a file: its operation, the file's kind, a place or a length, and the bytes that it writes."""
+    """A call on a file: its operation, the file's kind and path, a place or a length, and the bytes that it writes."""
     operation: bytes
     kind: bytes
+    path: str
     place: int
     data: bytes
 
@@ -42,19 +43,17 @@ def run(
     them."""
     settings = {"MODE": mode, "FIRST": first, "LAST": last, "READS": int(reads), "ONLY": only}
     *told, noted = preload.run(library, "DEVICE", settings, words, stdin)
-    return tuple(told), list(calls_in(noted, mode == "n"))
+    return tuple(told), list(calls_in(noted))
 
 
-def calls_in(noted: bytes, with_data: bool) -> Iterator[Call]:
+def calls_in(noted: bytes) -> Iterator[Call]:
     at = 0
     while at < len(noted):
-        operation, kind, place, size = HEAD.unpack_from(noted, at)
-        at += HEAD.size
-        data = b""
-        if operation == b"w" and with_data:
-            data = noted[at:at + size]
-            at += size
-        yield Call(operation, kind, place, data)
+        operation, kind, place, length, size = HEAD.unpack_from(noted, at)
+        path = at + HEAD.size
+        data = path + length
+        at = data + size
+        yield Call(operation, kind, os.fsdecode(noted[path:data]), place, noted[data:at])
 
 
 class Disk:
