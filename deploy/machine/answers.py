@@ -42,16 +42,16 @@ class Told:
         ends = [end for start, end, _ in self.acks if start < end]
         return self.position if self.position is not None else max(ends, default=0)
 
-    def reach(self, position: int) -> int:
-        """How far its acks come that begin at a position, or before it, and go on from there; none further than what
-        is claimed."""
-        for start, end, _ in self.usable():
+    def reach(self, position: int, most: int) -> int:
+        """How far its acks come that begin at a position, or before it, and go on from there; none further than the
+        most."""
+        for start, end, _ in self.usable(most):
             position = max(position, end) if start <= position else position
         return position
 
-    def usable(self) -> list[tuple[int, int, str]]:
-        """Its acks within what is claimed, in the order of their starts."""
-        return sorted(ack for ack in self.acks if ack[1] <= self.claim())
+    def usable(self, most: int) -> list[tuple[int, int, str]]:
+        """Its acks up to a position, in the order of their starts."""
+        return sorted(ack for ack in self.acks if ack[1] <= most)
 
 
 def parse(text: str) -> dict[str, Told]:

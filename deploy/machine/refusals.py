@@ -3,8 +3,8 @@
 Its stream ends before it, and what the stream has from there on goes to another one, under an id of its own. So what is
 acknowledged of the stream stays so, and whatever has no answer yet goes out again.
 
-- An entry whose key is taken (60), or belongs to another machine (71), goes on in a fork of its sequence, and so does
-  all that comes after it.
+- An entry whose key is taken (60), or whose sequence is another machine's (71), goes on in a fork of its sequence, and
+  so does all that comes after it.
 - One that is too large goes out without what makes it so.
 - Any other one is put aside: its text is in `refused/SEQUENCE-NUMBER.export`. So is one whose key is taken if it was
   gathered a second time, for `--again`: the entry that is stored is most likely the same one.
@@ -25,7 +25,7 @@ if TYPE_CHECKING:
     from machine.forks import Forks
     from machine.gathering import Gathering
 
-# A key that is taken, and one that is another machine's.
+# A key that is taken, and a sequence that is another machine's.
 CONFLICT, NOT_THE_OWNER = 60, 71
 TAKEN = (CONFLICT, NOT_THE_OWNER)
 # An entry that is over a limit.
@@ -62,7 +62,8 @@ class Refusals:
         return True
 
     def take(self, stream: Stream, begin: int, end: int, entry: Shortened, code: int) -> None:
-        if code in TAKEN and not stream.is_again:
+        # none of a sequence that is another machine's is taken: they aren't put aside one by one
+        if code == NOT_THE_OWNER or code == CONFLICT and not stream.is_again:
             self.fork(stream, begin, entry)
         elif (entry.is_large or code in OVER_A_LIMIT) and not is_shortened(entry):
             self.report.say(status(self.gathering.clock), f"{stream.folder}: an entry is too large, and goes out "

@@ -4,16 +4,17 @@
     last BOOT-ID SECONDS TRIES
     before POSITION
     end POSITION
+    maybe POSITION
     others POSITION
     refused NO..
     most ENTRIES
 
-Each `end` is where an upload ended that went out, and so is any position up to `before`, in a stream that an earlier
-version served. A collector that acknowledges up to another position has heard of this id from elsewhere: this stream
-is a copy, or was set back. `last` is when an upload went out for the last time, and how often since something was
-acknowledged. `others` is where the last upload ended that had an entry of something else than this product's own units.
-`refused` is the answer that was told last, and `most` how many entries an upload may have since a larger one was
-refused.
+Each `end` is where an upload ended that the collector took, and so is any position up to `before`, in a stream that an
+earlier version served. `maybe` is one of which that isn't known: the connection was lost, or the run was stopped. A
+collector that acknowledges up to another position has heard of this id from elsewhere: this stream is a copy, or was
+set back. `last` is when an upload went out for the last time, and how often since something was acknowledged. `others`
+is where the last upload ended that had an entry of something else than this product's own units. `refused` is the
+answer that was told last, and `most` how many entries an upload may have since a larger one was refused.
 """
 import time
 
@@ -50,29 +51,41 @@ class Sent:
     refused: str = ""
     most: int = 0
     ends: list[int] = field(default_factory=list)
+    maybe: list[int] = field(default_factory=list)
 
     def text(self) -> str:
         lines = ["sent 2", f"last {self.boot} {self.seconds} {self.tries}", f"before {self.before}"]
         lines += [f"others {self.others}"] * bool(self.others)
         lines += [f"refused {self.refused}"] * bool(self.refused) + [f"most {self.most}"] * bool(self.most)
-        return "\n".join(lines + [f"end {end}" for end in self.ends]) + "\n"
+        lines += [f"end {end}" for end in self.ends]
+        return "\n".join(lines + [f"maybe {end}" for end in self.maybe]) + "\n"
 
     def save(self, path: str) -> None:
         texts.replace(path, self.text())
 
     def knows(self, position: int) -> bool:
         """Something that ends at this position went out."""
-        return position <= self.before or position in self.ends
+        return position <= self.before or position in self.ends or position in self.maybe
+
+    def taken_to(self, position: int) -> int:
+        """The last position up to this one at which something ended that the collector took."""
+        return max(min(position, self.before), *(end for end in self.ends if end <= position), 0)
 
     def went_past(self, position: int) -> bool:
         """The entry at this position went out."""
-        return position < max([self.before, *self.ends])
+        return position < max([self.before, *self.ends, *self.maybe])
 
     def went_out(self) -> bool:
-        return bool(self.ends or self.before)
+        return bool(self.ends or self.maybe or self.before)
 
     def add(self, end: int) -> None:
         """An upload that ends there is about to go out."""
+        if end not in self.ends:
+            self.maybe = [*(each for each in self.maybe if each != end), end][-MOST_ENDS:]
+
+    def take(self, end: int) -> None:
+        """The collector took it."""
+        self.maybe = [each for each in self.maybe if each != end]
         self.ends = [*(each for each in self.ends if each != end), end][-MOST_ENDS:]
 
     def is_due(self, clock: Clock, minutes: int) -> bool:
@@ -86,6 +99,7 @@ class Sent:
     def acknowledge(self, position: int) -> None:
         """Ends before the position say nothing any more. The last one stays: something went out."""
         self.ends = [end for end in self.ends if end >= position]
+        self.maybe = [end for end in self.maybe if end >= position]
         self.tries = self.most = 0
 
 
@@ -103,8 +117,8 @@ def load(path: str) -> Sent:
             sent.seconds = texts.number(seconds.removeprefix("-")) * (-1 if seconds.startswith("-") else 1)
         elif word in ("before", "most", "others"):
             setattr(sent, word, texts.number(rest))
-        elif word == "end":
-            sent.ends.append(texts.number(rest))
+        elif word in ("end", "maybe"):
+            (sent.ends if word == "end" else sent.maybe).append(texts.number(rest))
         elif word == "refused":
             sent.refused = rest
         else:

@@ -136,8 +136,15 @@ class Serving:
         except (OSError, ValueError):
             is_right = False
         if not is_right:
-            texts.put_aside(stream.path("id"), "the stream goes on under another id", self.report)
-            texts.replace(stream.path("id"), os.urandom(16).hex() + "\n")
+            self.give_id(stream.path("id"))
+
+    def give_id(self, path: str) -> None:
+        """A stream has another id from now on, in place of one that isn't right, or isn't there."""
+        if os.path.lexists(path):
+            texts.put_aside(path, "the stream goes on under another id", self.report)
+        else:
+            self.report.say(LOOK, f"{path} isn't there: the stream goes on under another id")
+        texts.replace(path, os.urandom(16).hex() + "\n")
 
     def record(self, stream: Stream) -> Sent:
         """What went out of it. Of a stream that an earlier version served any part may have."""
@@ -161,7 +168,8 @@ class Serving:
             self.renew(stream, "the collector has an upload of it that didn't go out from here")
         elif claim > before and not record.knows(claim):
             self.renew(stream, f"the collector has {claim} entries of it, which didn't go out from here")
-        elif claim > before:
+        elif claim > before and not told.waits:
+            # While an upload of it waits, that may be the answer to a copy's.
             self.move_on(stream, record, told)
         elif claim == before and before and told.key and told.key != self.key(stream.path("resume")):
             self.renew(stream, f"its entry before {before} isn't the one that the collector has, {told.key}")
@@ -194,7 +202,7 @@ class Serving:
     def make_smaller(self, stream: Stream, record: Sent, start: int) -> bool:
         """An upload was refused with a code that this program doesn't know: its next one has half as many entries.
         Whether it had more than one; that one is put aside."""
-        count = max(record.ends, default=start) - start
+        count = max([*record.ends, *record.maybe], default=start) - start
         if count > 1:
             record.most = count // 2
             return False
@@ -216,11 +224,13 @@ class Serving:
 
     def move_on(self, stream: Stream, record: Sent, told: Told) -> None:
         """The acks are taken over a copy of the resume file, which takes its place if the stream has at this position
-        the entry that the collector has. If none begins where the stream is, it goes out again from there."""
-        before, claim = stream.position(), told.reach(stream.position())
+        the entry that the collector has. If none begins where the stream is, or it isn't known that the upload that
+        ended there was taken, it goes out again from there: if another stream has this id, that is refused."""
+        before, most = stream.position(), record.taken_to(told.claim())
+        claim = told.reach(before, most)
         if claim == before:
             return
-        lines = [line for _, _, line in told.usable()]
+        lines = [line for _, _, line in told.usable(most)]
         copy = stream.path("resume.new")
         files.remove(copy)
         if before:
@@ -300,6 +310,7 @@ class Serving:
             self.link.carried(made.size, seconds)
             self.served.append(stream)
             self.done.send(made.count, has_others)
+            record.take(made.end)
             self.note(stream, record)
         elif outcome in (Outcome.TOO_LARGE, Outcome.REFUSED):
             self.report.say(LOOK, f"{stream.folder}: the collector didn't take the upload")

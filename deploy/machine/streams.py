@@ -1,9 +1,9 @@
 """The streams of a machine: numbered folders below `streams`, each with `id`, `stream`, and once it was served `resume`
 and `sent`; and `again`, if it was gathered for `--again`.
 
-A folder gets its name when it is whole. One that is made anew under its number is made beside it, as
-`renewed.NUMBER`, and takes its place; what a stop leaves is finished by the next run. So is the cut of a stream whose
-end went to another one: there `cut` says which stream ends where.
+A folder is made as `begun`, and gets its name when it is whole. One that is made anew under its number lies beside it,
+as `renewed.NUMBER`, and takes its place; what a stop leaves is finished by the next run. So is the cut of a stream
+whose end went to another one: there `cut` says which stream ends where.
 
     cut NUMBER BYTES SUM
 """
@@ -28,6 +28,7 @@ if TYPE_CHECKING:
 # The files of a stream beside its entries, and those of the machine's folder beside `gathered` and the lock.
 PARTS = ("id", "resume", "sent", "again", "cut")
 STATE = ("link", "unread", "forks", "large", "last")
+BEGUN = "begun"
 
 
 class Stream:
@@ -107,26 +108,29 @@ def remove_folder(path: str) -> None:
         shutil.rmtree(path)
 
 
-def make(folder: str, data: Iterable[bytes], is_again: bool = False) -> None:
-    """A folder with a stream that has these entries, and an id of its own."""
-    remove_folder(folder)
-    os.mkdir(folder)
-    with open(f"{folder}/stream", "wb") as file:
+def make(folder: str, data: Iterable[bytes], is_again: bool = False, cut: str = "") -> None:
+    """A folder with a stream that has these entries, and an id of its own. It gets its name when it is whole: if the
+    disk is full, there is none of this name."""
+    remove_folder(BEGUN)
+    os.mkdir(BEGUN)
+    with open(f"{BEGUN}/stream", "wb") as file:
         file.writelines(data)
     if is_again:
-        texts.replace(f"{folder}/again", "")
-    texts.replace(f"{folder}/id", os.urandom(16).hex() + "\n")
-    Sent().save(f"{folder}/sent")
-    files.sync(f"{folder}/stream")
-    files.sync(folder)
+        texts.replace(f"{BEGUN}/again", "")
+    texts.replace(f"{BEGUN}/id", os.urandom(16).hex() + "\n")
+    Sent().save(f"{BEGUN}/sent")
+    if cut:
+        texts.replace(f"{BEGUN}/cut", cut)
+    files.sync(f"{BEGUN}/stream")
+    files.sync(BEGUN)
+    remove_folder(folder)
+    files.move(BEGUN, folder)
 
 
 def begin(number: int, is_again: bool) -> Stream:
     """A new stream without entries. One of this number isn't committed and was never uploaded."""
     stream = Stream(number)
-    make("begun", (), is_again)
-    remove_folder(stream.folder)
-    files.move("begun", stream.folder)
+    make(stream.folder, (), is_again)
     return stream
 
 
@@ -155,9 +159,8 @@ def split(stream: Stream, at: int, rest: Iterable[bytes], into: Stream) -> None:
     """The stream ends at this byte from now on, and another one has the rest under an id of its own. What of the stream
     went out keeps its places."""
     renewed = f"renewed.{into.number:08}"
-    make(renewed, rest, stream.is_again)
     words = f"cut {stream.number} {at}"
-    texts.replace(f"{renewed}/cut", f"{words} {zlib.crc32(words.encode())}\n")
+    make(renewed, rest, stream.is_again, f"{words} {zlib.crc32(words.encode())}\n")
     put_in_place(renewed, into)
     finish_cut(into)
 

@@ -179,6 +179,40 @@ def full_disk_when_a_stream_is_split(row: Row, machine: Machine) -> None:
 
 
 @ROWS.row
+def full_disk_when_the_rest_is_written(row: Row, machine: Machine) -> None:
+    """The entries after one that is refused can't be written whole: what there is of them isn't taken for a stream."""
+    machine.settings["STREAM_BYTES"] = 500
+    for number in range(1, 5):
+        machine.journal.add(f"{number} {1_000 * 'x'}")
+    machine.journal.write()
+    machine.send()
+    refused = machine.upload()[0]
+    machine.settings["STREAM_BYTES"] = 100_000
+    machine.answers(f"no {refused} 0 60 1\n")
+    for _ in range(2):
+        status, said = machine.send(file_bytes=1_500)
+        row.expect("a full disk", (status, "File too large" in said), (3, True))
+    before = len(machine.files())
+    row.expect("the next run", machine.send(), (0, ""))
+    sent = [entry for name in machine.files()[before:] for entry in read(body(name))]
+    row.expect("what goes out", [(entry[0] == sent[0][0], entry[1]) for entry in sent],
+               [(True, 1), (False, 2), (False, 3), (False, 4)])
+    row.expect("streams", sorted(os.listdir(f"{machine.folder}/streams"))[0], "00000001")
+
+
+@ROWS.row
+def stream_without_an_id(row: Row, machine: Machine) -> None:
+    """A stream's id is gone, as after a stop while another one took the place of a damaged one: it gets one."""
+    machine.journal.grow(3)
+    machine.send()
+    os.unlink(f"{machine.folder}/streams/00000001/id")
+    status, said = machine.send()
+    row.expect("told", (status, "streams/00000001/id isn't there" in said), (1, True))
+    row.expect("the next run", machine.send(), (0, ""))
+    row.expect("what goes out", machine.upload()[1:], (0, 3))
+
+
+@ROWS.row
 def another_key(row: Row, machine: Machine) -> None:
     """The collector has another entry at this position: neither the resume point moves, nor does an upload count."""
     machine.journal.grow(1100)
