@@ -96,10 +96,11 @@ fi
 
 # of one machine so many are kept; the oldest go, that is told, and one that waits stays
 begin SOURCES=3
+SOURCE=${id//a0a1/a001} sequence=5${sequence:1} upload 0 2 2 > "$folder/of mail"
 for part in 1 2 3 4; do
     SOURCE=${id//a0a1/a00$part} sequence=$part${sequence:1} upload 0 2 2 > "$folder/of $part"
     expect 0 "" "" receive web "$folder/of $part"
-    expect 0 "" "" receive mail "$folder/of 1"
+    expect 0 "" "" receive mail "$folder/of mail"
     expect 0 "" "" collect
 done
 SOURCE=${id//a0a1/a005} upload 0 2 2 > "$folder/of 5"
@@ -275,16 +276,17 @@ done
 if [[ -n $clock ]]; then
     begin FREE_BYTES=1000000
     for name in web mail new; do
-        expect 0 "" "" at "0 0 0 1600000" receive $name "$folder/short"
+        SOURCE=${id//a0/c0} sequence=$(md5sum <<< "$name" | cut -c 1-32) upload 0 2 2 > "$folder/short of $name"
+        expect 0 "" "" at "0 0 0 1600000" receive $name "$folder/short of $name"
     done
     used web 500000 0
     used mail 300000 0
     expect 75 "" "~receive: * bytes are left of the disk, and web has used * today" at "0 0 0 1400000" \
-        receive web "$folder/short"
-    expect 0 "" "" at "0 0 0 1400000" receive mail "$folder/short"
+        receive web "$folder/short of web"
+    expect 0 "" "" at "0 0 0 1400000" receive mail "$folder/short of mail"
     expect 75 "" "~receive: * bytes are left of the disk, and mail has used * today" at "0 0 0 1200000" \
-        receive mail "$folder/short"
-    expect 0 "" "" at "0 0 0 1200000" receive new "$folder/short"
+        receive mail "$folder/short of mail"
+    expect 0 "" "" at "0 0 0 1200000" receive new "$folder/short of new"
     # and what waits isn't stored on a disk that has no room for it, which is told once
     expect 3 "" "~*: only 249856 bytes are free: 3 uploads wait
 *: mail goes over what is left of the disk: it has used more than that today

@@ -145,7 +145,7 @@ else
 fi
 
 export PROGRAM
-for part in runs at_once full kills older sequences; do
+for part in runs at_once full kills older sequences owners; do
     PYTHONPATH=tests python3 "tests/collect/$part.py" || differs "tests/collect/$part.py"
 done
 finish

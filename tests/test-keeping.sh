@@ -5,6 +5,6 @@ set -uo pipefail
 # shellcheck source=tests/installed.sh
 . "$(dirname "$0")/installed.sh"
 
-rows deploy/{ack,notes,keeping,known,backup,service,following}_rows
+rows deploy/{ack,notes,owners,owner_files,keeping,known,backup,service,following}_rows
 python3 -B tests/deploy/clock_rounds.py "$library" --events "${CLOCK_EVENTS-2000}" || differs "the rounds of clocks"
 finish

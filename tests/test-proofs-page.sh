@@ -81,7 +81,7 @@ Small things.
 `size.rt`: How large a thing is.
 
 - **`size_of`** (`bound`, `same`): The size of a thing.
-__- *Asks*: `IsSize` in `specs/Size.antt` (A size is less than a hundred).
+__- *Asks*: `IsSize thing`, with `IsSize` in `specs/Size.antt` (A size is less than a hundred).
 __- `bound`: No thing is larger. `IsSize`.
 END
 expect 0 "$(sed 's/^__/  /' "$folder/wanted")" "" sed -n '/^## /,$p' "$folder/tree/docs/CONTRACTS.md"

@@ -16,6 +16,8 @@ for letter in a b c d e f; do
     journal-collect upload --source "${id//a/$letter}" --resume "$folder/none" export examples/web.export \
         > "$folder/$letter"
 done
+# the sequence of a machine is no other one's
+LC_ALL=C sed -i "s/$sequence/${sequence//2/3}/" "$folder/d"
 for name in "" . .. ../web .web web/x "web x" "web@x" "web*" $'web\nx' "$(printf '%065d' 0)"; do
     expect 2 "" "~receive: *can't be a machine's name" receive "$name" "$folder/a"
     expect 2 "" "~answers: *can't be a machine's name" "$library/answers" "$name" "$conf"
@@ -42,7 +44,7 @@ b=${id//a/b} d=${id//a/d}
 a_said=$(printf '%s\n' "ack $id 0 2 2 0" "last $id 2 $sequence 102")
 b_said=$(printf '%s\n' "ack $b 0 2 0 0" "last $b 2 $sequence 102")
 expect 0 "$a_said"$'\n'"$b_said" "" answers web
-expect 0 "ack $d 0 2 0 0"$'\n'"last $d 2 $sequence 102" "" answers mail
+expect 0 "ack $d 0 2 2 0"$'\n'"last $d 2 ${sequence//2/3} 102" "" answers mail
 expect 0 "" "" answers other
 [[ -z $(find "$collector" -name '*.upload') ]] || differs "an upload is left"
 
@@ -146,17 +148,17 @@ begin
 TEXT=first SOURCE=${id//a/b} upload 0 3 3 > "$folder/first"
 upload 0 5 5 > "$folder/second"
 expect 0 "" "" receive web "$folder/first"
-expect 0 "" "" receive mail "$folder/second"
+expect 0 "" "" receive web "$folder/second"
 expect 1 "" "~*no $id 0 60 0" collect
-expect 0 "" "" receive mail "$folder/second"
+expect 0 "" "" receive web "$folder/second"
 expect 1 "" "~*no $id 0 60 0" collect
-expect 0 "no $id 0 60 0" "" answers mail
-expect 1 "" "~*nothing of mail@$id is set aside" "$library/collect-incoming" --forget mail "$id" "$conf"
+expect 0 "~no $id 0 60 0*" "" answers web
+expect 1 "" "~*nothing of web@$id is set aside" "$library/collect-incoming" --forget web "$id" "$conf"
 rm -r "$collector"/databases/*
 expect 1 "" "~*is missing*" collect
-expect 0 "" "" receive mail "$folder/second"
+expect 0 "" "" receive web "$folder/second"
 expect 0 "" "" collect
-expect 0 "~ack $id 0 5 5 0*" "" answers mail
+expect 0 "~ack $id 0 5 5 0*" "" answers web
 
 # what is known of a source is damaged: the others are answered, and its next upload is
 begin
@@ -190,12 +192,12 @@ begin TAKE_JOURNAL_FILES=yes
 journal-collect export "$(find "$folder/collector-$((number - 1))/databases" -name '*.db')" > "$folder/stream"
 sed -i 's/^MESSAGE=.*/MESSAGE=another/' "$folder/stream"
 journal-collect upload --source "${id//a/b}" --resume "$folder/none" export "$folder/stream" > "$folder/other"
-expect 0 "" "" receive mail "$folder/other"
+expect 0 "" "" receive web "$folder/other"
 expect 0 "" "" receive web "$fixture"
 expect 1 "" "~*no $id 0 60 0" collect
 expect 0 "" "" receive web "$fixture"
 expect 1 "" "~*no $id 0 60 0" collect
-expect 0 "no $id 0 60 0" "" answers web
+expect 0 "~no $id 0 60 0*" "" answers web
 
 # Turns --------------------------------------------------------------------------------------------------------------
 
@@ -391,6 +393,7 @@ expect 1 "" "receive: the upload begins at entry 18446744073709551615" \
 
 # parts: so many at once, none is left when its connection ends, however it does
 begin CONNECTIONS=2
+sequence=${sequence//2/3} upload 0 5 10 > "$folder/mails"
 mkfifo "$folder/slow"
 exec 7<> "$folder/slow"
 for part in 1 2; do
@@ -399,7 +402,7 @@ for part in 1 2; do
 done
 wait_for parts_there 2
 expect 75 "" "receive: 2 connections of web are sending" receive web "$folder/early"
-expect 0 "" "" receive mail "$folder/early"
+expect 0 "" "" receive mail "$folder/mails"
 { kill -KILL "${parts[1]}" && wait "${parts[1]}"; } 2> "$folder/told"
 expect 0 "" "" receive web "$folder/early"
 parts_there 1 || differs "a part of a connection that is gone is left"

@@ -3,6 +3,8 @@ from shared.records import NamedTuple
 
 # The codes of answers that are failures of the collector: the upload couldn't be read, the database failed, no memory.
 UNREAD, STORE_FAILED, NO_MEMORY = 61, 62, 63
+# An upload has an entry of a sequence that is another machine's.
+NOT_THE_OWNER = 71
 
 
 class NoAnswer(Exception):

@@ -1,13 +1,14 @@
 """A backup of the collector in a folder, taken while the service runs, and put back.
 
     FOLDER/backup                   what the backup is of; it is written last
-    FOLDER/state-NUMBER/            `kept` and `sources` as they were
+    FOLDER/state-NUMBER/            `kept` and `sources` as they were, and `owners`: whose each sequence was
     FOLDER/databases/NAME.db        each finished database, with its digest beside it as NAME.db.sha256
 
 Sources are copied first, and then the databases that there are by then are finished and copied. So what the copied
 answers acknowledge is in the copied databases, or was in one that was deleted in time; if one can't be copied, the
-copied sources have no answers. Notes of sequences aren't copied: as a backup is put back they are made anew. A backup
-into the same folder copies what is new.
+copied sources have no answers. Whose each sequence is, is copied last: so it says so of all that is in the backup.
+Other notes of sequences aren't copied: as a backup is put back they are made anew. A backup into the same folder copies
+what is new.
 """
 import os
 import re
@@ -19,7 +20,7 @@ from typing import NamedTuple
 from shared import files
 from shared.formats import is_id
 
-from . import databases, kept, missing, notes, retention, source, state
+from . import databases, kept, missing, notes, owners, retention, source, state
 from .report import report, status, tell
 
 MANIFEST, FORMAT = "backup", "backup 1"
@@ -80,6 +81,7 @@ def make(folder: str) -> int:
         copied = {name: digest for name in names if (digest := copy_database(name, folder))}
         if len(copied) < len(names):
             forget_answers(sources)
+        files.replace(os.path.join(folder, f"state-{number}", owners.NAME), owners.text(owners.read()))
     os.sync()
     lines = [FORMAT, str(int(time.time())), f"state-{number}"]
     lines += [f"{digest} {name}" for name, digest in sorted(copied.items())]
@@ -206,6 +208,7 @@ def restore(folder: str) -> int:
     report(0, f"put back as of {made}: {put} of {len(backup.databases)} databases, and what was known of {known} "
            "sources")
     notes.begin_anew(forgets=False)
+    owners.put_back(os.path.join(folder, backup.state, owners.NAME))
     missing.look()
     notes.make_anew()
     return status()

@@ -12,7 +12,7 @@ from .settings import Settings
 
 
 class Collecting:
-    """One process that stores in one database. It takes names of uploads, and answers each before the next."""
+    """One process that stores in one database. It takes uploads of machines, and answers each before the next."""
 
     def __init__(self, database: str, export: str | None, held: Sequence[int], settings: Settings) -> None:
         """Begins it; it holds these open files as long as it runs. At its end it writes the export, if one is named."""
@@ -31,20 +31,21 @@ class Collecting:
         self.gave_up = False
         self.largest_file = 0
 
-    def ask(self, path: str) -> Answer:
-        """Has an upload stored. If the database failed, or the upload costs too much, that is the process's end."""
-        self.hand(path)
+    def ask(self, machine: str, path: str) -> Answer:
+        """Has a machine's upload stored. If the database failed, or the upload costs too much, that is the process's
+        end."""
+        self.hand(machine, path)
         return self.answer()
 
-    def hand(self, path: str) -> None:
-        """Hands an upload to the process, which has answered the one before."""
+    def hand(self, machine: str, path: str) -> None:
+        """Hands a machine's upload to the process, which has answered the one before."""
         bounds = self.bounds = costs.of_upload(self.settings, path)
         largest = max(files.size(self.database), files.size(self.database + "-wal"))
         self.largest_file = largest + bounds.growth
         costs.impose(self.process.pid, bounds.seconds + self.opening, self.largest_file)
         self.until = time.monotonic() + bounds.clock + self.opening
         try:
-            self.process.stdin.write(path.encode() + b"\n")
+            self.process.stdin.write(f"{machine}\t{path}\n".encode())
             self.process.stdin.flush()
         except BrokenPipeError:
             self.is_broken = True

@@ -283,7 +283,7 @@ class Collector:
             self.began, self.turns = time.monotonic(), self.shared.turns
         turn.meter.begin(self.process.process.pid, databases.bytes_of(self.name))
         turn.is_handed = True
-        self.process.hand(turn.path)
+        self.process.hand(turn.upload.machine, turn.path)
         self.asked, self.following = turn, None
 
     def end(self, turn: Turn) -> None:

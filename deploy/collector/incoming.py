@@ -8,7 +8,7 @@ from typing import NamedTuple
 from shared import files
 from shared.formats import is_id
 
-from . import aside, backup, databases, kept, missing, program, renaming, retention, service, settings
+from . import aside, backup, databases, kept, missing, owners, program, renaming, retention, service, settings
 from .report import tell
 from .settings import Settings, Wrong
 
@@ -112,6 +112,7 @@ def is_number_of_days(word: str) -> bool:
 # Which words can be what.
 RIGHT: dict[str, Callable[[str], object]] = {
     "MACHINE": settings.is_machine, "OLD": settings.is_machine, "NEW": settings.is_machine, "SOURCE": is_id,
+    "SEQUENCE": is_id,
     "DAYS": is_number_of_days, "DATABASE": databases.NAME.fullmatch,
     "FOLDER": lambda word: word and not word.startswith("-")
 }
@@ -121,6 +122,7 @@ TASKS = {
     "--check": Task("", check),
     "--forget": Task("MACHINE SOURCE", forget),
     "--rename": Task("OLD NEW", renaming.rename, is_alone=True),
+    "--release": Task("SEQUENCE", owners.release, is_alone=True),
     "--passed": Task("DAYS", passed),
     "--moved": Task("DATABASE", moved),
     "--backup": Task("FOLDER", back_up),

@@ -1,5 +1,5 @@
 """The notes of what is stored of each sequence, sequences/SEQUENCE/WINDOW. The program writes and reads them; here they
-are made anew, and old ones go.
+are made anew, and old ones go. No database tells whose a sequence is, so that note stays.
 
     sequences-anew                  they are being made anew: `keep` or `forget` the answers that machines were told
     windows/SEQUENCE                when its windows changed last: `WINDOW CHANGED DAYS` in lines, with the time of
@@ -16,7 +16,7 @@ from collections.abc import Callable, Iterator
 from shared import files
 from shared.formats import is_id
 
-from . import databases, program, source, state
+from . import databases, owners, program, source, state
 from .program import SEQUENCES
 from .report import report
 from .source import Source
@@ -24,7 +24,6 @@ from .source import Source
 UNDER_WAY, COPY = "sequences-anew", "sequences-anew.db"
 KEEP, FORGET = b"keep\n", b"forget\n"
 WINDOWS = "windows"
-LOCKS = "-wal"
 # A number of a window: numbers of 64 bits, 4,096 in each.
 WINDOW_DIGITS = 16
 
@@ -54,9 +53,14 @@ def is_forgetting() -> bool:
 def are_to_be_made() -> bool:
     """Whether the notes are to be made anew: that was begun, or there are none, as in the folder of an earlier
     version."""
+    put_aside_no_folder()
+    return os.path.lexists(UNDER_WAY) or (not os.path.isdir(SEQUENCES) and bool(databases.all_names()))
+
+
+def put_aside_no_folder() -> None:
+    """What is in the place of the notes, and no folder, is put aside."""
     if os.path.lexists(SEQUENCES) and not is_folder(SEQUENCES):
         report(3, f"{SEQUENCES} is no folder: it is put aside as {files.put_aside(SEQUENCES)}")
-    return os.path.lexists(UNDER_WAY) or (not os.path.isdir(SEQUENCES) and bool(databases.all_names()))
 
 
 def is_folder(path: str) -> bool:
@@ -71,9 +75,7 @@ def make_anew(stops: Callable[[], bool] = never) -> None:
         begin_anew(forgets=False)
     if is_forgetting():
         forget_answers()
-    for folder in (SEQUENCES, WINDOWS):
-        shutil.rmtree(folder, ignore_errors=True)
-    os.mkdir(SEQUENCES, 0o700)
+    remove_notes()
     files.sync(".")
     for name in databases.all_names():
         if stops():
@@ -82,6 +84,28 @@ def make_anew(stops: Callable[[], bool] = never) -> None:
             note(name)
     files.remove(UNDER_WAY)
     files.sync(".")
+
+
+def remove_notes() -> None:
+    """Removes all notes, but for whose each sequence is."""
+    shutil.rmtree(WINDOWS, ignore_errors=True)
+    put_aside_no_folder()
+    os.makedirs(SEQUENCES, 0o700, exist_ok=True)
+    for sequence in os.listdir(SEQUENCES):
+        folder = os.path.join(SEQUENCES, sequence)
+        for name in os.listdir(folder) if is_folder(folder) else ():
+            if name != owners.WINDOW:
+                remove(os.path.join(folder, name))
+        if not is_folder(folder) or not os.listdir(folder):
+            remove(folder)
+
+
+def remove(path: str) -> None:
+    """Removes a file, or a folder with all that is in it."""
+    if is_folder(path):
+        shutil.rmtree(path)
+    else:
+        files.remove(path)
 
 
 def note(name: str) -> None:
@@ -143,26 +167,25 @@ def sources() -> Iterator[tuple[str, str, Source]]:
 def expire(age: float, days: int) -> None:
     """Notes go in whose window nothing was noted for so many days, by the age of the collector. Nobody may store
     meanwhile."""
+    if are_to_be_made():
+        return
     for sequence in filter(is_id, files.names(SEQUENCES)):
         if is_folder(os.path.join(SEQUENCES, sequence)):
             expire_windows(sequence, age, days)
 
 
 def expire_windows(sequence: str, age: float, days: int) -> None:
-    """The same, of one sequence."""
+    """The same, of one sequence. Whose it is goes with its last notes, or after as many days if there are none."""
     folder, seen = os.path.join(SEQUENCES, sequence), {}
     before = windows_seen(os.path.join(WINDOWS, sequence))
     for name in files.names(folder):
         path = os.path.join(folder, name)
-        if not is_window(name) or not state.is_file(path):
-            continue
-        changed, (was, since) = os.stat(path).st_mtime_ns, before.get(name, (-1, age))
-        since = min(since, age) if was == changed else age
-        if since < age - days:
-            files.remove(path)
-            files.remove(path + LOCKS)
-        else:
-            seen[name] = changed, since
+        if is_window(name) and state.is_file(path):
+            changed, (was, since) = os.stat(path).st_mtime_ns, before.get(name, (-1, age))
+            seen[name] = changed, min(since, age) if was == changed else age
+    for name in over(seen, age - days):
+        owners.remove(os.path.join(folder, name))
+        del seen[name]
     if seen != before:
         lines = [f"{name} {changed} {since:.4f}" for name, (changed, since) in sorted(seen.items())]
         os.makedirs(WINDOWS, exist_ok=True)
@@ -170,6 +193,16 @@ def expire_windows(sequence: str, age: float, days: int) -> None:
     if not os.listdir(folder):
         os.rmdir(folder)
         files.remove(os.path.join(WINDOWS, sequence))
+
+
+def over(seen: dict[str, tuple[int, float]], day: float) -> list[str]:
+    """The windows whose days are over, of those that changed last at these ages; what says whose they are is the
+    last."""
+    gone = [name for name, (_, since) in seen.items() if since < day and name != owners.WINDOW]
+    others = seen.keys() - {owners.WINDOW}
+    if owners.WINDOW in seen and len(gone) == len(others) and (others or seen[owners.WINDOW][1] < day):
+        gone.append(owners.WINDOW)
+    return gone
 
 
 def is_window(name: str) -> bool:

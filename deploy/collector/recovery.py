@@ -5,7 +5,7 @@ import time
 
 from shared import files
 
-from . import collector, costs, databases, missing, notes, program, spool, storing
+from . import collector, costs, databases, missing, notes, owners, program, spool, storing
 from .collecting import Collecting
 from .report import report
 
@@ -43,6 +43,7 @@ class Recovery:
 
     def take_all_up(self) -> None:
         """Takes up all that was left, while no collector has a process."""
+        owners.put_aside_others()
         for name in collector.left_over(self.shared):
             if self.shared.stops:
                 return

@@ -1,4 +1,5 @@
-"""Gives a machine another name: what is known of its sources, and its uploads that wait, are the new name's.
+"""Gives a machine another name: what is known of its sources, its sequences, and its uploads that wait, are the new
+name's.
 
 The file `renaming` says what is under way, so that a run that is stopped is brought to its end by the next one. Nothing
 is stored meanwhile: whoever renames has the service's lock.
@@ -8,7 +9,7 @@ import shutil
 
 from shared import files
 
-from . import settings, source, spool, state
+from . import owners, settings, source, spool, state
 from .report import report, tell
 
 UNDER_WAY = "renaming"
@@ -17,10 +18,13 @@ UNDER_WAY = "renaming"
 def rename(old: str, new: str) -> int:
     """Gives a machine another name; the status."""
     finish()
-    if old == new or not source.names(old) and not any(each.machine == old for each in waiting()):
+    owners.put_aside_others()
+    own = set(owners.read().values())
+    is_known = source.names(old) or owners.digest_of(old) in own or any(each.machine == old for each in waiting())
+    if old == new or not is_known:
         tell(f"collect-incoming: nothing is known of {old}")
         return 1
-    if source.names(new):
+    if source.names(new) or owners.digest_of(new) in own:
         tell(f"collect-incoming: {new} is known already; nothing was changed")
         return 1
     with files.locked(spool.ORDER):
@@ -44,6 +48,7 @@ def finish() -> None:
     except (state.Damaged, ValueError, IndexError):
         report(3, f"{UNDER_WAY} isn't as it was written: it is put aside as {files.put_aside(UNDER_WAY)}")
         return
+    owners.rename(old, new)
     move_sources(os.path.join("sources", old), os.path.join("sources", new))
     with files.locked(spool.ORDER):
         for folder in ["incoming", *(os.path.join("batch", name) for name in files.names("batch"))]:

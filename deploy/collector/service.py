@@ -5,7 +5,8 @@ import time
 
 from shared import files
 
-from . import collector, migration, missing, notes, program, recovery, renaming, retention, settings, shares
+from . import (collector, migration, missing, notes, owners, program, recovery, renaming, retention, settings,
+               shares)
 from .recent import recent
 from .report import report, status, tell
 
@@ -61,6 +62,7 @@ def listen(shared: collector.Shared) -> None:
 def serve(shared: collector.Shared, once: bool) -> None:
     """Takes up what was left, and then stores what comes. Nothing is answered before the notes have all that earlier
     runs stored."""
+    owners.put_aside_others()
     renaming.finish()
     missing.look()
     retention.look(shared)

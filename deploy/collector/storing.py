@@ -11,8 +11,8 @@ from typing import NamedTuple, TypeVar
 
 from shared import files
 
-from . import aside, noted, program, sequences, source, spool
-from .answer import NO_MEMORY, UNREAD, Answer, Key
+from . import aside, noted, owners, program, sequences, source, spool
+from .answer import NO_MEMORY, NOT_THE_OWNER, UNREAD, Answer, Key
 from .recent import recent
 from .report import report
 from .spool import Waiting
@@ -20,7 +20,8 @@ from .spool import Waiting
 # Codes of what isn't the header of an upload that is known here: `receive` lets none of them wait.
 BAD_HEADER = (1, 2, 3, 4)
 
-Ask = Callable[[str], Answer]
+# Has a machine's upload stored.
+Ask = Callable[[str, str], Answer]
 T = TypeVar("T")
 # What stores an upload stops where the program is to be asked: it gives the path of what is to be stored, and goes on
 # with the answer.
@@ -57,7 +58,7 @@ def store(upload: Waiting, folder: str, age: float, ask: Ask) -> Outcome:
         try:
             path = next(asking)
             while True:
-                path = asking.send(ask(path))
+                path = asking.send(ask(upload.machine, path))
         except StopIteration as end:
             outcome: Outcome = end.value
     return outcome
@@ -91,7 +92,8 @@ def keep(step: Step, age: float) -> Asking[Outcome]:
     if answer is None:
         return Outcome.LATER
     if not answer.is_ack:
-        report(1, f"refused: {upload.of}: {answer.text}")
+        whose = owners.told(step.path, upload.machine) if answer.code == NOT_THE_OWNER else ""
+        report(1, f"refused: {upload.of}: {answer.text}{whose}")
     keep_answer(step, last_of(told, answer), answer, age)
     keep_recent(step, answer)
     return Outcome.DONE

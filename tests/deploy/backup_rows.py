@@ -262,7 +262,7 @@ def full_disk(row: Row, case: Case) -> None:
     row.expect("the one before", (case.answers()[0], case.numbers()), (f"ack {SOURCE} 0 3 3 0", [1, 2, 3]))
 
 
-def stops(case: Case, library: str, words: list[str]) -> "list[int]":
+def stops(case: Case, library: str, words: list[str], step: int = STEP) -> "list[int]":
     """Runs that are killed before a call that changes files, one after the other, until one isn't; each from the folder
     as it was kept. Yields the number of the call."""
     number = 1
@@ -275,7 +275,7 @@ def stops(case: Case, library: str, words: list[str]) -> "list[int]":
         yield number
         if told.returncode != -signal.SIGKILL:
             return
-        number += STEP
+        number += step
 
 
 @ROWS.once

@@ -99,12 +99,14 @@ class CollectorEvents:
             self.expect_well("another name", self.call("--rename", old, new))
         self.finished = self.databases()
         world.expected &= set(world.stored()) | self.on_machines()
+        # What was put aside goes out again, too, as far as a journal has it.
+        world.put_aside.clear()
         # A machine can't be set back any more to what the collector has forgotten.
         world.snapshots.clear()
         world.doubled |= set().union(*(journal.made for journal in world.journals.values()))
+        self.counts["restores"] += 1
         for name in world.journals:
             world.send_alone(name, ("none", None), "--again", "@0")
-        self.counts["restores"] += 1
 
     def on_machines(self) -> set[Key]:
         """What the machines' journals have, and what waits in their streams."""

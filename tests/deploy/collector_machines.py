@@ -110,5 +110,26 @@ class Mirror(Source):
         begin = len(self.entries)
         with open(self.path("stream"), "ab") as file:
             for entry in self.original.entries[begin:begin + count]:
-                file.write(entry_text(*entry))
+                file.write(entry_text(*entry[:2], self.message_of(entry[2])))
                 self.entries.append(entry)
+
+    def message_of(self, message: bytes) -> bytes:
+        return message
+
+
+class Thief(Mirror):
+    """The same, of another machine: a clone of it, or one that makes other entries under its keys. Each of its uploads
+    is refused, since the sequence is the other one's."""
+
+    def __init__(self, original: Source, machine: str, is_clone: bool) -> None:
+        super().__init__(original, machine)
+        self.is_clone = is_clone
+
+    def message_of(self, message: bytes) -> bytes:
+        return message if self.is_clone else message + b" of a thief"
+
+    def take(self, lines: list[str]) -> list[list[str]]:
+        own = [line.split(" ") for line in lines if line.split(" ")[1] == self.id]
+        told = [words for words in own if words[0] != "waits" and words[3:] != ["71", "0"]]
+        self.world.expect(f"{self.machine}: what a thief is told", told, [])
+        return []

@@ -4,7 +4,8 @@ usage: python3 collector_world.py PROGRAMS [--rounds ROUNDS] [--real EACH]
 
 There are forty rounds to a world, and then another one. Programs run in forked processes, but for one round of EACH.
 Machines send uploads: new ones, old ones again, late ones after newer ones, ones behind a gap, ones that are cut, ones
-with entries of another machine or of another stream, and ones of a machine that was set back to an earlier day.
+with entries of another stream, and ones of a machine that was set back to an earlier day. A clone and a thief send
+entries of another machine's sequences, all of which are refused with 71.
 Databases turn in a second. Between and within runs of the
 collector the clock is set by a minute, by 12 h, by 40 days and to 1970, days go by, the machine is started again,
 databases get second names as a backup by hard links gives them; runs are killed, find a full disk or one that has room
@@ -30,7 +31,7 @@ HERE = os.path.dirname(os.path.abspath(__file__))
 sys.path[:0] = [os.path.join(HERE, ".."), os.path.join(HERE, "..", "collect")]
 import forked  # noqa: E402
 import preload  # noqa: E402
-from collector_machines import PROGRAM, Mirror, Source, entries_of  # noqa: E402
+from collector_machines import PROGRAM, Mirror, Source, Thief, entries_of  # noqa: E402
 from disturbed import full  # noqa: E402
 from trial import Trial, first_seed  # noqa: E402
 
@@ -84,10 +85,8 @@ class World(Trial):
         # web is faster than the others: it sends of several sources at once
         self.machines = {name: [self.source(name) for _ in range(count)]
                          for name, count in (("web", 4), ("mail", 1), ("db-1", 1), ("x", 1))}
-        # mail and a clone of web have entries of web's, and web has some in two streams
+        # web has some entries in two streams
         first, second, *_ = self.machines["web"]
-        self.machines["clone"] = [Mirror(first, "clone")]
-        self.machines["mail"].insert(0, Mirror(second, "mail"))
         self.machines["web"].insert(0, Mirror(first, "web"))
         self.used = {}
         self.deleted = set()
@@ -99,6 +98,13 @@ class World(Trial):
         self.whole_backups = {}
         # the names that machines had before and have since, in their order
         self.renamed = []
+        # mail and a clone of web send entries of web's, once these are web's
+        for source in (first, second):
+            source.grow(1)
+            self.deliver("web", source.make(0, 1)[2])
+        self.collect("once")
+        self.machines["clone"] = [Thief(first, "clone", is_clone=True)]
+        self.machines["mail"].insert(0, Thief(second, "mail", is_clone=False))
 
     def __exit__(self, *error: object) -> None:
         os.environ["PATH"] = self.path
@@ -399,7 +405,7 @@ class World(Trial):
             sent = 0
             self.take_answers()
             for machine, sources in self.machines.items():
-                for source in sources:
+                for source in (each for each in sources if not isinstance(each, Thief)):
                     made = source.make(source.acked, 1000)
                     if made:
                         self.deliver(machine, made[2])
@@ -422,7 +428,7 @@ class World(Trial):
             self.expect("digests", (told.stdout, told.returncode), (b"", 0))
         missing = 0
         for sources in self.machines.values():
-            for source in sources:
+            for source in (each for each in sources if not isinstance(each, Thief)):
                 self.expect(f"{source.machine}: acknowledged", source.acked, len(source.entries))
                 for sequence, number, message in source.entries:
                     stored = found.get((sequence, number), [])

@@ -19,11 +19,13 @@ ROWS: Rows = Rows()
 OTHER = "30" * 16
 # Numbers of one window: so many, from a multiple of it on.
 WINDOW = 4096
+# The window that says whose a sequence is.
+OWNER = str(2**63 // WINDOW)
 
 
 def windows(case: Case, sequence: str = SEQUENCE) -> list[str]:
-    """The windows of a sequence that have notes."""
-    return sorted(name for name in os.listdir(case.path("sequences", sequence)) if name.isdigit())
+    """The windows of a sequence that have notes of entries."""
+    return sorted(name for name in os.listdir(case.path("sequences", sequence)) if name.isdigit() and name != OWNER)
 
 
 # Made anew ------------------------------------------------------------------------------------------------------------
@@ -94,8 +96,8 @@ def database_that_a_kill_left(row: Row, case: Case) -> None:
     os.unlink(case.path("databases", "d-2.db.sha256"))
     shutil.rmtree(case.path("sequences"))
     shutil.copytree(f"{case.base}/before", case.path("sequences"))
-    case.store(upload(entries(6, 9), name=OTHER), "mail")
-    row.expect("the answer", (case.answers("mail")[0], case.numbers()), (f"ack {OTHER} 0 4 0 0", list(range(1, 10))))
+    case.store(upload(entries(6, 9), name=OTHER))
+    row.expect("the answer", (case.answers()[0], case.numbers()), (f"ack {OTHER} 0 4 0 0", list(range(1, 10))))
 
 
 def make_database(case: Case, name: str, given: bytes) -> None:
@@ -203,7 +205,7 @@ def days_of_notes(row: Row, case: Case) -> None:
     row.expect("what the other one has", case.answers()[0], f"ack {SOURCE} 5 10 0 0")
     case.later(days=5.1)
     case.collect()
-    row.expect("all are over", os.listdir(case.path("sequences")), [])
+    row.expect("all are over", (os.listdir(case.path("sequences")), os.listdir(case.path("windows"))), ([], []))
 
 
 # Several processes ----------------------------------------------------------------------------------------------------
@@ -211,21 +213,24 @@ def days_of_notes(row: Row, case: Case) -> None:
 
 @ROWS.once
 def clones_and_several_collectors(row: Row, case: Case) -> None:
-    """Machines with one sequence, whose uploads go to several collectors: each of its entries is stored once, and none
-    is left."""
+    """Two machines have each sequence, whose uploads go to several collectors: it is one's, whose entries are stored
+    once each, and of the other one nothing is."""
     case.set(COLLECTORS=4, POLL_SECONDS="0.02", TURN_BYTES=20000)
     service = begin(case)
     names = [f"machine-{number}" for number in range(6)]
+    sent: dict[str, set[tuple[str, int]]] = {name: set() for name in names}
     for turn in range(4):
         for number, name in enumerate(names):
-            first, count = 1 + 40 * turn + 5 * number, 60 if number % 2 else 300
-            case.receive(upload(entries(first, first + count), start=first - 1, name=source(number + 1)), name)
+            first, last = 1 + 40 * turn, 60 + 40 * turn + 240 * (number % 2)
+            sequence = source(number // 2)
+            sent[name] |= {(sequence, each) for each in range(first, last + 1)}
+            case.receive(upload(entries(first, last, sequence), start=first - 1, name=source(number + 1)), name)
         wait_for(row, lambda: not any("waits" in line for name in names for line in case.answers(name)))
     said = stop(row, case, service)
-    row.expect("failures", [line for line in said.splitlines() if "a gap" not in line and "stored" not in line], [])
-    last = 1 + 40 * 3 + 5 * 5 + 300
-    row.expect("stored", case.numbers(), list(range(1, max(last - 5 + 1, max(case.numbers()) + 1))))
-    row.expect("each once", max(case.stored().values()), 1)
+    row.expect("failures", [line for line in said.splitlines() if " 71 0: the sequence " not in line], [])
+    own = [name for name in names if case.answers(name)[0].startswith("ack ")]
+    row.expect("one of each two", [int(name[-1]) // 2 for name in own], [0, 1, 2])
+    row.expect("stored", case.stored(), dict.fromkeys(set().union(*(sent[name] for name in own)), 1))
 
 
 @ROWS.once

@@ -3,14 +3,17 @@
 The collector's programs are there. Each row is tried with all in one database, and with another one each time.
 """
 import glob
+import hashlib
 import itertools
 import os
 import re
 import shutil
 import signal
+import struct
 import subprocess
 
 from deployed import Deployed
+from exported import read
 from one_machine import PROGRAM
 from trial_rows import Row, Rows
 
@@ -27,11 +30,11 @@ def entry(seqnum_id: str, number: int, realtime: int, message: str, field: str =
             f"{field}MESSAGE={message}\n\n").encode()
 
 
-def upload_by_hand(machine: Deployed, name: str, source: str, text: bytes) -> None:
-    """Somebody else sends these entries."""
+def upload_by_hand(machine: Deployed, source: str, text: bytes, name: str = "") -> None:
+    """Somebody else sends these entries, with the machine's key or with one of another name."""
     head = b"JCUPLD01\1" + bytes(7) + bytes.fromhex(source) + bytes(16)
     words = machine.environment["FORCED_COMMAND"].split()
-    subprocess.run([words[0], name, words[2]], input=head + text, check=True, stderr=subprocess.DEVNULL,
+    subprocess.run([words[0], name or words[1], words[2]], input=head + text, check=True, stderr=subprocess.DEVNULL,
                    env={**machine.whole_environment(), "SSH_ORIGINAL_COMMAND": "upload"})
     machine.store()
 
@@ -61,7 +64,7 @@ def taken_key(row: Row, machine: Deployed) -> None:
     machine.journal.grow(2)
     machine.settle()
     own = machine.journal.seqnum_id
-    upload_by_hand(machine, "other", "a" * 32, entry(own, 5, 1, "not this one"))
+    upload_by_hand(machine, "a" * 32, entry(own, 5, 1, "not this one"))
     machine.journal.grow(20)
     told = machine.settle()
     machine.journal.grow(3)
@@ -76,14 +79,53 @@ def taken_key(row: Row, machine: Deployed) -> None:
         (forks[0][1], number) for number in range(5, 26)})
 
 
+@ROWS.each
+def sequence_of_another_machine(row: Row, machine: Deployed) -> None:
+    """Another machine has brought an entry of this one's sequence before it: all of the sequence goes on under another
+    id, which is told once, and nothing waits. What is sent again then is stored already."""
+    own = machine.journal.seqnum_id
+    upload_by_hand(machine, "a" * 32, entry(own, 5, 1, "not this one"), "other")
+    machine.journal.grow(20)
+    told = machine.settle()
+    machine.journal.grow(3)
+    told += machine.settle()
+    said = "".join(text for _, text in told)
+    forks = FORKED.findall(said)
+    row.expect("what is told", [(sequence, number) for sequence, _, number in forks], [(own, "1")])
+    row.expect("statuses", sorted(status for status, _ in told)[-2:], [0, 1])
+    each_once(row, machine, logged_of(machine))
+    machine.send("--again", "@0")
+    told = machine.settle()
+    row.expect("again", (told[-1][0], FORKED.findall("".join(text for _, text in told))), (0, []))
+    each_once(row, machine, logged_of(machine))
+
+
+@ROWS.each
+def again_of_another_machine(row: Row, machine: Deployed) -> None:
+    """What is sent again is of a sequence that is another machine's by now: it goes on in a fork, and isn't put aside
+    entry by entry."""
+    machine.journal.grow(6)
+    machine.settle()
+    machine.end_service()
+    with open(f"{machine.collector}/sequences/{machine.journal.seqnum_id}/{2**63 // 4096}", "wb") as file:
+        file.write(struct.pack("<BQ32s", 1, 2**63, hashlib.sha256(b"other").digest()))
+    _, said = machine.send("--again", "@0")
+    machine.store()
+    told = machine.settle()
+    said += "".join(text for _, text in told)
+    row.expect("what is told", (len(FORKED.findall(said)), "an entry was refused" in said, told[-1][0]), (1, False, 0))
+    row.expect("files", os.path.exists(f"{machine.folder}/refused"), False)
+    row.expect("entries that aren't stored", logged_of(machine) - set(messages(machine)), set())
+
+
 @ROWS.once
 def taken_fork(row: Row, machine: Deployed) -> None:
     """A key of a fork is taken, too: the fork is forked."""
     own = machine.journal.seqnum_id
-    upload_by_hand(machine, "other", "a" * 32, entry(own, 2, 1, "not this one"))
+    upload_by_hand(machine, "a" * 32, entry(own, 2, 1, "not this one"))
     machine.journal.grow(4)
     forks = FORKED.findall("".join(text for _, text in machine.settle()))
-    upload_by_hand(machine, "other", "b" * 32, entry(forks[0][1], 6, 1, "nor this one"))
+    upload_by_hand(machine, "b" * 32, entry(forks[0][1], 6, 1, "nor this one"))
     machine.journal.grow(4)
     forks += FORKED.findall("".join(text for _, text in machine.settle()))
     row.expect("forks", [(sequence, number) for sequence, _, number in forks], [(own, "2"), (forks[0][1], "6")])
@@ -101,7 +143,7 @@ def again(row: Row, machine: Deployed) -> None:
         os.unlink(path)
     machine.one_database = True
     own = machine.journal.seqnum_id
-    upload_by_hand(machine, "other", "a" * 32, entry(own, 3, 1, "not this one"))
+    upload_by_hand(machine, "a" * 32, entry(own, 3, 1, "not this one"))
     status, said = machine.send("--again", "@0")
     row.expect("status", (status, "again" in said), (0, True))
     machine.store()
@@ -110,6 +152,8 @@ def again(row: Row, machine: Deployed) -> None:
     row.expect("what is told", (said.count("an entry was refused with 60"), FORKED.findall(said)), (1, []))
     row.expect("the status in the end", told[-1][0], 0)
     row.expect("a file", os.listdir(f"{machine.folder}/refused"), [f"{own}-3.export"])
+    with open(f"{machine.folder}/refused/{own}-3.export", "rb") as file:
+        row.expect("what it has", set(read(file.read())), {key for key in machine.journal.keys() if key[1] == 3})
     stored = {message for _, message in messages(machine)}
     row.expect("what isn't stored", {message for _, message in logged_of(machine)} - stored,
                {key[3] for key in machine.journal.keys() if key[:2] == (own, 3)})
@@ -167,12 +211,25 @@ def set_back_within_a_boot(row: Row, machine: Deployed) -> None:
 @ROWS.each
 def two_clones(row: Row, machine: Deployed) -> None:
     """Two machines go on from one disk, under one name, and each logs by itself. HOURS=24 is a day of them."""
+    clone(row, machine, "web")
+
+
+@ROWS.each
+def clone_under_another_name(row: Row, machine: Deployed) -> None:
+    """The same, but the clone has a key of its own: the sequence is the first one's, and the clone's goes on in a
+    fork."""
+    clone(row, machine, "twin")
+
+
+def clone(row: Row, machine: Deployed, name: str) -> None:
+    """A machine and its clone send, and each entry of both is stored once."""
     machine.journal.grow(10)
     machine.settle()
     logged = logged_of(machine)
     machine.snapshot("s")
     twin = Deployed(machine.library, machine.one_database, beside=machine)
     twin.store = machine.store  # type: ignore[method-assign]
+    twin.known_as(name)
     os.rename(f"{machine.base}/s", twin.folder)
     twin.journal = machine.copy_of("s")
     for number, each in enumerate((machine, twin)):
@@ -193,6 +250,38 @@ def two_clones(row: Row, machine: Deployed) -> None:
 
 
 @ROWS.once
+def an_answer_to_a_clone(row: Row, machine: Deployed) -> None:
+    """Two machines go on from one memory, so within one boot: they append to one stream, and send as much. An upload of
+    one is cut off, or waits, while the other one's is answered: it takes none of that for its own."""
+    machine.one_database = False
+    for fault in ("cut", "waits"):
+        machine.journal.grow(5)
+        machine.settle()
+        machine.snapshot(fault)
+        twin = Deployed(machine.library, False, beside=machine)
+        os.rename(f"{machine.base}/{fault}", twin.folder)
+        shutil.copy(machine.boot_file, twin.boot_file)
+        twin.journal = machine.copy_of(fault)
+        twin.journal.realtime += 10**9
+        for each in (machine, twin):
+            each.journal.grow(3)
+        logged = logged_of(machine) | logged_of(twin)
+        twin.send(**{"FAULT": "cut:1:100", "SSH_CALLS": f"{twin.base}/call"} if fault == "cut" else {})
+        waiting = glob.glob(f"{machine.collector}/incoming/*.upload")
+        row.expect(f"{fault}: what came", len(waiting), int(fault == "waits"))
+        for path in waiting:
+            os.rename(path, f"{twin.base}/upload")
+        machine.send()
+        machine.store()
+        for path in waiting:
+            os.rename(f"{twin.base}/upload", path)
+        told = [status for each in (twin, machine) * 2 for status, _ in each.settle()]
+        row.expect(f"{fault}: statuses", (max(told), told[-1]), (1, 0))
+        row.expect(f"{fault}: what isn't stored", logged - set(messages(machine)), set())
+        shutil.rmtree(twin.base)
+
+
+@ROWS.once
 def forked_while_it_is_killed(row: Row, machine: Deployed) -> None:
     """The run that forks a sequence is killed at each moment, from its first step to its end: nothing is lost or stored
     twice, and the fork is told."""
@@ -202,7 +291,7 @@ def forked_while_it_is_killed(row: Row, machine: Deployed) -> None:
         machine.settle()
         number = machine.journal.seqnum
         taken = entry(in_force(machine, own, number), number + 2, 1, f"{stop}")
-        upload_by_hand(machine, "other", f"{stop:032x}", taken)
+        upload_by_hand(machine, f"{stop:032x}", taken)
         machine.journal.grow(5)
         machine.send()
         machine.store()

@@ -65,7 +65,8 @@ def another_user(row: Row, case: Case) -> None:
     os.mkdir(case.folder)
     nobody = pwd.getpwnam("nobody")
     os.chown(case.folder, nobody.pw_uid, nobody.pw_gid)
-    for words in (["--once"], ["--forget", "web", SOURCE], ["--rename", "a", "b"], ["--passed", "1"], ["--moved", "d"],
+    for words in (["--once"], ["--forget", "web", SOURCE], ["--rename", "a", "b"], ["--release", SOURCE],
+                  ["--passed", "1"], ["--moved", "d"],
                   ["--backup", f"{case.base}/backup"], ["--restore", f"{case.base}/backup"]):
         status, said = case.collect(*words)
         call = f"runuser -u nobody -- {case.library}/collect-incoming {' '.join(words)} {case.conf}\n"
@@ -103,7 +104,7 @@ def unit(row: Row, case: Case) -> None:
 @ROWS.once
 def words_that_cannot_be(row: Row, case: Case) -> None:
     """A call that isn't one is told how it is."""
-    for words in (["--nothing"], ["--once", "--check"], ["--rename", "web"], ["--forget", "web", "x"],
+    for words in (["--nothing"], ["--once", "--check"], ["--rename", "web"], ["--forget", "web", "x"], ["--release"],
                   ["--passed", "-1"], ["--passed", "x"], ["--moved", ""], ["--backup"], ["--once", case.conf]):
         status, _, said = case.call("collect-incoming", *words, case.conf)
         row.expect(f"{words}", (status, said.startswith("collect-incoming: ")), (2, True))

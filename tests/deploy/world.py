@@ -7,11 +7,12 @@ round of EACH, in which they are begun as they are installed. In each round jour
 sequences, have their clocks set, and get entries that are too large or damaged; some machines send and the collector
 collects, at the same time. Some of these runs are stopped by SIGKILL, at a random moment or before one of their
 commands; find a full disk, or one that has room for no more files; lose their connection; or are started twice. If the
-collector compares keys, machines are also set back to snapshots and cloned, and collector_events.py has what becomes of
-the collector. Afterwards some undisturbed rounds follow. Then each entry that a journal still had when a gathering ran
-to its end is in the databases, once unless its machine was set back or cloned; what journald removed of a file that was
-seen before was told as a gap; each machine has its newest stream alone, with nothing to send; the collector has nothing
-that waits; and no file was ever one that others may read.
+collector compares keys, machines are also set back to snapshots and cloned, under their names and under others, and
+collector_events.py has what becomes of the collector. Afterwards some undisturbed rounds follow. Then each entry that a
+journal still had when a gathering ran to its end is in the databases, once unless its machine was set back or cloned.
+If the collector lost it, and another entry has its key by then, it may be put aside instead, which is told. What
+journald removed of a file that was seen before was told as a gap; each machine has its newest stream alone, with
+nothing to send; the collector has nothing that waits; and no file was ever one that others may read.
 """
 from __future__ import annotations
 
@@ -39,6 +40,8 @@ from stock import IS_HERE, stock  # noqa: E402
 from trial import PROGRAM, TABLES, Trial, first_seed  # noqa: E402
 
 FORKED = re.compile(r"forked: ([0-9a-f]{32}) goes on as ([0-9a-f]{32}) from entry [0-9]+")
+PUT_ASIDE = re.compile(r"an entry was refused with 60, and the others go on without it: __SEQNUM=([0-9]+) "
+                       r"__SEQNUM_ID=([0-9a-f]{32}); its text is(n't kept)?")
 BROKEN = ("unbound variable", "syntax error", "expected", "command not found", "Traceback", "integer")
 JOURNALCTL = """#!/bin/sh
 if [ "$1" = --version ]; then echo "systemd $SYSTEMD ($SYSTEMD.1)"; exit; fi
@@ -67,6 +70,8 @@ class World(Trial):
         self.gaps: set[str] = set()
         # Which sequence goes on as which, as machines told it.
         self.forks: dict[str, str] = {}
+        # Entries that machines told to be put aside, under the keys that were taken.
+        self.put_aside: set[Key] = set()
         self.snapshots: dict[str, tuple[str, Journal]] = {}
         self.doubled: set[Key] = set()
         self.kinds: collections.Counter[str] = collections.Counter()
@@ -189,9 +194,10 @@ class World(Trial):
                 if entry[0] <= (self.deployment.gathered_of(name, file.file_id) or 0)}
 
     def clone(self, name: str) -> None:
+        """A clone has the machine's key, or one of its own: then what it has of the machine's sequences is refused."""
         folder, journal = self.snapshots[name]
-        twin = f"{name}+{len(self.journals)}"
-        self.deployment.add_machine(twin, self.deployment.names[name])
+        twin = f"clone-{len(self.journals)}"
+        self.deployment.add_machine(twin, self.dice.choice((self.deployment.names[name], twin)))
         if os.path.exists(folder):
             shutil.copytree(folder, self.deployment.folders[twin])
         self.journals[twin] = journal.copy_to(os.path.join(self.folder(), "journal"))
@@ -221,6 +227,22 @@ class World(Trial):
         if run.name in self.journals and self.deployment.gathered(status, errors):
             # what was removed while the run went on need not have been gathered
             self.expected |= began & self.journals[run.name].keys()
+        if self.events.counts["restores"] and run.name in self.journals:
+            self.note_put_aside(run.name, status, errors)
+
+    def note_put_aside(self, name: str, status: int, errors: str) -> None:
+        """What a machine sends again, since the collector lost it, is refused if an entry of a clone has its key by
+        then. That doesn't fork the sequence, which would store all that follows twice: the entry is named with status
+        1, and its text is kept while there is room."""
+        for number, sequence, is_gone in PUT_ASIDE.findall(errors):
+            self.expect(f"{errors}: {status}: status", status in (1, 3, -signal.SIGKILL), True)
+            path = os.path.join(self.deployment.folders[name], "refused", f"{sequence}-{number}.export")
+            if is_gone:
+                own = self.own(sequence), int(number)
+                self.put_aside |= {(sequence, *entry[1:]) for entry in self.journals[name].keys() if entry[:2] == own}
+            elif self.expect(f"{path}: a text that is kept", os.path.exists(path), True):
+                with open(path, "rb") as file:
+                    self.put_aside.update(read(file.read()))
 
     def round(self) -> None:
         dice = self.dice
@@ -304,18 +326,25 @@ class World(Trial):
 
     def stored(self) -> list[Key]:
         """Each stored entry, as often as it is in a database."""
-        entries = []
+        return [self.own_entry(entry) for entry in self.exported()]
+
+    def exported(self) -> list[Key]:
+        """The same, under the keys that databases have."""
+        entries: list[Key] = []
         for database in self.deployment.databases():
             told = subprocess.run([PROGRAM, "export", database], capture_output=True, check=False)
             if told.stderr == f"cannot open {database}\n".encode() and not (IS_HERE and stock(database, TABLES)):
                 continue  # a run was stopped while it made this one
             self.expect(f"{told.stderr}: a database that can't be exported", told.returncode, 0)
-            entries += self.entries_of(told.stdout)
+            entries += read(told.stdout)
         return entries
 
     def entries_of(self, text: bytes) -> Iterator[Key]:
         """The entries of an export, under their own keys also if they are of a fork."""
-        return ((self.own(key[0]), *key[1:]) for key in read(text))
+        return map(self.own_entry, read(text))
+
+    def own_entry(self, entry: Key) -> Key:
+        return self.own(entry[0]), *entry[1:]
 
     def own(self, seqnum_id: str) -> str:
         """The sequence that was forked, and perhaps was a fork itself."""
@@ -324,8 +353,11 @@ class World(Trial):
         return seqnum_id
 
     def look(self) -> int:
-        stored = self.stored()
-        lost = self.expected - set(stored)
+        exported = self.exported()
+        stored = [self.own_entry(entry) for entry in exported]
+        taken = {entry[:2] for entry in exported}
+        told = {self.own_entry(entry) for entry in self.put_aside if entry[:2] in taken}
+        lost = self.expected - set(stored) - told
         whose = {name: sum(entry in journal.own for entry in lost) for name, journal in self.journals.items()}
         self.expect(f"{whose}, {sorted(lost)[:2]}: entries that are in no database", len(lost), 0)
         made = set().union(*(journal.made for journal in self.journals.values()))
