@@ -232,6 +232,13 @@ class Printer:
         if told := " ".join(filter(None, (clause.comment, named and f"{named}."))):
             yield from wrapped(f"  - {begins}{told}", "    ")
 
+    def asked(self, crate: str, module: Module, clause: Clause) -> Iterator[str]:
+        """What a caller has to see to, word by word."""
+        text = f"`{' '.join(clause.text.strip(' {}').split())}`"
+        new = [it for it in self.definitions(crate, module, clause.text) if " in " in it]
+        told = " ".join(filter(None, (clause.comment, f"{text}." if not new else f"{text}, with {', '.join(new)}.")))
+        yield from wrapped(f"  - *Asks*: {told}", "    ")
+
     def function(self, crate: str, module: Module, function: Function, alone: bool) -> Iterator[str]:
         """A function with its clauses."""
         if (trait := function.path.split(" ")[1:2]) and trait[0] in self.traits:
@@ -241,10 +248,8 @@ class Printer:
         brackets = f" ({names or 'unnamed'})" if function.clauses else ""
         told = f"**`{function.path}`**{brackets}" + (", *here alone*" if alone else "")
         yield from wrapped(f"- {told}" + (f": {function.comment}" if function.comment else ""), "  ")
-        if function.asked:
-            asked = Clause("", " ".join(filter(None, (it.comment for it in function.asked))),
-                           " ".join(it.text for it in function.asked))
-            yield from self.clause(crate, module, asked, "*Asks*: ")
+        for asked in function.asked:
+            yield from self.asked(crate, module, asked)
         for clause in function.clauses:
             yield from self.clause(crate, module, clause, f"`{clause.name}`: " if clause.name else "")
 
