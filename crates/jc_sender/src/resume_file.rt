@@ -9,10 +9,18 @@ use jc_upload::Resume;
 use std::alloc::Global;
 use std::io::{Read, Write};
 use std::rt::Files;
+use std::snapshot::Snapshot;
 use std::{fs, io};
 
 /// More bytes than a resume point's text has.
 const TEXT: u64 = 129;
+
+/// A new file, empty, and as it then took the old one's place, which proofs alone see.
+#[derive(Drop)]
+pub struct NewFile<W: Write> {
+    pub empty: Snapshot<W>,
+    pub whole: Snapshot<W>,
+}
 
 /// The resume point in the file at `path`: position 0 if there is no such file.
 pub fn read_resume<'a, R: Files + AllocGlobal>(rt: &R, path: &'a str) -> Result<Resume, Failure<'a>>
@@ -46,13 +54,19 @@ pub fn write_resume<'a, R: Files + AllocGlobal>(
     rt: &R,
     path: &str,
     resume: &Resume,
-) -> Result<(), Failure<'a>>
-    ensures { IfErr result (λ failure. (failure ≡ Failure.WriteFailed) ⊎ (failure ≡ Failure.OutOfMemory)) }
+) -> Result<NewFile<R::File>, Failure<'a>>
+    // What the new file gained is the text of this point.
+    ensures whole { IfOk result (λ file.
+        Appends (R.File.contents file.empty.value) (R.File.contents file.whole.value) (resume_text resume.now)) }
+    ensures failed { IfErr result (λ failure. (failure ≡ Failure.WriteFailed) ⊎ (failure ≡ Failure.OutOfMemory)) }
 {
     let beside = name_beside(rt.alloc(), path)?;
     let mut file = create_file(rt, beside.as_str())?;
+    let empty = Snapshot::of(&file);
     let written = put_point(rt.alloc(), &mut file, resume);
-    put_in_place(rt, &file, beside.as_str(), path, written)
+    let whole = Snapshot::of(&file);
+    put_in_place(rt, &file, beside.as_str(), path, written)?;
+    Ok(NewFile { empty, whole })
 }
 
 /// Writes the text of a resume point, and all of it.
