@@ -94,18 +94,18 @@ class CollectNoted(Sweep):
                 return True
         if len(lines) < len(self.uploads):
             may_be.fail(self.uploads[len(lines)])
-        self.ends(what, folder, told, lines)
+        self.ends(what, told, lines)
         self.trial.expect(f"{what}: status", status, 3 if errors else status_of(lines))
         self.left(what, folder, may_be)
         return told != self.usual
 
-    def ends(self, what: str, folder: str, told: tuple[bytes, str, int], lines: Sequence[str]) -> None:
-        """A run answers all, or is stopped; other words may say that its database or its folder of notes isn't opened
-        for want of memory."""
+    def ends(self, what: str, told: tuple[bytes, str, int], lines: Sequence[str]) -> None:
+        """A run answers all, or is stopped; of its database another word may say that it isn't opened for want of
+        memory."""
         errors, has_failed = told[1], status_of(lines) == 3
         usual = {"", "store failed\n"} if has_failed else {""}
-        not_opened = {"store failed\n", f"cannot open {os.path.join(folder, 'sequences')}\n"}
-        may_be = {REFUSED[1]} | (set() if lines else not_opened) | (usual if len(lines) == len(self.uploads) else set())
+        not_opened = set() if lines else {"store failed\n"}
+        may_be = {REFUSED[1]} | not_opened | (usual if len(lines) == len(self.uploads) else set())
         self.trial.expect(f"{what}: {told}", errors in may_be, True)
 
     def left(self, what: str, folder: str, may_be: MayBe) -> None:

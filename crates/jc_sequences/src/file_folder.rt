@@ -13,6 +13,7 @@ use jc_keeper::KeepStop;
 use jc_ledger_files::{Folder, Found, WindowName};
 use sqlite_disk::Disk;
 use sqlite_std_file::{File, OpenError};
+use std::io;
 
 /// A folder in which each sequence has a folder, and each of its windows a file in that one. `F` stands for what these
 /// files have as they are opened.
@@ -50,6 +51,9 @@ impl<'a, F: Found> FileFolder<'a, F> {
     {
         match error {
             OpenError::OutOfMemory => KeepStop::OutOfMemory,
+            OpenError::Io(error) if error.kind() == io::ErrorKind::OutOfMemory => {
+                KeepStop::OutOfMemory
+            }
             _closed => {
                 self.failures = self.failures.saturating_add(1);
                 KeepStop::StoreFailed

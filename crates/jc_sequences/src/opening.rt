@@ -1,6 +1,6 @@
 //! Notes of sequences, opened.
 
-ghost use Rattle.std.specs.Prelude.{◌≡◌, ◌↔◌, IfErr, IfOk};
+ghost use Rattle.std.specs.Prelude.{◌≡◌, ◌↔◌, ◌⊎◌, IfErr, IfOk};
 ghost use Rattle.jc_base.specs.declared.id.Id128.{Id128};
 ghost use Rattle.jc_base.specs.declared.id.Key.{Key};
 ghost use Rattle.jc_base.specs.LogEntry.{LogEntry};
@@ -34,10 +34,14 @@ pub fn open_sequences<'a, 'p, F: Found, A: Arrivals>(
     // ... and so is whom sequences belong to. Windows of owners are behind those of all entries.
     ensures owner { IfOk result (λ ledger. (s : Id128) → ⟦<FileSequences<'a, F, A> as Ledger>⟧.owner ledger s ≡ owner_in (λ w. notes_of (F.found w)) s) }
     ensures came { IfOk result (λ ledger. (e : LogEntry) → ⟦<FileSequences<'a, F, A> as Ledger>⟧.came ledger e ↔ A.before e) }
-    ensures failed { IfErr result (λ failure. failure ≡ Failure.CannotOpen path.entry) }
+    ensures failed { IfErr result (λ failure. (failure ≡ Failure.CannotOpen path.entry) ⊎ (failure ≡ Failure.OutOfMemory)) }
 {
-    let Ok((windows, owners)) = have_folder(rt, path) else {
-        return Err(Failure::CannotOpen(path));
+    let (windows, owners) = match have_folder(rt, path) {
+        Ok(paths) => paths,
+        Err(error) if error.kind() == io::ErrorKind::OutOfMemory => {
+            return Err(Failure::OutOfMemory);
+        }
+        Err(_) => return Err(Failure::CannotOpen(path)),
     };
     let windows = DiskWindows::new(rt.alloc(), FileFolder::new(rt, windows));
     let owners = DiskWindows::new(rt.alloc(), FileFolder::new(rt, owners));
