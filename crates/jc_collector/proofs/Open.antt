@@ -1,5 +1,5 @@
 -- The answers of a run over a database that it has open.
-use Rattle.std.proofs.Common.{◌≡◌, ℕ, zero, suc, ◌≤◌, ◌-◌, List, [], ◌∷◌, ◌++◌, Option, Result, Ok, Err, inl, ⊎_elim, length, take, sym, subst, subst₂, ◌∙◌, append-nil, arith}
+use Rattle.std.proofs.Common.{◌≡◌, ℕ, zero, suc, ◌≤◌, ◌-◌, List, [], ◌∷◌, ◌++◌, Option, None, Some, Result, Ok, Err, inl, ⊎_elim, length, take, sym, subst, subst₂, ◌∙◌, append-nil, arith}
 use Rattle.std.specs.Prelude.{IfOk, IfErr, OnOk, ⊤}
 use Rattle.std.specs.Io.KnownBytes.{Appends}
 use Rattle.std.proofs.lemmas.List.{length-append, take_all}
@@ -67,6 +67,14 @@ front_of_all H answers old new printed holds = record {
   printed = subst (λ (l : List ℕ). Appends old new l) (sym (append-nil (lines_of_answers answers))) printed;
   holds = subst H (sym (append-nil answers)) holds;
 }
+
+nothing_more : (known : Option (List ℕ)) → Appends known known []
+nothing_more None = tt
+nothing_more (Some bytes) = sym (append-nil bytes)
+
+-- nothing was printed
+pub front_none : (H : List Answer → Type 0) (known : Option (List ℕ)) → H [] → PrintsFront H known known
+front_none H known holds = record { answers = []; more = []; one = omega arith; bytes = 0; printed = nothing_more known; holds = holds }
 
 pub front_with : (H : List Answer → Type 0) (count : ℕ) (r : Result Status Failure) (old new : Option (List ℕ))
     → IfOk r (λ status. PrintsWith H count status old new) → IfErr r (λ _. PrintsFront H old new) → PrintsFront H old new

@@ -1,6 +1,6 @@
 //! `collect --sequences`: uploads that a list names, taken up into the union of finished databases and the present one.
 
-ghost use Rattle.std.specs.Prelude.{◌≡◌, ◌≢◌, ◌⊎◌, ◌∷◌, [], IfOk, IfErr};
+ghost use Rattle.std.specs.Prelude.{◌≡◌, ◌≢◌, ◌⊎◌, ◌∷◌, [], IfOk, IfErr, OnOk};
 ghost use Rattle.std.specs.Io.KnownBytes.{Keeps as KeepsBytes};
 ghost use Rattle.sqlite.specs.Files.{over_files};
 ghost use Rattle.sqlite.specs.WalFiles.{image_at};
@@ -8,10 +8,14 @@ ghost use Rattle.sqlite.specs.WalReads.{AreClean};
 ghost use Rattle.jc_base.specs.Journal.{Journal};
 ghost use Rattle.jc_command_shared.specs.Failure.{status_of};
 ghost use Rattle.jc_collector_answers.specs.Named.{PrintsNamed};
+ghost use Rattle.jc_collector_answers.specs.Tied.{NamedWith, PrintsFront};
 ghost use Rattle.jc_database.specs.Files.{EndsWith, Keeps};
 ghost use Rattle.jc_ledger.specs.Kept.{NoneCollide};
 ghost use Rattle.jc_ledger.specs.Lagging.{MayCatchUp};
-ghost use Rattle.jc_store.specs.Meaning.{IsSound};
+ghost use Rattle.jc_store.specs.Crash.{MayLeave};
+ghost use Rattle.jc_store.specs.Meaning.{IsSound, journal_of};
+ghost use Rattle.jc_union.specs.Noted.{HoldsNoted};
+ghost use Rattle.jc_union.specs.Opened.{MayOpen};
 ghost use Rattle.jc_collector.specs.Database.{DatabaseFailsBy};
 ghost use Rattle.jc_collector.specs.IntoUnion.{LeadsIf, StoresNotedListed, StoresNotedNames, UnionFailsBy, UnionStopsBy};
 ghost use Rattle.jc_collector.specs.Listed.{PrintsListed};
@@ -22,14 +26,20 @@ use crate::then_export::{check_export, export_after};
 use jc_collector_answers::{NameLines, answer_names};
 use jc_command_args::Tables;
 use jc_command_shared::{Failure, Status, open_file};
+use jc_keeper::Keeper;
 use jc_ledger::{Ledger, Past};
 use jc_schema_three::SchemaThree;
 use jc_schema_two::SchemaTwo;
 use jc_store::Listed;
-use jc_union::{NotedRun, close_union, open_union, why_no_union};
+use jc_union::{
+    AnsweredUnion, NotedRun, OpenedUnion, TableUnion, close_union, open_union, why_no_union,
+};
 use sqlite::{FileFrom, FileStore, Start};
 use sqlite_disk::Disk;
 use std::io::{BufRead, BufReader, Read, Write};
+
+/// The keeper of a union whose present database is in files.
+type FilesUnion<S, T, L, P> = TableUnion<FileStore<FileFrom<S>>, T, L, P>;
 
 /// Takes the uploads that the lines of a list name up into the union of the databases that are finished and the present
 /// one, which is made if there is none, and prints an answer for each line. The list, the export and the status are as
@@ -205,13 +215,86 @@ fn join_over<
     ensures untouched { IfErr result (λ failure. status_of failure ≢ Status.Failed
         → KeepsBytes (O.contents output.old) (O.contents output.new)) }
 {
-    let opened = open_union::<FileStore<FileFrom<S>>, T, L, P>(rt.alloc(), present, ledger);
-    let mut union = match opened {
-        Ok(union) => union,
-        Err(stop) => return Err(why_no_union(stop)),
-    };
-    let lines = NameLines::MachinesAndUploads;
-    let answered = answer_names(rt, &mut union, names, lines, output, errors);
-    let done = export_after(rt, &mut union.present, answered, then_export);
-    close_union(union, done)
+    let AnsweredUnion { answered, union } = join_open::<S, T, L, P, _, _, _>(
+        rt,
+        present,
+        ledger,
+        then_export,
+        names,
+        output,
+        errors,
+    );
+    close_union(union, answered)
+}
+
+/// All of it before the present database is closed: the union is opened, the uploads are taken up, and the present
+/// database's journal is exported, if a path is given. What a crash leaves of a run is what it leaves of this union.
+fn join_open<
+    'a,
+    S: Start,
+    T: Listed + Drop,
+    L: Ledger + Drop,
+    P: Past,
+    N: BufRead,
+    O: Write,
+    E: Write,
+>(
+    rt: &HostRuntime,
+    present: FileKeeper<S, T>,
+    ledger: L,
+    then_export: Option<&'a str>,
+    names: &mut N,
+    output: &mut O,
+    errors: &mut E,
+) -> AnsweredUnion<'a, FilesUnion<S, T, L, P>>
+    // What the printed lines acknowledge is stored and noted, and found after a crash.
+    ensures each { ⟦<FilesUnion<S, T, L, P> as Keeper>⟧.clean result.union
+        → MayOpen T.meaning over_files present.conn (L.known ledger) P.journal (L.came ledger) → L.sound ledger
+        → IfOk result.answered (λ status. NamedWith
+        (HoldsNoted P.journal (journal_of T.meaning over_files present.conn) (journal_of T.meaning over_files result.union.present.conn)
+        (⟦<FilesUnion<S, T, L, P> as Keeper>⟧.sound result.union) (L.known result.union.ledger) (L.came result.union.ledger)
+        (MayLeave T.meaning over_files result.union.present.conn) (L.may_leave result.union.ledger))
+        (N.remaining names.old) status (O.contents output.old) (O.contents output.new)) }
+    // ... what those acknowledge that were printed before a failure, too.
+    ensures each_failed { ⟦<FilesUnion<S, T, L, P> as Keeper>⟧.clean result.union
+        → MayOpen T.meaning over_files present.conn (L.known ledger) P.journal (L.came ledger) → L.sound ledger
+        → IfErr result.answered (λ _. PrintsFront
+        (HoldsNoted P.journal (journal_of T.meaning over_files present.conn) (journal_of T.meaning over_files result.union.present.conn)
+        (⟦<FilesUnion<S, T, L, P> as Keeper>⟧.sound result.union) (L.known result.union.ledger) (L.came result.union.ledger)
+        (MayLeave T.meaning over_files result.union.present.conn) (L.may_leave result.union.ledger))
+        (O.contents output.old) (O.contents output.new)) }
+    // Whatever a crash leaves, a union is made of it again.
+    ensures recovers { ⟦<FilesUnion<S, T, L, P> as Keeper>⟧.clean result.union
+        → MayOpen T.meaning over_files present.conn (L.known ledger) P.journal (L.came ledger) → L.sound ledger
+        → ⟦<FilesUnion<S, T, L, P> as Keeper>⟧.leaves_journals result.union }
+    ensures made { ⟦<FilesUnion<S, T, L, P> as Keeper>⟧.clean result.union
+        → MayOpen T.meaning over_files present.conn (L.known ledger) P.journal (L.came ledger)
+        → OnOk result.answered (⟦<FilesUnion<S, T, L, P> as Keeper>⟧.made result.union) }
+    ensures before { ⟦<FilesUnion<S, T, L, P> as Keeper>⟧.sound result.union → IsSound over_files present.conn × L.sound ledger }
+    ensures printed { IfOk result.answered (λ status. PrintsNamed (N.remaining names.old) status (O.contents output.old) (O.contents output.new)) }
+    ensures quiet { IfOk result.answered (λ status. status ≡ Status.Success → KeepsBytes (E.contents errors.old) (E.contents errors.new)) }
+    ensures failed { IfErr result.answered UnionStopsBy }
+    ensures untouched { IfErr result.answered (λ failure. status_of failure ≢ Status.Failed
+        → KeepsBytes (O.contents output.old) (O.contents output.new)) }
+{
+    let OpenedUnion { mut union, opened } = open_union::<FileStore<FileFrom<S>>, T, L, P>(
+        rt.alloc(),
+        present,
+        ledger,
+    );
+    match opened {
+        Ok(()) => {
+            let lines = NameLines::MachinesAndUploads;
+            let answered = answer_names(rt, &mut union, names, lines, output, errors);
+            let done = export_after(rt, &mut union.present, answered, then_export);
+            AnsweredUnion {
+                answered: done,
+                union,
+            }
+        }
+        Err(stop) => AnsweredUnion {
+            answered: Err(why_no_union(stop)),
+            union,
+        },
+    }
 }
