@@ -57,6 +57,21 @@ def logged_of(machine: Deployed) -> set[tuple[int, str]]:
     return {key[2:] for key in machine.journal.keys()}
 
 
+def goes_on_in_a_fork(row: Row, machine: Deployed, number: str) -> str:
+    """The journal grows twice: from the entry of this number on its sequence goes on under another id, which is told
+    once, and nothing waits. That id."""
+    machine.journal.grow(20)
+    told = machine.settle()
+    machine.journal.grow(3)
+    told += machine.settle()
+    forks = FORKED.findall("".join(text for _, text in told))
+    row.expect("what is told", [(sequence, first) for sequence, _, first in forks],
+               [(machine.journal.seqnum_id, number)])
+    row.expect("statuses", sorted(status for status, _ in told)[-2:], [0, 1])
+    each_once(row, machine, logged_of(machine))
+    return forks[0][1]
+
+
 @ROWS.once
 def taken_key(row: Row, machine: Deployed) -> None:
     """Somebody has stored another entry under a key of this machine, in the same database: its sequence goes on under
@@ -65,18 +80,10 @@ def taken_key(row: Row, machine: Deployed) -> None:
     machine.settle()
     own = machine.journal.seqnum_id
     upload_by_hand(machine, "a" * 32, entry(own, 5, 1, "not this one"))
-    machine.journal.grow(20)
-    told = machine.settle()
-    machine.journal.grow(3)
-    told += machine.settle()
-    said = "".join(text for _, text in told)
-    forks = FORKED.findall(said)
-    row.expect("what is told", [(sequence, number) for sequence, _, number in forks], [(own, "5")])
-    row.expect("statuses", sorted(status for status, _ in told)[-2:], [0, 1])
-    each_once(row, machine, logged_of(machine))
-    stored = {key[:2] for key in machine.entries() if key[0] in (own, forks[0][1])}
+    fork = goes_on_in_a_fork(row, machine, "5")
+    stored = {key[:2] for key in machine.entries() if key[0] in (own, fork)}
     row.expect("keys", stored, {(own, number) for number in (1, 2, 3, 4, 5)} | {
-        (forks[0][1], number) for number in range(5, 26)})
+        (fork, number) for number in range(5, 26)})
 
 
 @ROWS.each
@@ -85,15 +92,7 @@ def sequence_of_another_machine(row: Row, machine: Deployed) -> None:
     id, which is told once, and nothing waits. What is sent again then is stored already."""
     own = machine.journal.seqnum_id
     upload_by_hand(machine, "a" * 32, entry(own, 5, 1, "not this one"), "other")
-    machine.journal.grow(20)
-    told = machine.settle()
-    machine.journal.grow(3)
-    told += machine.settle()
-    said = "".join(text for _, text in told)
-    forks = FORKED.findall(said)
-    row.expect("what is told", [(sequence, number) for sequence, _, number in forks], [(own, "1")])
-    row.expect("statuses", sorted(status for status, _ in told)[-2:], [0, 1])
-    each_once(row, machine, logged_of(machine))
+    goes_on_in_a_fork(row, machine, "1")
     machine.send("--again", "@0")
     told = machine.settle()
     row.expect("again", (told[-1][0], FORKED.findall("".join(text for _, text in told))), (0, []))
