@@ -1,6 +1,5 @@
 pub mod Cut
 pub mod Sets
-pub mod TurnLemmas
 pub mod TextLemmas
 pub mod First
 pub mod EntryTexts

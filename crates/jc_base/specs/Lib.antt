@@ -16,6 +16,7 @@ pub mod Journal
 pub mod Device
 pub mod Source
 pub mod Turn
+pub mod TurnLaws
 pub mod Listed
 pub mod PairSet
 pub mod PairSetLaws

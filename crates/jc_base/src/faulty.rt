@@ -8,29 +8,35 @@ ghost use Rattle.jc_base.specs.Turn.{TakesTurn, count_with};
 
 use crate::{ByteSink, ByteStream, ReadFailed, WriteFailed};
 
-/// A stream that passes some calls on, fails the next one, and passes all later ones on.
+/// A device that passes some calls on, fails the next one, and passes all later ones on.
 #[derive(Debug, Drop)]
-pub struct FailStream<R> {
-    /// The stream that calls are passed on to.
-    pub inner: R,
+pub struct FailOnce<D> {
+    /// The device that calls are passed on to.
+    pub inner: D,
     /// How many calls are still passed on before the one that fails; `None` once that one came.
     pub passes: Option<u64>,
 }
 
-impl<R: ByteStream> FailStream<R> {
+/// A stream that fails once.
+pub type FailStream<R> = FailOnce<R>;
+
+/// A sink that fails once.
+pub type FailSink<W> = FailOnce<W>;
+
+impl<D> FailOnce<D> {
     /// The call behind the first `passes` ones fails.
-    pub fn new(inner: R, passes: u64) -> FailStream<R>
+    pub fn new(inner: D, passes: u64) -> FailOnce<D>
         ensures inner { result.inner ≡ inner }
         ensures passes { result.passes ≡ Some passes }
     {
-        FailStream {
+        FailOnce {
             inner,
             passes: Some(passes),
         }
     }
 }
 
-impl<R: ByteStream> ByteStream for FailStream<R> {
+impl<R: ByteStream> ByteStream for FailOnce<R> {
     ghost remaining = { λ s. R.remaining s.inner };
 
     ghost bound = { λ s. R.bound s.inner };
@@ -62,29 +68,7 @@ impl<R: ByteStream> ByteStream for FailStream<R> {
     }
 }
 
-/// A sink that passes some calls on, fails the next one, and passes all later ones on.
-#[derive(Debug, Drop)]
-pub struct FailSink<W> {
-    /// The sink that calls are passed on to.
-    pub inner: W,
-    /// How many calls are still passed on before the one that fails; `None` once that one came.
-    pub passes: Option<u64>,
-}
-
-impl<W: ByteSink> FailSink<W> {
-    /// The call behind the first `passes` ones fails.
-    pub fn new(inner: W, passes: u64) -> FailSink<W>
-        ensures inner { result.inner ≡ inner }
-        ensures passes { result.passes ≡ Some passes }
-    {
-        FailSink {
-            inner,
-            passes: Some(passes),
-        }
-    }
-}
-
-impl<W: ByteSink> ByteSink for FailSink<W> {
+impl<W: ByteSink> ByteSink for FailOnce<W> {
     ghost written = { λ s. W.written s.inner };
 
     ghost failures = { λ s. count_with (W.failures s.inner) s.passes };

@@ -1,5 +1,5 @@
-use Rattle.jc_base.proofs.TurnLemmas.{failing_turn}
-use Rattle.jc_base.proofs.faulty.FailSinkByteSink.write.Goals as goal
+use Rattle.jc_base.specs.TurnLaws.{failing_turn}
+use Rattle.jc_base.proofs.faulty.FailOnceByteSink.write.Goals as goal
 
 pub returns-then-turn-clause-failures : goal.returns-then-turn-clause-failures
 returns-then-turn-clause-failures g c =
