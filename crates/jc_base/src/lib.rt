@@ -34,7 +34,7 @@ pub use limits::Limits;
 pub use list::ListSource;
 pub use sink::{ByteSink, Written, write_all};
 pub use slice_stream::SliceStream;
-pub use source::{EntrySource, Step, Stop};
+pub use source::{EntrySource, Step, Stop, final_answer, final_step};
 pub use stream::ByteStream;
 pub use text::is_text;
 pub use to_write::ToWrite;
