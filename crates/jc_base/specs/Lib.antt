@@ -7,6 +7,7 @@ pub mod PairsBack
 pub mod Fault
 pub mod LimitBounds
 pub mod Limit
+pub mod Draft
 pub mod LogEntry
 pub mod EntryText
 pub mod FirstField

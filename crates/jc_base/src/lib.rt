@@ -14,6 +14,7 @@ mod id;
 mod limits;
 mod list;
 mod sink;
+mod size;
 mod slice_stream;
 mod source;
 mod stream;
