@@ -33,7 +33,7 @@ pub struct ReadFailed;
 pub struct WriteFailed;
 
 /// Counts a failure of a device; the count stays at its greatest value.
-pub(crate) fn count_failure(failures: &mut u64)
+pub fn count_failure(failures: &mut u64)
     ensures { Rose failures.old failures.new }
 {
     *failures = failures.saturating_add(1);

@@ -23,7 +23,7 @@ mod to_write;
 mod vec_sink;
 
 pub use entry::{Entry, NUMBER_END};
-pub use failure::{OutOfMemory, ReadFailed, WriteFailed};
+pub use failure::{OutOfMemory, ReadFailed, WriteFailed, count_failure};
 pub use fault::{Code, Ending, Fault};
 pub use field::{Field, split_pair};
 pub use field_list::FieldList;

@@ -9,8 +9,8 @@ ghost use Rattle.jc_upload.specs.Answer.{IsAnswer};
 ghost use Rattle.jc_upload.specs.declared.answer.Answer.{Answer};
 
 use crate::judged::status_of_lines;
-use jc_base::{ByteSink, WriteFailed};
-use jc_command_shared::{Status, one_more, write_front};
+use jc_base::{ByteSink, WriteFailed, count_failure};
+use jc_command_shared::{Status, write_front};
 use std::io::Write;
 use std::snapshot::Snapshot;
 
@@ -83,7 +83,7 @@ impl<O: Write> ByteSink for AnswerSink<'_, O> {
     fn write(&mut self, line: &[u8]) -> Result<usize, WriteFailed> {
         if self.failed || self.lines.reserve(line.len()).is_err() {
             self.failed = true;
-            self.failures = one_more(self.failures);
+            count_failure(&mut self.failures);
             return Err(WriteFailed);
         }
         if line.is_empty() {
@@ -94,7 +94,7 @@ impl<O: Write> ByteSink for AnswerSink<'_, O> {
         // If the line isn't printed whole, the next call fails. This one answers what went out of it.
         self.failed = !flushed(self.output, count == line.len());
         if count == 0 {
-            self.failures = one_more(self.failures);
+            count_failure(&mut self.failures);
             return Err(WriteFailed);
         }
         Ok(count)

@@ -19,5 +19,5 @@ pub use lines::line_length;
 pub use names::field_name;
 pub use new_file::{UNFINISHED, create_file, folder_and_name, name_beside, put_in_place};
 pub use out_buffer::{OutBuffer, buffer_room};
-pub use output::{one_more, printed, write_front};
+pub use output::{printed, write_front};
 pub use status::Status;

@@ -5,8 +5,8 @@ ghost use Rattle.std.specs.Io.KnownBytes.{Keeps, append_known};
 ghost use Rattle.jc_command_shared.specs.Output.{LacksEnd};
 
 use crate::Failure;
-use crate::output::{one_more, write_front};
-use jc_base::{ByteSink, WriteFailed};
+use crate::output::write_front;
+use jc_base::{ByteSink, WriteFailed, count_failure};
 use std::alloc::Global;
 use std::io::Write;
 
@@ -119,7 +119,7 @@ impl<O: Write> ByteSink for OutBuffer<'_, O> {
     #[tactic(auto, using(crate::proofs::Buffering::taken))]
     fn write(&mut self, piece: &[u8]) -> Result<usize, WriteFailed> {
         let Some(count) = self.room_for(piece.len()) else {
-            self.failures = one_more(self.failures);
+            count_failure(&mut self.failures);
             return Err(WriteFailed);
         };
         self.held.extend_from_slice(&piece[..count]).unwrap();

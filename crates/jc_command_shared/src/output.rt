@@ -2,7 +2,6 @@
 
 ghost use Rattle.std.specs.Prelude.{◌≡◌, ◌≤◌, Ok, OnOk, IfErr, length, take};
 ghost use Rattle.std.specs.Io.KnownBytes.{Appends, Keeps};
-ghost use Rattle.jc_base.specs.Device.{Rose};
 
 use crate::Failure;
 use std::io;
@@ -17,13 +16,6 @@ pub fn printed<'a, O: Write>(written: io::Result<()>, output: &mut O) -> Result<
         return Err(Failure::WriteFailed);
     }
     Ok(())
-}
-
-/// A count of failures with one more, up to the greatest count.
-pub fn one_more(failures: u64) -> u64
-    ensures { Rose failures result }
-{
-    failures.saturating_add(1)
 }
 
 /// Writes as much of a text as a writer takes, and answers how much that was.
