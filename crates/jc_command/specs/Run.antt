@@ -12,8 +12,10 @@ use Rattle.jc_ledger.specs.declared.ledger.Ledger as ledgers
 use Rattle.jc_ledger.specs.Kept.{NoneCollide}
 use Rattle.jc_ledger.specs.Known.{Known}
 use Rattle.jc_ledger.specs.Lagging.{MayCatchUp}
+use Rattle.jc_ledger.specs.Owners.{Owner, StayOwned, StayOwnedAfter}
 use Rattle.jc_ledger_files.specs.declared.window_name.WindowName.{WindowName}
 use Rattle.jc_ledger_files.specs.NotesOf.{notes_of}
+use Rattle.jc_ledger_files.specs.Owned.{owner_found}
 use Rattle.jc_ledger_files.specs.Windows.{known_in}
 use Rattle.jc_collector.specs.declared.health.Health.{Health}
 use Rattle.jc_command_shared.specs.declared.failure.Failure.{Failure}
@@ -42,16 +44,18 @@ use Rattle.jc_command_args.specs.Words.{AreWrong, AskFor, AskForHelp}
 
 -- ---- what is done over a database
 
--- What a run begins with: what its database's files have, what the files of sequences' windows note, the journal of the
--- finished databases, and the entries that came in earlier runs.
+-- What a run begins with: what its database's files have, what the files of sequences' windows note, the machines that
+-- sequences belong to, the journal of the finished databases, and the entries that came in earlier runs.
 pub record Begins : Type 1 where
   pub image : Image
   pub noted : Known
+  pub owner : Owner
   pub past : Journal
   pub came : LogEntry → Type 0
 
 abbrev pub begins_with : Image → (windows : WindowName → List ℕ) → (past : Journal) → (came : LogEntry → Type 0) → Begins
-begins_with image windows past came = record { image = image; noted = known_in (λ w. notes_of (windows w)); past = past; came = came }
+begins_with image windows past came =
+    record { image = image; noted = known_in (λ w. notes_of (windows w)); owner = owner_found windows; past = past; came = came }
 
 -- what is said of the disks of its database, and of the notes of sequences
 pub record Devices (D L : Type 0) : Type 1 where
@@ -102,11 +106,18 @@ module _ {D L : Type 0} (begun : Begins) (g : Devices D L) (left : Leaves D L) w
       (λ before. MayCatchUp begun.noted begun.past before begun.came × g.ledger.sound notes × NoneCollide (g.ledger.came notes))
       (Step (g.ledger.known notes) (g.ledger.came notes))))
 
+  -- Each sequence that belonged to a machine belongs to it, if the notes are sound at the end. If the disk returned what was
+  -- written, it does also after a crash then.
+  pub record KeepOwners (notes : L) : Type 0 where
+    pub stay : g.ledger.sound notes → StayOwned begun.owner (g.ledger.owner notes)
+    pub after : g.ledger.clean notes → StayOwnedAfter begun.owner (g.ledger.may_own notes)
+
   -- An answer to each upload that a list names was printed, and what they acknowledge is stored in the union of the finished
-  -- databases and the present one. What is noted then is what these have.
+  -- databases and the present one. What is noted then is what these have. No sequence was taken from its owner.
   pub record CollectsIntoUnion (made : Tables) (list : List ℕ) (given old new : Option (List ℕ)) (status : Status) : Type 0 where
     pub printed : PrintsListed list given status old new
     pub stores : LeadsNoted made (λ known came. StoresNotedListed begun.past known came list given status old new)
+    pub owners : IsSomeAnd left.ledger KeepOwners
 
   -- The line of what there is of a journal was printed. If the files are given back, it is that of the journal which they
   -- had, and they keep it.

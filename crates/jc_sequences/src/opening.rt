@@ -5,7 +5,7 @@ ghost use Rattle.jc_base.specs.declared.id.Id128.{Id128};
 ghost use Rattle.jc_base.specs.declared.id.Key.{Key};
 ghost use Rattle.jc_base.specs.LogEntry.{LogEntry};
 ghost use Rattle.jc_ledger_files.specs.NotesOf.{notes_of};
-ghost use Rattle.jc_ledger_files.specs.Owned.{owner_in};
+ghost use Rattle.jc_ledger_files.specs.Owned.{owner_found};
 ghost use Rattle.jc_ledger_files.specs.Windows.{known_in};
 
 use crate::file_folder::FileFolder;
@@ -13,14 +13,16 @@ use crate::found_file::FoundFile;
 use crate::window_path::{make_folder, sync_folder};
 use jc_command_shared::Failure;
 use jc_ledger::Ledger;
-use jc_ledger_files::{Arrivals, DiskWindows, FileLedger, Found, RecordedEntries};
+use jc_ledger_files::{
+    Arrivals, DiskWindows, FileLedger, Found, RecordedEntries, SteadyOwners,
+};
 use sqlite_std_file::File;
 use std::{fs, io};
 
 /// The notes of sequences in the files of a folder.
-pub type FileSequences<'a, F, A> = FileLedger<
-    DiskWindows<FoundFile<File, F>, FileFolder<'a, F>>,
-    RecordedEntries<A>,
+pub type FileSequences<'a, F, A> = SteadyOwners<
+    FileLedger<DiskWindows<FoundFile<File, F>, FileFolder<'a, F>>, RecordedEntries<A>>,
+    F,
 >;
 
 /// Opens the folder at `path`, or makes it. What is noted in it stays there.
@@ -32,7 +34,7 @@ pub fn open_sequences<'a, 'p, F: Found, A: Arrivals>(
     // What is noted at first is what the files have as they are opened.
     ensures known { IfOk result (λ ledger. (k : Key) → ⟦<FileSequences<'a, F, A> as Ledger>⟧.known ledger k ≡ known_in (λ w. notes_of (F.found w)) k) }
     // ... and so is whom sequences belong to. Windows of owners are behind those of all entries.
-    ensures owner { IfOk result (λ ledger. (s : Id128) → ⟦<FileSequences<'a, F, A> as Ledger>⟧.owner ledger s ≡ owner_in (λ w. notes_of (F.found w)) s) }
+    ensures owner { IfOk result (λ ledger. (s : Id128) → ⟦<FileSequences<'a, F, A> as Ledger>⟧.owner ledger s ≡ owner_found F.found s) }
     ensures came { IfOk result (λ ledger. (e : LogEntry) → ⟦<FileSequences<'a, F, A> as Ledger>⟧.came ledger e ↔ A.before e) }
     ensures failed { IfErr result (λ failure. (failure ≡ Failure.CannotOpen path.entry) ⊎ (failure ≡ Failure.OutOfMemory)) }
 {
@@ -45,7 +47,8 @@ pub fn open_sequences<'a, 'p, F: Found, A: Arrivals>(
     };
     let windows = DiskWindows::new(rt.alloc(), FileFolder::new(rt, windows));
     let owners = DiskWindows::new(rt.alloc(), FileFolder::new(rt, owners));
-    Ok(FileLedger::new(rt.alloc(), windows, owners, RecordedEntries::new()))
+    let ledger = FileLedger::new(rt.alloc(), windows, owners, RecordedEntries::new());
+    Ok(SteadyOwners::new(ledger))
 }
 
 /// Makes the folder if there is none, and answers its path, twice. It is there after a loss of power, too.

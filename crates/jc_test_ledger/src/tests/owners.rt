@@ -94,7 +94,7 @@ fn has_first_alone<L: Ledger>(rt: &impl Abort, ledger: &mut L, machine: &[u8]) -
     Ok(())
 }
 
-/// A claim is there when the files are opened again, and after a loss of power. Of two claims the last one holds.
+/// A claim is there when the files are opened again, and after a loss of power. Of two claims the first one holds.
 #[test]
 fn a_claim_stays(rt: HostRuntime) -> Result<(), Fail> {
     let alloc = rt.alloc();
@@ -107,9 +107,9 @@ fn a_claim_stays(rt: HostRuntime) -> Result<(), Fail> {
     let mut after = after_a_loss(alloc, again)?;
     has_first_alone(&rt, &mut after, WEB)?;
     assert!(rt; after.claim(SEQUENCE, MachineDigest::of(DB)).is_ok());
-    has_first_alone(&rt, &mut after, DB)?;
+    has_first_alone(&rt, &mut after, WEB)?;
     let mut last = after_a_loss(alloc, after)?;
-    has_first_alone(&rt, &mut last, DB)
+    has_first_alone(&rt, &mut last, WEB)
 }
 
 /// Another machine's upload is refused at the first entry of the sequence, whether it is new or not, and all of it. The

@@ -13,8 +13,8 @@ new-owners-requires g c = λ _ w file left. (c.new-2.ensures.found w).only file 
 
 pub returns-clause-known : goal.returns-clause-known
 returns-clause-known g c = λ k.
-    rw c.new-4.ensures.windows (rw c.new-windows.ensures.folder (ap (λ (file : List ℕ). noted (notes_of file) k.seqnum) (c.new.ensures.found (window_of k)).same))
+    rw c.new-4.ensures (rw c.new-ledger.ensures.windows (rw c.new-windows.ensures.folder (ap (λ (file : List ℕ). noted (notes_of file) k.seqnum) (c.new.ensures.found (window_of k)).same)))
 
 pub returns-clause-owner : goal.returns-clause-owner
 returns-clause-owner g c = λ s.
-    rw c.new-4.ensures.owners (rw c.new-owners.ensures.folder (ap (λ (file : List ℕ). owner_of (notes_of file)) (c.new-2.ensures.found (owner_window s)).same))
+    rw c.new-4.ensures (rw c.new-ledger.ensures.owners (rw c.new-owners.ensures.folder (ap (λ (file : List ℕ). owner_of (notes_of file)) (c.new-2.ensures.found (owner_window s)).same)))
