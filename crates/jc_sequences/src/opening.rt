@@ -13,9 +13,7 @@ use crate::found_file::FoundFile;
 use crate::window_path::{make_folder, sync_folder};
 use jc_command_shared::Failure;
 use jc_ledger::Ledger;
-use jc_ledger_files::{
-    Arrivals, DiskWindows, FileLedger, Found, RecordedEntries, SteadyOwners,
-};
+use jc_ledger_files::{Arrivals, DiskWindows, FileLedger, Found, RecordedEntries, SteadyOwners};
 use sqlite_std_file::File;
 use std::{fs, io};
 
