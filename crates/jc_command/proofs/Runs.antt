@@ -67,7 +67,7 @@ performed begun g left words request given output output' errors errors' Success
 performed begun g left words request given output output' errors errors' Refused asks does quiet = inl (request, asks, does)
 performed begun g left words request given output output' errors errors' Failed asks does quiet = (request, asks, does)
 performed begun g left words (Verify k file) given output output' errors errors' Misused asks does quiet = absurd (not_misused does.ending does.printed.judged)
-performed begun g left words (Upload source limit whole) given output output' errors errors' Misused asks does quiet = let same : Misused ≡ Success = does.0 in cc
+performed begun g left words (Upload source limit most_bytes whole) given output output' errors errors' Misused asks does quiet = let same : Misused ≡ Success = does.0 in cc
 performed begun g left words (Ack source) given output output' errors errors' Misused asks does quiet = let same : Misused ≡ Success = does.0 in cc
 performed begun g left words (requests.Inspect file most_entries most_fields most_bytes) given output output' errors errors' Misused asks does quiet =
     absurd (inspected_not_misused does.inspected does.printed.judged)

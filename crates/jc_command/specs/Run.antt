@@ -141,7 +141,7 @@ module _ {D L : Type 0} (begun : Begins) (g : Devices D L) (left : Leaves D L) w
   abbrev pub Performs : Request → (given old new : Option (List ℕ)) → Status → Type 0
   Performs (Verify kind file) given old new status = PrintsSomeReading kind status old new
   Performs (Inspect file most_entries most_fields most_bytes) given old new status = PrintsSomeInspected status old new
-  Performs (Upload source limit whole) given old new status = (status ≡ Success) × PrintsSomeUpload source limit whole old new
+  Performs (Upload source limit most_bytes whole) given old new status = (status ≡ Success) × PrintsSomeUpload source limit most_bytes whole old new
   Performs (Ack source) given old new status = (status ≡ Success) × PrintsSomePoint source given old new
   Performs (Collect database tables uploads then_export) given old new status = Collects tables (length uploads.items) given old new status
   Performs (CollectListed database tables list then_export) given old new status = CollectsListed tables list.now given old new status
@@ -168,7 +168,7 @@ FileFailsBy file _ = ⊥
 abbrev pub FailsBy : Request → (given : Option (List ℕ)) → Failure → Type 0
 FailsBy (Verify kind file) given failure = FileFailsBy file.now failure
 FailsBy (Inspect file most_entries most_fields most_bytes) given failure = FileFailsBy file.now failure
-FailsBy (Upload source limit whole) given failure = UploadFailsBy source failure
+FailsBy (Upload source limit most_bytes whole) given failure = UploadFailsBy source failure
 FailsBy (Ack source) given failure = AckFailsBy source given failure
 FailsBy (Collect database tables uploads then_export) given failure = CollectFailsBy database.now (map (λ path. path.now) uploads.items) failure
 FailsBy (CollectListed database tables list then_export) given failure = CollectFailsBy database.now (list.now ∷ []) failure

@@ -230,9 +230,10 @@ fn perform<'a, 'w, S: Start + Begun, I: Read, O: Write, E: Write>(
         Request::Upload {
             source,
             limit,
+            most_bytes,
             whole,
         } => {
-            upload(rt, source, limit, whole, output)?;
+            upload(rt, source, limit, most_bytes, whole, output)?;
             Ok(Done::without(Status::Success))
         }
         Request::Ack { source } => {

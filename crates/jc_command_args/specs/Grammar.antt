@@ -89,10 +89,11 @@ with_source kinds app =
     with_rule (with_rule (with_rule (with_rule app (required_rule (codes "source"))) (required_rule (codes "resume")))
     (kind_rule kinds)) (place_rule (codes "IN"))
 
--- `upload`, which has `--limit N` and `--whole` too
+-- `upload`, which has `--limit N`, `--bytes N` and `--whole` too
 abbrev pub upload_grammar : ValueParser → App
 upload_grammar kinds =
-    with_rule (with_rule (with_source kinds (new_app (codes "upload"))) (number_rule (codes "limit"))) (flag_rule (codes "whole"))
+    with_rule (with_rule (with_rule (with_source kinds (new_app (codes "upload"))) (number_rule (codes "limit")))
+    (number_rule (codes "bytes"))) (flag_rule (codes "whole"))
 
 abbrev pub ack_grammar : ValueParser → App
 ack_grammar kinds = with_source kinds (new_app (codes "ack"))

@@ -23,7 +23,7 @@ command_name (Check database) = codes "check"
 command_name (Migrate database tables) = codes "migrate"
 command_name (Verify kind file) = codes "verify"
 command_name (Inspect file most_entries most_fields most_bytes) = codes "inspect"
-command_name (Upload source limit whole) = codes "upload"
+command_name (Upload source limit most_bytes whole) = codes "upload"
 command_name (Ack source) = codes "ack"
 command_name ListCodes = codes "codes"
 
@@ -48,13 +48,20 @@ IsNumberOr unless_given None number = number ≡ unless_given
 IsNumberOr unless_given (Some text) number =
     IsNumeral 10 (without_leading_plus text) × (digits_value 10 (without_leading_plus text) ≡ number) × (number < 2 ^ 64)
 
+-- ... or none, if there is no value.
+abbrev pub IsNumberIfGiven : Option Text → Option ℕ → Type 0
+IsNumberIfGiven None number = number ≡ None
+IsNumberIfGiven (Some text) None = ⊥
+IsNumberIfGiven (Some text) (Some number) = IsNumberOr 0 (Some text) number
+
 -- The tables that an argument's value names; given ones if there is no value.
 abbrev pub AreTablesOr : (unless_given : Tables) → Option Text → Tables → Type 0
 AreTablesOr unless_given None tables = tables ≡ unless_given
 AreTablesOr unless_given (Some text) tables = tables_name tables ≡ text
 
--- The values of a command's arguments ask for this. Without `--tables` they are by key, without `--limit` it is 1,000, and
--- without `--from` and `--to` the range is that of all numbers. Without `--most-..` a bound is 2^63 - 1. clap's value of `--whole` is `true` where it is given.
+-- The values of a command's arguments ask for this. Without `--tables` they are by key, without `--limit` it is 1,000,
+-- without `--bytes` they aren't bounded, and without `--from` and `--to` the range is that of all numbers. Without
+-- `--most-..` a bound is 2^63 - 1. clap's value of `--whole` is `true` where it is given.
 abbrev pub AskBy : List Row → Request → Type 0
 AskBy rows (Collect database tables uploads then_export) =
     IsGiven rows (codes "DB") database.now × AreTablesOr ByKey (first_of (codes "tables") rows) tables
@@ -82,8 +89,9 @@ AskBy rows (Inspect file most_entries most_fields most_bytes) =
     IsGiven rows (codes "FILE") file.now × IsNumberOr (2 ^ 63 - 1) (first_of (codes "most-entries") rows) most_entries
     × IsNumberOr (2 ^ 63 - 1) (first_of (codes "most-fields") rows) most_fields
     × IsNumberOr (2 ^ 63 - 1) (first_of (codes "most-bytes") rows) most_bytes
-AskBy rows (Upload source limit whole) =
+AskBy rows (Upload source limit most_bytes whole) =
     NameSource rows source × IsNumberOr 1000 (first_of (codes "limit") rows) limit
+    × IsNumberIfGiven (first_of (codes "bytes") rows) most_bytes
     × (IsTrue whole ↔ IsGiven rows (codes "whole") (codes "true"))
 AskBy rows (Ack source) = NameSource rows source
 AskBy rows ListCodes = ⊤

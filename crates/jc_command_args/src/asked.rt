@@ -1,10 +1,10 @@
 //! What the matches that `clap` found ask for.
 
-ghost use Rattle.std.specs.Prelude.{◌≡◌, ◌≢◌, ◌↔◌, ℕ, Some, IsSomeAnd, IsTrue, IfOk, MatchOption, codes, map, option_map};
+ghost use Rattle.std.specs.Prelude.{◌≡◌, ◌≢◌, ◌↔◌, ℕ, Option, Some, IsSomeAnd, IsTrue, IfOk, MatchOption, codes, map, option_map};
 ghost use Rattle.clap.specs.Words.{first_of, subcommand_rows_of};
 ghost use Rattle.jc_command_args.specs.declared.request.Source.{Source as SourceWords};
 ghost use Rattle.jc_command_args.specs.Grammar.{kind_name, tables_name};
-ghost use Rattle.jc_command_args.specs.Words.{AreTablesOr, AskBy, Asks, AsksNone, AsksNothing, IsGiven, IsNumberOr, NameSource, all_given, command_name, given_rows};
+ghost use Rattle.jc_command_args.specs.Words.{AreTablesOr, AskBy, Asks, AsksNone, AsksNothing, IsGiven, IsNumberIfGiven, IsNumberOr, NameSource, all_given, command_name, given_rows};
 
 use crate::arguments::MOST;
 use crate::request::{InputKind, Request, Source, Tables};
@@ -165,10 +165,12 @@ fn upload_request<'a>(given: &ArgMatches<'a>) -> Option<Request<'a>>
 {
     let source = source_given(given)?;
     let limit = number_given(given, "limit", ENTRIES)?;
+    let most_bytes = number_if_given(given, "bytes")?;
     let whole = is_set(given, "whole");
     Some(Request::Upload {
         source,
         limit,
+        most_bytes,
         whole,
     })
 }
@@ -206,6 +208,18 @@ fn number_given(given: &ArgMatches<'_>, name: &str, unless_given: u64) -> Option
     match text_given(given, name) {
         Some(text) => number_of(text),
         None => Some(unless_given),
+    }
+}
+
+/// The number that is an argument's value, if it has one.
+fn number_if_given(given: &ArgMatches<'_>, name: &str) -> Option<Option<u64>>
+    ensures { MatchOption result
+        ((number : Option ℕ) → ¬ IsNumberIfGiven (first_of name.now (given_rows given.now)) number)
+        (IsNumberIfGiven (first_of name.now (given_rows given.now))) }
+{
+    match text_given(given, name) {
+        Some(text) => Some(Some(number_of(text)?)),
+        None => Some(None),
     }
 }
 

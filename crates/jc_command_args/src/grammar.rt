@@ -122,6 +122,7 @@ fn upload_command<'a>(alloc: Global) -> Making<'a>
     let command = new_command(alloc, "upload", texts::UPLOAD, texts::UPLOAD_MORE);
     with_source(alloc, command)
         .arg(number_arg(alloc, "limit", texts::LIMIT_HELP))
+        .arg(number_arg(alloc, "bytes", texts::BYTES_HELP))
         .arg(flag_arg(alloc, "whole", texts::WHOLE_HELP))
 }
 

@@ -65,11 +65,12 @@ pub enum Request<'a> {
         most_fields: u64,
         most_bytes: u64,
     },
-    /// The next upload of a source, of at most this many entries; if it is to be whole, a collector takes all of it or
-    /// nothing.
+    /// The next upload of a source, of at most this many entries, and of no more than fit in this many bytes, if they are
+    /// bounded; if it is to be whole, a collector takes all of it or nothing.
     Upload {
         source: Source<'a>,
         limit: u64,
+        most_bytes: Option<u64>,
         whole: bool,
     },
     /// How far answers move a source on.

@@ -152,8 +152,9 @@ pub(crate) const UPLOAD: &str = "Writes the next upload of a machine's journal t
 
 pub(crate) const UPLOAD_MORE: &str =
     "For an export stream, an upload contains at most N entries (see --limit), starting after the resume point; for a
-journal file, the whole file. With --whole, a collector refuses an upload that arrives cut short, with the code 5,
-and stores nothing of it; without, it stores the entries that are complete.
+journal file, the whole file. With --bytes, it contains no more of these entries than fit into N bytes, of which its
+header takes 48, and one entry even if that alone has more. With --whole, a collector refuses an upload that arrives
+cut short, with the code 5, and stores nothing of it; without, it stores the entries that are complete.
 
 Example: the next entries of the stream today.export, as an upload
   journal-collect upload --source a0a1a2a3a4a5a6a7a8a9aaabacadaeaf --resume today.resume \\
@@ -222,6 +223,9 @@ pub(crate) const RESUME_HELP: &str =
 
 pub(crate) const LIMIT_HELP: &str =
     "At most N entries in the upload, 1,000 by default; not used for a journal file";
+
+pub(crate) const BYTES_HELP: &str =
+    "At most N bytes in the upload, or one entry if that has more; not used for a journal file";
 
 pub(crate) const WHOLE_HELP: &str =
     "An upload that is stored whole or not at all; not used for a journal file";

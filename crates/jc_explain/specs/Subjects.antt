@@ -40,7 +40,7 @@ Concerns (request.Check database) subject = IsAbout subject (Some database.now) 
 Concerns (request.Migrate database tables) subject = IsAbout subject (Some database.now) false None [] true
 Concerns (request.Verify kind file) subject = IsAbout subject None false None (file.now ∷ []) true
 Concerns (request.Inspect file most_entries most_fields most_bytes) subject = IsAbout subject None false None (file.now ∷ []) true
-Concerns (request.Upload source limit whole) subject = ReadsSource source subject
+Concerns (request.Upload source limit most_bytes whole) subject = ReadsSource source subject
 Concerns (request.Ack source) subject = ReadsSource source subject
 Concerns request.ListCodes subject = IsAboutNothing subject
 

@@ -1,5 +1,6 @@
 pub mod AnswersRead
 pub mod Gathering
+pub mod Room
 pub mod Sources
 pub mod Streams
 pub mod Taking

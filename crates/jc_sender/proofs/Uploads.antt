@@ -1,12 +1,16 @@
 -- The upload of the entries that a source gave.
-use Rattle.std.proofs.Common.{◌≡◌, ◌∙◌, ◌++◌, ℕ, Bool, true, false, List, ap, length, refl, subst, sym}
+use Rattle.std.proofs.Common.{◌≡◌, ◌∙◌, ◌++◌, ℕ, Bool, true, false, List, Option, ap, length, refl, subst, sym}
 use Rattle.std.specs.Prelude.{◌≢◌, flat_map, IfErr, IsErrAnd, Result, Ok, Err}
 use Rattle.jc_base.specs.LogEntry.{LogEntry}
+use Rattle.jc_base.specs.Number.{IsId}
 use Rattle.jc_export.specs.Canonical.{canon}
-use Rattle.jc_upload.specs.Excerpt.{IsNextUpload, head_by}
-use Rattle.jc_upload.specs.Head.{head_text}
+use Rattle.jc_upload.specs.declared.excerpt.Excerpt.{Excerpt}
+use Rattle.jc_upload.specs.Excerpt.{IsExcerpt, IsNextUpload, head_by}
+use Rattle.jc_upload.specs.Head.{IsHead, head_text}
 use Rattle.jc_upload.specs.Upload.{Agrees, Sender, sent_of}
-use Rattle.jc_sender.specs.Sent.{MakesUpload, WhyNoUpload, stream_upload_of}
+use Rattle.jc_sender.proofs.Room.{counted, kept}
+use Rattle.jc_sender.specs.Sent.{IsCount, MakesUpload, WhyNoUpload, stream_upload_of}
+use Rattle.jc_sender.specs.Within.{IsKept}
 use Rattle.jc_upload.specs.declared.uploader.UploadFault.{UploadFault}
 use Rattle.jc_upload.specs.declared.uploader.UploadFault.TheVariants.{OutOfMemory, SourceChanged}
 use Rattle.jc_command_shared.specs.Failure.{upload_failure}
@@ -21,15 +25,31 @@ made_text : (whole : Bool) (sender : Sender) (limit : ℕ) (entries : List LogEn
 made_text true sender limit entries upload text = text
 made_text false sender limit entries upload text = text
 
+source_lawful : (whole : Bool) (sender : Sender) (count : ℕ) → IsHead (head_by sender whole count) → IsId sender.source.0
+source_lawful true sender count lawful = lawful.source
+source_lawful false sender count lawful = lawful.source
+
 module _ (bytes : List ℕ) (entries : List LogEntry) (sender : Sender) (has : HasEntriesOf Export bytes entries) where
-  pub upload_made : (limit : ℕ) (whole : Bool) (upload : List ℕ) → IsNextUpload sender entries limit whole upload
-      → MakesUpload Export sender limit whole bytes upload
-  upload_made limit whole upload next = record {
-    reading = has.0;
-    well = has.1;
-    agrees = λ _. subst (Agrees sender.point) has.2 next.agrees;
-    made = made_text whole sender limit entries upload next.text ∙ ap (stream_upload_of sender limit whole) has.2;
-  }
+  -- The upload of an excerpt of which the first entries were kept.
+  pub upload_made : (limit : ℕ) (most : Option ℕ) (whole : Bool) (before after : Excerpt) (upload : List ℕ)
+      → IsExcerpt sender.point.position limit entries before → after.count ≡ before.count → after.before ≡ before.before
+      → IsKept most before.carried.items after.carried.items
+      → ((count : ℕ) → IsExcerpt sender.point.position count entries after → IsNextUpload sender entries count whole upload)
+      → MakesUpload Export sender limit most whole bytes upload
+  upload_made limit most whole before after upload is same_count same_key keeps makes =
+      let those = kept sender limit entries most before after is same_count same_key keeps in
+      let next = makes those.0 those.1 in
+      let id = source_lawful whole sender (length (sent_of sender entries those.0)) next.lawful in
+      record {
+        reading = has.0;
+        well = has.1;
+        agrees = λ _. subst (Agrees sender.point) has.2 next.agrees;
+        count = those.0;
+        counted =
+            λ _. subst (λ (es : List LogEntry). IsCount sender limit most whole es those.0) has.2
+            (counted sender limit entries most whole those.0 id those.2);
+        made = made_text whole sender those.0 entries upload next.text ∙ ap (stream_upload_of sender those.0 whole) has.2;
+      }
 
   -- why there is no next upload of the entries
   pub upload_refused : {T : Type 0} (fault : UploadFault) (r : Result T Failure)

@@ -1,13 +1,14 @@
 -- What `upload` prints. (own)
-use Rattle.std.specs.Prelude.{◌≡◌, ℕ, Bool, true, false, List, Option, ⊤}
+use Rattle.std.specs.Prelude.{◌≡◌, ℕ, Bool, true, false, List, length, Option, Some, None, ⊤}
 use Rattle.std.specs.Io.KnownBytes.{Appends}
 use Rattle.jc_base.specs.LogEntry.{LogEntry}
 use Rattle.jc_base.specs.Reading.{Reading}
 use Rattle.jc_base.specs.declared.id.Id128.{Id128}
 use Rattle.jc_command_shared.specs.Ids.{IsIdOf}
 use Rattle.jc_upload.specs.Resume.{IsPoint, Point}
-use Rattle.jc_upload.specs.Upload.{Agrees, Sender, file_upload_of, next_upload2_of, next_upload_of}
+use Rattle.jc_upload.specs.Upload.{Agrees, Sender, file_upload_of, next_upload2_of, next_upload_of, sent_of}
 use Rattle.jc_sender.specs.Source.{HasFault, ReadsWell, WhyNoSomeEntries}
+use Rattle.jc_sender.specs.Within.{IsGreatest}
 use Rattle.jc_command_shared.specs.declared.failure.Failure.{Failure}
 use Rattle.jc_command_shared.specs.declared.failure.Failure.TheVariants.{Bad, OutOfMemory, SourceChanged}
 use Rattle.jc_command_args.specs.declared.request.InputKind.{InputKind}
@@ -27,17 +28,28 @@ abbrev pub upload_of : InputKind → Sender → (limit : ℕ) → (whole : Bool)
 upload_of Export sender limit whole entries bytes = stream_upload_of sender limit whole entries
 upload_of File sender limit whole entries bytes = file_upload_of sender.source bytes
 
--- The upload of a source with these bytes, which have no fault; an export stream still agrees with the resume point.
-pub record MakesUpload (kind : InputKind) (sender : Sender) (limit : ℕ) (whole : Bool) (bytes upload : List ℕ) : Type 0 where
+-- How many of the next entries of an export stream an upload has: those up to the limit, if as many remain, or, if its
+-- bytes are bounded, the greatest number of these with which all of it has at most so many, and at least one.
+abbrev pub IsCount : Sender → (limit : ℕ) → (most : Option ℕ) → (whole : Bool) → List LogEntry → (count : ℕ) → Type 0
+IsCount sender limit None whole entries count = count ≡ limit
+IsCount sender limit (Some most) whole entries count =
+    IsGreatest most (length (sent_of sender entries limit)) (λ n. length (stream_upload_of sender n whole entries)) count
+
+-- The upload of a source with these bytes, which have no fault; an export stream still agrees with the resume point. Of
+-- such a stream the upload has the next entries up to the limit; if its bytes are bounded, those of them that fit, and one
+-- in any case.
+pub record MakesUpload (kind : InputKind) (sender : Sender) (limit : ℕ) (most : Option ℕ) (whole : Bool) (bytes upload : List ℕ) : Type 0 where
   pub reading : Reading
   pub well : ReadsWell kind bytes reading
   pub agrees : kind ≡ Export → Agrees sender.point reading.entries
-  pub made : upload ≡ upload_of kind sender limit whole reading.entries bytes
+  pub count : ℕ
+  pub counted : kind ≡ Export → IsCount sender limit most whole reading.entries count
+  pub made : upload ≡ upload_of kind sender count whole reading.entries bytes
 
 -- The output gained that upload.
-pub record PrintsUpload (kind : InputKind) (sender : Sender) (limit : ℕ) (whole : Bool) (bytes : List ℕ) (old new : Option (List ℕ)) : Type 0 where
+pub record PrintsUpload (kind : InputKind) (sender : Sender) (limit : ℕ) (most : Option ℕ) (whole : Bool) (bytes : List ℕ) (old new : Option (List ℕ)) : Type 0 where
   pub upload : List ℕ
-  pub makes : MakesUpload kind sender limit whole bytes upload
+  pub makes : MakesUpload kind sender limit most whole bytes upload
   pub printed : Appends old new upload
 
 -- The bytes have no fault, and they no longer go on from the resume point.
@@ -61,10 +73,10 @@ WhyNoSomeUpload kind failure = WhyNoSomeEntries kind failure
 
 -- The output gained the upload of the source that the command line names, for some bytes of its files, which no
 -- contract can name.
-pub record PrintsSomeUpload (source : Source) (limit : ℕ) (whole : Bool) (old new : Option (List ℕ)) : Type 0 where
+pub record PrintsSomeUpload (source : Source) (limit : ℕ) (most : Option ℕ) (whole : Bool) (old new : Option (List ℕ)) : Type 0 where
   pub id : Id128
   pub named : IsIdOf source.id.now id
   pub point : Point
   pub lawful : IsPoint point
   pub bytes : List ℕ
-  pub printed : PrintsUpload source.kind (sender_of id point) limit whole bytes old new
+  pub printed : PrintsUpload source.kind (sender_of id point) limit most whole bytes old new

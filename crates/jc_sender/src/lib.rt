@@ -9,6 +9,7 @@ mod next_upload;
 mod resume_file;
 mod source;
 mod verdict;
+mod within;
 
 pub use acknowledge::ack;
 pub use entries::{all_entries, count_entries};

@@ -1,12 +1,13 @@
 //! `upload`: the next upload of a source.
 
-ghost use Rattle.std.specs.Prelude.{◌≡◌, ◌≢◌, Bool, ℕ, List, Some, IfOk, IfErr, OnOk};
+ghost use Rattle.std.specs.Prelude.{◌≡◌, ◌≢◌, Bool, ℕ, List, Option, Some, IfOk, IfErr, OnOk};
 ghost use Rattle.std.specs.Io.KnownBytes.{Appends, Keeps};
 ghost use Rattle.jc_sender.specs.Failing.{UploadFailsBy};
 ghost use Rattle.jc_sender.specs.Sent.{MakesUpload, PrintsSomeUpload, WhyNoSomeUpload, WhyNoUpload};
 
 use crate::resume_file::read_resume;
 use crate::source::{check_file, file_bytes, open_source};
+use crate::within::keep_within;
 use jc_base::{ByteStream, Ending, FromRead, Limits};
 use jc_command_args::{InputKind, Source};
 use jc_command_shared::{Failure, printed, source_id};
@@ -17,16 +18,18 @@ use std::alloc::Global;
 use std::io::{Read, Write};
 use std::rt::Files;
 
-/// Prints the next upload of a source. If it is to be `whole`, a collector takes all of it or nothing; a journal file's
-/// is so in any case.
+/// Prints the next upload of a source. It has no more than `limit` entries; if its bytes are bounded, those of them that
+/// fit in `most_bytes`, and one in any case. If it is to be `whole`, a collector takes all of it or nothing. A journal
+/// file's is so in any case, and has no bounds.
 pub fn upload<'a, R: Files + AllocGlobal, O: Write>(
     rt: &R,
     source: Source<'a>,
     limit: u64,
+    most_bytes: Option<u64>,
     whole: bool,
     output: &mut O,
 ) -> Result<(), Failure<'a>>
-    ensures printed { OnOk result (PrintsSomeUpload source.entry limit whole (O.contents output.old) (O.contents output.new)) }
+    ensures printed { OnOk result (PrintsSomeUpload source.entry limit most_bytes whole (O.contents output.old) (O.contents output.new)) }
     ensures failed { IfErr result (UploadFailsBy source.entry) }
     ensures untouched { IfErr result (λ failure. failure ≢ Failure.WriteFailed
         → Keeps (O.contents output.old) (O.contents output.new)) }
@@ -35,7 +38,15 @@ pub fn upload<'a, R: Files + AllocGlobal, O: Write>(
     let resume = read_resume(rt, source.resume)?;
     let uploader = Uploader::new(id, resume);
     let file = open_source(rt, source)?;
-    let upload = made_upload(rt.alloc(), &uploader, source.kind, limit, whole, file)?;
+    let upload = made_upload(
+        rt.alloc(),
+        &uploader,
+        source.kind,
+        limit,
+        most_bytes,
+        whole,
+        file,
+    )?;
     write_out(&upload, output)
 }
 
@@ -45,15 +56,23 @@ fn made_upload<'a, F: Read + Drop>(
     uploader: &Uploader,
     kind: InputKind,
     limit: u64,
+    most_bytes: Option<u64>,
     whole: bool,
     file: F,
 ) -> Result<Vec<u8>, Failure<'a>>
     ensures made { IfOk result (λ upload. (bytes : List ℕ)
-        × MakesUpload kind uploader.now limit whole bytes upload.items) }
+        × MakesUpload kind uploader.now limit most_bytes whole bytes upload.items) }
     ensures failed { IfErr result (WhyNoSomeUpload kind) }
 {
     match kind {
-        InputKind::Export => export_upload(alloc, uploader, limit, whole, FromRead::new(file)),
+        InputKind::Export => export_upload(
+            alloc,
+            uploader,
+            limit,
+            most_bytes,
+            whole,
+            FromRead::new(file),
+        ),
         InputKind::File => {
             let bytes = file_bytes(alloc, file)?;
             journal_upload(alloc, uploader, &bytes)
@@ -62,20 +81,21 @@ fn made_upload<'a, F: Read + Drop>(
 }
 
 /// The next upload of an export stream that a device gives. Its entries are read to their end, and no more of them are
-/// kept than the upload carries.
+/// kept than the limit allows.
 fn export_upload<'a, R: ByteStream + Drop>(
     alloc: Global,
     uploader: &Uploader,
     limit: u64,
+    most_bytes: Option<u64>,
     whole: bool,
     device: R,
 ) -> Result<Vec<u8>, Failure<'a>>
     ensures made { IfOk result (λ upload. (bytes : List ℕ)
-        × MakesUpload InputKind.Export uploader.now limit whole bytes upload.items) }
+        × MakesUpload InputKind.Export uploader.now limit most_bytes whole bytes upload.items) }
     ensures failed { IfErr result (WhyNoSomeUpload InputKind.Export) }
     // If the device's bytes are known, the upload is theirs.
     ensures bytes { (bytes : List ℕ) → R.remaining device ≡ Some bytes → IfOk result (λ upload.
-        MakesUpload InputKind.Export uploader.now limit whole bytes upload.items) }
+        MakesUpload InputKind.Export uploader.now limit most_bytes whole bytes upload.items) }
     ensures why { (bytes : List ℕ) → R.remaining device ≡ Some bytes → IfErr result (λ failure.
         failure ≢ Failure.ReadFailed → WhyNoUpload InputKind.Export uploader.now bytes failure) }
 {
@@ -84,11 +104,12 @@ fn export_upload<'a, R: ByteStream + Drop>(
     one_reading();
     canonical_texts_read_back();
     let mut entries = Stream::new(alloc, device, Limits::default())?;
-    let (excerpt, ending) = uploader.excerpt(alloc, &mut entries, limit)?;
+    let (mut excerpt, ending) = uploader.excerpt(alloc, &mut entries, limit)?;
     match ending {
         Ending::End { left: _ } => {}
         Ending::Bad(fault) => return Err(Failure::Bad(fault)),
     }
+    keep_within(alloc, &mut excerpt.carried, most_bytes)?;
     let upload = uploader.next_upload_of(alloc, &excerpt, whole)?;
     Ok(upload)
 }
@@ -99,8 +120,8 @@ fn journal_upload<'a>(
     uploader: &Uploader,
     bytes: &[u8],
 ) -> Result<Vec<u8>, Failure<'a>>
-    ensures made { IfOk result (λ upload. (limit : ℕ) (whole : Bool)
-        → MakesUpload InputKind.File uploader.now limit whole bytes.now upload.items) }
+    ensures made { IfOk result (λ upload. (limit : ℕ) (most : Option ℕ) (whole : Bool)
+        → MakesUpload InputKind.File uploader.now limit most whole bytes.now upload.items) }
     ensures failed { IfErr result (WhyNoUpload InputKind.File uploader.now bytes.now) }
 {
     check_file(alloc, bytes)?;

@@ -53,6 +53,61 @@ file @in JOURNAL_FILE
 run upload --whole --source SOURCE --resume @resume file @in
 prints head:2:0 JOURNAL_FILE
 
+case an upload has as many entries as fit in its bytes, and one in any case
+# a header has 48 bytes, and each entry 121
+file @in entries:1:3
+run upload --source SOURCE --resume @resume --bytes 411 export @in
+prints head:1:0 entries:1:3
+run upload --source SOURCE --resume @resume --bytes 410 export @in
+prints head:1:0 entries:1:2
+run upload --source SOURCE --resume @resume --bytes 290 export @in
+prints head:1:0 entries:1:2
+run upload --whole --source SOURCE --resume @resume --bytes 290 export @in
+prints head:1:0 set:7:50 set:9:1 put:40:2 entries:1:2
+run upload --whole --source SOURCE --resume @resume --bytes 289 export @in
+prints head:1:0 set:7:50 set:9:1 put:40:1 ENTRY
+run upload --source SOURCE --resume @resume --bytes 168 export @in
+prints head:1:0 ENTRY
+run upload --source SOURCE --resume @resume --bytes 47 export @in
+prints head:1:0 ENTRY
+run upload --source SOURCE --resume @resume --bytes 0 export @in
+prints head:1:0 ENTRY
+run upload --source SOURCE --resume @resume --bytes 9223372036854775807 export @in
+prints head:1:0 entries:1:3
+# the lesser of both bounds
+run upload --source SOURCE --resume @resume --limit 1 --bytes 411 export @in
+prints head:1:0 ENTRY
+run upload --source SOURCE --resume @resume --limit 3 --bytes 290 export @in
+prints head:1:0 entries:1:2
+run upload --source SOURCE --resume @resume --limit 0 --bytes 411 export @in
+prints head:1:0
+# behind the resume point, and where no entry is left
+file @resume "resume 1 000102030405060708090a0b0c0d0e0f 1\n"
+run upload --source SOURCE --resume @resume --bytes 290 export @in
+prints head:1:1 entries:2:3
+run upload --source SOURCE --resume @resume --bytes 289 export @in
+prints head:1:1 ENTRY_2
+file @resume "resume 3 000102030405060708090a0b0c0d0e0f 3\n"
+run upload --source SOURCE --resume @resume --bytes 0 export @in
+prints head:1:3
+# entries of which one is larger than the bound, and what is after the last complete entry
+remove @resume
+file @in ENTRY METADATA_2 BINARY_FRONT ENTRY "\n\n" ENTRY_3 "_"
+run upload --source SOURCE --resume @resume --bytes 168 export @in
+prints head:1:0 ENTRY
+file @resume "resume 1 000102030405060708090a0b0c0d0e0f 1\n"
+run upload --source SOURCE --resume @resume --bytes 168 export @in
+prints head:1:1 METADATA_2 BINARY_FRONT ENTRY "\n\n"
+# a source that changed is refused as it is without
+file @resume "resume 4 000102030405060708090a0b0c0d0e0f 4\n"
+run upload --source SOURCE --resume @resume --bytes 0 export @in
+fails 1 refused 70
+# it isn't looked at for a journal file
+file @resume "resume 0 - -\n"
+file @in JOURNAL_FILE
+run upload --source SOURCE --resume @resume --bytes 0 file @in
+prints head:2:0 JOURNAL_FILE
+
 case a journal file is uploaded whole
 file @in JOURNAL_FILE
 run upload --source SOURCE --resume @resume file @in
@@ -146,6 +201,34 @@ run upload --source SOURCE --resume r --limit=18446744073709551616 export in
 misused error: invalid value
 run upload --source SOURCE --resume r --limit=18446744073709551616 file in
 misused error: invalid value
+
+case a bound on the bytes is a number below two to the 63, and said once
+run upload --source SOURCE --resume r --bytes=x export in
+misused error: invalid value
+run upload --source SOURCE --resume r --bytes=x file in
+misused error: invalid value
+run upload --source SOURCE --resume r --bytes=-1 export in
+misused error: invalid value
+run upload --source SOURCE --resume r --bytes=-1 file in
+misused error: invalid value
+run upload --source SOURCE --resume r --bytes= export in
+misused error: invalid value
+run upload --source SOURCE --resume r --bytes= file in
+misused error: invalid value
+run upload --source SOURCE --resume r --bytes=1.5 export in
+misused error: invalid value
+run upload --source SOURCE --resume r --bytes=1.5 file in
+misused error: invalid value
+run upload --source SOURCE --resume r --bytes=9223372036854775808 export in
+misused error: invalid value
+run upload --source SOURCE --resume r --bytes=9223372036854775808 file in
+misused error: invalid value
+run upload --source SOURCE --resume r --bytes=18446744073709551616 export in
+misused error: invalid value
+run upload --source SOURCE --resume r --bytes=18446744073709551616 file in
+misused error: invalid value
+run upload --source SOURCE --resume r --bytes 1 --bytes 1 export in
+misused error: the argument
 "#;
 
 #[test]

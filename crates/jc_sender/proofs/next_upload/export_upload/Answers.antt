@@ -1,7 +1,9 @@
 -- The entries that the source gave up to its end, and for a device with known bytes those of the bytes' reading.
-use Rattle.std.proofs.Common.{Err, ap}
+use Rattle.std.proofs.Common.{Err, ap, refl, rules}
 use Rattle.jc_export.specs.Cut.{joined}
 use Rattle.jc_stream.specs.Device.{limits_of}
+use Rattle.jc_upload.specs.declared.excerpt.Excerpt.{Excerpt}
+use Rattle.jc_sender.proofs.Room.{kept}
 use Rattle.jc_sender.proofs.Streams.{known_entries, known_fault, some_entries, some_fault}
 use Rattle.jc_sender.proofs.Uploads.{upload_made, upload_refused}
 use Rattle.jc_sender.proofs.next_upload.export_upload.Goals as goal
@@ -14,7 +16,8 @@ returns-clause-made g c =
           (some_entries c.one_reading.ensures.some c.one_reading.ensures.only c.canonical_texts_read_back.ensures.whole
           c.canonical_texts_read_back.ensures.ends c.default.result (limits_of c.in_ok-entries.entries) gave.0 c.default.ensures
           c.in_ok-entries.ensures.limits gave.2)
-          c.args.limit c.args.whole c.in_ok-upload.upload.items (c.in_ok-upload.ensures.upload gave.0 c.args.limit gave.3),
+          c.args.limit c.args.most_bytes c.args.whole c.in_ok-excerpt.excerpt _ c.in_ok-upload.upload.items gave.3 refl refl
+          (search rules) (c.in_ok-upload.ensures.upload gave.0),
     )
 
 pub returns-clause-bytes : goal.returns-clause-bytes
@@ -23,7 +26,8 @@ returns-clause-bytes g c = λ bytes is_known.
     upload_made bytes gave.0 c.args.uploader.now
     (known_entries bytes c.default.result _ _ gave.0 c.in_ok-excerpt.ending c.default.ensures is_known c.in_ok-entries.ensures.reading
     (c.one_reading.ensures.only c.default.result 0 bytes) gave.1 c.in-End.left c.in-End.is)
-    c.args.limit c.args.whole c.in_ok-upload.upload.items (c.in_ok-upload.ensures.upload gave.0 c.args.limit gave.3)
+    c.args.limit c.args.most_bytes c.args.whole c.in_ok-excerpt.excerpt _ c.in_ok-upload.upload.items gave.3 refl refl
+    (search rules) (c.in_ok-upload.ensures.upload gave.0)
 
 pub returns-in-Bad-clause-failed : goal.returns-in-Bad-clause-failed
 returns-in-Bad-clause-failed g c =
@@ -39,7 +43,11 @@ returns-in-Bad-clause-why g c = λ bytes is_known other.
 pub returns-in_err-upload-clause-why : goal.returns-in_err-upload-clause-why
 returns-in_err-upload-clause-why g c = λ bytes is_known.
     let gave = c.in_ok-excerpt.ensures.excerpt in
-    let changed = c.in_err-upload.ensures.changed gave.0 c.args.limit gave.3 in
+    let after : Excerpt =
+    record { count = c.in_ok-excerpt.excerpt.count; before = c.in_ok-excerpt.excerpt.before; carried = c.keep_within.new.entries } in
+    let those =
+    kept c.args.uploader.now c.args.limit gave.0 c.args.most_bytes c.in_ok-excerpt.excerpt after gave.3 refl refl (search rules) in
+    let changed = c.in_err-upload.ensures.changed gave.0 those.0 those.1 in
     upload_refused bytes gave.0 c.args.uploader.now
     (known_entries bytes c.default.result _ _ gave.0 c.in_ok-excerpt.ending c.default.ensures is_known c.in_ok-entries.ensures.reading
     (c.one_reading.ensures.only c.default.result 0 bytes) gave.1 c.in-End.left c.in-End.is)
