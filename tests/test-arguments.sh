@@ -65,6 +65,16 @@ machine upload --limit 0 export "$folder/many" > "$folder/told"
 expect 0 "ok 0 0" "" counts export
 machine upload --limit 0 file "$folder/journal" > "$folder/told"
 expect 0 "ok 1 0" "" counts file
+# as many of these as fit in its bytes, of which the header has 48 and each of the first 121, and one in any case
+for row in "290 2" "289 1" "169 1" "0 1" "$most 1000"; do
+    read -r bytes count <<< "$row"
+    machine upload --bytes "$bytes" export "$folder/many" > "$folder/told"
+    expect 0 "ok $count 0" "" counts export
+done
+machine upload --limit 1 --bytes 290 export "$folder/many" > "$folder/told"
+expect 0 "ok 1 0" "" counts export
+machine upload --bytes 0 file "$folder/journal" > "$folder/told"
+expect 0 "ok 1 0" "" counts file
 expect 0 "resume 2" "" machine ack export "$folder/in" <<< "ack $id 0 2 2 0"
 expect 0 "resume 2 000102030405060708090a0b0c0d0e0f 2" "" cat "$folder/resume"
 
@@ -103,6 +113,9 @@ expect 2 "" "~error: invalid value '-1' for '--from <N>': *" "$PROGRAM" show db 
 expect 2 "" "~error: invalid value '9223372036854775808' for '--to <N>': *" "$PROGRAM" show db --to 9223372036854775808
 expect 2 "" "~error: invalid value '9223372036854775808' for '--limit <N>': *" \
     machine upload --limit 9223372036854775808 export "$folder/in"
+expect 2 "" "~error: invalid value '9223372036854775808' for '--bytes <N>': *" \
+    machine upload --bytes 9223372036854775808 export "$folder/in"
+expect 2 "" "~error: invalid value 'x' for '--bytes <N>': *" machine upload --bytes x export "$folder/in"
 expect 2 "" "~error: invalid value 'other' for '<KIND>'"$'\n'"  \\[possible values: export, file\\]*" \
     "$PROGRAM" verify other "$folder/in"
 finish
