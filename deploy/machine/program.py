@@ -28,11 +28,13 @@ class Program:
         words = ["ack", "--source", stream.id, "--resume", resume, "export", stream.path("stream")]
         return self.run(words, line + "\n")
 
-    def upload(self, stream: Stream, path: str, limit: int, resume: str) -> tuple[int, str]:
-        """Writes an upload of at most so many entries to a file; the status, and what the program said of it."""
+    def upload(self, stream: Stream, path: str, limit: int, resume: str, size: int | None = None) -> tuple[int, str]:
+        """Writes an upload of at most so many entries to a file, and of at most so many bytes, or of one entry that has
+        more; the status, and what the program said of it."""
         words = ["upload", "--whole", "--source", stream.id, "--resume", resume, "--limit", str(limit)]
+        bound = [] if size is None else ["--bytes", str(size)]
         with open(path, "wb") as file:
-            status, _, said = self.run([*words, "export", stream.path("stream")], output=file)
+            status, _, said = self.run([*words, *bound, "export", stream.path("stream")], output=file)
         return status, said
 
     def entries(self, stream: Stream) -> int:

@@ -273,7 +273,7 @@ class Serving:
         record = self.record(stream)
         limit = min(self.settings.upload_entries, record.most or ALL)
         while True:
-            status, said = self.program.upload(stream, upload.PATH, limit, stream.path("resume"))
+            status, said = self.program.upload(stream, upload.PATH, limit, stream.path("resume"), self.link.bytes)
             if status == 1 and "refused 70" in said:
                 self.renew(stream, "it doesn't go on from its resume point")
                 continue
@@ -285,10 +285,7 @@ class Serving:
                 self.report.pass_on(said)
                 self.set_aside(stream, status)
                 return None
-            made = upload.look()
-            if made.size <= self.link.bytes or made.count <= 1:
-                return made
-            limit = max(1, min(made.count - 1, made.count * self.link.bytes // made.size))
+            return upload.look()
 
     def set_aside(self, stream: Stream, status: int) -> None:
         """A stream that can't be read is left for a person to look at, and what is gathered from now on goes into
