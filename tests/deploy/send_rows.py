@@ -361,6 +361,17 @@ def large_entry_on_a_slow_link(row: Row, machine: Machine) -> None:
     row.expect("what came", sum(1 for _ in machine.entries_sent()), 11)
 
 
+@ROWS.once
+def small_entries_before_a_large_one(row: Row, machine: Machine) -> None:
+    """As many entries go out as the link carries at once, however large the next one is."""
+    machine.journal.grow(30)
+    machine.journal.add("300000*x")
+    machine.journal.write()
+    with_link(machine, 30_000)
+    row.expect("status", machine.send()[0], 0)
+    row.expect("one upload has those before it", (len(machine.files()), machine.upload()[1:]), (1, (0, 30)))
+
+
 def with_link(machine: Machine, size: int) -> None:
     """The link has shown that an upload may have so many bytes."""
     os.makedirs(machine.folder, exist_ok=True)
