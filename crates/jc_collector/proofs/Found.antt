@@ -23,6 +23,7 @@ use Rattle.jc_schema_three.specs.Schema.{schema_three}
 use Rattle.jc_database.specs.Files.{AreLawful, EndsWith, HoldsJournal, IsFound, Keeps}
 use Rattle.jc_database.specs.FilesLaws.{database_found, keeps_found}
 use Rattle.jc_collector.specs.Open.{Begun, HasKind, IsFoundIn, IsOne}
+use Rattle.jc_collector.specs.KindLaws.{at_kind}
 use Rattle.jc_collector.specs.Kinds.{AreAlone, AreByNumber, BeginsIn, IsAdoptedFrom, IsMadeIn, LeadsIn, OpenedFiles, conn_of, kind_of, meaning_of}
 
 -- ---- the tables of each kind
@@ -126,19 +127,12 @@ module _ {D : Type 0} {g : disk.Ghosts D} (image : Image) (first : Held (FileSto
 -- ---- what is said of the kind that a run has, for each that it may have begun with
 
 module _ {D : Type 0} {g : disk.Ghosts D} (made : Tables) (image : Image) (opened : OpenedFiles D g) (has : HasKind opened made image) where
-  pub at_kind : (Says : Tables → Journal → Type 0) → HasCleanDisk (file_state (conn_of opened))
-      → ((before : Journal) → BeginsIn made (kind_of opened) image before → Says (kind_of opened) before)
-      → (kind : Tables) (before : Journal) → BeginsIn made kind image before → Says kind before
-  at_kind Says clean each kind before begin =
-      let same = has clean kind before begin in
-      subst (λ (k : Tables). Says k before) (sym same) (each before (subst (λ (k : Tables). BeginsIn made k image before) same begin))
-
   pub leads_kind : (files : Files D) → (AreClean g files.log files.db → IsSound over_files (conn_of opened)) → (Step : Journal → Journal → Type 0)
       → (AreClean g files.log files.db → (before : Journal) → BeginsIn made (kind_of opened) image before
       → EndsWith (meaning_of (kind_of opened)) g files (Step before))
       → LeadsIn made image g files Step
   leads_kind files sound Step ends clean =
-      at_kind (λ kind before. EndsWith (meaning_of kind) g files (Step before)) (sound clean).clean (ends clean)
+      at_kind made image opened has (λ kind before. EndsWith (meaning_of kind) g files (Step before)) (sound clean).clean (ends clean)
 
 -- a connection that was opened, for a journal in tables of its kind
 pub begun_found : {D : Type 0} {g : disk.Ghosts D} (made mine : Tables) (image : Image) (first : Held (FileStore D g))

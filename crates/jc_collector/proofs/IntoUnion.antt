@@ -15,6 +15,7 @@ use Rattle.jc_command_shared.specs.declared.failure.Failure.{Failure}
 use Rattle.jc_command_shared.specs.declared.failure.Failure.TheVariants.{Bad, BadAnswer, BadDatabaseName, BadExportName, BadFieldName, BadId, BadResume, CannotOpen, OutOfMemory, ReadFailed, SourceChanged, StoreFailed, WordsAreNoText, WriteFailed}
 use Rattle.jc_command_shared.specs.declared.status.Status.{Status}
 use Rattle.jc_database.specs.Files.{EndsWith, Keeps, KeepsAlways}
+use Rattle.jc_ledger.specs.Kept.{IsKept}
 use Rattle.jc_ledger.specs.Known.{Known}
 use Rattle.jc_store.specs.Meaning.{IsSound, Meaning}
 use Rattle.jc_union.specs.Noted.{WhyNoUnion}
@@ -91,6 +92,9 @@ module _ (past : Journal) (known : Known) (came : LogEntry → Type 0) (status :
       subst (λ (t : Option (List ℕ)). StoresNotedNames past known came t status old new before after) same it
 
 -- one journal for another
+pub kept_same : {known : Known} {past one other : Journal} {came : LogEntry → Type 0} → other ≡ one → IsKept known past one came → IsKept known past other came
+kept_same {known = known} {past = past} {came = came} same kept = subst (λ (j : Journal). IsKept known past j came) (sym same) kept
+
 pub keeps_same : {D : Type 0} {g : disk.Ghosts D} (m : Meaning) (files : Files D) (one other : Journal) → one ≡ other → KeepsAlways m g files one
     → KeepsAlways m g files other
 keeps_same {g = g} m files one other same keeps = subst (λ (j : Journal). KeepsAlways m g files j) same keeps

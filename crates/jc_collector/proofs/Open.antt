@@ -3,13 +3,10 @@ use Rattle.std.proofs.Common.{◌≡◌, ℕ, zero, suc, ◌≤◌, ◌-◌, Lis
 use Rattle.std.specs.Prelude.{IfOk, IfErr, OnOk, ⊤}
 use Rattle.std.specs.Io.KnownBytes.{Appends}
 use Rattle.std.proofs.lemmas.List.{length-append, take_all}
-use Rattle.std.proofs.Math.Logic.{∥∥₁_map}
 use Rattle.sqlite_disk.specs.declared.Disk as disk
 use Rattle.sqlite.specs.declared.Files.{Files}
 use Rattle.sqlite.specs.declared.FileStore.{FileStore}
 use Rattle.sqlite.specs.Recovery.{Image}
-use Rattle.sqlite.specs.FileStore.{state, view}
-use Rattle.sqlite.specs.View.{IsClean}
 use Rattle.sqlite.specs.WalReads.{AreClean}
 use Rattle.sqlite.specs.State.{HasCleanDisk}
 use Rattle.sqlite.specs.Held.{Held}
@@ -24,37 +21,19 @@ use Rattle.jc_collector_answers.specs.Tied.{NamedWith, PrintsFront, PrintsWith}
 use Rattle.jc_command_shared.specs.declared.failure.Failure.{Failure}
 use Rattle.jc_command_shared.specs.declared.status.Status.{Status}
 use Rattle.jc_command_args.specs.declared.request.Tables.{Tables}
-use Rattle.jc_database.specs.Files.{HoldsJournal, Keeps, KeepsAlways}
-use Rattle.jc_store.specs.Crash.{LeavesJournals, LeavesNoMore, MayLeave}
+use Rattle.jc_database.specs.Files.{Keeps, KeepsAlways}
+use Rattle.jc_store.specs.Crash.{LeavesNoMore, MayLeave}
 use Rattle.jc_store.specs.Meaning.{AreMade, IsSound, KeepsJournal, Meaning, journal_of}
 use Rattle.jc_upload.specs.Answer.{answer_text}
 use Rattle.jc_upload.specs.declared.answer.Answer.{Answer}
 use Rattle.jc_collector.specs.Open.{CleanIn, HasKind, HoldsIn, HoldsOpen, RecoversIn}
-use Rattle.jc_collector.specs.Kinds.{BeginsIn, LeadsIn, OpenedFiles, conn_of, journal_in, kind_of, meaning_of}
-use Rattle.jc_collector.specs.OverFiles.{AnyLeft, LeavesEach, StoresNamed, StoresPrinted}
+use Rattle.jc_collector.specs.Kinds.{LeadsIn, OpenedFiles, conn_of, journal_in, kind_of, meaning_of}
+use Rattle.jc_collector.specs.OverFiles.{StoresNamed, StoresPrinted}
+use Rattle.jc_collector.specs.PrintedLaws.{named_other, with_other}
 use Rattle.jc_collector.proofs.Found.{leads_kind}
 use Rattle.jc_collector.proofs.Results.{at_ok}
 
 -- ---- what is printed
-
-pub with_other : (H Z : List Answer → Type 0) → ((answers : List Answer) → H answers → Z answers) → (count : ℕ) (status : Status) (old new : Option (List ℕ))
-    → PrintsWith H count status old new → PrintsWith Z count status old new
-with_other H Z each count status old new p = record { shown = p.shown; holds = each p.shown.answers p.holds }
-
-pub named_other : (H Z : List Answer → Type 0) → ((answers : List Answer) → H answers → Z answers) → (text : Option (List ℕ)) (status : Status) (old new : Option (List ℕ))
-    → NamedWith H text status old new → NamedWith Z text status old new
-named_other H Z each text status old new p = record { shown = p.shown; holds = each p.shown.printed.answers p.holds }
-
-pub front_other : (H Z : List Answer → Type 0) → ((answers : List Answer) → H answers → Z answers) → (old new : Option (List ℕ))
-    → PrintsFront H old new → PrintsFront Z old new
-front_other H Z each old new p = record {
-  answers = p.answers;
-  more = p.more;
-  one = p.one;
-  bytes = p.bytes;
-  printed = p.printed;
-  holds = each (p.answers ++ p.more) p.holds;
-}
 
 -- all lines are a front of them
 front_of_all : (H : List Answer → Type 0) (answers : List Answer) (old new : Option (List ℕ)) → Appends old new (lines_of_answers answers)
@@ -133,6 +112,10 @@ all_first uploads before old new found p =
 
 -- ---- over a connection
 
+-- what its disks have returned later was what was written, and so it was before
+pub clean_before : {before later : ℕ} → before ≤ later → later ≡ 0 → before ≡ 0
+clean_before less clean = omega (arith, less, clean)
+
 module _ {D : Type 0} {g : disk.Ghosts D} (m : Meaning) (first then last : Held (FileStore D g)) (before : Journal) (sound : IsSound over_files first)
     (has : Keeps m first before) (durable : (found : Journal) → MayLeave m over_files first found → found ≡ journal_of m over_files first)
     (made : AreMade m over_files then)
@@ -194,18 +177,3 @@ module _ {D : Type 0} {g : disk.Ghosts D} (made : Tables) (image : Image) (opene
               (λ answers h. h.stored late) text status old new (at_ok done status _ is (each late.clean before begin));
           keeps = always clean (recovers late.clean before begin).made;
         })
-
--- ---- once it is stopped
-
-module _ {D : Type 0} {g : disk.Ghosts D} (made : Tables) (image : Image) (opened : OpenedFiles D g) (stopped : FileStore D g)
-    (clean : IsClean (view stopped) → HasCleanDisk (file_state (conn_of opened)))
-    (left : IsClean (view stopped) → LeavesJournals (meaning_of (kind_of opened)) over_files (conn_of opened)
-    → (left : Image) → (state stopped).may_leave left
-    → ∥ ((found : Journal) × MayLeave (meaning_of (kind_of opened)) over_files (conn_of opened) found × HoldsJournal (meaning_of (kind_of opened)) left found) ∥₁)
-    (recovers : CleanIn opened made image (λ _. RecoversIn opened))
-  where
-    pub left_each : IsClean (view stopped) → (before : Journal) → BeginsIn made (kind_of opened) image before → (answers : List Answer)
-        → HoldsIn opened before answers → AnyLeft stopped (LeavesEach (kind_of opened) before answers)
-    left_each is before begin answers h image may =
-        ∥∥₁_map (left is (recovers (clean is) before begin).journals image may)
-        (λ it. record { found = it.0; keeps = h.found it.0 it.1; holds = it.2 })

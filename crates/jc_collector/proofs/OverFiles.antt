@@ -1,6 +1,5 @@
 -- From the files that a run begins with to those that it ends with.
 use Rattle.std.proofs.Common.{◌≡◌, ℕ, List, [], ◌∷◌, ◌++◌, Option, Some, None, inl, inr, refl, sym, subst, subst₂, ◌∙◌}
-use Rattle.std.proofs.Math.Logic.{∥∥₁_map}
 use Rattle.std.specs.Prelude.{MatchOption, codes}
 use Rattle.std.specs.Io.KnownBytes.{Appends, prepend_known}
 use Rattle.sqlite_disk.specs.declared.Disk as disk
@@ -15,16 +14,13 @@ use Rattle.jc_base.specs.Journal.{Journal}
 use Rattle.jc_store.specs.Meaning.{Meaning, AreMade, IsSound, KeepsJournal, MovesJournal, journal_of}
 use Rattle.jc_store.specs.Statements.{IsBlank}
 use Rattle.jc_command_args.specs.declared.request.Tables.{Tables}
-use Rattle.jc_database.specs.Files.{BeginsWith, HoldsJournal, IsFound, Keeps, KeepsAlways}
-use Rattle.jc_collector_answers.specs.Answered.{KeepsPrinted}
+use Rattle.jc_database.specs.Files.{BeginsWith, IsFound, Keeps, KeepsAlways}
 use Rattle.jc_command_shared.specs.declared.status.Status.{Status}
 use Rattle.jc_collector.specs.declared.health.Health.{Health}
-use Rattle.jc_collector.specs.Open.{Begun, EndsOver, HasKind, IsFoundIn, StandsIn, StandsOver}
+use Rattle.jc_collector.specs.Open.{Begun, EndsOver, HasKind, StandsIn, StandsOver}
 use Rattle.jc_collector.specs.Kinds.{LeadsIn, OpenedFiles, conn_of, journal_in, kind_of, meaning_of}
 use Rattle.jc_collector.specs.Checked.{Counts, PrintsHealth, count_line, health_text}
-use Rattle.jc_collect.specs.Each.{KeepsEach}
-use Rattle.jc_upload.specs.declared.answer.Answer.{Answer}
-use Rattle.jc_collector.specs.OverFiles.{LeavesEach, LeavesPrinted, Prints, StoresListed, StoresNamed, StoresPrinted}
+use Rattle.jc_collector.specs.OverFiles.{Prints, StoresListed, StoresNamed, StoresPrinted}
 use Rattle.jc_database.specs.FilesLaws.{keeps_found}
 use Rattle.jc_collector.proofs.Found.{leads_kind}
 
@@ -95,25 +91,6 @@ pub match_each : {F : Type 0} (files : Option F) (Without Lacking : Type 0) (Wit
     → (Without → Lacking) → ((f : F) → With f → Given f) → MatchOption files Lacking Given
 match_each None Without Lacking With Given is none some = none is
 match_each (Some f) Without Lacking With Given is none some = some f is
-
--- ---- the next run
-
-module _ {D : Type 0} {g : disk.Ghosts D} (made : Tables) (image : Image) (opened : OpenedFiles D g)
-    (found : IsFoundIn made (kind_of opened) image (conn_of opened)) (clean : HasCleanDisk (file_state (conn_of opened)))
-  where
-    found_is : (kind : Tables) (journal : Journal) → HoldsJournal (meaning_of kind) image journal → journal_in opened ≡ journal
-    found_is kind journal holds = ((found clean).1 kind journal (inl holds)).1.is
-
-    pub found_again : (kind : Tables) (uploads : List (List ℕ)) (before : Journal) (old new : Option (List ℕ))
-        → ∥ LeavesPrinted kind uploads before old new image ∥₁ → ∥ KeepsPrinted uploads before old new (journal_in opened) ∥₁
-    found_again kind uploads before old new left = ∥∥₁_map left
-        (λ (it : LeavesPrinted kind uploads before old new image).
-        subst (λ journal. KeepsPrinted uploads before old new journal) (sym (found_is kind it.found it.holds)) it.keeps)
-
-    pub found_each : (kind : Tables) (before : Journal) (answers : List Answer) → LeavesEach kind before answers image
-        → ∥ KeepsEach before answers (journal_in opened) ∥₁
-    found_each kind before answers left =
-        ∣ subst (λ (journal : Journal). KeepsEach before answers journal) (sym (found_is kind left.found left.holds)) left.keeps ∣₁
 
 -- a step that says less
 pub leads_weaker : {D : Type 0} {g : disk.Ghosts D} (made : Tables) (image : Image) (files : Files D) (Step Other : Journal → Journal → Type 0)

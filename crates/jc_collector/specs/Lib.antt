@@ -8,3 +8,5 @@ pub mod Earlier
 pub mod OverFiles
 pub mod IntoUnion
 pub mod Open
+pub mod KindLaws
+pub mod PrintedLaws

@@ -2,7 +2,8 @@
 
 ghost use Rattle.std.specs.Prelude.{◌≡◌, ◌≢◌, ◌⊎◌, ◌∷◌, [], IfOk, IfErr, OnOk};
 ghost use Rattle.std.specs.Io.KnownBytes.{Keeps as KeepsBytes};
-ghost use Rattle.sqlite.specs.Files.{over_files};
+ghost use Rattle.sqlite.specs.Files.{file_state, over_files};
+ghost use Rattle.sqlite.specs.State.{HasCleanDisk};
 ghost use Rattle.sqlite.specs.WalFiles.{image_at};
 ghost use Rattle.sqlite.specs.WalReads.{AreClean};
 ghost use Rattle.jc_base.specs.Journal.{Journal};
@@ -39,7 +40,7 @@ use sqlite_disk::Disk;
 use std::io::{BufRead, BufReader, Read, Write};
 
 /// The keeper of a union whose present database is in files.
-type FilesUnion<S, T, L, P> = TableUnion<FileStore<FileFrom<S>>, T, L, P>;
+pub type FilesUnion<S, T, L, P> = TableUnion<FileStore<FileFrom<S>>, T, L, P>;
 
 /// Takes the uploads that the lines of a list name up into the union of the databases that are finished and the present
 /// one, which is made if there is none, and prints an answer for each line. The list, the export and the status are as
@@ -229,7 +230,7 @@ fn join_over<
 
 /// All of it before the present database is closed: the union is opened, the uploads are taken up, and the present
 /// database's journal is exported, if a path is given. What a crash leaves of a run is what it leaves of this union.
-fn join_open<
+pub fn join_open<
     'a,
     S: Start,
     T: Listed + Drop,
@@ -271,6 +272,7 @@ fn join_open<
         → MayOpen T.meaning over_files present.conn (L.known ledger) P.journal (L.came ledger)
         → OnOk result.answered (⟦<FilesUnion<S, T, L, P> as Keeper>⟧.made result.union) }
     ensures before { ⟦<FilesUnion<S, T, L, P> as Keeper>⟧.sound result.union → IsSound over_files present.conn × L.sound ledger }
+    ensures clean { ⟦<FilesUnion<S, T, L, P> as Keeper>⟧.clean result.union → HasCleanDisk (file_state present.conn) × L.clean ledger }
     ensures printed { IfOk result.answered (λ status. PrintsNamed (N.remaining names.old) status (O.contents output.old) (O.contents output.new)) }
     ensures quiet { IfOk result.answered (λ status. status ≡ Status.Success → KeepsBytes (E.contents errors.old) (E.contents errors.new)) }
     ensures failed { IfErr result.answered UnionStopsBy }

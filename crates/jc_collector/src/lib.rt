@@ -14,19 +14,15 @@ mod into_union;
 mod listed;
 mod listing;
 mod migrating;
-mod stopping;
 mod then_export;
 
 pub use answered::{Answered, answer_deliveries, answer_lines};
 pub use closing::Closed;
 pub use collecting::{collect, collect_deliveries};
-pub use database::{FileKeeper, Opened, OpenedFiles};
+pub use database::{FileKeeper, Opened, OpenedFiles, open_or_make};
 pub use health::{Examined, Health, check};
 pub use inspecting::inspect;
-pub use into_union::collect_into_union;
+pub use into_union::{FilesUnion, collect_into_union, join_open};
 pub use listed::collect_listed;
 pub use listing::{export, show};
 pub use migrating::migrate;
-pub use stopping::{
-    Stopped, collect_and_stop, collect_lines_and_stop, open_after_lines, open_after_stop,
-};

@@ -2,14 +2,14 @@
 
 use jc_base::FromRead;
 use jc_collect::Delivery;
-use jc_collector::{
-    Opened, OpenedFiles, Stopped, collect_and_stop, collect_lines_and_stop, open_after_lines,
-    open_after_stop,
-};
+use jc_collector::{Opened, OpenedFiles};
 use jc_command_args::Tables;
 use jc_command_shared::{Failure, Status};
 use jc_file::SliceSpace;
 use jc_test_samples::{add_pieces, answer_lines};
+use jc_theorem_stops::{
+    Stopped, collect_and_stop, collect_lines_and_stop, open_after_lines, open_after_stop,
+};
 use sqlite::{FileFrom, Start, Unknown};
 use std::alloc::Global;
 use std::test::Fail;

@@ -1,24 +1,23 @@
 -- What was answered stands over the database that was found, and the export behind it changes nothing.
-use Rattle.std.proofs.Common.{inl, inr, arith}
-use Rattle.sqlite.specs.State.{HasCleanDisk}
-use Rattle.sqlite.specs.Files.{file_state}
+use Rattle.std.proofs.Common.{inl, inr}
 use Rattle.jc_collector.specs.Database.{IsOutFailure, MayEndNames}
 use Rattle.jc_collector.specs.Open.{HoldsOpen}
 use Rattle.jc_collector.specs.OverFiles.{KeepsStored}
 use Rattle.jc_collector_answers.specs.Tied.{NamedWith, PrintsFront}
-use Rattle.jc_collector.proofs.Open.{front_named, front_other, holds_open, named_other, on_err}
+use Rattle.jc_collector.specs.PrintedLaws.{front_other, named_other}
+use Rattle.jc_collector.proofs.Open.{clean_before, front_named, holds_open, on_err}
 use Rattle.jc_collector.proofs.OverFiles.{stands_over}
 use Rattle.jc_collector.proofs.Results.{IfErr-each, IfOk-each, failure_of_other, value_of_other}
 use Rattle.jc_collector.proofs.answered.answer_lines_over.Goals as goal
 
 pub returns-clause-clean : goal.returns-clause-clean
-returns-clause-clean g c = λ clean. c.answer_names-answered.ensures.clean (omega (arith, c.export_after.ensures.clean, clean))
+returns-clause-clean g c = λ clean. c.answer_names-answered.ensures.clean (clean_before c.export_after.ensures.clean clean)
 
 pub returns-clause-kept : goal.returns-clause-kept
 returns-clause-kept g c =
     let answered = c.answer_names-answered.ensures in
     let exported = c.export_after.ensures in
-    stands_over g.T.Layout.meaning c.args.keeper.now.conn c.answer_names-answered.new.keeper.conn c.export_after.new.keeper.conn answered.before answered.made KeepsStored answered.kept
+    stands_over g.T.Layout.meaning c.args.keeper.now.conn _ c.export_after.new.keeper.conn answered.before answered.made KeepsStored answered.kept
     exported.before exported.keeps
 
 pub returns-clause-each : goal.returns-clause-each
@@ -27,11 +26,11 @@ returns-clause-each g c = λ clean before begin.
     let new = g.O.Write.contents c.answer_names-answered.new.output in
     let answered = c.answer_names-answered.ensures in
     let exported = c.export_after.ensures in
-    let mid : HasCleanDisk (file_state c.answer_names-answered.new.keeper.conn) = omega (arith, exported.clean, clean) in
+    let mid = clean_before exported.clean clean in
     let first = begin (answered.clean mid) in
     let sound = first.0 in
     let has = first.1 in
-    let holds = holds_open g.T.Layout.meaning c.args.keeper.now.conn c.answer_names-answered.new.keeper.conn c.export_after.new.keeper.conn before sound has (c.sound_leaves_journals.ensures.durable sound has.made) (answered.made has.made)
+    let holds = holds_open g.T.Layout.meaning c.args.keeper.now.conn _ c.export_after.new.keeper.conn before sound has (c.sound_leaves_journals.ensures.durable sound has.made) (answered.made has.made)
     exported.before exported.keeps exported.crash clean in
     value_of_other c.export_after.result c.answer_names-answered.result (λ status. status) _ exported.answered
     (IfOk-each c.answer_names-answered.result _ (λ status. NamedWith (HoldsOpen g.T.Layout.meaning c.export_after.new.keeper.conn before) (g.L.Read.remaining c.args.names.now) status old new)
@@ -43,11 +42,11 @@ returns-clause-each_failed g c = λ clean before begin.
     let new = g.O.Write.contents c.answer_names-answered.new.output in
     let answered = c.answer_names-answered.ensures in
     let exported = c.export_after.ensures in
-    let mid : HasCleanDisk (file_state c.answer_names-answered.new.keeper.conn) = omega (arith, exported.clean, clean) in
+    let mid = clean_before exported.clean clean in
     let first = begin (answered.clean mid) in
     let sound = first.0 in
     let has = first.1 in
-    let holds = holds_open g.T.Layout.meaning c.args.keeper.now.conn c.answer_names-answered.new.keeper.conn c.export_after.new.keeper.conn before sound has (c.sound_leaves_journals.ensures.durable sound has.made) (answered.made has.made)
+    let holds = holds_open g.T.Layout.meaning c.args.keeper.now.conn _ c.export_after.new.keeper.conn before sound has (c.sound_leaves_journals.ensures.durable sound has.made) (answered.made has.made)
     exported.before exported.keeps exported.crash clean in
     let Holds = HoldsOpen g.T.Layout.meaning c.export_after.new.keeper.conn before in
     on_err c.export_after.result (PrintsFront Holds old new)
@@ -61,7 +60,7 @@ pub returns-clause-recovers : goal.returns-clause-recovers
 returns-clause-recovers g c = λ clean before begin.
     let answered = c.answer_names-answered.ensures in
     let exported = c.export_after.ensures in
-    let mid : HasCleanDisk (file_state c.answer_names-answered.new.keeper.conn) = omega (arith, exported.clean, clean) in
+    let mid = clean_before exported.clean clean in
     let first = begin (answered.clean mid) in
     let sound = first.0 in
     let has = first.1 in

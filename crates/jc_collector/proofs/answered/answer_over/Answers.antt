@@ -1,7 +1,5 @@
 -- What was answered stands over the database that was found, and the export behind it changes nothing.
-use Rattle.std.proofs.Common.{inl, inr, refl, ⊎_elim, OnOk, length, arith, subst}
-use Rattle.sqlite.specs.State.{HasCleanDisk}
-use Rattle.sqlite.specs.Files.{file_state}
+use Rattle.std.proofs.Common.{inl, inr, refl, ⊎_elim, OnOk, length, subst}
 use Rattle.jc_base.specs.Journal.{Journal}
 use Rattle.jc_collector.specs.Database.{IsOutFailure}
 use Rattle.jc_collector.specs.Open.{HoldsOpen}
@@ -9,19 +7,20 @@ use Rattle.jc_collector.specs.OverFiles.{CollectsAll, KeepsStored}
 use Rattle.jc_collector_answers.specs.Answered.{KeepsFirst, KeepsPrinted}
 use Rattle.jc_collector_answers.specs.Tied.{PrintsFront, PrintsWith}
 use Rattle.jc_command_shared.specs.declared.failure.Failure.TheVariants.{WriteFailed}
-use Rattle.jc_collector.proofs.Open.{all_first, failed_before, front_other, front_with, holds_open, less_left, on_err, on_ok_each, on_ok_of_other, with_other}
+use Rattle.jc_collector.specs.PrintedLaws.{front_other, with_other}
+use Rattle.jc_collector.proofs.Open.{all_first, clean_before, failed_before, front_with, holds_open, less_left, on_err, on_ok_each, on_ok_of_other}
 use Rattle.jc_collector.proofs.OverFiles.{stands_over}
 use Rattle.jc_collector.proofs.Results.{IfErr-each, IfOk-each, failure_of_other, on_ok_if, value_of_other}
 use Rattle.jc_collector.proofs.answered.answer_over.Goals as goal
 
 pub returns-clause-clean : goal.returns-clause-clean
-returns-clause-clean g c = λ clean. c.answer_all-answered.ensures.clean (omega (arith, c.export_after.ensures.clean, clean))
+returns-clause-clean g c = λ clean. c.answer_all-answered.ensures.clean (clean_before c.export_after.ensures.clean clean)
 
 pub returns-clause-kept : goal.returns-clause-kept
 returns-clause-kept g c =
     let answered = c.answer_all-answered.ensures in
     let exported = c.export_after.ensures in
-    stands_over g.L.Layout.meaning c.args.keeper.now.conn c.answer_all-answered.new.keeper.conn c.export_after.new.keeper.conn answered.before answered.made KeepsStored answered.kept
+    stands_over g.L.Layout.meaning c.args.keeper.now.conn _ c.export_after.new.keeper.conn answered.before answered.made KeepsStored answered.kept
     exported.before exported.keeps
 
 pub returns-clause-each : goal.returns-clause-each
@@ -30,11 +29,11 @@ returns-clause-each g c = λ clean before begin.
     let new = g.O.Write.contents c.answer_all-answered.new.output in
     let answered = c.answer_all-answered.ensures in
     let exported = c.export_after.ensures in
-    let mid : HasCleanDisk (file_state c.answer_all-answered.new.keeper.conn) = omega (arith, exported.clean, clean) in
+    let mid = clean_before exported.clean clean in
     let first = begin (answered.clean mid) in
     let sound = first.0 in
     let has = first.1 in
-    let holds = holds_open g.L.Layout.meaning c.args.keeper.now.conn c.answer_all-answered.new.keeper.conn c.export_after.new.keeper.conn before sound has (c.sound_leaves_journals.ensures.durable sound has.made) (answered.made has.made)
+    let holds = holds_open g.L.Layout.meaning c.args.keeper.now.conn _ c.export_after.new.keeper.conn before sound has (c.sound_leaves_journals.ensures.durable sound has.made) (answered.made has.made)
     exported.before exported.keeps exported.crash clean in
     value_of_other c.export_after.result c.answer_all-answered.result (λ status. status) _ exported.answered
     (IfOk-each c.answer_all-answered.result _ (λ status. PrintsWith (HoldsOpen g.L.Layout.meaning c.export_after.new.keeper.conn before) (length c.args.deliveries.now) status old new)
@@ -46,11 +45,11 @@ returns-clause-each_failed g c = λ clean before begin.
     let new = g.O.Write.contents c.answer_all-answered.new.output in
     let answered = c.answer_all-answered.ensures in
     let exported = c.export_after.ensures in
-    let mid : HasCleanDisk (file_state c.answer_all-answered.new.keeper.conn) = omega (arith, exported.clean, clean) in
+    let mid = clean_before exported.clean clean in
     let first = begin (answered.clean mid) in
     let sound = first.0 in
     let has = first.1 in
-    let holds = holds_open g.L.Layout.meaning c.args.keeper.now.conn c.answer_all-answered.new.keeper.conn c.export_after.new.keeper.conn before sound has (c.sound_leaves_journals.ensures.durable sound has.made) (answered.made has.made)
+    let holds = holds_open g.L.Layout.meaning c.args.keeper.now.conn _ c.export_after.new.keeper.conn before sound has (c.sound_leaves_journals.ensures.durable sound has.made) (answered.made has.made)
     exported.before exported.keeps exported.crash clean in
     let Holds = HoldsOpen g.L.Layout.meaning c.export_after.new.keeper.conn before in
     on_err c.export_after.result (PrintsFront Holds old new)
@@ -64,7 +63,7 @@ pub returns-clause-recovers : goal.returns-clause-recovers
 returns-clause-recovers g c = λ clean before begin.
     let answered = c.answer_all-answered.ensures in
     let exported = c.export_after.ensures in
-    let mid : HasCleanDisk (file_state c.answer_all-answered.new.keeper.conn) = omega (arith, exported.clean, clean) in
+    let mid = clean_before exported.clean clean in
     let first = begin (answered.clean mid) in
     let sound = first.0 in
     let has = first.1 in
@@ -81,7 +80,7 @@ returns-clause-collected g c = λ uploads are.
     let answered = c.answer_all-answered.ensures in
     let exported = c.export_after.ensures in
     on_ok_if c.export_after.result _ (λ status is.
-    stands_over g.L.Layout.meaning c.args.keeper.now.conn c.answer_all-answered.new.keeper.conn c.export_after.new.keeper.conn answered.before answered.made (CollectsAll uploads old new)
+    stands_over g.L.Layout.meaning c.args.keeper.now.conn _ c.export_after.new.keeper.conn answered.before answered.made (CollectsAll uploads old new)
     (λ now made. record {
       first = _;
       last = _;
@@ -99,11 +98,11 @@ returns-clause-crash g c = λ uploads are clean before begin found may.
     let new = g.O.Write.contents c.answer_all-answered.new.output in
     let answered = c.answer_all-answered.ensures in
     let exported = c.export_after.ensures in
-    let mid : HasCleanDisk (file_state c.answer_all-answered.new.keeper.conn) = omega (arith, exported.clean, clean) in
+    let mid = clean_before exported.clean clean in
     let first = begin (answered.clean mid) in
     let sound = first.0 in
     let has = first.1 in
-    let there = less_left g.L.Layout.meaning c.args.keeper.now.conn c.answer_all-answered.new.keeper.conn c.export_after.new.keeper.conn before sound has (c.sound_leaves_journals.ensures.durable sound has.made) (answered.made has.made)
+    let there = less_left g.L.Layout.meaning c.args.keeper.now.conn _ c.export_after.new.keeper.conn before sound has (c.sound_leaves_journals.ensures.durable sound has.made) (answered.made has.made)
     exported.before exported.keeps exported.crash clean found may in
     on_ok_of_other c.export_after.result c.answer_all-answered.result _ exported.answered
     (subst (λ (journal : Journal). OnOk c.answer_all-answered.result (KeepsPrinted uploads journal old new found)) has.is
@@ -115,11 +114,11 @@ returns-clause-crash_unprinted g c = λ uploads are clean before begin found may
     let new = g.O.Write.contents c.answer_all-answered.new.output in
     let answered = c.answer_all-answered.ensures in
     let exported = c.export_after.ensures in
-    let mid : HasCleanDisk (file_state c.answer_all-answered.new.keeper.conn) = omega (arith, exported.clean, clean) in
+    let mid = clean_before exported.clean clean in
     let first = begin (answered.clean mid) in
     let sound = first.0 in
     let has = first.1 in
-    let there = less_left g.L.Layout.meaning c.args.keeper.now.conn c.answer_all-answered.new.keeper.conn c.export_after.new.keeper.conn before sound has (c.sound_leaves_journals.ensures.durable sound has.made) (answered.made has.made)
+    let there = less_left g.L.Layout.meaning c.args.keeper.now.conn _ c.export_after.new.keeper.conn before sound has (c.sound_leaves_journals.ensures.durable sound has.made) (answered.made has.made)
     exported.before exported.keeps exported.crash clean found may in
     let printed = subst (λ (journal : Journal). OnOk c.answer_all-answered.result (KeepsPrinted uploads journal old new found)) has.is
     (answered.crash mid sound has.made uploads are found there) in

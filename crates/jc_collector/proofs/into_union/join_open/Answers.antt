@@ -1,18 +1,18 @@
--- What was answered stands in the union, and the export behind it changes nothing.
-use Rattle.std.proofs.Common.{arith, inl, inr, subst, sym}
+-- What was answered stands in the union, and the export behind it changes nothing. The keeper that was answered over isn't
+-- named, so that another one doesn't fit.
+use Rattle.std.proofs.Common.{inl, inr, sym}
 use Rattle.std.specs.Prelude.{⊤}
-use Rattle.sqlite.specs.Files.{file_state, over_files}
-use Rattle.sqlite.specs.State.{HasCleanDisk}
-use Rattle.jc_base.specs.Journal.{Journal}
-use Rattle.jc_ledger.specs.Kept.{IsKept, NoneCollide}
+use Rattle.sqlite.specs.Files.{over_files}
+use Rattle.jc_ledger.specs.Kept.{NoneCollide}
 use Rattle.jc_store.specs.Crash.{MayLeave}
 use Rattle.jc_store.specs.Meaning.{IsSound, journal_of}
 use Rattle.jc_union.specs.HoldingLaws.{holds_nothing, holds_through}
 use Rattle.jc_collector.specs.Database.{IsOutFailure, MayEndNames}
 use Rattle.jc_collector.specs.IntoUnion.{UnionStopsBy}
+use Rattle.jc_collector.specs.PrintedLaws.{front_other, named_other}
 use Rattle.jc_collector.proofs.Causes.{names_failed}
-use Rattle.jc_collector.proofs.IntoUnion.{by_answers}
-use Rattle.jc_collector.proofs.Open.{front_named, front_none, front_other, named_other, on_err}
+use Rattle.jc_collector.proofs.IntoUnion.{by_answers, kept_same}
+use Rattle.jc_collector.proofs.Open.{clean_before, front_named, front_none, on_err}
 use Rattle.jc_collector.proofs.Results.{IfErr-each, IfOk-each, failure_of_other, on_any, on_ok, value_of_other}
 use Rattle.jc_collector.proofs.into_union.join_open.Goals as goal
 
@@ -22,20 +22,15 @@ returns-in-Ok-clause-each g c = λ clean may l_sound.
     let answered = c.answer_names-answered.ensures in
     let exported = c.export_after-done.ensures in
     let then = c.open_union-union.result.union in
-    let it = c.answer_names-answered.new.keeper in
-    let last = c.export_after-done.new.keeper in
     let m = g.T.Layout.meaning in
-    let disk : HasCleanDisk (file_state it.present.conn) = omega (arith, exported.clean, clean.0) in
+    let disk = clean_before exported.clean clean.0 in
     let early = answered.clean (disk, clean.1) in
-    let made = on_ok c.open_union-union.result.opened _ _ c.in-Ok.is (opened.made may early.1.1.1) in
-    let sound = on_ok c.open_union-union.result.opened _ _ c.in-Ok.is (opened.sound early) in
+    let made = on_ok _ _ _ c.in-Ok.is (opened.made may early.1.1.1) in
+    let sound = on_ok _ _ _ c.in-Ok.is (opened.sound early) in
     let leaves = answered.recovers (disk, clean.1) made (opened.recovers early may l_sound) in
     let Was = IsSound over_files then.present.conn × (g.L.Ledger.sound then.ledger × (⊤ × NoneCollide (g.L.Ledger.came then.ledger))) in
-    let others = g.L.Ledger.sound it.ledger × (⊤ × NoneCollide (g.L.Ledger.came it.ledger)) in
-    let holds = holds_through g.P.Past.journal (journal_of m over_files c.args.present.conn) (journal_of m over_files then.present.conn)
-    (journal_of m over_files it.present.conn) (journal_of m over_files last.conn)
-    Was (IsSound over_files it.present.conn × others) (IsSound over_files last.conn × others) (g.L.Ledger.known it.ledger) (g.L.Ledger.came it.ledger) (MayLeave m over_files then.present.conn) (MayLeave m over_files it.present.conn)
-    (MayLeave m over_files last.conn) (g.L.Ledger.may_leave it.ledger)
+    let holds = holds_through g.P.Past.journal (journal_of m over_files c.args.present.conn) (journal_of m over_files then.present.conn) _ _
+    Was _ _ _ _ (MayLeave m over_files then.present.conn) _ _ _
     (opened.journal.same may.sound may.made sound.0) (opened.left early.0 may)
     (λ now. (answered.made made).1.1 (now.0, (now.1.0, tt))) leaves.1
     (λ late. (exported.before late.0, late.1)) (λ late. exported.keeps.same (exported.before late.0) (answered.made made).0 late.0)
@@ -49,20 +44,15 @@ returns-in-Ok-clause-each_failed g c = λ clean may l_sound.
     let answered = c.answer_names-answered.ensures in
     let exported = c.export_after-done.ensures in
     let then = c.open_union-union.result.union in
-    let it = c.answer_names-answered.new.keeper in
-    let last = c.export_after-done.new.keeper in
     let m = g.T.Layout.meaning in
-    let disk : HasCleanDisk (file_state it.present.conn) = omega (arith, exported.clean, clean.0) in
+    let disk = clean_before exported.clean clean.0 in
     let early = answered.clean (disk, clean.1) in
-    let made = on_ok c.open_union-union.result.opened _ _ c.in-Ok.is (opened.made may early.1.1.1) in
-    let sound = on_ok c.open_union-union.result.opened _ _ c.in-Ok.is (opened.sound early) in
+    let made = on_ok _ _ _ c.in-Ok.is (opened.made may early.1.1.1) in
+    let sound = on_ok _ _ _ c.in-Ok.is (opened.sound early) in
     let leaves = answered.recovers (disk, clean.1) made (opened.recovers early may l_sound) in
     let Was = IsSound over_files then.present.conn × (g.L.Ledger.sound then.ledger × (⊤ × NoneCollide (g.L.Ledger.came then.ledger))) in
-    let others = g.L.Ledger.sound it.ledger × (⊤ × NoneCollide (g.L.Ledger.came it.ledger)) in
-    let holds = holds_through g.P.Past.journal (journal_of m over_files c.args.present.conn) (journal_of m over_files then.present.conn)
-    (journal_of m over_files it.present.conn) (journal_of m over_files last.conn)
-    Was (IsSound over_files it.present.conn × others) (IsSound over_files last.conn × others) (g.L.Ledger.known it.ledger) (g.L.Ledger.came it.ledger) (MayLeave m over_files then.present.conn) (MayLeave m over_files it.present.conn)
-    (MayLeave m over_files last.conn) (g.L.Ledger.may_leave it.ledger)
+    let holds = holds_through g.P.Past.journal (journal_of m over_files c.args.present.conn) (journal_of m over_files then.present.conn) _ _
+    Was _ _ _ _ (MayLeave m over_files then.present.conn) _ _ _
     (opened.journal.same may.sound may.made sound.0) (opened.left early.0 may)
     (λ now. (answered.made made).1.1 (now.0, (now.1.0, tt))) leaves.1
     (λ late. (exported.before late.0, late.1)) (λ late. exported.keeps.same (exported.before late.0) (answered.made made).0 late.0)
@@ -77,10 +67,9 @@ returns-in-Ok-clause-recovers g c = λ clean may l_sound.
     let opened = c.open_union-union.ensures in
     let answered = c.answer_names-answered.ensures in
     let exported = c.export_after-done.ensures in
-    let it = c.answer_names-answered.new.keeper in
-    let disk : HasCleanDisk (file_state it.present.conn) = omega (arith, exported.clean, clean.0) in
+    let disk = clean_before exported.clean clean.0 in
     let early = answered.clean (disk, clean.1) in
-    let made = on_ok c.open_union-union.result.opened _ _ c.in-Ok.is (opened.made may early.1.1.1) in
+    let made = on_ok _ _ _ c.in-Ok.is (opened.made may early.1.1.1) in
     let leaves = answered.recovers (disk, clean.1) made (opened.recovers early may l_sound) in (
       record { each = λ left is. leaves.0.each left (exported.crash clean.0 left is) },
       λ now known in_database in_ledger.
@@ -91,18 +80,16 @@ pub returns-in-Ok-clause-made : goal.returns-in-Ok-clause-made
 returns-in-Ok-clause-made g c = λ clean may.
     let answered = c.answer_names-answered.ensures in
     let exported = c.export_after-done.ensures in
-    let it = c.answer_names-answered.new.keeper in
-    let disk : HasCleanDisk (file_state it.present.conn) = omega (arith, exported.clean, clean.0) in
-    let early = answered.clean (disk, clean.1) in
-    let made = answered.made (on_ok c.open_union-union.result.opened _ _ c.in-Ok.is (c.open_union-union.ensures.made may early.1.1.1)) in
+    let early = answered.clean (clean_before exported.clean clean.0, clean.1) in
+    let made = answered.made (on_ok _ _ _ c.in-Ok.is (c.open_union-union.ensures.made may early.1.1.1)) in
     on_any c.export_after-done.result _ (
       exported.keeps.made made.0,
-      (
-        tt,
-        λ late. subst (λ (j : Journal). IsKept (g.L.Ledger.known it.ledger) g.P.Past.journal j (g.L.Ledger.came it.ledger))
-            (sym (exported.keeps.same (exported.before late.0) made.0 late.0)) (made.1.1 (exported.before late.0, late.1)),
-      ),
+      (tt, λ late. kept_same (exported.keeps.same (exported.before late.0) made.0 late.0) (made.1.1 (exported.before late.0, late.1))),
     )
+
+pub returns-in-Ok-clause-clean : goal.returns-in-Ok-clause-clean
+returns-in-Ok-clause-clean g c = λ clean.
+    c.open_union-union.ensures.clean (c.answer_names-answered.ensures.clean (clean_before c.export_after-done.ensures.clean clean.0, clean.1))
 
 pub returns-in-Ok-clause-before : goal.returns-in-Ok-clause-before
 returns-in-Ok-clause-before g c = λ late.

@@ -14,12 +14,11 @@ ghost use Rattle.jc_database.specs.Files.{HoldsJournal};
 ghost use Rattle.jc_collector_answers.specs.Answered.{KeepsPrinted};
 ghost use Rattle.jc_collector_answers.specs.Tied.{NamedWith, PrintsFront, PrintsWith};
 ghost use Rattle.jc_collector.specs.Kinds.{conn_of, journal_in, kind_of, meaning_of};
-ghost use Rattle.jc_collector.specs.OverFiles.{AnyLeft, FindsEach, LeavesEach, LeavesFirst, LeavesPrinted, WhenBegun, WhenStopped};
+ghost use Rattle.jc_theorem_stops.specs.Stopped.{AnyLeft, FindsEach, LeavesEach, LeavesFirst, LeavesPrinted, WhenBegun, WhenStopped};
 
-use crate::answered::{Answered, answer_deliveries, answer_lines};
-use crate::database::{Opened, OpenedFiles, open_or_make};
 use jc_base::ByteStream;
 use jc_collect::Delivery;
+use jc_collector::{Answered, Opened, OpenedFiles, answer_deliveries, answer_lines, open_or_make};
 use jc_command_args::Tables;
 use jc_command_shared::{Failure, Status};
 use jc_database::stop_keeper;
@@ -195,9 +194,9 @@ fn stop_opened<S: Start>(opened: OpenedFiles<S>) -> Snapshot<FileStore<FileFrom<
     }
 }
 
-/// Closes files as they are, and keeps for proofs what they were.
-fn let_go<D: Disk + Drop>(files: FileStore<D>) -> Snapshot<FileStore<D>>
-    ensures { result.value ≡ files }
+/// Closes files or notes as they are, and keeps for proofs what they were.
+pub fn let_go<T: Drop>(value: T) -> Snapshot<T>
+    ensures { result.value ≡ value }
 {
-    Snapshot::of(&files)
+    Snapshot::of(&value)
 }

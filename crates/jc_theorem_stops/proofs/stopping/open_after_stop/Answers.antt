@@ -1,15 +1,16 @@
 -- The next run finds one of the journals that the crash may have left.
 use Rattle.std.proofs.Common.{◌≡◌, IfOk, List, length, subst}
+use Rattle.std.proofs.lemmas.Result.{IfOk-weaker}
 use Rattle.std.proofs.Math.Logic.{∥∥₁_map}
 use Rattle.sqlite.specs.WalFiles.{image_at}
 use Rattle.sqlite.specs.Recovery.{Image}
 use Rattle.jc_upload.specs.declared.answer.Answer.{Answer}
 use Rattle.jc_collector_answers.specs.Tied.{PrintsWith}
-use Rattle.jc_collector.specs.OverFiles.{AnyLeft, FindsEach, LeavesEach, LeavesPrinted}
-use Rattle.jc_collector.proofs.Open.{with_other}
-use Rattle.jc_collector.proofs.OverFiles.{found_again, found_each}
-use Rattle.jc_collector.proofs.Results.{IfOk-each, on_ok_if}
-use Rattle.jc_collector.proofs.stopping.open_after_stop.Goals as goal
+use Rattle.jc_theorem_stops.specs.Stopped.{AnyLeft, FindsEach, LeavesEach, LeavesPrinted}
+use Rattle.jc_collector.specs.PrintedLaws.{with_other}
+use Rattle.jc_theorem_stops.proofs.Left.{found_again, found_each}
+use Rattle.jc_theorem_stops.proofs.Results.{on_ok_if}
+use Rattle.jc_theorem_stops.proofs.stopping.open_after_stop.Goals as goal
 
 pub returns-clause-each : goal.returns-clause-each
 returns-clause-each g c = λ clean kind before begin.
@@ -18,9 +19,9 @@ returns-clause-each g c = λ clean kind before begin.
     let stopped = c.in_ok-stopped.stopped in
     let Finds : List Answer → Type 0
     = λ answers. AnyLeft stopped.files.value (λ left. left ≡ image_at g.T.Start → IfOk c.open_or_make.result (FindsEach before answers)) in
-    IfOk-each stopped.answered _ (λ status. PrintsWith Finds (length c.args.deliveries.now) status old new)
+    IfOk-weaker stopped.answered _ (λ status. PrintsWith Finds (length c.args.deliveries.now) status old new)
     (λ status p. with_other (λ answers. AnyLeft stopped.files.value (LeavesEach kind before answers)) Finds
-    (λ answers any left may. ∥∥₁_map (any left may) (λ it same. IfOk-each c.open_or_make.result _ _
+    (λ answers any left may. ∥∥₁_map (any left may) (λ it same. IfOk-weaker c.open_or_make.result _ _
     (λ opened found late. found_each c.args.tables (image_at g.T.Start) opened found late kind before answers
     (subst (λ (image : Image). LeavesEach kind before answers image) same it))
     c.open_or_make.ensures.found))
@@ -32,7 +33,7 @@ returns-clause-found g c = λ clean kind before begin uploads are left may same.
     let old = g.O.Write.contents c.args.output.now in
     let new = g.O.Write.contents c.collect_and_stop.new.output in
     on_ok_if c.in_ok-stopped.stopped.answered _
-    (λ status is. IfOk-each c.open_or_make.result _ _
+    (λ status is. IfOk-weaker c.open_or_make.result _ _
     (λ opened found late. found_again c.args.tables (image_at g.T.Start) opened found late kind uploads before old new
     (subst (λ (image : Image). ∥ LeavesPrinted kind uploads before old new image ∥₁) same (is _ (c.in_ok-stopped.ensures.printed clean kind before begin uploads are left may))))
     c.open_or_make.ensures.found)

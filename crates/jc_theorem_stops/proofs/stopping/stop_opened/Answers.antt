@@ -1,5 +1,5 @@
 -- The keeper is that of one kind.
-use Rattle.jc_collector.proofs.stopping.stop_opened.Goals as goal
+use Rattle.jc_theorem_stops.proofs.stopping.stop_opened.Goals as goal
 
 pub returns-in-ByKey-clause-left : goal.returns-in-ByKey-clause-left
 returns-in-ByKey-clause-left g c = rw (c.let_go.ensures, c.in-ByKey.is) (c.stop_keeper.ensures.left (λ db journal. journal.spells.sound))

@@ -1,5 +1,6 @@
 -- Whatever a crash leaves is a journal, which keeps what was printed.
 use Rattle.std.proofs.Common.{◌≡◌, Err, IfErr, IfOk, OnOk, length}
+use Rattle.std.proofs.lemmas.Result.{IfErr-weaker, IfOk-weaker}
 use Rattle.std.proofs.Math.Logic.{∥∥₁_map}
 use Rattle.sqlite.specs.FileStore.{state}
 use Rattle.sqlite.specs.Recovery.{Image}
@@ -8,11 +9,12 @@ use Rattle.jc_command_shared.specs.declared.failure.Failure.TheVariants.{WriteFa
 use Rattle.jc_collector_answers.specs.Tied.{PrintsWith, PrintsFront}
 use Rattle.jc_collector.specs.Open.{HoldsIn}
 use Rattle.jc_collector.specs.Kinds.{kind_of}
-use Rattle.jc_collector.specs.OverFiles.{AnyLeft, LeavesEach, LeavesFirst, LeavesPrinted}
-use Rattle.jc_collector.proofs.Found.{at_kind}
-use Rattle.jc_collector.proofs.Open.{front_other, left_each, with_other}
-use Rattle.jc_collector.proofs.Results.{IfErr-each, IfOk-each, on_ok_if}
-use Rattle.jc_collector.proofs.stopping.collect_and_stop.Goals as goal
+use Rattle.jc_theorem_stops.specs.Stopped.{AnyLeft, LeavesEach, LeavesFirst, LeavesPrinted}
+use Rattle.jc_collector.specs.KindLaws.{at_kind}
+use Rattle.jc_collector.specs.PrintedLaws.{front_other, with_other}
+use Rattle.jc_theorem_stops.proofs.Left.{left_each}
+use Rattle.jc_theorem_stops.proofs.Results.{on_ok_if}
+use Rattle.jc_theorem_stops.proofs.stopping.collect_and_stop.Goals as goal
 
 pub returns-clause-each : goal.returns-clause-each
 returns-clause-each g c = λ clean.
@@ -25,7 +27,7 @@ returns-clause-each g c = λ clean.
     (λ kind before. IfOk it.done (λ status. PrintsWith (λ answers. AnyLeft files (LeavesEach kind before answers)) (length c.args.deliveries.now) status old new))
     (c.stop_opened-files.ensures.clean clean)
     (λ before begin.
-    IfOk-each it.done _ (λ status. PrintsWith (λ answers. AnyLeft files (LeavesEach (kind_of it.keeper) before answers)) (length c.args.deliveries.now) status old new)
+    IfOk-weaker it.done _ (λ status. PrintsWith (λ answers. AnyLeft files (LeavesEach (kind_of it.keeper) before answers)) (length c.args.deliveries.now) status old new)
     (λ status p. with_other (HoldsIn it.keeper before) (λ answers. AnyLeft files (LeavesEach (kind_of it.keeper) before answers))
     (left_each c.args.tables (image_at g.S.Start) it.keeper files c.stop_opened-files.ensures.clean
     c.stop_opened-files.ensures.left run.recovers clean before begin)
@@ -43,7 +45,7 @@ returns-clause-each_failed g c = λ clean.
     (λ kind before. IfErr it.done (λ _. PrintsFront (λ answers. AnyLeft files (LeavesEach kind before answers)) old new))
     (c.stop_opened-files.ensures.clean clean)
     (λ before begin.
-    IfErr-each it.done _ (λ _. PrintsFront (λ answers. AnyLeft files (LeavesEach (kind_of it.keeper) before answers)) old new)
+    IfErr-weaker it.done _ (λ _. PrintsFront (λ answers. AnyLeft files (LeavesEach (kind_of it.keeper) before answers)) old new)
     (λ failure p. front_other (HoldsIn it.keeper before) (λ answers. AnyLeft files (LeavesEach (kind_of it.keeper) before answers))
     (left_each c.args.tables (image_at g.S.Start) it.keeper files c.stop_opened-files.ensures.clean
     c.stop_opened-files.ensures.left run.recovers clean before begin)

@@ -1,15 +1,15 @@
 -- The next run finds one of the journals that the crash may have left.
 use Rattle.std.proofs.Common.{◌≡◌, IfOk, List, subst}
+use Rattle.std.proofs.lemmas.Result.{IfOk-weaker}
 use Rattle.std.proofs.Math.Logic.{∥∥₁_map}
 use Rattle.sqlite.specs.WalFiles.{image_at}
 use Rattle.sqlite.specs.Recovery.{Image}
 use Rattle.jc_upload.specs.declared.answer.Answer.{Answer}
 use Rattle.jc_collector_answers.specs.Tied.{NamedWith}
-use Rattle.jc_collector.specs.OverFiles.{AnyLeft, FindsEach, LeavesEach}
-use Rattle.jc_collector.proofs.Open.{named_other}
-use Rattle.jc_collector.proofs.OverFiles.{found_each}
-use Rattle.jc_collector.proofs.Results.{IfOk-each}
-use Rattle.jc_collector.proofs.stopping.open_after_lines.Goals as goal
+use Rattle.jc_theorem_stops.specs.Stopped.{AnyLeft, FindsEach, LeavesEach}
+use Rattle.jc_collector.specs.PrintedLaws.{named_other}
+use Rattle.jc_theorem_stops.proofs.Left.{found_each}
+use Rattle.jc_theorem_stops.proofs.stopping.open_after_lines.Goals as goal
 
 pub returns : goal.returns
 returns g c = λ clean kind before begin.
@@ -18,9 +18,9 @@ returns g c = λ clean kind before begin.
     let stopped = c.in_ok-stopped.stopped in
     let Finds : List Answer → Type 0
     = λ answers. AnyLeft stopped.files.value (λ left. left ≡ image_at g.T.Start → IfOk c.open_or_make.result (FindsEach before answers)) in
-    IfOk-each stopped.answered _ (λ status. NamedWith Finds (g.L.Read.remaining c.args.names.now) status old new)
+    IfOk-weaker stopped.answered _ (λ status. NamedWith Finds (g.L.Read.remaining c.args.names.now) status old new)
     (λ status p. named_other (λ answers. AnyLeft stopped.files.value (LeavesEach kind before answers)) Finds
-    (λ answers any left may. ∥∥₁_map (any left may) (λ it same. IfOk-each c.open_or_make.result _ _
+    (λ answers any left may. ∥∥₁_map (any left may) (λ it same. IfOk-weaker c.open_or_make.result _ _
     (λ opened found late. found_each c.args.tables (image_at g.T.Start) opened found late kind before answers
     (subst (λ (image : Image). LeavesEach kind before answers image) same it))
     c.open_or_make.ensures.found))
