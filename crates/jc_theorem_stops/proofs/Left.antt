@@ -44,7 +44,7 @@ module _ {D : Type 0} {g : disk.Ghosts D} (made : Tables) (image : Image) (opene
 
 -- ---- once a run over a union is stopped
 
-module _ {D : Type 0} {g : disk.Ghosts D} {m : Meaning} {present : Held (FileStore D g)} {stopped : FileStore D g}
+module _ {D : Type 0} {g : disk.Ghosts D} {m : Meaning} {present : Held (FileStore D g)} (stopped : FileStore D g)
     {past before after : Journal} {Sound : Type 0} {known : Known} {came : LogEntry → Type 0} {ledgers : Known → Type 0}
     (left : (image : Image) → (state stopped).may_leave image
     → ∥ ((found : Journal) × MayLeave m over_files present found × HoldsJournal m image found) ∥₁)
@@ -69,7 +69,7 @@ module _ {D : Type 0} {g : disk.Ghosts D} (made mine : Tables) (image : Image) (
         let it = found clean in
         let at = it.1 kind before begin in
         let same = at.1.is in
-        let may = record {
+        let may : MayOpen (meaning_of mine) over_files first known past came = record {
           sound = it.0;
           made = at.1.made;
           lags = subst (λ (j : Journal). MayCatchUp known past j came) (sym same) lags;

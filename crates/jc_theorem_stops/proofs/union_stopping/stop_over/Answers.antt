@@ -5,19 +5,21 @@ use Rattle.jc_theorem_stops.proofs.Left.{left_noted}
 use Rattle.jc_theorem_stops.proofs.union_stopping.stop_over.Goals as goal
 
 pub returns-clause-each : goal.returns-clause-each
-returns-clause-each g c = λ lawful clean l_clean none may l_sound.
-    let ran = c.join_open.ensures in
+returns-clause-each g c = rw (c.let_go.ensures, c.let_go-2.ensures) (λ lawful clean l_clean none may l_sound.
+    let ran = c.join_open-union.ensures in
     let files = c.stop_keeper.ensures in
-    let now = (files.clean clean, (l_clean, (tt, none))) in
-    IfOk-weaker c.join_open.result.answered _ _
-    (λ status p. named_other _ _ (left_noted (files.left lawful clean (ran.recovers now may l_sound).0)) _ status _ _ p)
-    (ran.each now may l_sound)
+    IfOk-weaker c.join_open-union.result.answered _ _
+    (λ status p. named_other _ _ (left_noted c.stop_keeper.result (files.left lawful clean (ran.recovers (files.clean clean, (l_clean, (tt, none))) may l_sound).0)) _ status _ _ p)
+    (ran.each (files.clean clean, (l_clean, (tt, none))) may l_sound))
 
 pub returns-clause-each_failed : goal.returns-clause-each_failed
-returns-clause-each_failed g c = λ lawful clean l_clean none may l_sound.
-    let ran = c.join_open.ensures in
+returns-clause-each_failed g c = rw (c.let_go.ensures, c.let_go-2.ensures) (λ lawful clean l_clean none may l_sound.
+    let ran = c.join_open-union.ensures in
     let files = c.stop_keeper.ensures in
-    let now = (files.clean clean, (l_clean, (tt, none))) in
-    IfErr-weaker c.join_open.result.answered _ _
-    (λ _ p. front_other _ _ (left_noted (files.left lawful clean (ran.recovers now may l_sound).0)) _ _ p)
-    (ran.each_failed now may l_sound)
+    IfErr-weaker c.join_open-union.result.answered _ _
+    (λ _ p. front_other _ _ (left_noted c.stop_keeper.result (files.left lawful clean (ran.recovers (files.clean clean, (l_clean, (tt, none))) may l_sound).0)) _ _ p)
+    (ran.each_failed (files.clean clean, (l_clean, (tt, none))) may l_sound))
+
+pub returns-clause-clean : goal.returns-clause-clean
+returns-clause-clean g c = rw (c.let_go.ensures, c.let_go-2.ensures) (λ clean l_clean none.
+    (c.join_open-union.ensures.clean (c.stop_keeper.ensures.clean clean, (l_clean, (tt, none)))).0)
