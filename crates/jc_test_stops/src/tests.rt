@@ -1,4 +1,4 @@
-//! The four runs that are stopped, over tables of either kind.
+//! The runs that are stopped, over tables of either kind.
 
 use jc_base::FromRead;
 use jc_collect::Delivery;
@@ -6,12 +6,15 @@ use jc_collector::{Opened, OpenedFiles};
 use jc_command_args::Tables;
 use jc_command_shared::{Failure, Status};
 use jc_file::SliceSpace;
+use jc_ledger::MapLedger;
 use jc_test_samples::{add_pieces, answer_lines};
 use jc_theorem_stops::{
-    Stopped, collect_and_stop, collect_lines_and_stop, open_after_lines, open_after_stop,
+    Stopped, StoppedUnion, collect_and_stop, collect_into_union_and_stop, collect_lines_and_stop,
+    open_after_lines, open_after_stop,
 };
 use sqlite::{FileFrom, Start, Unknown};
 use std::alloc::Global;
+use std::marker::Brand;
 use std::test::Fail;
 use std::{env, fs, io, process};
 
@@ -55,7 +58,9 @@ fn stops(
     deliveries_stop(rt, path, tables, uploads)?;
     lines_stop(rt, path, tables, uploads)?;
     deliveries_stop_and_open(rt, path, tables, uploads)?;
-    lines_stop_and_open(rt, path, tables, uploads)
+    lines_stop_and_open(rt, path, tables, uploads)?;
+    let present = format!(in rt.alloc(); "{folder}{name}-union.db")?;
+    union_stops(rt, present.as_str(), tables, uploads)
 }
 
 fn deliveries_stop(
@@ -67,7 +72,7 @@ fn deliveries_stop(
     let mut output = Vec::new(rt.alloc());
     let mut one = [stream(&uploads.first)];
     let run = opened(collect_and_stop(rt, Unknown, path, tables, None, &mut one, &mut output))?;
-    answered(rt.alloc(), run, &output, &["ack S 0 1 1 0"])
+    answered(rt.alloc(), run.answered, &output, &["ack S 0 1 1 0"])
 }
 
 fn lines_stop(rt: &HostRuntime, path: &str, tables: Tables, uploads: &Uploads) -> Result<(), Fail> {
@@ -85,7 +90,7 @@ fn lines_stop(rt: &HostRuntime, path: &str, tables: Tables, uploads: &Uploads) -
         &mut errors,
     ))?;
     let answers = ["ack S 0 1 0 0", "ack S 0 1 1 0"];
-    answered(rt.alloc(), run, &output, &answers)
+    answered(rt.alloc(), run.answered, &output, &answers)
 }
 
 fn deliveries_stop_and_open(
@@ -115,6 +120,21 @@ fn lines_stop_and_open(
     went_on(rt.alloc(), runs, &output, &answers)
 }
 
+/// A run over a union of which no database is finished, with notes in memory.
+fn union_stops(
+    rt: &HostRuntime,
+    path: &str,
+    tables: Tables,
+    uploads: &Uploads,
+) -> Result<(), Fail> {
+    let mut output = Vec::new(rt.alloc());
+    let mut errors = Vec::new(rt.alloc());
+    let mut names = uploads.names.as_bytes();
+    let run = opened(union_after_lines(rt, path, tables, &mut names, &mut output, &mut errors))?;
+    let answers = ["ack S 0 1 1 0", "ack S 0 1 1 0"];
+    answered(rt.alloc(), run.answered, &output, &answers)
+}
+
 // The calls stand alone, so that no more than one function has their contracts to bear.
 
 fn next_after_stop<'a>(
@@ -140,6 +160,20 @@ fn next_after_lines<'a>(
     )
 }
 
+fn union_after_lines<'a>(
+    rt: &HostRuntime,
+    path: &'a str,
+    tables: Tables,
+    names: &mut &[u8],
+    output: &mut Vec<u8>,
+    errors: &mut Vec<u8>,
+) -> Result<StoppedUnion<'a, FileFrom<Unknown>, MapLedger>, Failure<'a>> {
+    let notes = MapLedger::new(rt.alloc());
+    collect_into_union_and_stop::<Unknown, MapLedger, Brand, _, _, _>(
+        rt, Unknown, notes, path, tables, None, names, output, errors,
+    )
+}
+
 fn opened<T: Drop>(run: Result<T, Failure<'_>>) -> Result<T, Fail> {
     match run {
         Ok(run) => Ok(run),
@@ -157,22 +191,22 @@ fn went_on<S: Start, T: Start>(
     match runs {
         Ok((run, next)) => {
             let entries = entries_of(next);
-            answered(alloc, run, output, answers)?;
+            answered(alloc, run.answered, output, answers)?;
             same_count(entries, 3)
         }
         Err(_) => Err(Fail::from("the database wasn't opened")),
     }
 }
 
-/// Whether a run printed these answers.
-fn answered<S: Start>(
+/// Whether a run that ended so printed these answers.
+fn answered(
     alloc: Global,
-    run: Stopped<'_, FileFrom<S>>,
+    done: Result<Status, Failure<'_>>,
     output: &[u8],
     answers: &[&str],
 ) -> Result<(), Fail> {
     let wanted = answer_lines(alloc, answers)?;
-    match run.answered {
+    match done {
         Ok(Status::Success) if output == wanted.as_bytes() => Ok(()),
         _ => Err(Fail::from("other answers")),
     }
