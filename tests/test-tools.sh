@@ -31,6 +31,36 @@ expect 1 "" "~*'$folder/failing/rt version' says 'rattle-kit-*" \
 expect 1 "" "~there is no rt on the PATH: *" env PATH="$folder/none" "$python" -ESB tests/refused/parallel.py
 expect 1 "0 passed, 1 failed" "~*'rattle-kit-12a logic 0'*" env PATH="$folder/other:$PATH" tests/run.sh
 
+# which libraries are built at one time, with how many processors and at what priority: `a` is what the longest chain
+# waits for, `lone` is not; `large` takes the memory of two jobs; what stands on one that isn't built is left out
+"$python" -ESB - "$tools" > "$folder/lanes" << 'END'
+import os, sys, time
+sys.path.append(sys.argv[1])
+from lanes import Library, build_all
+
+def told(libraries, processors):
+    begun = []
+    def build(name, jobs):
+        begun.append(f"{name}:{jobs}:{os.getpriority(os.PRIO_PROCESS, 0)}")
+        time.sleep(0.2 if name == "a" else 0.4)
+        return name != "bad"
+    print(build_all(libraries, build, processors, 8.0), *begun)
+
+lone, a, b = Library("lone", (), 5, 1), Library("a", (), 100, 1), Library("b", ("a",), 90, 1)
+beside, large = Library("beside", ("a",), 80, 1), Library("large", ("b", "beside"), 50, 5)
+os.setpriority(os.PRIO_PROCESS, 0, 1)
+told([lone, a, b, beside, large], 4)
+told([lone, a, b], 1)
+told([Library("bad", (), 9, 1), Library("above", ("bad",), 1, 1), lone], 2)
+told([], 4)
+END
+cmp -s "$folder/lanes" - << 'END' || differs "lanes: $(cat "$folder/lanes")"
+True a:4:1 lone:1:5 b:4:1 beside:4:1 large:2:1
+True a:1:1 b:1:1 lone:1:1
+False bad:2:1 lone:1:5
+True
+END
+
 # a repository of three crates, and an rt that notes what it checks: a crate that has a file `refused` isn't proved, and
 # one with a file `late` changes meanwhile
 mkdir "$folder/rt" "$folder/tree" "$folder/tree/crates"

@@ -3,27 +3,29 @@
 usage: python3 tools/build.py PROGRAM
 
 Libraries that don't stand on one another are built side by side, as many as there are processors and memory for, or
-RT_JOBS of them. It says first about how long it will take, and then how far it is. What the checks print goes to
-build/NAME.log. Libraries that stand already, from the sources as they are, aren't built again.
+RT_JOBS of them, and what the longest chain of others waits for by several processors (lanes.py). It says first about
+how long it will take, and then how far it is. What the checks print goes to build/NAME.log. Libraries that stand
+already, from the sources as they are, aren't built again.
 """
 
 from __future__ import annotations
 
+import math
 import os
 import re
 import subprocess
 import sys
 import threading
 import time
-from collections.abc import Mapping
 from typing import Any, TextIO
 
 import kit
+import lanes
 
 # Processor seconds that a line of a crate's code takes to be proved, on the whole (docs/GATE.md).
 SECONDS_A_LINE = 0.11
-# The kind of work to which the toolchain gives the processors that nothing else waits for, as in `rt ci`.
-PROOF = "proof"
+# How much of the free memory the checks may take by what the toolchain reckons: some take a fifth more than that.
+MEMORY = 0.85
 # How often it says how far it is, in seconds.
 EVERY = 20
 
@@ -85,25 +87,19 @@ def _estimate(crates: list[Any], processors: int) -> str:
 
 
 def _build_libraries(libraries: list[Any], missing: list[Any], progress: Progress) -> bool:
-    """Builds the missing libraries, each once those below it are built, and keeps other runs of rt out meanwhile."""
+    """Builds the missing libraries, and keeps other runs of rt out meanwhile."""
     rt = kit.rt()
+    crates = {it.name: it for it in missing}
+    below = {it.name: tuple(other.name for other in it.below() if other in missing) for it in missing}
+    tasks = [lanes.Library(it.name, below[it.name], it.count(rb"\n"), rt.need(it)) for it in missing]
+    wanted = os.environ.get("RT_JOBS", "")
+    processors, memory = (int(wanted), math.inf) if wanted.isdigit() else (rt.processors(), MEMORY * rt.free())
     held = rt.rtlib.lock(libraries)
     try:
-        given = rt.in_lanes({(it.name, PROOF): _task(it, missing, progress) for it in missing})
+        return lanes.build_all(tasks, lambda name, jobs: _built(crates[name], jobs, progress), processors, memory)
     finally:
         for it in held:
             os.close(it)
-    return all(given.values())
-
-
-def _task(library: Any, missing: list[Any], progress: Progress) -> tuple[Any, ...]:
-    """What a library waits for, its lines, the memory that it needs, and the call that builds it."""
-    waits = [(it.name, PROOF) for it in library.below() if it in missing]
-
-    def build(given: Mapping[tuple[str, str], bool], jobs: int) -> bool:
-        return all(given[it] for it in waits) and _built(library, jobs, progress)
-
-    return waits, library.count(rb"\n"), kit.rt().need(library), build
 
 
 def _built(library: Any, jobs: int, progress: Progress) -> bool:
