@@ -1,5 +1,6 @@
 pub mod Failures
 pub mod Database
+pub mod Adopted
 pub mod Listed
 pub mod Checked
 pub mod Inspected

@@ -14,7 +14,7 @@ ghost use Rattle.jc_collector.specs.Open.{Begun, CleanIn, HasKind, HoldsIn, Hold
 ghost use Rattle.jc_collector.specs.OverFiles.{CollectsAll, KeepsStored};
 
 use crate::database::{FileKeeper, Opened, OpenedFiles, open_or_make};
-use crate::then_export::export_after;
+use crate::then_export::export_files_after;
 use jc_base::ByteStream;
 use jc_collect::Delivery;
 use jc_collector_answers::{NameLines, answer_all, answer_names};
@@ -128,7 +128,7 @@ fn answer_over<'a, S: Start, L: Listed, R: ByteStream, B: ByteSpace, O: Write>(
     // Does nothing: from its contract the proof has what might have been left before.
     sound_leaves_journals(keeper);
     let answered = answer_all(rt.alloc(), keeper, deliveries, output);
-    export_after(rt, keeper, answered, then_export)
+    export_files_after(rt, keeper, answered, then_export)
 }
 
 /// The same of the uploads that lines name, each answered before the next name is read.
@@ -208,5 +208,5 @@ fn answer_lines_over<'a, S: Start, T: Listed, L: BufRead, O: Write, E: Write>(
     // Does nothing: from its contract the proof has what might have been left before.
     sound_leaves_journals(keeper);
     let answered = answer_names(rt, keeper, names, NameLines::Uploads, output, errors);
-    export_after(rt, keeper, answered, then_export)
+    export_files_after(rt, keeper, answered, then_export)
 }

@@ -1,17 +1,16 @@
 //! The databases that `migrate` takes over to tables by number, opened.
 
 ghost use Rattle.std.specs.Prelude.{◌↔◌, IfOk, IfErr, IsTrue};
-ghost use Rattle.sqlite.specs.Held.{state};
 ghost use Rattle.sqlite.specs.WalFiles.{image_at};
 ghost use Rattle.jc_collector.specs.Database.{WhyNoJournal, WhyNoTables};
 ghost use Rattle.jc_collector.specs.Earlier.{HasFields, IsEarlierFound, IsTakenFrom};
 
-use crate::database::{FileKeeper, adopt_old, connect_there, refused};
+use crate::database::{FileKeeper, adopt_tables, connect_there, schema_of};
 use jc_command_shared::Failure;
 use jc_schema_one::SqlKeeper1;
 use jc_schema_two::SchemaTwo;
-use jc_store::TableKeeper;
-use sqlite::{Alter, Connection, FileFrom, FileStore, Start};
+use sqlite::{Connection, FileFrom, FileStore, Start};
+use sqlite_schema::schema::Schema;
 use std::alloc::Global;
 
 /// A keeper of a journal in tables of an earlier kind than those by number.
@@ -45,22 +44,22 @@ fn adopt_earlier<'a, S: Start>(
     ensures adopted { IfOk result (IsTakenFrom conn) }
     ensures failed { IfErr result WhyNoTables }
 {
-    if !has_fields(&conn) {
-        return match adopt_old(alloc, conn) {
+    if !has_fields(schema_of(&conn)) {
+        return match adopt_tables(alloc, conn) {
             Ok(keeper) => Ok(Earlier::Oldest(keeper)),
             Err(failure) => Err(failure),
         };
     }
-    match TableKeeper::adopt(alloc, conn) {
+    match adopt_tables(alloc, conn) {
         Ok(keeper) => Ok(Earlier::ByKey(keeper)),
-        Err((fault, conn)) => Err(refused(fault, conn)),
+        Err(failure) => Err(failure),
     }
 }
 
-/// Whether the tables of a database may be by key: one of them is `field`. Beside those of schema 1 one with that name,
-/// which another program made, would be in the way of tables by number.
-fn has_fields<S: Alter>(conn: &Connection<S>) -> bool
-    ensures { IsTrue result ↔ HasFields (state S.Store conn.now).now.schema }
+/// Whether the tables may be by key: one of them is `field`. Beside those of schema 1 one with that name, which another
+/// program made, would be in the way of tables by number.
+fn has_fields(schema: &Schema) -> bool
+    ensures { IsTrue result ↔ HasFields schema.now }
 {
-    conn.schema().table_named(b"field".as_slice()).is_some()
+    schema.table_named(b"field".as_slice()).is_some()
 }

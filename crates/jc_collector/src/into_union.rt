@@ -23,7 +23,7 @@ ghost use Rattle.jc_collector.specs.Listed.{PrintsListed};
 
 use crate::database::{FileKeeper, Opened, check_name, open_or_make};
 use crate::listed::INPUT;
-use crate::then_export::{check_export, export_after};
+use crate::then_export::{check_export, export_files_after};
 use jc_collector_answers::{NameLines, answer_names};
 use jc_command_args::Tables;
 use jc_command_shared::{Failure, Status, open_file};
@@ -288,7 +288,7 @@ pub fn join_open<
         Ok(()) => {
             let lines = NameLines::MachinesAndUploads;
             let answered = answer_names(rt, &mut union, names, lines, output, errors);
-            let done = export_after(rt, &mut union.present, answered, then_export);
+            let done = export_files_after(rt, &mut union.present, answered, then_export);
             AnsweredUnion {
                 answered: done,
                 union,

@@ -28,7 +28,7 @@ use jc_records::{ReplaceStop, replace_tables};
 use jc_schema_one::{MigrateStop, SqlKeeper1};
 use jc_schema_three::SchemaThree;
 use jc_schema_two::SchemaTwo;
-use jc_store::Successor;
+use jc_store::{Layout, Successor};
 use sqlite::{FileFrom, FileStore, Start};
 use sqlite_disk::Disk;
 use std::io::Write;
@@ -137,10 +137,7 @@ fn replaced<'a, S: Start>(
 {
     match replace_tables::<FileStore<FileFrom<S>>, SchemaTwo, SchemaThree>(keeper) {
         Ok(keeper) => Ok(keeper),
-        Err(ReplaceStop { code, keeper }) => {
-            let _ = close_connection(keeper.into_connection());
-            Err(why_stayed(code))
-        }
+        Err(ReplaceStop { code, keeper }) => Err(stayed(code, keeper)),
     }
 }
 
@@ -154,11 +151,16 @@ fn go_over<'a, S: Start, L: Successor>(
 {
     match jc_schema_one::migrate::<FileStore<FileFrom<S>>, L>(keeper) {
         Ok(keeper) => Ok(keeper),
-        Err(MigrateStop { code, keeper }) => {
-            let _ = close_connection(keeper.into_connection());
-            Err(why_stayed(code))
-        }
+        Err(MigrateStop { code, keeper }) => Err(stayed(code, keeper)),
     }
+}
+
+/// Why a journal stays where it is. Its database is closed.
+fn stayed<'a, S: Start, L: Layout>(code: Code, keeper: FileKeeper<S, L>) -> Failure<'a>
+    ensures { IsStoreFailure result }
+{
+    let _ = close_connection(keeper.into_connection());
+    why_stayed(code)
 }
 
 /// Why a journal stays in the tables of the older version.

@@ -3,16 +3,18 @@
 ghost use Rattle.std.specs.Prelude.{◌≡◌, ◌⊎◌, ◌≤◌, Ok, Err, IfOk, IfErr};
 ghost use Rattle.sqlite.specs.Held.{state};
 ghost use Rattle.sqlite.specs.View.{doubt};
+ghost use Rattle.sqlite.specs.Files.{file_state, over_files};
 ghost use Rattle.jc_store.specs.Crash.{LeavesNoMore};
 ghost use Rattle.jc_store.specs.Meaning.{IsSound, KeepsJournal};
 ghost use Rattle.jc_collector.specs.Database.{IsOutFailure};
 
+use crate::database::FileKeeper;
 use crate::listing::export_journal;
 use jc_command_shared::{
     Failure, Status, UNFINISHED, create_file, folder_and_name, name_beside, put_in_place,
 };
 use jc_store::{Listed, TableKeeper};
-use sqlite::Alter;
+use sqlite::{Alter, Start};
 use std::fs;
 use std::io::ErrorKind;
 use std::os::unix::fs::MetadataExt;
@@ -71,7 +73,7 @@ fn is_same_file<R: Files>(rt: &R, first: &str, second: &str) -> bool {
 
 /// Puts a keeper's journal into the file at a path, if one is given and all uploads were answered. The status stays that of
 /// the answers.
-pub fn export_after<'a, R: Files + AllocGlobal, S: Alter, L: Listed>(
+fn export_after<'a, R: Files + AllocGlobal, S: Alter, L: Listed>(
     rt: &R,
     keeper: &mut TableKeeper<S, L>,
     answered: Result<Status, Failure<'a>>,
@@ -90,6 +92,24 @@ pub fn export_after<'a, R: Files + AllocGlobal, S: Alter, L: Listed>(
         export_file(rt, keeper, path)?;
     }
     Ok(status)
+}
+
+/// The same of a keeper over files.
+pub fn export_files_after<'a, R: Files + AllocGlobal, S: Start, L: Listed>(
+    rt: &R,
+    keeper: &mut FileKeeper<S, L>,
+    answered: Result<Status, Failure<'a>>,
+    path: Option<&'a str>,
+) -> Result<Status, Failure<'a>>
+    ensures answered { IfOk result (λ status. answered.entry ≡ Ok status) }
+    ensures passed_on { IfErr answered.entry (λ failure. result ≡ Err failure) }
+    ensures before { IsSound over_files keeper.new.conn → IsSound over_files keeper.old.conn }
+    ensures keeps { KeepsJournal L.meaning over_files keeper.old.conn keeper.new.conn }
+    ensures clean { doubt (file_state keeper.old.conn).is_clean ≤ doubt (file_state keeper.new.conn).is_clean }
+    ensures crash { LeavesNoMore (file_state keeper.old.conn) (file_state keeper.new.conn) }
+    ensures failed { IfErr result (λ failure. (answered.entry ≡ Err failure) ⊎ IsOutFailure failure) }
+{
+    export_after(rt, keeper, answered, path)
 }
 
 /// Puts what `export` prints of a keeper's journal into the file at a path, which stays as it was if that fails.

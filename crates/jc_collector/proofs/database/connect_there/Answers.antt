@@ -1,5 +1,15 @@
--- The file isn't a database.
+-- The file isn't a database, or it has tables.
+use Rattle.std.proofs.Common.{true≢false, sym, ◌∙◌}
 use Rattle.jc_collector.proofs.database.connect_there.Goals as goal
 
 pub returns-then-not-begins_as_database-clause-failed : goal.returns-then-not-begins_as_database-clause-failed
 returns-then-not-begins_as_database-clause-failed g c = c.no_journal.ensures c.args.path.now
+
+pub returns-clause-found : goal.returns-clause-found
+returns-clause-found g c = c.in_ok-conn.ensures.found
+
+pub returns-clause-tables : goal.returns-clause-tables
+returns-clause-tables g c = λ blank. true≢false (sym (c.is_empty.ensures.1 (c.schema_of.ensures ∙ blank)) ∙ c.if-is_empty.false)
+
+pub returns-clause-autocommit : goal.returns-clause-autocommit
+returns-clause-autocommit g c = c.in_ok-conn.ensures.autocommit

@@ -1,4 +1,5 @@
 -- The keeper has the journal that the files had in tables of the older version.
+use Rattle.std.proofs.Common.{inl}
 use Rattle.sqlite.specs.WalFiles.{image_at}
 use Rattle.jc_schema_one.specs.Tables.{one}
 use Rattle.jc_collector.proofs.Causes.{no_tables}
@@ -8,9 +9,9 @@ use Rattle.jc_collector.proofs.database.open_old.Goals as goal
 
 pub returns-clause-begins : goal.returns-clause-begins
 returns-clause-begins g c =
-    IfOk-both c.adopt_old.result _ _ _
+    IfOk-both c.adopt_tables.result _ _ _
     (λ kept back keeps. adopted (image_at g.S.Start) c.in_ok-conn.conn kept.conn c.in_ok-conn.ensures.found back one c.in_ok-conn.ensures.tables keeps)
-    c.adopt_old.ensures.before c.adopt_old.ensures.keeps
+    c.adopt_tables.ensures.before c.adopt_tables.ensures.keeps
 
 pub returns-clause-failed : goal.returns-clause-failed
-returns-clause-failed g c = IfErr-each c.adopt_old.result _ _ (no_tables c.args.path.now) c.adopt_old.ensures.failed
+returns-clause-failed g c = IfErr-each c.adopt_tables.result _ _ (no_tables c.args.path.now) (c.adopt_tables.ensures.failed (λ code is. inl is))

@@ -1,24 +1,24 @@
--- The tables tell the kind of a keeper, and `adopt` says why it refused.
-use Rattle.std.proofs.Common.{◌≡◌, ◌⊎◌, true≢false, refl, sym, ◌∙◌}
-use Rattle.jc_base.specs.declared.fault.Code.TheVariants.{NotAJournal, OldSchema}
-use Rattle.jc_collector.proofs.Refusals.{why_refused}
+-- The tables tell the kind of a keeper.
+use Rattle.std.proofs.Common.{true≢false, inl, refl, sym, subst, ◌∙◌}
+use Rattle.jc_collector.specs.Earlier.{HasFields}
 use Rattle.jc_collector.proofs.earlier.adopt_earlier.Goals as goal
 
 pub returns-in-Ok-clause-adopted : goal.returns-in-Ok-clause-adopted
 returns-in-Ok-clause-adopted g c = record {
-  kind = (λ same. cc, λ has. absurd (true≢false (sym (c.has_fields.ensures.1 has) ∙ c.if-not-has_fields.true)));
+  kind = (λ same. cc, λ has. absurd (true≢false (sym (c.has_fields.ensures.1 (subst HasFields (sym c.schema_of.ensures) has)) ∙ c.if-not-has_fields.true)));
   was_sound = c.in-Ok.ensures.before;
   keeps = c.in-Ok.ensures.keeps;
 }
 
-pub returns-in-Ok-adopt-clause-adopted : goal.returns-in-Ok-adopt-clause-adopted
-returns-in-Ok-adopt-clause-adopted g c = record {
-  kind = (λ _. c.has_fields.ensures.0 c.if-not-has_fields.false, λ _. refl);
-  was_sound = c.in-Ok-adopt.ensures.before;
-  keeps = c.in-Ok-adopt.ensures.keeps;
+pub returns-in-Ok-adopt_tables-clause-adopted : goal.returns-in-Ok-adopt_tables-clause-adopted
+returns-in-Ok-adopt_tables-clause-adopted g c = record {
+  kind = (λ _. subst HasFields c.schema_of.ensures (c.has_fields.ensures.0 c.if-not-has_fields.false), λ _. refl);
+  was_sound = c.in-Ok-adopt_tables.ensures.before;
+  keeps = c.in-Ok-adopt_tables.ensures.keeps;
 }
 
-pub returns-in-Err-adopt-clause-failed : goal.returns-in-Err-adopt-clause-failed
-returns-in-Err-adopt-clause-failed g c =
-    why_refused (λ code. (code ≡ NotAJournal) ⊎ (code ≡ OldSchema)) (λ code is. is) c.in-Err-adopt.fault.code c.in-Err-adopt.fault.row
-    c.in-Err-adopt.ensures.code c.refused.result c.refused.ensures
+pub returns-in-Err-clause-failed : goal.returns-in-Err-clause-failed
+returns-in-Err-clause-failed g c = c.in-Err.ensures.failed (λ code is. inl is)
+
+pub returns-in-Err-adopt_tables-clause-failed : goal.returns-in-Err-adopt_tables-clause-failed
+returns-in-Err-adopt_tables-clause-failed g c = c.in-Err-adopt_tables.ensures.failed (λ code is. is)
