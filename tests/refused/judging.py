@@ -115,7 +115,7 @@ class Judge:
 
 
 def _outcome(edit: Edit, ruling: Ruling) -> Outcome:
-    goals = ", ".join(ruling.goals)[:200]
+    goals = ", ".join(ruling.goals)[:1000]
     if ruling.kind is Kind.REFUSED:
         return Outcome(edit.name, True, f"refused, as it must be: {goals}")
     return Outcome(edit.name, False, f"NOT REFUSED: {ruling.kind.value}" + (f": {goals}" if goals else ""))
