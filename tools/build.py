@@ -22,8 +22,9 @@ from typing import Any, TextIO
 import kit
 import lanes
 
-# Processor seconds that a line of a crate's code takes to be proved, on the whole (docs/GATE.md).
-SECONDS_A_LINE = 0.11
+# Processor seconds that a line of a crate's code takes to be proved, on the whole (docs/GATE.md), with a fifth more for
+# what checks by several processors do twice.
+SECONDS_A_LINE = 0.27
 # How much of the free memory the checks may take by what the toolchain reckons: some take a fifth more than that.
 MEMORY = 0.85
 # How often it says how far it is, in seconds.
@@ -79,24 +80,30 @@ def main(name: str) -> int:
 
 
 def _estimate(crates: list[Any], processors: int) -> str:
-    lines = {it.name: it.count(rb"\n") for it in crates}
-    chains = [sum(lines.get(below.name, 0) for below in it.below()) + lines[it.name] for it in crates]
-    seconds = SECONDS_A_LINE * max(sum(lines.values()) / processors, *chains, 0)
-    minutes = max(1, round(seconds / 60))
+    tasks = _tasks(crates)
+    lines, chain = sum(it.lines for it in tasks), max(lanes.chains(tasks).values())
+    minutes = max(1, round(SECONDS_A_LINE * max(lines / processors, chain / lanes.MOST_JOBS) / 60))
     return f"proving and building {len(crates)} crates: about {minutes} minutes on {processors} processors"
+
+
+def _tasks(crates: list[Any]) -> list[lanes.Library]:
+    below = {it.name: tuple(other.name for other in it.below() if other in crates) for it in crates}
+    return [lanes.Library(it.name, below[it.name], it.count(rb"\n"), kit.rt().need(it)) for it in crates]
 
 
 def _build_libraries(libraries: list[Any], missing: list[Any], progress: Progress) -> bool:
     """Builds the missing libraries, and keeps other runs of rt out meanwhile."""
     rt = kit.rt()
     crates = {it.name: it for it in missing}
-    below = {it.name: tuple(other.name for other in it.below() if other in missing) for it in missing}
-    tasks = [lanes.Library(it.name, below[it.name], it.count(rb"\n"), rt.need(it)) for it in missing]
     wanted = os.environ.get("RT_JOBS", "")
     processors, memory = (int(wanted), math.inf) if wanted.isdigit() else (rt.processors(), MEMORY * rt.free())
+
+    def build(name: str, jobs: int) -> bool:
+        return _built(crates[name], jobs, progress)
+
     held = rt.rtlib.lock(libraries)
     try:
-        return lanes.build_all(tasks, lambda name, jobs: _built(crates[name], jobs, progress), processors, memory)
+        return lanes.build_all(_tasks(missing), build, processors, memory)
     finally:
         for it in held:
             os.close(it)

@@ -40,8 +40,8 @@ Build = Callable[[str, int], bool]
 def build_all(libraries: list[Library], build: Build, processors: int, memory: float) -> bool:
     """Builds each library once those below it are built, as many at one time as there are processors and memory for. It
     says whether all are built: what stands on one that isn't is left out. Those below come first in the list."""
-    chains = _chains(libraries)
-    left = sorted(libraries, key=lambda it: -chains[it.name])
+    waiting = chains(libraries)
+    left = sorted(libraries, key=lambda it: -waiting[it.name])
     unbuilt = {it.name for it in libraries}
     running: dict[Future[bool], tuple[Library, float]] = {}
     while True:
@@ -49,8 +49,8 @@ def build_all(libraries: list[Library], build: Build, processors: int, memory: f
             room = memory - sum(taken for _, taken in running.values())
             if len(running) == processors or (running and library.memory > room):
                 continue
-            longest = max(chains[it.name] for it in [*left, *(other for other, _ in running.values())])
-            is_urgent = chains[library.name] >= URGENT * longest
+            longest = max(waiting[it.name] for it in [*left, *(other for other, _ in running.values())])
+            is_urgent = waiting[library.name] >= URGENT * longest
             jobs = min(MOST_JOBS, processors, _most_jobs(library, room)) if is_urgent else 1
             left.remove(library)
             running[_begun(library.name, build, jobs, is_urgent)] = library, _memory(library, jobs)
@@ -62,13 +62,13 @@ def build_all(libraries: list[Library], build: Build, processors: int, memory: f
                 unbuilt.remove(library.name)
 
 
-def _chains(libraries: list[Library]) -> dict[str, int]:
+def chains(libraries: list[Library]) -> dict[str, int]:
     """The lines of each library and of the longest chain of those that stand on it. Those below come first."""
-    chains: dict[str, int] = {}
+    found: dict[str, int] = {}
     for it in reversed(libraries):
-        above = (chains[other.name] for other in libraries if it.name in other.below)
-        chains[it.name] = it.lines + max(above, default=0)
-    return chains
+        above = (found[other.name] for other in libraries if it.name in other.below)
+        found[it.name] = it.lines + max(above, default=0)
+    return found
 
 
 def _memory(library: Library, jobs: int) -> float:
