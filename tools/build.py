@@ -96,7 +96,8 @@ def _build_libraries(libraries: list[Any], missing: list[Any], progress: Progres
     rt = kit.rt()
     crates = {it.name: it for it in missing}
     wanted = os.environ.get("RT_JOBS", "")
-    processors, memory = (int(wanted), math.inf) if wanted.isdigit() else (rt.processors(), MEMORY * rt.free())
+    fixed = int(wanted) if wanted.isdigit() else 0
+    processors, memory = (fixed, math.inf) if fixed else (rt.processors(), MEMORY * rt.free())
 
     def build(name: str, jobs: int) -> bool:
         return _built(crates[name], jobs, progress)

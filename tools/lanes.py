@@ -12,9 +12,9 @@ from collections.abc import Callable
 from concurrent.futures import FIRST_COMPLETED, Future, ThreadPoolExecutor, wait
 from dataclasses import dataclass
 
-# A check that has more processors than these is hardly faster.
+# The toolchain gives no check more processors than these.
 MOST_JOBS = 4
-# What each job of a check but the first takes, of the memory that a check with one job takes.
+# What each job of a check but the first takes, of the memory that a check with one job takes, as the toolchain reckons.
 MEMORY_OF_A_JOB = 0.6
 # A library is urgent if its chain is at least so much of the longest one.
 URGENT = 0.8
