@@ -2,10 +2,11 @@
 #![tactic(auto)]
 
 pub use jc_command::command;
-use jc_command_shared::{Failure, Status};
+use jc_command_shared::{Failure, Host, Status};
 use jc_explain::{EXPLAIN, Watched, explained, take_option};
 use jc_json::{JSON, Lines, Objects, lines_of};
 use jc_progress::{Counted, Wiping, board_for};
+use jc_sequences::Folders;
 use sqlite::Unknown;
 use std::io::{IsTerminal, Stderr, Write};
 use std::process::ExitCode;
@@ -54,7 +55,9 @@ fn run_into<O: Write>(
     // A commit syncs once, as under SQLite's `synchronous=FULL`.
     let start = Unknown;
     if !explains {
-        return command(rt, start, words, input, output, errors);
+        let mut host = Host::new(rt);
+        let folders = Folders::new(rt);
+        return command(&mut host, folders, start, words, input, output, errors);
     }
     let mut output = Watched::new(rt.alloc(), output);
     let mut errors = Watched::new(rt.alloc(), errors);

@@ -36,7 +36,7 @@ some_by_number : (shape : Shape) → schema_three shape ≡ no_schema → ⊥
 some_by_number fresh none = let few = ap (λ (s : Schema). length s.tables) none in omega (arith, few)
 some_by_number migrated none = let few = ap (λ (s : Schema). length s.tables) none in omega (arith, few)
 
-some_tables : (kind : Tables) (db : Database) → (meaning_of kind).is_journal db → db.schema ≡ no_schema → ⊥
+pub some_tables : (kind : Tables) (db : Database) → (meaning_of kind).is_journal db → db.schema ≡ no_schema → ⊥
 some_tables ByKey db journal none = some_by_key journal.spells.shape (sym journal.spells.schema ∙ none)
 some_tables ByNumber db journal none = some_by_number journal.spells.shape (sym journal.spells.schema ∙ none)
 

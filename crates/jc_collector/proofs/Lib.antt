@@ -9,3 +9,4 @@ pub mod OverFiles
 pub mod Causes
 pub mod Open
 pub mod IntoUnion
+pub mod BeginAgain

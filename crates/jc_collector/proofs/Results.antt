@@ -1,6 +1,7 @@
 -- What is said of a result by what is said of another one.
-use Rattle.std.proofs.Common.{◌≡◌, ◌⊎◌, inl, inr, None, Ok, Err, Option, Result, Some, refl, subst}
+use Rattle.std.proofs.Common.{◌≡◌, ◌⊎◌, inl, inr, None, Ok, Err, Option, Result, Some, refl, subst, sym}
 use Rattle.std.specs.Prelude.{IfOk, IfErr, IfSome, OnOk}
+use Rattle.std.specs.Result.{result_ok}
 
 pub IfOk-each : {T E : Type 0} (r : Result T E) (P Q : T → Type 0) → ((x : T) → P x → Q x) → IfOk r P → IfOk r Q
 IfOk-each (Ok x) P Q each p = each x p
@@ -53,3 +54,11 @@ at_ok r x P is p = subst (λ d. IfOk d P) is p
 pub on_any : {T E : Type 0} (r : Result T E) (P : Type 0) → P → OnOk r P
 on_any (Ok x) P p = p
 on_any (Err e) P p = tt
+
+pub if_some_each : {X : Type 0} (o : Option X) (P Q : X → Type 0) → ((x : X) → P x → Q x) → IfSome o P → IfSome o Q
+if_some_each None P Q each p = tt
+if_some_each (Some x) P Q each p = each x p
+
+pub of_some : {T E : Type 0} (r : Result T E) (x : T) (P : T → Type 0) → Some x ≡ result_ok r → IfOk r P → P x
+of_some (Ok y) x P is p = subst (λ (o : Option _). IfSome o P) (sym is) p
+of_some (Err e) x P is p = cc

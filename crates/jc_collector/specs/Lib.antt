@@ -11,3 +11,4 @@ pub mod IntoUnion
 pub mod Open
 pub mod KindLaws
 pub mod PrintedLaws
+pub mod Unopened

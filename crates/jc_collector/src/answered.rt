@@ -1,6 +1,6 @@
 //! Uploads answered over a database that is opened or made: all that `collect` does before the database is closed.
 
-ghost use Rattle.std.specs.Prelude.{◌≡◌, ℕ, List, Err, Some, IfOk, IfErr, OnOk, length, map};
+ghost use Rattle.std.specs.Prelude.{◌≡◌, ℕ, List, Err, Some, IfOk, IfErr, OnOk, length, map, option_map};
 ghost use Rattle.std.specs.Io.KnownBytes.{Keeps};
 ghost use Rattle.sqlite.specs.State.{HasCleanDisk};
 ghost use Rattle.sqlite.specs.WalFiles.{image_at};
@@ -12,6 +12,7 @@ ghost use Rattle.jc_collector_answers.specs.Tied.{NamedWith, PrintsFront, Prints
 ghost use Rattle.jc_collector.specs.Database.{DatabaseFailsBy, IsOutFailure, MayEndNames};
 ghost use Rattle.jc_collector.specs.Open.{Begun, CleanIn, HasKind, HoldsIn, HoldsOpen, LeavesIn, LeavesOpen, Recovers, RecoversIn, StandsIn, StandsOver, WhileClean};
 ghost use Rattle.jc_collector.specs.OverFiles.{CollectsAll, KeepsStored};
+ghost use Rattle.jc_command_shared.specs.Deeds.{ChangesOnly, IsReplacedIf, OpensAndChanges};
 
 use crate::database::{FileKeeper, Opened, OpenedFiles, open_or_make};
 use crate::then_export::export_files_after;
@@ -19,8 +20,8 @@ use jc_base::ByteStream;
 use jc_collect::Delivery;
 use jc_collector_answers::{NameLines, answer_all, answer_names};
 use jc_command_args::Tables;
-use jc_command_shared::{Failure, Status};
-use jc_database::sound_leaves_journals;
+use jc_command_shared::{Failure, Status, System};
+use jc_database::{Databases, sound_leaves_journals};
 use jc_file::ByteSpace;
 use jc_store::Listed;
 use sqlite::Start;
@@ -35,8 +36,9 @@ pub struct Answered<'a, K: Drop> {
 
 /// Takes deliveries up into the journal of a database, which is made if there is none, and prints an answer for each. Then
 /// the journal goes to a file, if one is named.
-pub fn answer_deliveries<'a, S: Start, R: ByteStream, B: ByteSpace, O: Write>(
-    rt: &HostRuntime,
+#[tactic(auto, using(jc_command_shared::specs::DeedLaws::only_opens, jc_command_shared::specs::DeedLaws::opens_then))]
+pub fn answer_deliveries<'a, Y: Databases, S: Start, R: ByteStream, B: ByteSpace, O: Write>(
+    rt: &mut Y,
     start: S,
     database: &'a str,
     tables: Tables,
@@ -71,6 +73,8 @@ pub fn answer_deliveries<'a, S: Start, R: ByteStream, B: ByteSpace, O: Write>(
     ensures stopped { IfOk result (λ run. IfErr run.done IsOutFailure) }
     ensures failed { IfErr result (DatabaseFailsBy database.now) }
     ensures untouched { IfErr result (λ _. Keeps (O.contents output.old) (O.contents output.new)) }
+    ensures touched { OpensAndChanges database.now (IsReplacedIf (option_map (λ name. name.now) then_export.entry))
+        (Y.deeds rt.old) (Y.deeds rt.new) }
 {
     match open_or_make(rt, database, start, tables)? {
         Opened::ByKey(mut keeper) => {
@@ -92,8 +96,8 @@ pub fn answer_deliveries<'a, S: Start, R: ByteStream, B: ByteSpace, O: Write>(
 
 /// Takes deliveries up into the journal of a keeper, and prints an answer for each. Then the journal goes to a file, if one
 /// is named.
-fn answer_over<'a, S: Start, L: Listed, R: ByteStream, B: ByteSpace, O: Write>(
-    rt: &HostRuntime,
+fn answer_over<'a, Y: System, S: Start, L: Listed, R: ByteStream, B: ByteSpace, O: Write>(
+    rt: &mut Y,
     keeper: &mut FileKeeper<S, L>,
     then_export: Option<&'a str>,
     deliveries: &mut [Delivery<R, B>],
@@ -124,6 +128,7 @@ fn answer_over<'a, S: Start, L: Listed, R: ByteStream, B: ByteSpace, O: Write>(
     ensures printed { IfOk result (λ status.
         PrintsAnswers (length deliveries.old) status (O.contents output.old) (O.contents output.new)) }
     ensures stopped { IfErr result IsOutFailure }
+    ensures touched { ChangesOnly (IsReplacedIf (option_map (λ name. name.now) then_export.entry)) (Y.deeds rt.old) (Y.deeds rt.new) }
 {
     // Does nothing: from its contract the proof has what might have been left before.
     sound_leaves_journals(keeper);
@@ -132,8 +137,9 @@ fn answer_over<'a, S: Start, L: Listed, R: ByteStream, B: ByteSpace, O: Write>(
 }
 
 /// The same of the uploads that lines name, each answered before the next name is read.
-pub fn answer_lines<'a, S: Start, L: BufRead, O: Write, E: Write>(
-    rt: &HostRuntime,
+#[tactic(auto, using(jc_command_shared::specs::DeedLaws::only_opens, jc_command_shared::specs::DeedLaws::opens_then))]
+pub fn answer_lines<'a, Y: Databases, S: Start, L: BufRead, O: Write, E: Write>(
+    rt: &mut Y,
     start: S,
     database: &'a str,
     tables: Tables,
@@ -160,6 +166,8 @@ pub fn answer_lines<'a, S: Start, L: BufRead, O: Write, E: Write>(
     ensures stopped { IfOk result (λ run. IfErr run.done MayEndNames) }
     ensures failed { IfErr result (DatabaseFailsBy database.now) }
     ensures untouched { IfErr result (λ _. Keeps (O.contents output.old) (O.contents output.new)) }
+    ensures touched { OpensAndChanges database.now (IsReplacedIf (option_map (λ name. name.now) then_export.entry))
+        (Y.deeds rt.old) (Y.deeds rt.new) }
 {
     match open_or_make(rt, database, start, tables)? {
         Opened::ByKey(mut keeper) => {
@@ -180,8 +188,8 @@ pub fn answer_lines<'a, S: Start, L: BufRead, O: Write, E: Write>(
 }
 
 /// The same of the uploads that lines name, over a keeper.
-fn answer_lines_over<'a, S: Start, T: Listed, L: BufRead, O: Write, E: Write>(
-    rt: &HostRuntime,
+fn answer_lines_over<'a, Y: System, S: Start, T: Listed, L: BufRead, O: Write, E: Write>(
+    rt: &mut Y,
     keeper: &mut FileKeeper<S, T>,
     then_export: Option<&'a str>,
     names: &mut L,
@@ -204,6 +212,7 @@ fn answer_lines_over<'a, S: Start, T: Listed, L: BufRead, O: Write, E: Write>(
     ensures quiet { IfOk result (λ status. status ≡ Status.Success
         → Keeps (E.contents errors.old) (E.contents errors.new)) }
     ensures stopped { IfErr result MayEndNames }
+    ensures touched { ChangesOnly (IsReplacedIf (option_map (λ name. name.now) then_export.entry)) (Y.deeds rt.old) (Y.deeds rt.new) }
 {
     // Does nothing: from its contract the proof has what might have been left before.
     sound_leaves_journals(keeper);

@@ -53,11 +53,11 @@ pub fn close_after<'a, T: Drop, S: Start, L: Layout>(
         → KeepsAlways L.meaning ⟦<FileFrom<S> as Disk>⟧ closed.files (journal_of L.meaning over_files keeper.conn)) }
     ensures failed { IfErr result (λ failure. (done.entry ≡ Err failure) ⊎ (failure ≡ Failure.StoreFailed)) }
 {
-    let closed = close_keeper(keeper);
+    let closed = close_keeper(keeper).ok();
     let value = done?;
     match closed {
-        Ok(files) => Ok(Closed { value, files }),
-        Err(_) => Err(Failure::StoreFailed),
+        Some(files) => Ok(Closed { value, files }),
+        None => Err(Failure::StoreFailed),
     }
 }
 

@@ -1,12 +1,17 @@
 //! The databases that `migrate` takes over to tables by number, opened.
 
-ghost use Rattle.std.specs.Prelude.{◌↔◌, IfOk, IfErr, IsTrue};
+ghost use Rattle.std.specs.Prelude.{◌↔◌, IfOk, IfErr, IfSome, IsSome, IsTrue};
 ghost use Rattle.sqlite.specs.WalFiles.{image_at};
+ghost use Rattle.sqlite.specs.Recovery.{Image};
+ghost use Rattle.jc_database.specs.Left.{IsFrom, LeavesAsBefore};
 ghost use Rattle.jc_collector.specs.Database.{WhyNoJournal, WhyNoTables};
 ghost use Rattle.jc_collector.specs.Earlier.{HasFields, IsEarlierFound, IsTakenFrom};
+ghost use Rattle.jc_command_shared.specs.Deeds.{OpensOnce};
+ghost use Rattle.jc_collector.specs.Unopened.{HandsBack};
 
 use crate::database::{FileKeeper, adopt_tables, connect_there, schema_of};
-use jc_command_shared::Failure;
+use crate::unopened::Unopened;
+use jc_database::Databases;
 use jc_schema_one::SqlKeeper1;
 use jc_schema_two::SchemaTwo;
 use sqlite::{Connection, FileFrom, FileStore, Start};
@@ -24,13 +29,16 @@ pub enum Earlier<O: Drop, K: Drop> {
 pub type EarlierFiles<S> = Earlier<SqlKeeper1<FileStore<FileFrom<S>>>, FileKeeper<S, SchemaTwo>>;
 
 /// The journal in tables of an earlier kind in the database at `path`, which has to be there.
-pub fn open_earlier<'a, S: Start>(
-    rt: &HostRuntime,
+pub fn open_earlier<'a, Y: Databases, S: Start>(
+    rt: &mut Y,
     path: &'a str,
     start: S,
-) -> Result<EarlierFiles<S>, Failure<'a>>
+) -> Result<EarlierFiles<S>, Unopened<'a, FileFrom<S>>>
     ensures found { IfOk result (IsEarlierFound (image_at S.Start)) }
-    ensures failed { IfErr result (WhyNoJournal path.now) }
+    ensures failed { IfErr result (λ unopened. WhyNoJournal path.now unopened.failure) }
+    ensures handed { IfErr result (λ unopened. HandsBack unopened.left unopened.failure (Y.deeds rt.old) (Y.deeds rt.new)) }
+    ensures crash { IfErr result (λ unopened. IfSome unopened.left (LeavesAsBefore (image_at S.Start))) }
+    ensures touched { OpensOnce path.now (Y.deeds rt.old) (Y.deeds rt.new) }
 {
     let conn = connect_there(rt, path, start)?;
     adopt_earlier(rt.alloc(), conn)
@@ -40,19 +48,21 @@ pub fn open_earlier<'a, S: Start>(
 fn adopt_earlier<'a, S: Start>(
     alloc: Global,
     conn: Connection<FileStore<FileFrom<S>>>,
-) -> Result<EarlierFiles<S>, Failure<'a>>
+) -> Result<EarlierFiles<S>, Unopened<'a, FileFrom<S>>>
     ensures adopted { IfOk result (IsTakenFrom conn) }
-    ensures failed { IfErr result WhyNoTables }
+    ensures failed { IfErr result (λ unopened. WhyNoTables unopened.failure) }
+    ensures kept { IfErr result (λ unopened. IsSome unopened.left) }
+    ensures crash { IfErr result (λ unopened. IfSome unopened.left (λ left. (before : Image) → IsFrom before conn → LeavesAsBefore before left)) }
 {
     if !has_fields(schema_of(&conn)) {
         return match adopt_tables(alloc, conn) {
             Ok(keeper) => Ok(Earlier::Oldest(keeper)),
-            Err(failure) => Err(failure),
+            Err(unopened) => Err(unopened),
         };
     }
     match adopt_tables(alloc, conn) {
         Ok(keeper) => Ok(Earlier::ByKey(keeper)),
-        Err(failure) => Err(failure),
+        Err(unopened) => Err(unopened),
     }
 }
 

@@ -13,12 +13,14 @@ ghost use Rattle.jc_collector.specs.Open.{EndsOver};
 ghost use Rattle.jc_collector.specs.Kinds.{LeadsThere};
 ghost use Rattle.jc_collector.specs.OverFiles.{Prints};
 ghost use Rattle.jc_command_shared.specs.Failure.{status_of};
+ghost use Rattle.jc_command_shared.specs.Deeds.{OpensOnce};
 
 use crate::closing::{Closed, close_after};
 use crate::database::{FileKeeper, Opened, check_name, open_there};
 use crate::failures::why_unanswered;
 use jc_base::Fault;
 use jc_command_shared::{Failure, Status, printed};
+use jc_database::Databases;
 use jc_keeper::Keeper;
 use jc_store::{Listed, TableKeeper};
 use sqlite::{Alter, FileFrom, Files, Start};
@@ -79,8 +81,8 @@ impl fmt::Display for Health {
 }
 
 /// Prints what is in a database.
-pub fn check<'a, S: Start, O: Write>(
-    rt: &HostRuntime,
+pub fn check<'a, Y: Databases, S: Start, O: Write>(
+    rt: &mut Y,
     start: S,
     database: &'a str,
     output: &mut O,
@@ -94,6 +96,7 @@ pub fn check<'a, S: Start, O: Write>(
     ensures failed { IfErr result (CheckFailsBy database.now) }
     ensures untouched { IfErr result (λ failure. status_of failure ≢ Status.Failed
         → Keeps (O.contents output.old) (O.contents output.new)) }
+    ensures touched { OpensOnce database.now (Y.deeds rt.old) (Y.deeds rt.new) }
 {
     check_name(database)?;
     let Examined { value, files } = read_health(rt, start, database)?;
@@ -102,8 +105,8 @@ pub fn check<'a, S: Start, O: Write>(
 }
 
 /// Counts the entries of the journal in the database at a path.
-fn read_health<'a, S: Start>(
-    rt: &HostRuntime,
+fn read_health<'a, Y: Databases, S: Start>(
+    rt: &mut Y,
     start: S,
     database: &'a str,
 ) -> Result<Examined<Health, S>, Failure<'a>>
@@ -111,12 +114,15 @@ fn read_health<'a, S: Start>(
         (λ files. LeadsThere (image_at S.Start) ⟦<FileFrom<S> as Disk>⟧ files (Counts examined.value))) }
     ensures health { IfOk result (λ examined. IsHealth examined.value) }
     ensures failed { IfErr result (WhyNoHealth database.now) }
+    ensures touched { OpensOnce database.now (Y.deeds rt.old) (Y.deeds rt.new) }
 {
     match open_there(rt, database, start) {
         Ok(Opened::ByKey(keeper)) => Ok(Examined::closed(count_and_close(keeper)?)),
         Ok(Opened::ByNumber(keeper)) => Ok(Examined::closed(count_and_close(keeper)?)),
-        Err(Failure::Bad(fault)) => Ok(refused(fault)),
-        Err(failure) => Err(failure),
+        Err(unopened) => match Failure::from(unopened) {
+            Failure::Bad(fault) => Ok(refused(fault)),
+            failure => Err(failure),
+        },
     }
 }
 

@@ -8,18 +8,17 @@ ghost use Rattle.jc_collector.specs.Inspected.{PrintsInspected, PrintsSomeInspec
 use jc_base::{ByteStream, Key, Limits};
 use jc_collect::{Bounds, Delivery, Inspected, inspect_one};
 use jc_collector_answers::open_upload;
-use jc_command_shared::{Failure, Status, printed};
+use jc_command_shared::{Failure, Status, System, printed};
 use jc_file::ByteSpace;
 use std::alloc::Global;
 use std::io;
 use std::io::Write;
-use std::rt::Files;
 
 /// The code of an upload that passes a bound. It is no fault of a format.
 const OVER_BOUNDS: u16 = 6;
 
 /// Prints what the upload in a file says, under the default limits and within these bounds.
-pub fn inspect<'a, R: Files + AllocGlobal, O: Write>(
+pub fn inspect<'a, R: System, O: Write>(
     rt: &R,
     file: &'a str,
     bounds: &Bounds,

@@ -1,6 +1,6 @@
 //! `collect --sequences`: uploads that a list names, taken up into the union of finished databases and the present one.
 
-ghost use Rattle.std.specs.Prelude.{◌≡◌, ◌≢◌, ◌⊎◌, ◌∷◌, [], IfOk, IfErr, OnOk};
+ghost use Rattle.std.specs.Prelude.{◌≡◌, ◌≢◌, ◌⊎◌, ◌∷◌, [], IfOk, IfErr, OnOk, option_map};
 ghost use Rattle.std.specs.Io.KnownBytes.{Keeps as KeepsBytes};
 ghost use Rattle.sqlite.specs.Files.{file_state, over_files};
 ghost use Rattle.sqlite.specs.State.{HasCleanDisk};
@@ -20,13 +20,15 @@ ghost use Rattle.jc_union.specs.Opened.{MayOpen};
 ghost use Rattle.jc_collector.specs.Database.{DatabaseFailsBy};
 ghost use Rattle.jc_collector.specs.IntoUnion.{LeadsIf, StoresNotedListed, StoresNotedNames, UnionFailsBy, UnionStopsBy};
 ghost use Rattle.jc_collector.specs.Listed.{PrintsListed};
+ghost use Rattle.jc_command_shared.specs.Deeds.{ChangesOnly, IsReplacedIf, OpensAndChanges};
 
 use crate::database::{FileKeeper, Opened, check_name, open_or_make};
 use crate::listed::INPUT;
 use crate::then_export::{check_export, export_files_after};
 use jc_collector_answers::{NameLines, answer_names};
 use jc_command_args::Tables;
-use jc_command_shared::{Failure, Status, open_file};
+use jc_command_shared::{Failure, Status, System, open_file};
+use jc_database::Databases;
 use jc_keeper::Keeper;
 use jc_ledger::{Ledger, Past};
 use jc_schema_three::SchemaThree;
@@ -45,8 +47,18 @@ pub type FilesUnion<S, T, L, P> = TableUnion<FileStore<FileFrom<S>>, T, L, P>;
 /// Takes the uploads that the lines of a list name up into the union of the databases that are finished and the present
 /// one, which is made if there is none, and prints an answer for each line. The list, the export and the status are as
 /// `collect_listed` has them.
-pub fn collect_into_union<'a, S: Start, L: Ledger + Drop, P: Past, I: Read, O: Write, E: Write>(
-    rt: &HostRuntime,
+#[tactic(auto, using(jc_command_shared::specs::DeedLaws::does_nothing))]
+pub fn collect_into_union<
+    'a,
+    Y: Databases,
+    S: Start,
+    L: Ledger + Drop,
+    P: Past,
+    I: Read,
+    O: Write,
+    E: Write,
+>(
+    rt: &mut Y,
     start: S,
     ledger: L,
     database: &'a str,
@@ -68,11 +80,13 @@ pub fn collect_into_union<'a, S: Start, L: Ledger + Drop, P: Past, I: Read, O: W
     ensures failed { IfErr result (UnionFailsBy database.now (list.now ∷ [])) }
     ensures untouched { IfErr result (λ failure. status_of failure ≢ Status.Failed
         → KeepsBytes (O.contents output.old) (O.contents output.new)) }
+    ensures touched { OpensAndChanges database.now (IsReplacedIf (option_map (λ name. name.now) then_export.entry))
+        (Y.deeds rt.old) (Y.deeds rt.new) }
 {
     check_name(database)?;
     check_export(rt, database, then_export)?;
     if list == INPUT {
-        return join_lines::<S, L, P, _, _, _>(
+        return join_lines::<_, S, L, P, _, _, _>(
             rt,
             start,
             ledger,
@@ -85,7 +99,7 @@ pub fn collect_into_union<'a, S: Start, L: Ledger + Drop, P: Past, I: Read, O: W
         );
     }
     let names = open_file(rt, list)?;
-    join_lines::<S, L, P, _, _, _>(
+    join_lines::<_, S, L, P, _, _, _>(
         rt,
         start,
         ledger,
@@ -99,8 +113,18 @@ pub fn collect_into_union<'a, S: Start, L: Ledger + Drop, P: Past, I: Read, O: W
 }
 
 /// Takes up the uploads that the lines of a reader name, which are read through a buffer.
-fn join_lines<'a, S: Start, L: Ledger + Drop, P: Past, N: Read + Drop, O: Write, E: Write>(
-    rt: &HostRuntime,
+#[tactic(auto, using(jc_command_shared::specs::DeedLaws::does_nothing))]
+fn join_lines<
+    'a,
+    Y: Databases,
+    S: Start,
+    L: Ledger + Drop,
+    P: Past,
+    N: Read + Drop,
+    O: Write,
+    E: Write,
+>(
+    rt: &mut Y,
     start: S,
     ledger: L,
     database: &'a str,
@@ -121,11 +145,13 @@ fn join_lines<'a, S: Start, L: Ledger + Drop, P: Past, N: Read + Drop, O: Write,
     ensures failed { IfErr result (λ failure. UnionStopsBy failure ⊎ DatabaseFailsBy database.now failure) }
     ensures untouched { IfErr result (λ failure. status_of failure ≢ Status.Failed
         → KeepsBytes (O.contents output.old) (O.contents output.new)) }
+    ensures touched { OpensAndChanges database.now (IsReplacedIf (option_map (λ name. name.now) then_export.entry))
+        (Y.deeds rt.old) (Y.deeds rt.new) }
 {
     let Ok(mut names) = BufReader::new(rt.alloc(), list) else {
         return Err(Failure::OutOfMemory);
     };
-    join_names::<S, L, P, _, _, _>(
+    join_names::<_, S, L, P, _, _, _>(
         rt,
         start,
         ledger,
@@ -139,8 +165,18 @@ fn join_lines<'a, S: Start, L: Ledger + Drop, P: Past, N: Read + Drop, O: Write,
 }
 
 /// Takes up the uploads that lines name.
-fn join_names<'a, S: Start, L: Ledger + Drop, P: Past, N: BufRead, O: Write, E: Write>(
-    rt: &HostRuntime,
+#[tactic(auto, using(jc_command_shared::specs::DeedLaws::only_opens, jc_command_shared::specs::DeedLaws::opens_then))]
+fn join_names<
+    'a,
+    Y: Databases,
+    S: Start,
+    L: Ledger + Drop,
+    P: Past,
+    N: BufRead,
+    O: Write,
+    E: Write,
+>(
+    rt: &mut Y,
     start: S,
     ledger: L,
     database: &'a str,
@@ -161,9 +197,11 @@ fn join_names<'a, S: Start, L: Ledger + Drop, P: Past, N: BufRead, O: Write, E: 
     ensures failed { IfErr result (λ failure. UnionStopsBy failure ⊎ DatabaseFailsBy database.now failure) }
     ensures untouched { IfErr result (λ failure. status_of failure ≢ Status.Failed
         → KeepsBytes (O.contents output.old) (O.contents output.new)) }
+    ensures touched { OpensAndChanges database.now (IsReplacedIf (option_map (λ name. name.now) then_export.entry))
+        (Y.deeds rt.old) (Y.deeds rt.new) }
 {
     match open_or_make(rt, database, start, tables)? {
-        Opened::ByKey(keeper) => join_over::<S, SchemaTwo, L, P, _, _, _>(
+        Opened::ByKey(keeper) => join_over::<_, S, SchemaTwo, L, P, _, _, _>(
             rt,
             keeper,
             ledger,
@@ -172,7 +210,7 @@ fn join_names<'a, S: Start, L: Ledger + Drop, P: Past, N: BufRead, O: Write, E: 
             output,
             errors,
         ),
-        Opened::ByNumber(keeper) => join_over::<S, SchemaThree, L, P, _, _, _>(
+        Opened::ByNumber(keeper) => join_over::<_, S, SchemaThree, L, P, _, _, _>(
             rt,
             keeper,
             ledger,
@@ -187,6 +225,7 @@ fn join_names<'a, S: Start, L: Ledger + Drop, P: Past, N: BufRead, O: Write, E: 
 /// The same over the keeper of the present database, which is closed.
 fn join_over<
     'a,
+    Y: System,
     S: Start,
     T: Listed + Drop,
     L: Ledger + Drop,
@@ -195,7 +234,7 @@ fn join_over<
     O: Write,
     E: Write,
 >(
-    rt: &HostRuntime,
+    rt: &mut Y,
     present: FileKeeper<S, T>,
     ledger: L,
     then_export: Option<&'a str>,
@@ -215,8 +254,9 @@ fn join_over<
     ensures failed { IfErr result UnionStopsBy }
     ensures untouched { IfErr result (λ failure. status_of failure ≢ Status.Failed
         → KeepsBytes (O.contents output.old) (O.contents output.new)) }
+    ensures touched { ChangesOnly (IsReplacedIf (option_map (λ name. name.now) then_export.entry)) (Y.deeds rt.old) (Y.deeds rt.new) }
 {
-    let AnsweredUnion { answered, union } = join_open::<S, T, L, P, _, _, _>(
+    let AnsweredUnion { answered, union } = join_open::<_, S, T, L, P, _, _, _>(
         rt,
         present,
         ledger,
@@ -230,8 +270,10 @@ fn join_over<
 
 /// All of it before the present database is closed: the union is opened, the uploads are taken up, and the present
 /// database's journal is exported, if a path is given. What a crash leaves of a run is what it leaves of this union.
+#[tactic(auto, using(jc_command_shared::specs::DeedLaws::nothing_changes))]
 pub fn join_open<
     'a,
+    Y: System,
     S: Start,
     T: Listed + Drop,
     L: Ledger + Drop,
@@ -240,7 +282,7 @@ pub fn join_open<
     O: Write,
     E: Write,
 >(
-    rt: &HostRuntime,
+    rt: &mut Y,
     present: FileKeeper<S, T>,
     ledger: L,
     then_export: Option<&'a str>,
@@ -278,6 +320,7 @@ pub fn join_open<
     ensures failed { IfErr result.answered UnionStopsBy }
     ensures untouched { IfErr result.answered (λ failure. status_of failure ≢ Status.Failed
         → KeepsBytes (O.contents output.old) (O.contents output.new)) }
+    ensures touched { ChangesOnly (IsReplacedIf (option_map (λ name. name.now) then_export.entry)) (Y.deeds rt.old) (Y.deeds rt.new) }
 {
     let OpenedUnion { mut union, opened } = open_union::<FileStore<FileFrom<S>>, T, L, P>(
         rt.alloc(),

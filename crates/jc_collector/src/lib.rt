@@ -15,6 +15,7 @@ mod listed;
 mod listing;
 mod migrating;
 mod then_export;
+mod unopened;
 
 pub use answered::{Answered, answer_deliveries, answer_lines};
 pub use closing::Closed;
@@ -26,3 +27,4 @@ pub use into_union::{FilesUnion, collect_into_union, join_open};
 pub use listed::collect_listed;
 pub use listing::{export, show};
 pub use migrating::migrate;
+pub use unopened::Unopened;

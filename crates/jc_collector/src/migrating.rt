@@ -16,6 +16,7 @@ ghost use Rattle.jc_collector.specs.Earlier.{EndsByNumber, LeadsFrom, conn_befor
 ghost use Rattle.jc_collector.specs.OverFiles.{Prints};
 ghost use Rattle.jc_collector.specs.declared.health.Health.{Health};
 ghost use Rattle.jc_command_shared.specs.Failure.{status_of};
+ghost use Rattle.jc_command_shared.specs.Deeds.{OpensOnce};
 
 use crate::closing::{Closed, close_connection};
 use crate::database::{FileKeeper, check_name, open_old};
@@ -24,6 +25,7 @@ use crate::health::{Examined, Health, count_and_close, print_health, refused};
 use jc_base::Code;
 use jc_command_args::Tables;
 use jc_command_shared::{Failure, Status};
+use jc_database::Databases;
 use jc_records::{ReplaceStop, replace_tables};
 use jc_schema_one::{MigrateStop, SqlKeeper1};
 use jc_schema_three::SchemaThree;
@@ -36,8 +38,8 @@ use std::io::Write;
 /// Puts the journal of a database from tables of an earlier kind into these, and prints what is in them; or what is wrong
 /// with the database, which then stays as it is. Those of schema 1 become tables of either kind, and those by key become
 /// tables by number.
-pub fn migrate<'a, S: Start, O: Write>(
-    rt: &HostRuntime,
+pub fn migrate<'a, Y: Databases, S: Start, O: Write>(
+    rt: &mut Y,
     start: S,
     database: &'a str,
     tables: Tables,
@@ -52,6 +54,7 @@ pub fn migrate<'a, S: Start, O: Write>(
     ensures failed { IfErr result (CheckFailsBy database.now) }
     ensures untouched { IfErr result (λ failure. status_of failure ≢ Status.Failed
         → Keeps (O.contents output.old) (O.contents output.new)) }
+    ensures touched { OpensOnce database.now (Y.deeds rt.old) (Y.deeds rt.new) }
 {
     check_name(database)?;
     let Examined { value, files } = migrated_to(rt, start, database, tables)?;
@@ -60,8 +63,8 @@ pub fn migrate<'a, S: Start, O: Write>(
 }
 
 /// Puts the journal of the database at a path into these tables, and counts its entries.
-fn migrated_to<'a, S: Start>(
-    rt: &HostRuntime,
+fn migrated_to<'a, Y: Databases, S: Start>(
+    rt: &mut Y,
     start: S,
     database: &'a str,
     tables: Tables,
@@ -70,6 +73,7 @@ fn migrated_to<'a, S: Start>(
         (λ files. LeadsFrom tables (image_at S.Start) ⟦<FileFrom<S> as Disk>⟧ files (Counts examined.value))) }
     ensures health { IfOk result (λ examined. IsHealth examined.value) }
     ensures failed { IfErr result (WhyNoHealth database.now) }
+    ensures touched { OpensOnce database.now (Y.deeds rt.old) (Y.deeds rt.new) }
 {
     match tables {
         Tables::ByKey => migrated_by_key(rt, start, database),
@@ -78,8 +82,8 @@ fn migrated_to<'a, S: Start>(
 }
 
 /// Puts the journal of the database at a path from tables of schema 1 into tables by key, and counts its entries.
-fn migrated_by_key<'a, S: Start>(
-    rt: &HostRuntime,
+fn migrated_by_key<'a, Y: Databases, S: Start>(
+    rt: &mut Y,
     start: S,
     database: &'a str,
 ) -> Result<Examined<Health, S>, Failure<'a>>
@@ -87,17 +91,20 @@ fn migrated_by_key<'a, S: Start>(
         (λ files. LeadsFrom ByKey (image_at S.Start) ⟦<FileFrom<S> as Disk>⟧ files (Counts examined.value))) }
     ensures health { IfOk result (λ examined. IsHealth examined.value) }
     ensures failed { IfErr result (WhyNoHealth database.now) }
+    ensures touched { OpensOnce database.now (Y.deeds rt.old) (Y.deeds rt.new) }
 {
     match open_old(rt, database, start) {
         Ok(keeper) => Ok(Examined::closed(count_and_close(go_over::<S, SchemaTwo>(keeper)?)?)),
-        Err(Failure::Bad(fault)) => Ok(refused(fault)),
-        Err(failure) => Err(failure),
+        Err(unopened) => match Failure::from(unopened) {
+            Failure::Bad(fault) => Ok(refused(fault)),
+            failure => Err(failure),
+        },
     }
 }
 
 /// Puts the journal of the database at a path from tables of an earlier kind into tables by number, and counts its entries.
-fn migrated_by_number<'a, S: Start>(
-    rt: &HostRuntime,
+fn migrated_by_number<'a, Y: Databases, S: Start>(
+    rt: &mut Y,
     start: S,
     database: &'a str,
 ) -> Result<Examined<Health, S>, Failure<'a>>
@@ -105,11 +112,14 @@ fn migrated_by_number<'a, S: Start>(
         (λ files. LeadsFrom ByNumber (image_at S.Start) ⟦<FileFrom<S> as Disk>⟧ files (Counts examined.value))) }
     ensures health { IfOk result (λ examined. IsHealth examined.value) }
     ensures failed { IfErr result (WhyNoHealth database.now) }
+    ensures touched { OpensOnce database.now (Y.deeds rt.old) (Y.deeds rt.new) }
 {
     match open_earlier(rt, database, start) {
         Ok(taken) => Ok(Examined::closed(number_fields(taken)?)),
-        Err(Failure::Bad(fault)) => Ok(refused(fault)),
-        Err(failure) => Err(failure),
+        Err(unopened) => match Failure::from(unopened) {
+            Failure::Bad(fault) => Ok(refused(fault)),
+            failure => Err(failure),
+        },
     }
 }
 

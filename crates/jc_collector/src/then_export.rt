@@ -1,9 +1,10 @@
 //! `--then-export`: a journal goes to a file once the uploads are answered.
 
-ghost use Rattle.std.specs.Prelude.{◌≡◌, ◌⊎◌, ◌≤◌, Ok, Err, IfOk, IfErr};
+ghost use Rattle.std.specs.Prelude.{◌≡◌, ◌⊎◌, ◌≤◌, Ok, Err, IfOk, IfErr, option_map};
 ghost use Rattle.sqlite.specs.Held.{state};
 ghost use Rattle.sqlite.specs.View.{doubt};
 ghost use Rattle.sqlite.specs.Files.{file_state, over_files};
+ghost use Rattle.jc_command_shared.specs.Deeds.{ChangesOnly, IsReplaced, IsReplacedIf};
 ghost use Rattle.jc_store.specs.Crash.{LeavesNoMore};
 ghost use Rattle.jc_store.specs.Meaning.{IsSound, KeepsJournal};
 ghost use Rattle.jc_collector.specs.Database.{IsOutFailure};
@@ -11,22 +12,20 @@ ghost use Rattle.jc_collector.specs.Database.{IsOutFailure};
 use crate::database::FileKeeper;
 use crate::listing::export_journal;
 use jc_command_shared::{
-    Failure, Status, UNFINISHED, create_file, folder_and_name, name_beside, put_in_place,
+    Failure, Status, System, UNFINISHED, create_file, folder_and_name, name_beside, put_in_place,
 };
 use jc_store::{Listed, TableKeeper};
 use sqlite::{Alter, Start};
-use std::fs;
 use std::io::ErrorKind;
 use std::os::unix::fs::MetadataExt;
-use std::rt::Files;
 
 /// The endings of the names of files that a database has beside its own.
 const BESIDE: [&str; 3] = ["-wal", "-shm", "-journal"];
 
 /// Refuses a path for an export whose file would take the place of the database or of a file beside it. A database that
 /// is a link has these beside the file that it leads to.
-pub fn check_export<'a, R: Files + AllocGlobal>(
-    rt: &R,
+pub fn check_export<'a, Y: System>(
+    rt: &Y,
     database: &str,
     path: Option<&str>,
 ) -> Result<(), Failure<'a>>
@@ -35,7 +34,7 @@ pub fn check_export<'a, R: Files + AllocGlobal>(
     let Some(path) = path else {
         return Ok(());
     };
-    let takes_place = match rt.canonicalize(rt.alloc(), database) {
+    let takes_place = match rt.canonicalize(database) {
         Ok(resolved) => takes_place(rt, resolved.into_string().as_str(), path),
         Err(error) if error.kind() == ErrorKind::OutOfMemory => return Err(Failure::OutOfMemory),
         // It isn't there yet.
@@ -48,7 +47,7 @@ pub fn check_export<'a, R: Files + AllocGlobal>(
 }
 
 /// Whether a file at `path`, or one that is written beside it first, is the database's own, by whatever names.
-fn takes_place<R: Files>(rt: &R, database: &str, path: &str) -> bool {
+fn takes_place<Y: System>(rt: &Y, database: &str, path: &str) -> bool {
     let (folder, name) = folder_and_name(path);
     let (home, own) = folder_and_name(database);
     is_same_file(rt, path, database) || is_of_database(name, own) && is_same_file(rt, folder, home)
@@ -64,8 +63,8 @@ fn is_of_database(name: &str, own: &str) -> bool {
 }
 
 /// Whether two paths lead to one file, or to one folder, that is there.
-fn is_same_file<R: Files>(rt: &R, first: &str, second: &str) -> bool {
-    match (fs::metadata(rt, first), fs::metadata(rt, second)) {
+fn is_same_file<Y: System>(rt: &Y, first: &str, second: &str) -> bool {
+    match (rt.metadata(first), rt.metadata(second)) {
         (Ok(first), Ok(second)) => first.dev() == second.dev() && first.ino() == second.ino(),
         _ => false,
     }
@@ -73,8 +72,9 @@ fn is_same_file<R: Files>(rt: &R, first: &str, second: &str) -> bool {
 
 /// Puts a keeper's journal into the file at a path, if one is given and all uploads were answered. The status stays that of
 /// the answers.
-fn export_after<'a, R: Files + AllocGlobal, S: Alter, L: Listed>(
-    rt: &R,
+#[tactic(auto, using(jc_command_shared::specs::DeedLaws::nothing_changes))]
+fn export_after<'a, Y: System, S: Alter, L: Listed>(
+    rt: &mut Y,
     keeper: &mut TableKeeper<S, L>,
     answered: Result<Status, Failure<'a>>,
     path: Option<&'a str>,
@@ -86,17 +86,19 @@ fn export_after<'a, R: Files + AllocGlobal, S: Alter, L: Listed>(
     ensures clean { doubt (state S.Store keeper.old.conn).is_clean ≤ doubt (state S.Store keeper.new.conn).is_clean }
     ensures crash { LeavesNoMore (state S.Store keeper.old.conn) (state S.Store keeper.new.conn) }
     ensures failed { IfErr result (λ failure. (answered.entry ≡ Err failure) ⊎ IsOutFailure failure) }
+    ensures touched { ChangesOnly (IsReplacedIf (option_map (λ name. name.now) path.entry)) (Y.deeds rt.old) (Y.deeds rt.new) }
 {
     let status = answered?;
-    if let Some(path) = path {
-        export_file(rt, keeper, path)?;
-    }
+    let Some(path) = path else {
+        return Ok(status);
+    };
+    export_file(rt, keeper, path)?;
     Ok(status)
 }
 
 /// The same of a keeper over files.
-pub fn export_files_after<'a, R: Files + AllocGlobal, S: Start, L: Listed>(
-    rt: &R,
+pub fn export_files_after<'a, Y: System, S: Start, L: Listed>(
+    rt: &mut Y,
     keeper: &mut FileKeeper<S, L>,
     answered: Result<Status, Failure<'a>>,
     path: Option<&'a str>,
@@ -108,13 +110,15 @@ pub fn export_files_after<'a, R: Files + AllocGlobal, S: Start, L: Listed>(
     ensures clean { doubt (file_state keeper.old.conn).is_clean ≤ doubt (file_state keeper.new.conn).is_clean }
     ensures crash { LeavesNoMore (file_state keeper.old.conn) (file_state keeper.new.conn) }
     ensures failed { IfErr result (λ failure. (answered.entry ≡ Err failure) ⊎ IsOutFailure failure) }
+    ensures touched { ChangesOnly (IsReplacedIf (option_map (λ name. name.now) path.entry)) (Y.deeds rt.old) (Y.deeds rt.new) }
 {
     export_after(rt, keeper, answered, path)
 }
 
 /// Puts what `export` prints of a keeper's journal into the file at a path, which stays as it was if that fails.
-fn export_file<'a, R: Files + AllocGlobal, S: Alter, L: Listed>(
-    rt: &R,
+#[tactic(auto, using(jc_command_shared::specs::DeedLaws::nothing_changes, jc_command_shared::specs::DeedLaws::changes_one))]
+fn export_file<'a, Y: System, S: Alter, L: Listed>(
+    rt: &mut Y,
     keeper: &mut TableKeeper<S, L>,
     path: &str,
 ) -> Result<(), Failure<'a>>
@@ -123,6 +127,7 @@ fn export_file<'a, R: Files + AllocGlobal, S: Alter, L: Listed>(
     ensures clean { doubt (state S.Store keeper.old.conn).is_clean ≤ doubt (state S.Store keeper.new.conn).is_clean }
     ensures crash { LeavesNoMore (state S.Store keeper.old.conn) (state S.Store keeper.new.conn) }
     ensures failed { IfErr result IsOutFailure }
+    ensures touched { ChangesOnly (IsReplaced path.now) (Y.deeds rt.old) (Y.deeds rt.new) }
 {
     let beside = name_beside(rt.alloc(), path)?;
     let mut file = create_file(rt, beside.as_str())?;

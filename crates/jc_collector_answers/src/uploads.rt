@@ -5,15 +5,14 @@ ghost use Rattle.jc_collector_answers.specs.Opened.{WhyUnopened};
 
 use jc_base::FromRead;
 use jc_collect::Delivery;
-use jc_command_shared::{Failure, is_regular, open_file};
+use jc_command_shared::{Failure, System, is_regular, open_file};
 use jc_file::{FileSpace, PagedSpace};
-use std::rt::Files;
 
 /// An UPLOAD file: read by ranges if it is a regular one, and otherwise as a stream.
 pub type Upload<F> = Delivery<FromRead<F>, PagedSpace<FileSpace<F>>>;
 
 /// Opens the files at these paths, in order.
-pub fn open_uploads<'a, R: Files + AllocGlobal>(
+pub fn open_uploads<'a, R: System>(
     rt: &R,
     paths: &[&'a str],
 ) -> Result<Vec<Upload<R::File>>, Failure<'a>>
@@ -28,10 +27,7 @@ pub fn open_uploads<'a, R: Files + AllocGlobal>(
 }
 
 /// Opens the file at a path.
-pub fn open_upload<'a, R: Files + AllocGlobal>(
-    rt: &R,
-    path: &'a str,
-) -> Result<Upload<R::File>, Failure<'a>>
+pub fn open_upload<'a, R: System>(rt: &R, path: &'a str) -> Result<Upload<R::File>, Failure<'a>>
     ensures { IfErr result (λ failure. (failure ≡ Failure.CannotOpen path.entry) ⊎ (failure ≡ Failure.ReadFailed)
         ⊎ (failure ≡ Failure.OutOfMemory)) }
 {

@@ -18,6 +18,7 @@ use Rattle.jc_ledger_files.specs.NotesOf.{notes_of}
 use Rattle.jc_ledger_files.specs.Owned.{owner_found}
 use Rattle.jc_ledger_files.specs.Windows.{known_in}
 use Rattle.jc_collector.specs.declared.health.Health.{Health}
+use Rattle.jc_command_shared.specs.Deeds.{ChangesOnly, Deed, IsReplaced, IsReplacedIf, OpensAndChanges, OpensOnce}
 use Rattle.jc_command_shared.specs.declared.failure.Failure.{Failure}
 use Rattle.jc_command_shared.specs.declared.failure.Failure.TheVariants.{CannotOpen, OutOfMemory, ReadFailed, WriteFailed}
 use Rattle.jc_command_shared.specs.declared.status.Status.{Status}
@@ -180,6 +181,32 @@ FailsBy (Show database field id first last) given failure =
 FailsBy (Check database) given failure = CheckFailsBy database.now failure
 FailsBy (Migrate database tables) given failure = CheckFailsBy database.now failure
 FailsBy ListCodes given failure = failure ≡ WriteFailed
+
+-- ---- what is done to files
+
+-- What a request does to files, whether it is performed or fails: it opens its database, once or not at all, and makes,
+-- renames or removes no other file but that of an export or of a resume point and the one beside it. Beside that `collect`
+-- notes sequences in a folder, of which the notes' ledger speaks.
+abbrev pub DoesFor : Request → (old new : Option (List Deed)) → Type 0
+DoesFor (Verify kind file) old new = new ≡ old
+DoesFor (Inspect file most_entries most_fields most_bytes) old new = new ≡ old
+DoesFor (Upload source limit most_bytes whole) old new = new ≡ old
+DoesFor (Ack source) old new = ChangesOnly (IsReplaced source.resume.now) old new
+DoesFor (Collect database tables uploads then_export) old new =
+    OpensAndChanges database.now (IsReplacedIf (option_map (λ name. name.now) then_export)) old new
+DoesFor (CollectListed database tables list then_export) old new =
+    OpensAndChanges database.now (IsReplacedIf (option_map (λ name. name.now) then_export)) old new
+DoesFor (CollectIntoUnion database tables list sequences then_export) old new =
+    OpensAndChanges database.now (IsReplacedIf (option_map (λ name. name.now) then_export)) old new
+DoesFor (request.Export database) old new = OpensOnce database.now old new
+DoesFor (Show database field id first last) old new = OpensOnce database.now old new
+DoesFor (Check database) old new = OpensOnce database.now old new
+DoesFor (Migrate database tables) old new = OpensOnce database.now old new
+DoesFor ListCodes old new = new ≡ old
+
+-- What arguments have it do: nothing, unless they ask for something.
+abbrev pub DoesAsked : List Text → (old new : Option (List Deed)) → Type 0
+DoesAsked words old new = (new ≡ old) ⊎ ((request : Request) × AskFor words request × DoesFor request old new)
 
 -- ---- a run
 

@@ -2,7 +2,9 @@
 #![tactic(auto)]
 
 mod begun;
+mod note_folders;
 mod run;
 
 pub use begun::{Begun, BegunBy};
-pub use run::{Ended, Sequences, command, run_command};
+pub use note_folders::{NoteFolders, Sequences};
+pub use run::{Ended, command, run_command};

@@ -6,9 +6,10 @@ ghost use Rattle.clap.specs.Words.{kind_of};
 ghost use Rattle.sqlite.specs.WalFiles.{image_at};
 ghost use Rattle.jc_command_args.specs.Answer.{IsAskedFor};
 ghost use Rattle.jc_command_shared.specs.Failure.{status_of};
-ghost use Rattle.jc_command.specs.Run.{Ends, EndsWithin, FailsBy, Performs, Stops, begins_with, devices, leaves};
+ghost use Rattle.jc_command.specs.Run.{DoesAsked, DoesFor, Ends, EndsWithin, FailsBy, Performs, Stops, begins_with, devices, leaves};
 
 use crate::begun::{Begun, BegunBy};
+use crate::note_folders::{NoteFolders, Sequences};
 use clap::error::ErrorKind;
 use jc_collect::Bounds;
 use jc_collector::{
@@ -17,16 +18,14 @@ use jc_collector::{
 };
 use jc_command_args::{CODES, Request, parse};
 use jc_command_shared::{Failure, Status, printed};
+use jc_database::Databases;
 use jc_ledger::Ledger;
 use jc_sender::{ack, upload, verify};
-use jc_sequences::{FileSequences, open_sequences};
+use jc_sequences::Folders;
 use jc_union::NotedRun;
 use sqlite::{FileFrom, Files, Start};
 use sqlite_disk::Disk;
 use std::io::{Read, Write};
-
-/// The notes of sequences in files, of which `S` says what they had.
-pub type Sequences<'a, S> = FileSequences<'a, BegunBy<S>, BegunBy<S>>;
 
 /// What a run ended with: its status, and the files of its database, closed, if it had one open, with the notes of
 /// sequences, if it had those.
@@ -109,8 +108,9 @@ impl<S: Start, L: Ledger + Drop> Done<S, L> {
 }
 
 /// Does what the arguments ask for, as `run_command` does, and answers the status to end with.
-pub fn command<'a, S: Start + Begun, I: Read, O: Write, E: Write>(
-    rt: &'a HostRuntime,
+pub fn command<'a, Y: Databases, S: Start + Begun, I: Read, O: Write, E: Write>(
+    rt: &mut Y,
+    folders: Folders<'a>,
     start: S,
     words: Vec<String>,
     input: &mut I,
@@ -127,8 +127,10 @@ pub fn command<'a, S: Start + Begun, I: Read, O: Write, E: Write>(
     ensures misused { result ≡ 2 → EndsWithin (begins_with (image_at S.Start) S.windows S.past S.came)
         (devices ⟦<FileFrom<S> as Disk>⟧ ⟦<Sequences<'a, S> as Ledger>⟧) (map string_bytes words.items) (I.remaining input.old)
         (O.contents output.old) (O.contents output.new) (E.contents errors.old) (E.contents errors.new) Status.Misused }
+    // However it ends, this alone was done to files.
+    ensures touched { DoesAsked (map string_bytes words.items) (Y.deeds rt.old) (Y.deeds rt.new) }
 {
-    run_command(rt, start, words, input, output, errors).status
+    run_command(rt, folders, start, words, input, output, errors).status
 }
 
 /// Does what the arguments ask for. The first argument is the program's name.
@@ -136,31 +138,34 @@ pub fn command<'a, S: Start + Begun, I: Read, O: Write, E: Write>(
 /// What is asked for goes to `output`. A failure, or what is wrong with the arguments, goes to `errors`. With status 3
 /// something failed, and no clause says what went to either. `input` has the answers for `ack`, and for `collect` the
 /// upload if none is named, or their names if the list is `-`. `start` stands for what a database's files hold as they are
-/// opened, and those of sequences, and the files that come back are those.
-pub fn run_command<'a, S: Start + Begun, I: Read, O: Write, E: Write>(
-    rt: &'a HostRuntime,
+/// opened, and those of sequences, and the files that come back are those. `folders` opens the notes of sequences.
+pub fn run_command<Y: Databases, S: Start + Begun, N: NoteFolders<S>, I: Read, O: Write, E: Write>(
+    rt: &mut Y,
+    folders: N,
     start: S,
     words: Vec<String>,
     input: &mut I,
     output: &mut O,
     errors: &mut E,
-) -> Ended<S, Sequences<'a, S>>
+) -> Ended<S, N::Notes>
     ensures status { result.status ≤ 3 }
     ensures success { result.status ≡ 0 → Ends (begins_with (image_at S.Start) S.windows S.past S.came)
-        (devices ⟦<FileFrom<S> as Disk>⟧ ⟦<Sequences<'a, S> as Ledger>⟧) (leaves result.files result.ledger) (map string_bytes words.items) (I.remaining input.old)
+        (devices ⟦<FileFrom<S> as Disk>⟧ ⟦<N::Notes as Ledger>⟧) (leaves result.files result.ledger) (map string_bytes words.items) (I.remaining input.old)
         (O.contents output.old) (O.contents output.new) (E.contents errors.old) (E.contents errors.new) Status.Success }
     ensures refused { result.status ≡ 1 → Ends (begins_with (image_at S.Start) S.windows S.past S.came)
-        (devices ⟦<FileFrom<S> as Disk>⟧ ⟦<Sequences<'a, S> as Ledger>⟧) (leaves result.files result.ledger) (map string_bytes words.items) (I.remaining input.old)
+        (devices ⟦<FileFrom<S> as Disk>⟧ ⟦<N::Notes as Ledger>⟧) (leaves result.files result.ledger) (map string_bytes words.items) (I.remaining input.old)
         (O.contents output.old) (O.contents output.new) (E.contents errors.old) (E.contents errors.new) Status.Refused }
     ensures misused { result.status ≡ 2 → Ends (begins_with (image_at S.Start) S.windows S.past S.came)
-        (devices ⟦<FileFrom<S> as Disk>⟧ ⟦<Sequences<'a, S> as Ledger>⟧) (leaves result.files result.ledger) (map string_bytes words.items) (I.remaining input.old)
+        (devices ⟦<FileFrom<S> as Disk>⟧ ⟦<N::Notes as Ledger>⟧) (leaves result.files result.ledger) (map string_bytes words.items) (I.remaining input.old)
         (O.contents output.old) (O.contents output.new) (E.contents errors.old) (E.contents errors.new) Status.Misused }
     // What was stored and printed before a failure of the answers' status is there too.
     ensures failed { result.status ≡ 3 → IsSome result.files → Ends (begins_with (image_at S.Start) S.windows S.past S.came)
-        (devices ⟦<FileFrom<S> as Disk>⟧ ⟦<Sequences<'a, S> as Ledger>⟧) (leaves result.files result.ledger) (map string_bytes words.items) (I.remaining input.old)
+        (devices ⟦<FileFrom<S> as Disk>⟧ ⟦<N::Notes as Ledger>⟧) (leaves result.files result.ledger) (map string_bytes words.items) (I.remaining input.old)
         (O.contents output.old) (O.contents output.new) (E.contents errors.old) (E.contents errors.new) Status.Failed }
+    // However it ends, this alone was done to files.
+    ensures touched { DoesAsked (map string_bytes words.items) (Y.deeds rt.old) (Y.deeds rt.new) }
 {
-    match answered(rt, start, words.as_slice(), input, output, errors) {
+    match answered(rt, folders, start, words.as_slice(), input, output, errors) {
         Ok(done) => Ended {
             status: done.status.number(),
             files: done.files,
@@ -175,42 +180,46 @@ pub fn run_command<'a, S: Start + Begun, I: Read, O: Write, E: Write>(
 }
 
 /// Does what the arguments ask for, up to a failure.
-fn answered<'a, 'w, S: Start + Begun, I: Read, O: Write, E: Write>(
-    rt: &'a HostRuntime,
+fn answered<'w, Y: Databases, S: Start + Begun, N: NoteFolders<S>, I: Read, O: Write, E: Write>(
+    rt: &mut Y,
+    folders: N,
     start: S,
     words: &'w [String],
     input: &mut I,
     output: &mut O,
     errors: &mut E,
-) -> Result<Done<S, Sequences<'a, S>>, Failure<'w>>
+) -> Result<Done<S, N::Notes>, Failure<'w>>
     ensures ended { IfOk result (λ done. Ends (begins_with (image_at S.Start) S.windows S.past S.came)
-        (devices ⟦<FileFrom<S> as Disk>⟧ ⟦<Sequences<'a, S> as Ledger>⟧) (leaves done.files done.ledger) (map string_bytes words.entry.now) (I.remaining input.old)
+        (devices ⟦<FileFrom<S> as Disk>⟧ ⟦<N::Notes as Ledger>⟧) (leaves done.files done.ledger) (map string_bytes words.entry.now) (I.remaining input.old)
         (O.contents output.old) (O.contents output.new) (E.contents errors.old) (E.contents errors.new) done.status) }
     ensures stopped { IfErr result (Stops (map string_bytes words.entry.now) (I.remaining input.old) (O.contents output.old)
         (O.contents output.new)) }
+    ensures touched { DoesAsked (map string_bytes words.entry.now) (Y.deeds rt.old) (Y.deeds rt.new) }
 {
     match parse(rt.alloc(), words) {
-        Ok(request) => perform(rt, start, request, input, output, errors),
+        Ok(request) => perform(rt, folders, start, request, input, output, errors),
         Err(answer) => Ok(Done::without(answer_words(&answer, output, errors)?)),
     }
 }
 
-#[tactic(auto, using(crate::proofs::Runs::unless_failed))]
-fn perform<'a, 'w, S: Start + Begun, I: Read, O: Write, E: Write>(
-    rt: &'a HostRuntime,
+#[tactic(auto, using(crate::proofs::Runs::unless_failed, jc_command_shared::specs::DeedLaws::does_nothing))]
+fn perform<'w, Y: Databases, S: Start + Begun, N: NoteFolders<S>, I: Read, O: Write, E: Write>(
+    rt: &mut Y,
+    folders: N,
     start: S,
     request: Request<'w>,
     input: &mut I,
     output: &mut O,
     errors: &mut E,
-) -> Result<Done<S, Sequences<'a, S>>, Failure<'w>>
+) -> Result<Done<S, N::Notes>, Failure<'w>>
     ensures performed { IfOk result (λ done. Performs (begins_with (image_at S.Start) S.windows S.past S.came)
-        (devices ⟦<FileFrom<S> as Disk>⟧ ⟦<Sequences<'a, S> as Ledger>⟧) (leaves done.files done.ledger) request.entry (I.remaining input.old)
+        (devices ⟦<FileFrom<S> as Disk>⟧ ⟦<N::Notes as Ledger>⟧) (leaves done.files done.ledger) request.entry (I.remaining input.old)
         (O.contents output.old) (O.contents output.new) done.status) }
     ensures quiet { IfOk result (λ done. done.status ≡ Status.Success → Keeps (E.contents errors.old) (E.contents errors.new)) }
     ensures failed { IfErr result (FailsBy request.entry (I.remaining input.old)) }
     ensures untouched { IfErr result (λ failure. status_of failure ≢ Status.Failed
         → Keeps (O.contents output.old) (O.contents output.new)) }
+    ensures touched { DoesFor request.entry (Y.deeds rt.old) (Y.deeds rt.new) }
 {
     match request {
         Request::Verify { kind, file } => Ok(Done::without(verify(rt, kind, file, output)?)),
@@ -285,8 +294,8 @@ fn perform<'a, 'w, S: Start + Begun, I: Read, O: Write, E: Write>(
             sequences,
             then_export,
         } => {
-            let ledger = open_sequences::<BegunBy<S>, BegunBy<S>>(rt, sequences)?;
-            let run = collect_into_union::<S, _, BegunBy<S>, _, _, _>(
+            let ledger = folders.open(sequences)?;
+            let run = collect_into_union::<_, S, _, BegunBy<S>, _, _, _>(
                 rt,
                 start,
                 ledger,
@@ -298,6 +307,7 @@ fn perform<'a, 'w, S: Start + Begun, I: Read, O: Write, E: Write>(
                 output,
                 errors,
             )?;
+            N::show_steady(&run.ledger);
             Ok(Done::noted(run))
         }
         Request::Export { database } => Ok(Done::listed(export(rt, start, database, output)?)),

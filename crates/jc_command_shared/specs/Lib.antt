@@ -7,3 +7,5 @@ pub mod Lines
 pub mod LineLaws
 pub mod Output
 pub mod OutputLaws
+pub mod Deeds
+pub mod DeedLaws

@@ -2,18 +2,17 @@
 
 ghost use Rattle.std.specs.Prelude.{◌≡◌, ◌⊎◌, IfOk, IfErr, IfSome, take};
 
-use crate::Failure;
+use crate::{Failure, System};
 use std::alloc::Global;
 use std::fs::OpenFile;
+use std::io;
 use std::io::Read;
-use std::rt::Files;
-use std::{fs, io};
 
 /// The file at `path`, to be read.
-pub fn open_file<'a, R: Files>(rt: &R, path: &'a str) -> Result<R::File, Failure<'a>>
+pub fn open_file<'a, Y: System>(rt: &Y, path: &'a str) -> Result<Y::File, Failure<'a>>
     ensures { IfErr result (λ failure. failure ≡ Failure.CannotOpen path.entry) }
 {
-    match fs::open(rt, path) {
+    match rt.open(path) {
         Ok(file) => Ok(file),
         Err(_) => Err(Failure::CannotOpen(path)),
     }

@@ -1,5 +1,5 @@
-//! What the program's commands share: files that are read or replaced, failures and their lines, statuses, and what is
-//! printed.
+//! What the program's commands share: the system's files, which are read or replaced, failures and their lines, statuses,
+//! and what is printed.
 #![tactic(auto)]
 
 mod failure;
@@ -11,6 +11,7 @@ mod new_file;
 mod out_buffer;
 mod output;
 mod status;
+mod system;
 
 pub use failure::Failure;
 pub use file::{is_regular, open_file, read_front, read_whole};
@@ -21,3 +22,4 @@ pub use new_file::{UNFINISHED, create_file, folder_and_name, name_beside, put_in
 pub use out_buffer::{OutBuffer, buffer_room};
 pub use output::{printed, write_front};
 pub use status::Status;
+pub use system::{Host, System};

@@ -1,29 +1,30 @@
 //! Files that are replaced whole.
 
-ghost use Rattle.std.specs.Prelude.{◌≡◌, ◌⊎◌, Err, IfErr, IsOk, OnOk};
+ghost use Rattle.std.specs.Prelude.{◌≡◌, ◌⊎◌, ◌++◌, ◌∷◌, [], Err, IfErr, IfOk, IsOk, OnOk, codes, string_bytes};
+ghost use Rattle.jc_command_shared.specs.Deeds.{Adds, ChangesOnly, changes};
 ghost use Rattle.jc_command_shared.specs.Folder.{IsIn};
 
-use crate::Failure;
+use crate::{Failure, System};
 use std::alloc::Global;
-use std::fs;
 use std::fs::OpenFile;
-use std::rt::Files;
 
 /// What the name of a file ends in that is to take another one's place.
 pub const UNFINISHED: &str = ".new";
 
 /// The name under which the text of the file at `path` is written before it takes that file's place.
 pub fn name_beside<'a>(alloc: Global, path: &str) -> Result<String, Failure<'a>>
-    ensures { IfErr result (λ failure. failure ≡ Failure.OutOfMemory) }
+    ensures name { IfOk result (λ name. string_bytes name ≡ path.now ++ codes ".new") }
+    ensures failed { IfErr result (λ failure. failure ≡ Failure.OutOfMemory) }
 {
     Ok(format!(in alloc; "{path}{UNFINISHED}")?)
 }
 
 /// A new file at `path`, empty.
-pub fn create_file<'a, R: Files>(rt: &R, path: &str) -> Result<R::File, Failure<'a>>
-    ensures { IfErr result (λ failure. failure ≡ Failure.WriteFailed) }
+pub fn create_file<'a, Y: System>(rt: &mut Y, path: &str) -> Result<Y::NewFile, Failure<'a>>
+    ensures touched { Adds (Y.deeds rt.old) (Y.deeds rt.new) (changes path.now ∷ []) }
+    ensures failed { IfErr result (λ failure. failure ≡ Failure.WriteFailed) }
 {
-    match fs::create(rt, path) {
+    match rt.create(path) {
         Ok(file) => Ok(file),
         Err(_) => Err(Failure::WriteFailed),
     }
@@ -31,32 +32,46 @@ pub fn create_file<'a, R: Files>(rt: &R, path: &str) -> Result<R::File, Failure<
 
 /// Gives a file that was written at `beside` the name `path`, once it is on the disk. If it wasn't written whole, or
 /// something fails here, it is taken away, and what was at `path` stays.
-pub fn put_in_place<'a, R: Files>(
-    rt: &R,
-    file: &R::File,
+#[tactic(auto, using(crate::specs::DeedLaws::changes_one, crate::specs::DeedLaws::changes_then))]
+pub fn put_in_place<'a, Y: System>(
+    rt: &mut Y,
+    file: &Y::NewFile,
     beside: &str,
     path: &str,
     written: Result<(), Failure<'a>>,
 ) -> Result<(), Failure<'a>>
     ensures whole { OnOk result (IsOk written.entry) }
     ensures failed { IfErr result (λ failure. (written.entry ≡ Err failure) ⊎ (failure ≡ Failure.WriteFailed)) }
+    ensures touched { ChangesOnly (λ name. (name ≡ path.now) ⊎ (name ≡ beside.now)) (Y.deeds rt.old) (Y.deeds rt.new) }
 {
-    if written.is_ok() && file.sync_all().is_ok() && fs::rename(rt, beside, path).is_ok() {
-        sync_folder(rt, path);
-        return Ok(());
+    // If the new file can't be taken away either, the old one is still whole.
+    if let Err(failure) = written {
+        let _ = rt.remove_file(beside);
+        return Err(failure);
     }
-    // If it can't be taken away either, the old file is still whole.
-    let _ = fs::remove_file(rt, beside);
-    match written {
-        Ok(()) => Err(Failure::WriteFailed),
-        Err(failure) => Err(failure),
+    if !takes_name(rt, file, beside, path) {
+        let _ = rt.remove_file(beside);
+        return Err(Failure::WriteFailed);
     }
+    Ok(())
+}
+
+/// Whether a file that was written at `beside` is on the disk now, and has the name `path`.
+#[tactic(auto, using(crate::specs::DeedLaws::nothing_changes, crate::specs::DeedLaws::changes_two))]
+fn takes_name<Y: System>(rt: &mut Y, file: &Y::NewFile, beside: &str, path: &str) -> bool
+    ensures touched { ChangesOnly (λ name. (name ≡ path.now) ⊎ (name ≡ beside.now)) (Y.deeds rt.old) (Y.deeds rt.new) }
+{
+    if file.sync_all().is_err() || rt.rename(beside, path).is_err() {
+        return false;
+    }
+    sync_folder(rt, path);
+    true
 }
 
 /// Has the file's new name kept over a loss of power, as far as the system can: a folder may be one that can't be opened or
 /// synced, and the old text is whole too.
-fn sync_folder<R: Files>(rt: &R, path: &str) {
-    if let Ok(folder) = fs::open(rt, folder_and_name(path).0) {
+fn sync_folder<Y: System>(rt: &Y, path: &str) {
+    if let Ok(folder) = rt.open(folder_and_name(path).0) {
         let _ = folder.sync_all();
     }
 }

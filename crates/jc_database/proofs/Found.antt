@@ -1,17 +1,15 @@
 -- What an open finds.
-use Rattle.std.proofs.Common.{◌≡◌, inl, inr, [], true, ℕ, List, refl, sym, ap, subst, ◌∙◌}
+use Rattle.std.proofs.Common.{◌≡◌, inl, inr, [], true, List, refl, sym, ap, subst, ◌∙◌}
 use Rattle.std.proofs.Math.Logic.{∥∥₁_elim}
 use Rattle.std.specs.List.{AllByRecursion}
 use Rattle.sqlite_disk.specs.declared.Disk as disk
 use Rattle.sqlite_store.specs.declared.store.FileStore.{FileStore}
-use Rattle.sqlite_store.specs.declared.catalog.Wanted.{Wanted}
 use Rattle.sqlite_store.specs.Listing.{IsOurs}
 use Rattle.sqlite_trees.specs.declared.store.Shape.TheVariants.{Table}
 use Rattle.sqlite_trees.specs.View.{IsShaped}
 use Rattle.sqlite_trees.specs.Objects.{catalog_tree}
 use Rattle.sqlite_trees.specs.Props.{Trees-set, rows_set}
 use Rattle.sqlite_trees.specs.Sound.{is_sound_list}
-use Rattle.sqlite_pages.specs.PageMap.{PageMap}
 use Rattle.sqlite_catalog.specs.Listing.{Lists}
 use Rattle.sqlite_catalog.proofs.ReadLemmas.{lists_once}
 use Rattle.sqlite.specs.Recovery.{Image}
@@ -22,7 +20,7 @@ use Rattle.sqlite.specs.Effect.{Database, IsDatabase}
 use Rattle.sqlite.specs.State.{HasCleanDisk}
 use Rattle.sqlite.specs.Start.{FindsIn}
 use Rattle.sqlite.specs.Held.{Held}
-use Rattle.sqlite.specs.Files.{HoldsDatabase, IsNothing, IsEmpty, IsOpened, AreFoundIn, file_state, over_files}
+use Rattle.sqlite.specs.Files.{HoldsDatabase, IsNothing, IsEmpty, IsOpened, AreFoundIn, file_state}
 use Rattle.jc_store.specs.Schema.{no_schema}
 use Rattle.jc_database.specs.Files.{HoldsNone, IsFound}
 use Rattle.jc_database.proofs.Blank.{never_blank}
@@ -44,6 +42,13 @@ none_listed image trees nothing (inl (size, pages, wanted, adopts, ours, is)) = 
     absurd (never_blank size image pages adopts file.file.sound nothing))
 none_listed image trees nothing (inr none) = none.1.1
 
+no_rows_found : (image : Image) (trees : Trees) → IsNothing image → AreFoundIn image trees → IsEmpty trees
+no_rows_found image trees nothing (inl (size, pages, wanted, adopts, ours, is)) = (
+  λ tree low. ∥∥₁_elim ours (rows_set _ _) (λ (file : IsOurs size true wanted pages). absurd (never_blank size image pages adopts file.file.sound nothing)),
+  none_listed image trees nothing (inl (size, pages, wanted, adopts, ours, is)),
+)
+no_rows_found image trees nothing (inr none) = none.1
+
 module _ {D : Type 0} {g : disk.Ghosts D} (image : Image) (c : Held (FileStore D g)) (opened : IsOpened c) (found : FindsIn image (file_state c)) where
   held : (db : Trees) → ∥ HoldsDatabase image db ∥₁ → (file_state c).now.trees ≡ db
   held db holds = ap (λ (d : Database). d.trees) opened.0.clean ∙ ∥∥₁_elim holds (Trees-set _ _) (found.holds db)
@@ -52,6 +57,14 @@ module _ {D : Type 0} {g : disk.Ghosts D} (image : Image) (c : Held (FileStore D
   unlisted (inl nothing) =
       ap (λ (d : Database). d.trees catalog_tree) opened.0.clean ∙ none_listed image (file_state c).committed.trees nothing found.reads
   unlisted (inr empty) = ∥∥₁_elim empty (rows_set _ _) (λ it. ap (λ (trees : Trees). trees catalog_tree) (held it.0 ∣ it.1 ∣₁) ∙ it.2.1)
+
+  emptied : HoldsNone image → IsEmpty (file_state c).now.trees
+  emptied (inl nothing) =
+      subst (λ (d : Database). IsEmpty d.trees) (sym opened.0.clean) (no_rows_found image (file_state c).committed.trees nothing found.reads)
+  emptied (inr empty) = (
+    λ tree low. ∥∥₁_elim empty (rows_set _ _) (λ it. ap (λ (trees : Trees). trees tree) (held it.0 ∣ it.1 ∣₁) ∙ it.2.0 tree low),
+    unlisted (inr empty),
+  )
 
   pub is_found : HasCleanDisk (file_state c) → IsFound image c
   is_found clean = record {
@@ -64,4 +77,5 @@ module _ {D : Type 0} {g : disk.Ghosts D} (image : Image) (c : Held (FileStore D
     settled = sym opened.0.clean;
     whole = held;
     none = λ none. blank (file_state c).now (opened.1 opened.0.is_open).0 (unlisted none);
+    no_rows = emptied;
   }

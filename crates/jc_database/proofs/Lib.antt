@@ -1,4 +1,7 @@
 pub mod Blank
 pub mod Ordered
 pub mod Found
+pub mod Stores
+pub mod Unopened
+pub mod Stopped
 pub mod Left

@@ -1,7 +1,6 @@
 -- The rows of tables in files that were opened stand behind rowids that rise.
 use Rattle.std.proofs.Common.{◌≡◌, inl, inr, true, ℕ, List, [], sym, ap, subst, ◌∙◌}
 use Rattle.std.proofs.Math.Logic.{∥∥₁_elim}
-use Rattle.std.specs.List.{AllByRecursion}
 use Rattle.sqlite_store.specs.declared.catalog.Wanted.{Wanted}
 use Rattle.sqlite_store.specs.Listing.{IsOurs, all_reals, all_shapes, file_trees, listed_from}
 use Rattle.sqlite_pool.specs.File.{version_in, in_use}

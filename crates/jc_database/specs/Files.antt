@@ -81,3 +81,4 @@ pub record IsFound {D : Type 0} {g : disk.Ghosts D} (image : Image) (c : Held (F
   pub settled : (file_state c).committed ≡ (file_state c).now
   pub whole : (db : Trees) → ∥ HoldsDatabase image db ∥₁ → (file_state c).now.trees ≡ db
   pub none : HoldsNone image → IsBlank (file_state c).now
+  pub no_rows : HoldsNone image → IsEmpty (file_state c).now.trees

@@ -11,7 +11,7 @@ use Rattle.sqlite.specs.Effect.{Database, IsDatabase}
 use Rattle.sqlite.specs.Held.{Held}
 use Rattle.sqlite.specs.Files.{file_state, over_files}
 use Rattle.jc_base.specs.Journal.{Journal}
-use Rattle.jc_store.specs.Meaning.{Meaning, HasSettled, journal_of}
+use Rattle.jc_store.specs.Meaning.{Meaning, HasSettled}
 use Rattle.jc_database.specs.Files.{HoldsJournal, IsFound, Keeps}
 
 -- Trees list their schema, so they are those of one database.

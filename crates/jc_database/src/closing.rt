@@ -1,6 +1,6 @@
 //! The files of a database, closed, and what a run leaves of them that is stopped.
 
-ghost use Rattle.std.specs.Prelude.{◌≡◌, IfOk};
+ghost use Rattle.std.specs.Prelude.{◌≡◌, IfOk, IfErr, IsTrue};
 ghost use Rattle.sqlite.specs.Recovery.{Image};
 ghost use Rattle.sqlite.specs.View.{IsClean};
 ghost use Rattle.sqlite.specs.FileStore.{state, view};
@@ -11,29 +11,37 @@ ghost use Rattle.jc_base.specs.Journal.{Journal};
 ghost use Rattle.jc_store.specs.Meaning.{AreMade, IsSound, journal_of};
 ghost use Rattle.jc_store.specs.Crash.{LeavesJournals, MayLeave};
 ghost use Rattle.jc_database.specs.Files.{AreLawful, HoldsJournal, KeepsAlways};
+ghost use Rattle.jc_database.specs.Left.{StopsIn};
 
 use jc_store::{Layout, TableKeeper};
 use sqlite::{Error, FileStore, Files};
 use sqlite_disk::Disk;
 use sqlite_trees::store::Store;
 
+/// Why a database wasn't closed, and what is left of it.
+#[derive(Drop)]
+pub struct FailedClose<D: Disk + Drop> {
+    pub error: Error,
+    pub store: FileStore<D>,
+}
+
 /// Closes the database of a keeper: the log is copied into the database file, and the files are given back.
 pub fn close_keeper<D: Disk + Drop, L: Layout>(
     keeper: TableKeeper<FileStore<D>, L>,
-) -> Result<Files<D>, Error>
+) -> Result<Files<D>, FailedClose<D>>
     ensures keeps { AreMade L.meaning over_files keeper.conn → IfOk result (λ files. AreClean D.Disk files.log files.db
         → KeepsAlways L.meaning D.Disk files (journal_of L.meaning over_files keeper.conn)) }
     ensures sound { IfOk result (λ files. AreClean D.Disk files.log files.db → IsSound over_files keeper.conn) }
+    // If the close fails, a crash leaves a journal that it might have left before.
+    ensures left { IfErr result (λ failed. IsTrue (view failed.store).is_numbered → StopsIn L.meaning keeper.conn failed.store) }
+    ensures clean { IfErr result (λ failed. IsClean (view failed.store) → HasCleanDisk (file_state keeper.conn)) }
 {
     let conn = keeper.into_connection();
     // Its contract has that the database obeys its schema.
     let _schema = conn.schema();
     match conn.close_files() {
         Ok(files) => Ok(files),
-        Err((error, store)) => {
-            drop(store.close());
-            Err(error)
-        }
+        Err((error, store)) => Err(FailedClose { error, store }),
     }
 }
 

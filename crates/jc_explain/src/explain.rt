@@ -10,7 +10,9 @@ use crate::Watched;
 use crate::telling::tell;
 use jc_command::{Begun, Sequences, command};
 use jc_command_args::CODES;
+use jc_command_shared::Host;
 use jc_ledger::Ledger;
+use jc_sequences::Folders;
 use sqlite::{FileFrom, Start};
 use sqlite_disk::Disk;
 use std::io::{Read, Write};
@@ -41,7 +43,16 @@ pub fn explained<'a, S: Start + Begun, I: Read, O: Write + Drop, E: Write + Drop
         × TellsOn (map string_bytes words.items) CODES.now told (E.contents errors.new.inner) }
 {
     let asked: Result<_, _> = words.clone();
-    let status = command(rt, start, words, input, output, errors);
+    let mut host = Host::new(rt);
+    let status = command(
+        &mut host,
+        Folders::new(rt),
+        start,
+        words,
+        input,
+        output,
+        errors,
+    );
     if let Ok(asked) = asked {
         let answers = output.take_kept(rt.alloc());
         let failures = errors.take_kept(rt.alloc());

@@ -8,7 +8,7 @@ use crate::seen::{
     Log, MAGIC, Place, Seen, cause_closed, cause_no_folder, cause_no_journal, cause_unopened,
     cause_unread,
 };
-use jc_command_shared::{folder_and_name, open_file, read_front};
+use jc_command_shared::{folder_and_name, read_front};
 use std::fs::{Metadata, OpenOptions};
 use std::io::ErrorKind;
 use std::os::unix::fs::MetadataExt;
@@ -26,7 +26,7 @@ pub fn why_unread(rt: &HostRuntime, path: &str) -> Cause
 {
     let place = place_at(rt, path);
     let is_readable = match place {
-        Place::File | Place::Special => open_file(rt, path).is_ok(),
+        Place::File | Place::Special => fs::open(rt, path).is_ok(),
         _ => false,
     };
     cause_unread(place, is_readable)
@@ -98,7 +98,7 @@ fn has_folder(rt: &HostRuntime, path: &str) -> bool {
 /// What is seen of a regular file.
 fn seen_at(rt: &HostRuntime, path: &str, found: &Metadata) -> Seen {
     Seen {
-        is_readable: open_file(rt, path).is_ok(),
+        is_readable: fs::open(rt, path).is_ok(),
         is_empty: found.len() <= 1,
         is_writable: !is_read_only(rt, path),
         has_second_name: found.nlink() != 1,
@@ -144,6 +144,6 @@ fn has_no_tables(rt: &HostRuntime, path: &str) -> bool {
 
 /// The first bytes of a file, if they can be read.
 fn front_of(rt: &HostRuntime, path: &str, most: u64) -> Option<Vec<u8>> {
-    let file = open_file(rt, path).ok()?;
+    let file = fs::open(rt, path).ok()?;
     read_front(rt.alloc(), file, most).ok()
 }

@@ -2,6 +2,7 @@
 
 ghost use Rattle.std.specs.Prelude.{◌≡◌, ◌≢◌, ◌++◌, ◌∷◌, [], ℕ, List, Some, IfOk, IfErr, IfSome, OnOk};
 ghost use Rattle.std.specs.Io.KnownBytes.{Appends, Keeps};
+ghost use Rattle.jc_command_shared.specs.Deeds.{ChangesOnly, IsReplaced};
 ghost use Rattle.jc_sender.specs.Failing.{AckFailsBy};
 ghost use Rattle.jc_sender.specs.Source.{WhyNoEntries, WhyNoSomeEntries};
 ghost use Rattle.jc_sender.specs.Taken.{MovesBy, MovesSender, PrintsSomePoint, WhyNoPoint, point_line};
@@ -11,17 +12,17 @@ use crate::resume_file::{read_resume, write_resume};
 use crate::source::{file_bytes, file_entries, open_source};
 use jc_base::{ByteStream, Ending, FromRead, Limits};
 use jc_command_args::{InputKind, Source};
-use jc_command_shared::{Failure, printed, source_id};
+use jc_command_shared::{Failure, System, printed, source_id};
 use jc_export::{canonical_texts_read_back, one_reading};
 use jc_stream::Stream;
 use jc_upload::{Answer, Resume, Uploader};
 use std::alloc::Global;
 use std::io::{Read, Write};
-use std::rt::Files;
 
-/// Takes the answers on standard input, keeps the resume point and prints its position.
-pub fn ack<'a, R: Files + AllocGlobal, I: Read, O: Write>(
-    rt: &R,
+/// Takes the answers on standard input, keeps the resume point and prints its position. No other file is changed.
+#[tactic(auto, using(jc_command_shared::specs::DeedLaws::nothing_changes))]
+pub fn ack<'a, R: System, I: Read, O: Write>(
+    rt: &mut R,
     source: Source<'a>,
     input: &mut I,
     output: &mut O,
@@ -31,6 +32,7 @@ pub fn ack<'a, R: Files + AllocGlobal, I: Read, O: Write>(
     ensures failed { IfErr result (AckFailsBy source.entry (I.remaining input.old)) }
     ensures untouched { IfErr result (λ failure. failure ≢ Failure.WriteFailed
         → Keeps (O.contents output.old) (O.contents output.new)) }
+    ensures touched { ChangesOnly (IsReplaced source.entry.resume.now) (R.deeds rt.old) (R.deeds rt.new) }
 {
     let id = source_id(source.id)?;
     let resume = read_resume(rt, source.resume)?;

@@ -10,18 +10,17 @@ use crate::source::{check_file, file_bytes, open_source};
 use crate::within::keep_within;
 use jc_base::{ByteStream, Ending, FromRead, Limits};
 use jc_command_args::{InputKind, Source};
-use jc_command_shared::{Failure, printed, source_id};
+use jc_command_shared::{Failure, System, printed, source_id};
 use jc_export::{canonical_texts_read_back, one_reading};
 use jc_stream::Stream;
 use jc_upload::{Uploader, file_upload};
 use std::alloc::Global;
 use std::io::{Read, Write};
-use std::rt::Files;
 
 /// Prints the next upload of a source. It has no more than `limit` entries; if its bytes are bounded, those of them that
 /// fit in `most_bytes`, and one in any case. If it is to be `whole`, a collector takes all of it or nothing. A journal
 /// file's is so in any case, and has no bounds.
-pub fn upload<'a, R: Files + AllocGlobal, O: Write>(
+pub fn upload<'a, R: System, O: Write>(
     rt: &R,
     source: Source<'a>,
     limit: u64,

@@ -2,15 +2,17 @@
 
 ghost use Rattle.std.specs.Prelude.{◌≡◌, ◌≢◌, ◌⊎◌, IfOk, IfErr, IfSome, OnOk, take};
 ghost use Rattle.std.specs.Io.KnownBytes.{Appends};
+ghost use Rattle.jc_command_shared.specs.Deeds.{ChangesOnly, IsReplaced};
 ghost use Rattle.jc_upload.specs.Resume.{IsPoint, Point, resume_text};
 
-use jc_command_shared::{Failure, create_file, name_beside, printed, put_in_place, read_front};
+use jc_command_shared::{
+    Failure, System, create_file, name_beside, printed, put_in_place, read_front,
+};
 use jc_upload::Resume;
 use std::alloc::Global;
+use std::io;
 use std::io::{Read, Write};
-use std::rt::Files;
 use std::snapshot::Snapshot;
-use std::{fs, io};
 
 /// More bytes than a resume point's text has.
 const TEXT: u64 = 129;
@@ -23,12 +25,12 @@ pub struct NewFile<W: Write> {
 }
 
 /// The resume point in the file at `path`: position 0 if there is no such file.
-pub fn read_resume<'a, R: Files + AllocGlobal>(rt: &R, path: &'a str) -> Result<Resume, Failure<'a>>
+pub fn read_resume<'a, R: System>(rt: &R, path: &'a str) -> Result<Resume, Failure<'a>>
     ensures lawful { IfOk result IsPoint }
     ensures failed { IfErr result (λ failure. (failure ≡ Failure.CannotOpen path.entry) ⊎ (failure ≡ Failure.ReadFailed)
         ⊎ (failure ≡ Failure.OutOfMemory) ⊎ (failure ≡ Failure.BadResume)) }
 {
-    match fs::open(rt, path) {
+    match rt.open(path) {
         Ok(file) => resume_in(rt.alloc(), file),
         Err(refusal) if refusal.kind() == io::ErrorKind::NotFound => Ok(Resume::default()),
         Err(_) => Err(Failure::CannotOpen(path)),
@@ -50,14 +52,16 @@ fn resume_in<'a, F: Read + Drop>(alloc: Global, file: F) -> Result<Resume, Failu
 
 /// Puts the resume point's text into the file at `path`. It is written into a new file beside that one, which then takes
 /// its name: a failure leaves the old file whole.
-pub fn write_resume<'a, R: Files + AllocGlobal>(
-    rt: &R,
+#[tactic(auto, using(jc_command_shared::specs::DeedLaws::nothing_changes, jc_command_shared::specs::DeedLaws::changes_one))]
+pub fn write_resume<'a, R: System>(
+    rt: &mut R,
     path: &str,
     resume: &Resume,
-) -> Result<NewFile<R::File>, Failure<'a>>
+) -> Result<NewFile<R::NewFile>, Failure<'a>>
     // What the new file gained is the text of this point.
     ensures whole { IfOk result (λ file.
-        Appends (R.File.contents file.empty.value) (R.File.contents file.whole.value) (resume_text resume.now)) }
+        Appends (R.NewFile.contents file.empty.value) (R.NewFile.contents file.whole.value) (resume_text resume.now)) }
+    ensures touched { ChangesOnly (IsReplaced path.now) (R.deeds rt.old) (R.deeds rt.new) }
     ensures failed { IfErr result (λ failure. (failure ≡ Failure.WriteFailed) ⊎ (failure ≡ Failure.OutOfMemory)) }
 {
     let beside = name_beside(rt.alloc(), path)?;

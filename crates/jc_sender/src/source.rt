@@ -7,14 +7,13 @@ ghost use Rattle.jc_sender.specs.Source.{HasEntriesOf, ReadsWell, WhyNoEntries};
 use crate::entries::{all_entries, count_entries};
 use jc_base::{Ending, Entry, Limits};
 use jc_command_args::{InputKind, Source};
-use jc_command_shared::{Failure, open_file, read_front};
+use jc_command_shared::{Failure, System, open_file, read_front};
 use jc_file::{FileEntries, SliceSpace};
 use std::alloc::Global;
 use std::io::Read;
-use std::rt::Files;
 
 /// The file of a source.
-pub fn open_source<'a, R: Files>(rt: &R, source: Source<'a>) -> Result<R::File, Failure<'a>>
+pub fn open_source<'a, R: System>(rt: &R, source: Source<'a>) -> Result<R::File, Failure<'a>>
     ensures { IfErr result (λ failure. failure ≡ Failure.CannotOpen source.entry.file) }
 {
     open_file(rt, source.file)

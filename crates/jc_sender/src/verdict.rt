@@ -8,7 +8,7 @@ use crate::entries::count_entries;
 use crate::source::file_bytes;
 use jc_base::{ByteStream, Ending, FromRead, Limits};
 use jc_command_args::InputKind;
-use jc_command_shared::{Failure, Status, is_regular, open_file, printed};
+use jc_command_shared::{Failure, Status, System, is_regular, open_file, printed};
 use jc_export::one_reading;
 use jc_file::{ByteSpace, FileEntries, FileSpace, PagedSpace, SliceSpace};
 use jc_stream::Stream;
@@ -16,7 +16,6 @@ use std::alloc::Global;
 use std::fmt;
 use std::fs::OpenFile;
 use std::io::{Read, Seek, Write};
-use std::rt::Files;
 
 /// What `verify` prints: how many entries are complete, and how the reading ends.
 #[derive(Clone, Copy)]
@@ -49,7 +48,7 @@ impl fmt::Display for Verdict {
 }
 
 /// Prints how the file reads, under the default limits.
-pub fn verify<'a, R: Files + AllocGlobal, O: Write>(
+pub fn verify<'a, R: System, O: Write>(
     rt: &R,
     kind: InputKind,
     file: &'a str,

@@ -11,4 +11,4 @@ mod window_path;
 pub use file_folder::FileFolder;
 pub use file_record::FileRecord;
 pub use found_file::FoundFile;
-pub use opening::{FileSequences, open_sequences};
+pub use opening::{FileSequences, Folders, open_sequences};

@@ -23,9 +23,22 @@ pub type FileSequences<'a, F, A> = SteadyOwners<
     F,
 >;
 
+/// The folders of the system in which sequences have notes. Whoever has this alone makes and changes files of notes, and
+/// no others.
+#[derive(Clone, Copy)]
+pub struct Folders<'a> {
+    runtime: &'a HostRuntime,
+}
+
+impl<'a> Folders<'a> {
+    pub fn new(runtime: &'a HostRuntime) -> Folders<'a> {
+        Folders { runtime }
+    }
+}
+
 /// Opens the folder at `path`, or makes it. What is noted in it stays there.
 pub fn open_sequences<'a, 'p, F: Found, A: Arrivals>(
-    rt: &'a HostRuntime,
+    folders: Folders<'a>,
     path: &'p str,
 ) -> Result<FileSequences<'a, F, A>, Failure<'p>>
     ensures sound { IfOk result (λ ledger. ⟦<FileSequences<'a, F, A> as Ledger>⟧.sound ledger) }
@@ -36,6 +49,7 @@ pub fn open_sequences<'a, 'p, F: Found, A: Arrivals>(
     ensures came { IfOk result (λ ledger. (e : LogEntry) → ⟦<FileSequences<'a, F, A> as Ledger>⟧.came ledger e ↔ A.before e) }
     ensures failed { IfErr result (λ failure. (failure ≡ Failure.CannotOpen path.entry) ⊎ (failure ≡ Failure.OutOfMemory)) }
 {
+    let rt = folders.runtime;
     let (windows, owners) = match have_folder(rt, path) {
         Ok(paths) => paths,
         Err(error) if error.kind() == io::ErrorKind::OutOfMemory => {

@@ -2,9 +2,9 @@
 
 use jc_base::FromRead;
 use jc_collect::Delivery;
-use jc_collector::{Opened, OpenedFiles};
+use jc_collector::{Opened, OpenedFiles, Unopened};
 use jc_command_args::Tables;
-use jc_command_shared::{Failure, Status};
+use jc_command_shared::{Failure, Host, Status};
 use jc_file::SliceSpace;
 use jc_ledger::MapLedger;
 use jc_test_samples::{add_pieces, answer_lines};
@@ -21,7 +21,7 @@ use std::{env, fs, io, process};
 /// A run that was stopped, and the journal that the next one opened.
 type Runs<'a, S, T> = (
     Stopped<'a, FileFrom<S>>,
-    Result<OpenedFiles<T>, Failure<'a>>,
+    Result<OpenedFiles<T>, Unopened<'a, FileFrom<T>>>,
 );
 
 type Upload<'a> = Delivery<FromRead<&'a [u8]>, SliceSpace<'static>>;
@@ -71,7 +71,16 @@ fn deliveries_stop(
 ) -> Result<(), Fail> {
     let mut output = Vec::new(rt.alloc());
     let mut one = [stream(&uploads.first)];
-    let run = opened(collect_and_stop(rt, Unknown, path, tables, None, &mut one, &mut output))?;
+    let mut host = Host::new(rt);
+    let run = opened(collect_and_stop(
+        &mut host,
+        Unknown,
+        path,
+        tables,
+        None,
+        &mut one,
+        &mut output,
+    ))?;
     answered(rt.alloc(), run.answered, &output, &["ack S 0 1 1 0"])
 }
 
@@ -79,8 +88,9 @@ fn lines_stop(rt: &HostRuntime, path: &str, tables: Tables, uploads: &Uploads) -
     let mut output = Vec::new(rt.alloc());
     let mut errors = Vec::new(rt.alloc());
     let mut names = uploads.names.as_bytes();
+    let mut host = Host::new(rt);
     let run = opened(collect_lines_and_stop(
-        rt,
+        &mut host,
         Unknown,
         path,
         tables,
@@ -144,7 +154,16 @@ fn next_after_stop<'a>(
     uploads: &mut [Upload<'_>],
     output: &mut Vec<u8>,
 ) -> Result<Runs<'a, Unknown, Unknown>, Failure<'a>> {
-    open_after_stop(rt, Unknown, Unknown, path, tables, None, uploads, output)
+    open_after_stop(
+        &mut Host::new(rt),
+        Unknown,
+        Unknown,
+        path,
+        tables,
+        None,
+        uploads,
+        output,
+    )
 }
 
 fn next_after_lines<'a>(
@@ -156,7 +175,15 @@ fn next_after_lines<'a>(
     errors: &mut Vec<u8>,
 ) -> Result<Runs<'a, Unknown, Unknown>, Failure<'a>> {
     open_after_lines(
-        rt, Unknown, Unknown, path, tables, None, names, output, errors,
+        &mut Host::new(rt),
+        Unknown,
+        Unknown,
+        path,
+        tables,
+        None,
+        names,
+        output,
+        errors,
     )
 }
 
@@ -169,8 +196,16 @@ fn union_after_lines<'a>(
     errors: &mut Vec<u8>,
 ) -> Result<StoppedUnion<'a, FileFrom<Unknown>, MapLedger>, Failure<'a>> {
     let notes = MapLedger::new(rt.alloc());
-    collect_into_union_and_stop::<Unknown, MapLedger, Brand, _, _, _>(
-        rt, Unknown, notes, path, tables, None, names, output, errors,
+    collect_into_union_and_stop::<_, Unknown, MapLedger, Brand, _, _, _>(
+        &mut Host::new(rt),
+        Unknown,
+        notes,
+        path,
+        tables,
+        None,
+        names,
+        output,
+        errors,
     )
 }
 
@@ -213,7 +248,7 @@ fn answered(
 }
 
 /// How many entries the next run has found, if it has opened a journal.
-fn entries_of<T: Start>(next: Result<OpenedFiles<T>, Failure<'_>>) -> Option<u64> {
+fn entries_of<T: Start>(next: Result<OpenedFiles<T>, Unopened<'_, FileFrom<T>>>) -> Option<u64> {
     match next {
         Ok(Opened::ByKey(mut keeper)) => keeper.count().ok(),
         Ok(Opened::ByNumber(mut keeper)) => keeper.count().ok(),

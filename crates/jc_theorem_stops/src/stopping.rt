@@ -1,6 +1,6 @@
 //! A run that is stopped, and the one after it.
 
-ghost use Rattle.std.specs.Prelude.{◌≡◌, Err, IfOk, IfErr, OnOk, length, map};
+ghost use Rattle.std.specs.Prelude.{◌≡◌, Err, IfOk, IfErr, OnOk, length, map, option_map};
 ghost use Rattle.sqlite.specs.State.{HasCleanDisk};
 ghost use Rattle.sqlite.specs.WalFiles.{image_at};
 ghost use Rattle.sqlite.specs.Recovery.{Image};
@@ -13,15 +13,18 @@ ghost use Rattle.jc_store.specs.Crash.{LeavesJournals, MayLeave};
 ghost use Rattle.jc_database.specs.Files.{HoldsJournal};
 ghost use Rattle.jc_collector_answers.specs.Answered.{KeepsPrinted};
 ghost use Rattle.jc_collector_answers.specs.Tied.{NamedWith, PrintsFront, PrintsWith};
+ghost use Rattle.jc_command_shared.specs.Deeds.{IsReplacedIf, OpensAndChanges};
 ghost use Rattle.jc_collector.specs.Kinds.{conn_of, journal_in, kind_of, meaning_of};
 ghost use Rattle.jc_theorem_stops.specs.Stopped.{AnyLeft, FindsEach, LeavesEach, LeavesFirst, LeavesPrinted, WhenBegun, WhenStopped};
 
 use jc_base::ByteStream;
 use jc_collect::Delivery;
-use jc_collector::{Answered, Opened, OpenedFiles, answer_deliveries, answer_lines, open_or_make};
+use jc_collector::{
+    Answered, Opened, OpenedFiles, Unopened, answer_deliveries, answer_lines, open_or_make,
+};
 use jc_command_args::Tables;
 use jc_command_shared::{Failure, Status};
-use jc_database::stop_keeper;
+use jc_database::{Databases, stop_keeper};
 use jc_file::ByteSpace;
 use sqlite::{FileFrom, FileStore, Start};
 use sqlite_disk::Disk;
@@ -38,8 +41,8 @@ pub struct Stopped<'a, D: Disk> {
 /// Does what `collect` does of deliveries up to where it closes its database, and then is stopped: what a crash may leave
 /// of the files is what it may leave at this moment. It is a journal with what was stored, all that was acknowledged, and
 /// all of one more upload at most.
-pub fn collect_and_stop<'a, S: Start, R: ByteStream, B: ByteSpace, O: Write>(
-    rt: &HostRuntime,
+pub fn collect_and_stop<'a, Y: Databases, S: Start, R: ByteStream, B: ByteSpace, O: Write>(
+    rt: &mut Y,
     start: S,
     database: &'a str,
     tables: Tables,
@@ -62,6 +65,8 @@ pub fn collect_and_stop<'a, S: Start, R: ByteStream, B: ByteSpace, O: Write>(
         WhenStopped tables (image_at S.Start) (map (of_delivery R.remaining B.bytes) deliveries.old) run.files.value
         (λ kind uploads before left. run.answered ≡ Err Failure.WriteFailed
         → ∥ LeavesFirst kind uploads before (O.contents output.old) (O.contents output.new) left ∥₁)) }
+    ensures touched { OpensAndChanges database.now (IsReplacedIf (option_map (λ name. name.now) then_export.entry))
+        (Y.deeds rt.old) (Y.deeds rt.new) }
 {
     let Answered { done, keeper } = answer_deliveries(
         rt,
@@ -80,8 +85,8 @@ pub fn collect_and_stop<'a, S: Start, R: ByteStream, B: ByteSpace, O: Write>(
 }
 
 /// The same of the uploads that lines name.
-pub fn collect_lines_and_stop<'a, S: Start, L: BufRead, O: Write, E: Write>(
-    rt: &HostRuntime,
+pub fn collect_lines_and_stop<'a, Y: Databases, S: Start, L: BufRead, O: Write, E: Write>(
+    rt: &mut Y,
     start: S,
     database: &'a str,
     tables: Tables,
@@ -96,6 +101,8 @@ pub fn collect_lines_and_stop<'a, S: Start, L: BufRead, O: Write, E: Write>(
     ensures each_failed { IfOk result (λ run. WhenBegun tables (image_at S.Start) run.files.value (λ kind before. IfErr run.answered (λ _.
         PrintsFront (λ answers. AnyLeft run.files.value (LeavesEach kind before answers))
         (O.contents output.old) (O.contents output.new)))) }
+    ensures touched { OpensAndChanges database.now (IsReplacedIf (option_map (λ name. name.now) then_export.entry))
+        (Y.deeds rt.old) (Y.deeds rt.new) }
 {
     let Answered { done, keeper } = answer_lines(
         rt,
@@ -116,8 +123,8 @@ pub fn collect_lines_and_stop<'a, S: Start, L: BufRead, O: Write, E: Write>(
 
 /// A run over deliveries that is stopped, and then the next run opens the database: if its files hold what the crash left,
 /// it has that journal.
-pub fn open_after_stop<'a, S: Start, T: Start, R: ByteStream, B: ByteSpace, O: Write>(
-    rt: &HostRuntime,
+pub fn open_after_stop<'a, Y: Databases, S: Start, T: Start, R: ByteStream, B: ByteSpace, O: Write>(
+    rt: &mut Y,
     start: S,
     next: T,
     database: &'a str,
@@ -128,7 +135,7 @@ pub fn open_after_stop<'a, S: Start, T: Start, R: ByteStream, B: ByteSpace, O: W
 ) -> Result<
     (
         Stopped<'a, FileFrom<S>>,
-        Result<OpenedFiles<T>, Failure<'a>>,
+        Result<OpenedFiles<T>, Unopened<'a, FileFrom<T>>>,
     ),
     Failure<'a>,
 >
@@ -145,8 +152,8 @@ pub fn open_after_stop<'a, S: Start, T: Start, R: ByteStream, B: ByteSpace, O: W
 }
 
 /// A run over the uploads that lines name, which is stopped, and the next one.
-pub fn open_after_lines<'a, S: Start, T: Start, L: BufRead, O: Write, E: Write>(
-    rt: &HostRuntime,
+pub fn open_after_lines<'a, Y: Databases, S: Start, T: Start, L: BufRead, O: Write, E: Write>(
+    rt: &mut Y,
     start: S,
     next: T,
     database: &'a str,
@@ -158,7 +165,7 @@ pub fn open_after_lines<'a, S: Start, T: Start, L: BufRead, O: Write, E: Write>(
 ) -> Result<
     (
         Stopped<'a, FileFrom<S>>,
-        Result<OpenedFiles<T>, Failure<'a>>,
+        Result<OpenedFiles<T>, Unopened<'a, FileFrom<T>>>,
     ),
     Failure<'a>,
 >

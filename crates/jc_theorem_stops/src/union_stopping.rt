@@ -1,12 +1,13 @@
 //! A run over a union of databases that is stopped.
 
-ghost use Rattle.std.specs.Prelude.{IfOk, IfErr};
+ghost use Rattle.std.specs.Prelude.{IfOk, IfErr, option_map};
 ghost use Rattle.sqlite.specs.State.{HasCleanDisk};
 ghost use Rattle.sqlite.specs.WalFiles.{image_at};
 ghost use Rattle.sqlite.specs.FileStore.{view};
 ghost use Rattle.sqlite.specs.View.{IsClean};
 ghost use Rattle.sqlite.specs.Files.{file_state, over_files};
 ghost use Rattle.jc_collector_answers.specs.Tied.{NamedWith, PrintsFront};
+ghost use Rattle.jc_command_shared.specs.Deeds.{ChangesOnly, IsReplacedIf, OpensAndChanges};
 ghost use Rattle.jc_database.specs.Files.{AreLawful};
 ghost use Rattle.jc_ledger.specs.Kept.{NoneCollide};
 ghost use Rattle.jc_ledger.specs.Lagging.{MayCatchUp};
@@ -19,8 +20,8 @@ ghost use Rattle.jc_theorem_stops.specs.StoppedUnion.{LeavesNoted, WhenNoted};
 use crate::stopping::let_go;
 use jc_collector::{FileKeeper, Opened, join_open, open_or_make};
 use jc_command_args::Tables;
-use jc_command_shared::{Failure, Status};
-use jc_database::stop_keeper;
+use jc_command_shared::{Failure, Status, System};
+use jc_database::{Databases, stop_keeper};
 use jc_ledger::{Ledger, Past, UnionKeeper};
 use jc_schema_three::SchemaThree;
 use jc_schema_two::SchemaTwo;
@@ -42,8 +43,10 @@ pub struct StoppedUnion<'a, D: Disk, L: Ledger> {
 
 /// Does what `collect --sequences` does of the uploads that lines name up to where it closes its present database, and then
 /// is stopped: what a crash may leave of the files and of the notes is what it may leave at this moment.
+#[tactic(auto, using(jc_command_shared::specs::DeedLaws::only_opens, jc_command_shared::specs::DeedLaws::opens_then))]
 pub fn collect_into_union_and_stop<
     'a,
+    Y: Databases,
     S: Start,
     L: Ledger + Drop,
     P: Past,
@@ -51,7 +54,7 @@ pub fn collect_into_union_and_stop<
     O: Write,
     E: Write,
 >(
-    rt: &HostRuntime,
+    rt: &mut Y,
     start: S,
     ledger: L,
     database: &'a str,
@@ -74,9 +77,11 @@ pub fn collect_into_union_and_stop<
         (λ kind before. IfErr run.answered (λ _. PrintsFront (λ answers. AnyLeft run.files.value
         (LeavesNoted (meaning_of kind) P.journal before (L.came run.ledger.value) (L.may_leave run.ledger.value) answers))
         (O.contents output.old) (O.contents output.new)))) }
+    ensures touched { OpensAndChanges database.now (IsReplacedIf (option_map (λ name. name.now) then_export.entry))
+        (Y.deeds rt.old) (Y.deeds rt.new) }
 {
     match open_or_make(rt, database, start, tables)? {
-        Opened::ByKey(keeper) => Ok(stop_over::<S, SchemaTwo, L, P, _, _, _>(
+        Opened::ByKey(keeper) => Ok(stop_over::<_, S, SchemaTwo, L, P, _, _, _>(
             rt,
             keeper,
             ledger,
@@ -85,7 +90,7 @@ pub fn collect_into_union_and_stop<
             output,
             errors,
         )),
-        Opened::ByNumber(keeper) => Ok(stop_over::<S, SchemaThree, L, P, _, _, _>(
+        Opened::ByNumber(keeper) => Ok(stop_over::<_, S, SchemaThree, L, P, _, _, _>(
             rt,
             keeper,
             ledger,
@@ -100,6 +105,7 @@ pub fn collect_into_union_and_stop<
 /// The same over the keeper of the present database, which was opened.
 fn stop_over<
     'a,
+    Y: System,
     S: Start,
     T: Listed + Drop,
     L: Ledger + Drop,
@@ -108,7 +114,7 @@ fn stop_over<
     O: Write,
     E: Write,
 >(
-    rt: &HostRuntime,
+    rt: &mut Y,
     present: FileKeeper<S, T>,
     ledger: L,
     then_export: Option<&'a str>,
@@ -128,8 +134,9 @@ fn stop_over<
         (O.contents output.old) (O.contents output.new)) }
     ensures clean { IsClean (view result.files.value) → L.clean result.ledger.value → NoneCollide (L.came result.ledger.value)
         → HasCleanDisk (file_state present.conn) }
+    ensures touched { ChangesOnly (IsReplacedIf (option_map (λ name. name.now) then_export.entry)) (Y.deeds rt.old) (Y.deeds rt.new) }
 {
-    let AnsweredUnion { answered, union } = join_open::<S, T, L, P, _, _, _>(
+    let AnsweredUnion { answered, union } = join_open::<_, S, T, L, P, _, _, _>(
         rt,
         present,
         ledger,

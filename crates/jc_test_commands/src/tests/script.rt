@@ -29,7 +29,9 @@
 use super::pieces::{add, add_pieces, bad_line};
 use super::room::Room;
 use jc_command::command;
+use jc_command_shared::Host;
 use jc_database::open_files;
+use jc_sequences::Folders;
 use jc_test_samples::SOURCE;
 use sqlite::Unknown;
 use std::alloc::Global;
@@ -197,7 +199,17 @@ impl Session {
         let words = given_words(alloc, arguments)?;
         let (mut output, mut errors) = (Room::new(alloc, self.room, self.flushes), Vec::new(alloc));
         let mut input = self.input.as_slice();
-        let status = command(rt, Unknown, words, &mut input, &mut output, &mut errors);
+        let mut host = Host::new(rt);
+        let folders = Folders::new(rt);
+        let status = command(
+            &mut host,
+            folders,
+            Unknown,
+            words,
+            &mut input,
+            &mut output,
+            &mut errors,
+        );
         self.ran = Ran {
             output: output.kept,
             errors,

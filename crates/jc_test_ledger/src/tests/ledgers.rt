@@ -8,7 +8,7 @@ use jc_export::read_all;
 use jc_keeper::KeepStop;
 use jc_ledger::{Ledger, Notes, digest_of};
 use jc_ledger_files::{DiskWindows, EachEntry, FileLedger};
-use jc_test_samples::SEQNUM_ID;
+use jc_test_samples::{ENTRY, ENTRY_2, ENTRY_3, SEQNUM_ID};
 use sqlite_disk::{Crash, Fuse, Memory};
 use std::alloc::Global;
 use std::collections::BTreeMap;
@@ -130,10 +130,19 @@ pub(super) fn entries(alloc: Global, texts: &[&[u8]]) -> Result<Vec<Entry>, Fail
     Ok(read_all(alloc, &texts.concat(alloc)?, &Limits::default())?.entries)
 }
 
-/// Notes the entries with these texts.
+/// Notes the entries with these texts in files.
 pub(super) fn note(
     alloc: Global,
     ledger: &mut Files,
+    texts: &[&[u8]],
+) -> Result<Result<(), KeepStop>, Fail> {
+    note_in(alloc, ledger, texts)
+}
+
+/// Notes the entries with these texts.
+fn note_in<L: Ledger>(
+    alloc: Global,
+    ledger: &mut L,
     texts: &[&[u8]],
 ) -> Result<Result<(), KeepStop>, Fail> {
     let mut notes: Notes = BTreeMap::new(alloc);
@@ -146,8 +155,18 @@ pub(super) fn note(
     Ok(ledger.note(notes))
 }
 
+/// How many of the entries with these texts are noted in files. None is noted as another one.
+pub(super) fn noted(alloc: Global, ledger: &mut Files, texts: &[&[u8]]) -> Result<u64, Fail> {
+    noted_in(alloc, ledger, texts)
+}
+
+/// How many of the first three entries are noted in files.
+pub(super) fn noted_of_three(alloc: Global, ledger: &mut Files) -> Result<u64, Fail> {
+    noted(alloc, ledger, &[ENTRY, ENTRY_2, ENTRY_3])
+}
+
 /// How many of the entries with these texts are noted. None is noted as another one.
-pub(super) fn noted<L: Ledger>(
+pub(super) fn noted_in<L: Ledger>(
     alloc: Global,
     ledger: &mut L,
     texts: &[&[u8]],

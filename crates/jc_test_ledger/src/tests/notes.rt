@@ -1,10 +1,12 @@
 //! What stands in a window's file.
 
-use super::ledgers::{NEVER, bytes_of, folder_of, folder_with, note, noted, opened};
+use super::ledgers::{
+    NEVER, bytes_of, folder_of, folder_with, note, noted, noted_of_three, opened,
+};
 use crate::{MemoryFolder, new_windows};
 use jc_keeper::KeepStop;
 use jc_ledger::Ledger;
-use jc_ledger_files::{FileLedger, NoneBefore, RecordedEntries, Windows};
+use jc_ledger_files::{FileLedger, NoneBefore, RecordedEntries, Windows, Witness};
 use jc_test_samples::{ENTRY, ENTRY_2, ENTRY_3, numbered_entry};
 use std::process::Abort;
 use std::test::Fail;
@@ -29,7 +31,7 @@ pub(super) fn same_bytes(rt: &impl Abort, got: &[u8], wanted: &[u8]) {
 }
 
 fn same_number(rt: &impl Abort, got: u64, wanted: u64) {
-    assert_eq!(rt; got, wanted);
+    assert!(rt; got == wanted, "got {got}, wanted {wanted}");
 }
 
 #[test]
@@ -43,33 +45,25 @@ fn a_note_is_a_block(rt: HostRuntime) -> Result<(), Fail> {
     Ok(())
 }
 
+/// With these bytes behind the first entry's block, a ledger goes on behind that block.
+fn goes_on(rt: &(impl Abort + AllocGlobal), behind: &[u8]) -> Result<(), Fail> {
+    let alloc = rt.alloc();
+    let mut ledger = opened(alloc, folder_with(alloc, &[BLOCK, behind].concat(alloc)?)?);
+    same_number(rt, noted_of_three(alloc, &mut ledger)?, 1);
+    assert!(rt; note(alloc, &mut ledger, &[ENTRY_3])?.is_ok());
+    let mut again = opened(alloc, folder_of(ledger));
+    same_number(rt, noted_of_three(alloc, &mut again)?, 2);
+    Ok(())
+}
+
 /// Whatever stands behind the last whole block, the ledger goes on behind that one.
 #[test]
 fn a_torn_note_is_none(rt: HostRuntime) -> Result<(), Fail> {
-    let alloc = rt.alloc();
-    for behind in [
-        b"".as_slice(),
-        b"\0".as_slice(),
-        TORN,
-        b"\0\x01\x01\x01".as_slice(),
-        b"\xff".as_slice(),
-    ] {
-        let folder = folder_with(alloc, &[BLOCK, behind].concat(alloc)?)?;
-        let mut ledger = opened(alloc, folder);
-        same_number(
-            &rt,
-            noted(alloc, &mut ledger, &[ENTRY, ENTRY_2, ENTRY_3])?,
-            1,
-        );
-        assert!(rt; note(alloc, &mut ledger, &[ENTRY_3])?.is_ok());
-        let mut again = opened(alloc, folder_of(ledger));
-        same_number(
-            &rt,
-            noted(alloc, &mut again, &[ENTRY, ENTRY_2, ENTRY_3])?,
-            2,
-        );
-    }
-    Ok(())
+    goes_on(&rt, b"")?;
+    goes_on(&rt, b"\0")?;
+    goes_on(&rt, TORN)?;
+    goes_on(&rt, b"\0\x01\x01\x01")?;
+    goes_on(&rt, b"\xff")
 }
 
 /// Numbers of two windows are noted at once, and each stands in the file of its own.
@@ -84,11 +78,8 @@ fn two_windows_have_two_files(rt: HostRuntime) -> Result<(), Fail> {
     assert!(rt; note(alloc, &mut ledger, &texts)?.is_ok());
     same_number(&rt, noted(alloc, &mut ledger, &texts)?, 3);
     let folder = folder_of(ledger);
-    let lens = [
-        bytes_of(alloc, &folder, 0)?.len(),
-        bytes_of(alloc, &folder, 1)?.len(),
-    ];
-    assert_eq!(rt; lens, [83, 42]);
+    same_number(&rt, bytes_of(alloc, &folder, 0)?.len() as u64, 83);
+    same_number(&rt, bytes_of(alloc, &folder, 1)?.len() as u64, 42);
     let mut again = opened(alloc, folder);
     same_number(&rt, noted(alloc, &mut again, &texts)?, 3);
     Ok(())
@@ -112,15 +103,20 @@ fn six_windows_are_looked_into(rt: HostRuntime) -> Result<(), Fail> {
     Ok(())
 }
 
+/// A ledger whose windows are shut begins nothing any more.
+fn fails_once_shut<W: Windows, T: Witness>(rt: &impl Abort, ledger: &mut FileLedger<W, T>) {
+    assert!(rt; ledger.begin().is_ok());
+    ledger.windows.shut();
+    assert!(rt; matches!(ledger.begin(), Err(KeepStop::StoreFailed)));
+}
+
 /// A ledger that keeps entries for proofs alone, over a new folder. Once it is shut it fails, and counts that.
 #[test]
 fn a_shut_ledger_fails(rt: HostRuntime) -> Result<(), Fail> {
     let alloc = rt.alloc();
     let entries = RecordedEntries::<NoneBefore>::new();
     let mut ledger = FileLedger::new(alloc, new_windows(alloc), new_windows(alloc), entries);
-    assert!(rt; ledger.begin().is_ok());
-    ledger.windows.shut();
-    assert!(rt; matches!(ledger.begin(), Err(KeepStop::StoreFailed)));
+    fails_once_shut(&rt, &mut ledger);
     assert!(rt; ledger.windows.failures == 1);
     Ok(())
 }

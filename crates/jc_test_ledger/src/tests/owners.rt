@@ -1,7 +1,7 @@
 //! Whom a sequence belongs to.
 
 use super::ledgers::{
-    Files, NEVER, after_a_loss, bytes_of, entries, folders_of, noted, opened, opened_with,
+    Files, NEVER, after_a_loss, bytes_of, entries, folders_of, noted_in, opened, opened_with,
 };
 use super::notes::same_bytes;
 use super::unions::{Union, absorbed, is_taken, union};
@@ -20,7 +20,7 @@ pub(super) const WEB: &[u8] = b"web";
 pub(super) const DB: &[u8] = b"db";
 
 /// The sequence of most entries.
-pub(super) const SEQUENCE: Id128 = Id128(SEQNUM_ID);
+const SEQUENCE: Id128 = Id128(SEQNUM_ID);
 
 /// That of the last entry.
 const LAST_SEQUENCE: Id128 = Id128([0xff; 16]);
@@ -34,7 +34,7 @@ const BLOCK: &[u8] = b"\x01\0\0\0\0\0\0\0\x80\
     \xf2\x31\x74\x9c\x51\x0c\xbe\x34\x1c\xd6\x80\x36\xd9\xaf\x97\xe2";
 
 /// Whether a sequence belongs to the machine of this name, or to none.
-pub(super) fn is_owned<L: Ledger>(
+fn is_owned<L: Ledger>(
     ledger: &mut L,
     sequence: Id128,
     wanted: Option<&[u8]>,
@@ -42,8 +42,16 @@ pub(super) fn is_owned<L: Ledger>(
     Ok(ledger.owner_of(sequence)? == wanted.map(MachineDigest::of))
 }
 
+/// Whether the first sequence belongs to the machine of this name, or to none.
+pub(super) fn is_first_owned<L: Ledger>(
+    ledger: &mut L,
+    wanted: Option<&[u8]>,
+) -> Result<bool, Fail> {
+    is_owned(ledger, SEQUENCE, wanted)
+}
+
 /// What becomes of an upload with these entries that a machine brings, or one that isn't named.
-pub(super) fn brought<K: Keeper>(
+fn brought<K: Keeper>(
     alloc: Global,
     keeper: &mut K,
     machine: Option<&[u8]>,
@@ -51,6 +59,16 @@ pub(super) fn brought<K: Keeper>(
 ) -> Result<Result<Absorbed, KeepStop>, Fail> {
     keeper.brought_by(machine);
     absorbed(alloc, keeper, texts)
+}
+
+/// What becomes of an upload that is brought to a union of one database.
+pub(super) fn brought_to<L: Ledger>(
+    alloc: Global,
+    union: &mut Union<L>,
+    machine: Option<&[u8]>,
+    texts: &[&[u8]],
+) -> Result<Result<Absorbed, KeepStop>, Fail> {
+    brought(alloc, union, machine, texts)
 }
 
 /// How many of the entries with these texts are stored.
@@ -73,12 +91,22 @@ fn over_a_map(alloc: Global) -> Union<MapLedger> {
     union(alloc, MapLedger::new(alloc))
 }
 
+/// Whether a claim of the first sequence for the machine of this name is answered, over files.
+fn is_given(ledger: &mut Files, machine: &[u8]) -> bool {
+    is_given_in(ledger, machine)
+}
+
+/// Whether a claim of the first sequence for the machine of this name is answered.
+fn is_given_in<L: Ledger>(ledger: &mut L, machine: &[u8]) -> bool {
+    ledger.claim(SEQUENCE, MachineDigest::of(machine)).is_ok()
+}
+
 #[test]
 fn a_claim_is_a_block(rt: HostRuntime) -> Result<(), Fail> {
     let alloc = rt.alloc();
     let mut ledger = opened(alloc, MemoryFolder::unclaimed(alloc, NEVER));
-    assert!(rt; is_owned(&mut ledger, SEQUENCE, None)?);
-    assert!(rt; ledger.claim(SEQUENCE, MachineDigest::of(WEB)).is_ok());
+    assert!(rt; is_first_owned(&mut ledger, None)?);
+    assert!(rt; is_given(&mut ledger, WEB));
     let (folder, owners) = folders_of(ledger);
     let bytes = bytes_of(alloc, &owners, CLAIMS)?;
     same_bytes(&rt, &bytes, &[BLOCK, b"\0".as_slice()].concat(alloc)?);
@@ -88,10 +116,15 @@ fn a_claim_is_a_block(rt: HostRuntime) -> Result<(), Fail> {
 
 /// The first sequence belongs to this machine, and the last one to none. It is asked twice, since the last answer is kept.
 fn has_first_alone<L: Ledger>(rt: &impl Abort, ledger: &mut L, machine: &[u8]) -> Result<(), Fail> {
-    assert!(rt; is_owned(ledger, SEQUENCE, Some(machine))?);
+    assert!(rt; is_first_owned(ledger, Some(machine))?);
     assert!(rt; is_owned(ledger, LAST_SEQUENCE, None)?);
-    assert!(rt; is_owned(ledger, SEQUENCE, Some(machine))?);
+    assert!(rt; is_first_owned(ledger, Some(machine))?);
     Ok(())
+}
+
+/// That of a ledger over files.
+fn has_first(rt: &impl Abort, ledger: &mut Files, machine: &[u8]) -> Result<(), Fail> {
+    has_first_alone(rt, ledger, machine)
 }
 
 /// A claim is there when the files are opened again, and after a loss of power. Of two claims the first one holds.
@@ -99,17 +132,17 @@ fn has_first_alone<L: Ledger>(rt: &impl Abort, ledger: &mut L, machine: &[u8]) -
 fn a_claim_stays(rt: HostRuntime) -> Result<(), Fail> {
     let alloc = rt.alloc();
     let mut first = opened(alloc, MemoryFolder::unclaimed(alloc, NEVER));
-    assert!(rt; first.claim(SEQUENCE, MachineDigest::of(WEB)).is_ok());
-    has_first_alone(&rt, &mut first, WEB)?;
+    assert!(rt; is_given(&mut first, WEB));
+    has_first(&rt, &mut first, WEB)?;
     let (folder, owners) = folders_of(first);
     let mut again = opened_with(alloc, folder, owners);
-    has_first_alone(&rt, &mut again, WEB)?;
+    has_first(&rt, &mut again, WEB)?;
     let mut after = after_a_loss(alloc, again)?;
-    has_first_alone(&rt, &mut after, WEB)?;
-    assert!(rt; after.claim(SEQUENCE, MachineDigest::of(DB)).is_ok());
-    has_first_alone(&rt, &mut after, WEB)?;
+    has_first(&rt, &mut after, WEB)?;
+    assert!(rt; is_given(&mut after, DB));
+    has_first(&rt, &mut after, WEB)?;
     let mut last = after_a_loss(alloc, after)?;
-    has_first_alone(&rt, &mut last, WEB)
+    has_first(&rt, &mut last, WEB)
 }
 
 /// Another machine's upload is refused at the first entry of the sequence, whether it is new or not, and all of it. The
@@ -119,17 +152,17 @@ fn one_machine<L: Ledger>(
     union: &mut Union<L>,
 ) -> Result<(), Fail> {
     let alloc = rt.alloc();
-    let first = brought(alloc, union, Some(WEB), &[ENTRY, ENTRY_2])?;
+    let first = brought_to(alloc, union, Some(WEB), &[ENTRY, ENTRY_2])?;
     assert!(rt; is_taken(first, (2, 2)));
-    let new = brought(alloc, union, Some(DB), &[LAST_ENTRY, ENTRY_3])?;
+    let new = brought_to(alloc, union, Some(DB), &[LAST_ENTRY, ENTRY_3])?;
     assert!(rt; matches!(new, Ok(Absorbed::NotTheOwner { index: 1 })));
-    let known = brought(alloc, union, Some(DB), &[ENTRY, LAST_ENTRY])?;
+    let known = brought_to(alloc, union, Some(DB), &[ENTRY, LAST_ENTRY])?;
     assert!(rt; matches!(known, Ok(Absorbed::NotTheOwner { index: 0 })));
     has_first_alone(rt, &mut union.ledger, WEB)?;
     assert!(rt; stored(alloc, union, &[ENTRY, ENTRY_2])? == 2);
     assert!(rt; stored(alloc, union, &[ENTRY_3, LAST_ENTRY])? == 0);
-    assert!(rt; noted(alloc, &mut union.ledger, &[ENTRY_3, LAST_ENTRY])? == 0);
-    let more = brought(alloc, union, Some(WEB), &[ENTRY_2, ENTRY_3])?;
+    assert!(rt; noted_in(alloc, &mut union.ledger, &[ENTRY_3, LAST_ENTRY])? == 0);
+    let more = brought_to(alloc, union, Some(WEB), &[ENTRY_2, ENTRY_3])?;
     assert!(rt; is_taken(more, (2, 1)));
     Ok(())
 }
@@ -144,9 +177,10 @@ fn each_sequence<L: Ledger>(
     rt: &(impl Abort + AllocGlobal),
     union: &mut Union<L>,
 ) -> Result<(), Fail> {
-    let taken = brought(rt.alloc(), union, Some(WEB), &[ENTRY, LAST_ENTRY])?;
+    let alloc = rt.alloc();
+    let taken = brought_to(alloc, union, Some(WEB), &[ENTRY, LAST_ENTRY])?;
     assert!(rt; is_taken(taken, (2, 2)));
-    assert!(rt; is_owned(&mut union.ledger, SEQUENCE, Some(WEB))?);
+    assert!(rt; is_first_owned(&mut union.ledger, Some(WEB))?);
     assert!(rt; is_owned(&mut union.ledger, LAST_SEQUENCE, Some(WEB))?);
     Ok(())
 }
@@ -160,12 +194,12 @@ fn an_upload_claims_each_sequence(rt: HostRuntime) -> Result<(), Fail> {
 /// An upload without a name isn't asked for one, and claims nothing. Nor does one with nothing new.
 fn unnamed<L: Ledger>(rt: &(impl Abort + AllocGlobal), union: &mut Union<L>) -> Result<(), Fail> {
     let alloc = rt.alloc();
-    let first = brought(alloc, union, Some(WEB), &[ENTRY])?;
+    let first = brought_to(alloc, union, Some(WEB), &[ENTRY])?;
     assert!(rt; is_taken(first, (1, 1)));
-    let more = brought(alloc, union, None, &[ENTRY_2, LAST_ENTRY])?;
+    let more = brought_to(alloc, union, None, &[ENTRY_2, LAST_ENTRY])?;
     assert!(rt; is_taken(more, (2, 2)));
     has_first_alone(rt, &mut union.ledger, WEB)?;
-    let known = brought(alloc, union, Some(DB), &[LAST_ENTRY])?;
+    let known = brought_to(alloc, union, Some(DB), &[LAST_ENTRY])?;
     assert!(rt; is_taken(known, (1, 0)));
     has_first_alone(rt, &mut union.ledger, WEB)
 }
@@ -195,13 +229,13 @@ fn faulty<K: Keeper>(
 /// A conflict or a fault leaves the sequence nobody's. Another machine gets it.
 fn refused<L: Ledger>(rt: &(impl Abort + AllocGlobal), union: &mut Union<L>) -> Result<(), Fail> {
     let alloc = rt.alloc();
-    let differs = brought(alloc, union, Some(WEB), &[ENTRY, CHANGED_ENTRY])?;
+    let differs = brought_to(alloc, union, Some(WEB), &[ENTRY, CHANGED_ENTRY])?;
     assert!(rt; matches!(differs, Ok(Absorbed::Conflict { index: 1 })));
-    assert!(rt; is_owned(&mut union.ledger, SEQUENCE, None)?);
+    assert!(rt; is_first_owned(&mut union.ledger, None)?);
     let bad = faulty(alloc, union, WEB)?;
     assert!(rt; matches!(bad, Ok(Absorbed::Bad(_))));
-    assert!(rt; is_owned(&mut union.ledger, SEQUENCE, None)?);
-    let other = brought(alloc, union, Some(DB), &[ENTRY])?;
+    assert!(rt; is_first_owned(&mut union.ledger, None)?);
+    let other = brought_to(alloc, union, Some(DB), &[ENTRY])?;
     assert!(rt; is_taken(other, (1, 1)));
     has_first_alone(rt, &mut union.ledger, DB)
 }

@@ -1,12 +1,13 @@
 //! Claims that are stopped, and opened again.
 
-use super::ledgers::{NEVER, after_a_loss, noted, opened_with};
-use super::owners::{DB, SEQUENCE, WEB, brought, is_owned};
+use super::ledgers::{Files, NEVER, after_a_loss, noted, opened_with};
+use super::owners::{DB, WEB, brought_to, is_first_owned};
 use super::unions::{is_taken, union};
 use crate::MemoryFolder;
 use jc_keeper::{Absorbed, KeepStop};
-use jc_ledger::UnionKeeper;
+use jc_ledger::{Ledger, UnionKeeper};
 use jc_test_samples::{ENTRY, ENTRY_2, ENTRY_3};
+use std::alloc::Global;
 use std::process::Abort;
 use std::test::Fail;
 
@@ -15,6 +16,38 @@ use std::test::Fail;
 struct Outcome {
     is_taken: bool,
     is_claimed: bool,
+}
+
+/// What becomes of two entries that a machine brings to a union of these notes; and the notes.
+fn first_upload<L: Ledger + Drop>(
+    alloc: Global,
+    ledger: L,
+) -> Result<(Result<Absorbed, KeepStop>, L), Fail> {
+    let mut first = union(alloc, ledger);
+    let answer = brought_to(alloc, &mut first, Some(WEB), &[ENTRY, ENTRY_2])?;
+    let UnionKeeper { ledger, .. } = first;
+    Ok((answer, ledger))
+}
+
+/// What becomes then of one that another machine brings to a new union of these notes, and of both once more.
+fn later_uploads<L: Ledger + Drop>(
+    alloc: Global,
+    ledger: L,
+) -> Result<(Result<Absorbed, KeepStop>, Result<Absorbed, KeepStop>), Fail> {
+    let mut again = union(alloc, ledger);
+    let thief = brought_to(alloc, &mut again, Some(DB), &[ENTRY_3])?;
+    let more = brought_to(alloc, &mut again, Some(WEB), &[ENTRY, ENTRY_2])?;
+    Ok((thief, more))
+}
+
+/// Whether the first sequence belongs to the machine of this name, or to none.
+fn is_whose(ledger: &mut Files, wanted: Option<&[u8]>) -> Result<bool, Fail> {
+    is_first_owned(ledger, wanted)
+}
+
+/// Ends the test of files that failed after so many calls, unless this holds.
+fn holds_after(rt: &impl Abort, notes: u64, owners: u64, holds: bool) {
+    assert!(rt; holds, "after {notes} and {owners}");
 }
 
 /// The files of notes or of owners fail from a call on while a machine brings two entries. After a loss of power the
@@ -28,32 +61,24 @@ fn stopped_after(
     let alloc = rt.alloc();
     let folder = MemoryFolder::unclaimed(alloc, notes);
     let claims = MemoryFolder::unclaimed(alloc, owners);
-    let mut first = union(alloc, opened_with(alloc, folder, claims));
-    let answer = brought(alloc, &mut first, Some(WEB), &[ENTRY, ENTRY_2])?;
+    let (answer, ledger) = first_upload(alloc, opened_with(alloc, folder, claims))?;
     let has_failed = matches!(answer, Err(KeepStop::StoreFailed));
     let was_taken = is_taken(answer, (2, 2));
-    assert!(rt; was_taken || has_failed, "after {notes} and {owners}");
-    let UnionKeeper { ledger, .. } = first;
+    holds_after(rt, notes, owners, was_taken || has_failed);
     let mut ledger = after_a_loss(alloc, ledger)?;
-    let is_claimed = is_owned(&mut ledger, SEQUENCE, Some(WEB))?;
-    assert!(rt;
-        is_claimed || is_owned(&mut ledger, SEQUENCE, None)?,
-        "after {notes} and {owners}"
-    );
+    let is_claimed = is_whose(&mut ledger, Some(WEB))?;
+    let is_nobodys = is_whose(&mut ledger, None)?;
+    holds_after(rt, notes, owners, is_claimed || is_nobodys);
     let known = noted(alloc, &mut ledger, &[ENTRY, ENTRY_2])?;
     assert!(rt;
         known == if was_taken { 2 } else { 0 },
         "{known} after {notes} and {owners}"
     );
-    let mut again = union(alloc, ledger);
-    let thief = brought(alloc, &mut again, Some(DB), &[ENTRY_3])?;
+    let (thief, more) = later_uploads(alloc, ledger)?;
     let is_refused = matches!(thief, Ok(Absorbed::NotTheOwner { index: 0 }));
-    assert!(rt; is_refused == is_claimed, "after {notes} and {owners}");
-    let more = brought(alloc, &mut again, Some(WEB), &[ENTRY, ENTRY_2])?;
-    assert!(rt;
-        !is_claimed || is_taken(more, (2, 2u64.saturating_sub(known))),
-        "after {notes} and {owners}"
-    );
+    holds_after(rt, notes, owners, is_refused == is_claimed);
+    let goes_on = is_taken(more, (2, 2u64.saturating_sub(known)));
+    holds_after(rt, notes, owners, !is_claimed || goes_on);
     Ok(Outcome {
         is_taken: was_taken,
         is_claimed,
@@ -71,7 +96,7 @@ fn a_claim_is_there_or_not(rt: HostRuntime) -> Result<(), Fail> {
             is_taken: calls >= 12,
             is_claimed: calls >= 10,
         };
-        assert!(rt; outcome == wanted, "after {calls}");
+        holds_after(&rt, NEVER, calls, outcome == wanted);
     }
     Ok(())
 }
@@ -86,7 +111,7 @@ fn a_claim_stays_without_its_entries(rt: HostRuntime) -> Result<(), Fail> {
             is_taken: calls >= 10,
             is_claimed: calls >= 4,
         };
-        assert!(rt; outcome == wanted, "after {calls}");
+        holds_after(&rt, calls, NEVER, outcome == wanted);
     }
     Ok(())
 }

@@ -1,6 +1,6 @@
 //! Runs that are stopped, and opened again.
 
-use super::ledgers::{NEVER, crashed, entries, folder_of, note, noted, opened};
+use super::ledgers::{NEVER, crashed, entries, folder_of, note, noted, noted_of_three, opened};
 use crate::MemoryFolder;
 use jc_keeper::KeepStop;
 use jc_ledger::Ledger;
@@ -9,16 +9,18 @@ use std::alloc::Global;
 use std::process::Abort;
 use std::test::Fail;
 
+/// Ends the test of a file that failed after so many calls, unless this holds.
+fn holds_after(rt: &impl Abort, calls: u64, holds: bool) {
+    assert!(rt; holds, "after {calls}");
+}
+
 /// A file fails from each call on while two entries are noted. After a loss of power both are there, or neither, and both if
 /// that was answered. What was noted before stays.
 fn stopped_after(rt: &(impl Abort + AllocGlobal), calls: u64) -> Result<bool, Fail> {
     let alloc = rt.alloc();
     let mut ledger = opened(alloc, MemoryFolder::unclaimed(alloc, calls));
     let answer = note(alloc, &mut ledger, &[ENTRY, ENTRY_2])?;
-    assert!(rt;
-        answer.is_ok() || shut(alloc, &mut ledger)?,
-        "after {calls}"
-    );
+    holds_after(rt, calls, answer.is_ok() || is_shut(alloc, &mut ledger)?);
     let mut again = opened(alloc, crashed(alloc, folder_of(ledger), NEVER)?);
     let found = noted(alloc, &mut again, &[ENTRY, ENTRY_2])?;
     assert!(rt;
@@ -27,15 +29,13 @@ fn stopped_after(rt: &(impl Abort + AllocGlobal), calls: u64) -> Result<bool, Fa
     );
     assert!(rt; note(alloc, &mut again, &[ENTRY, ENTRY_2, ENTRY_3])?.is_ok());
     let mut last = opened(alloc, crashed(alloc, folder_of(again), NEVER)?);
-    assert!(rt;
-        noted(alloc, &mut last, &[ENTRY, ENTRY_2, ENTRY_3])? == 3,
-        "after {calls}"
-    );
+    let all = noted_of_three(alloc, &mut last)?;
+    holds_after(rt, calls, all == 3);
     Ok(answer.is_ok())
 }
 
 /// Whether a ledger takes no entry up.
-fn shut(alloc: Global, ledger: &mut super::ledgers::Files) -> Result<bool, Fail> {
+fn is_shut<L: Ledger>(alloc: Global, ledger: &mut L) -> Result<bool, Fail> {
     let all = entries(alloc, &[ENTRY])?;
     for entry in &all {
         if !matches!(ledger.find(entry), Err(KeepStop::StoreFailed)) {
@@ -51,7 +51,7 @@ fn shut(alloc: Global, ledger: &mut super::ledgers::Files) -> Result<bool, Fail>
 fn notes_are_there_together(rt: HostRuntime) -> Result<(), Fail> {
     for calls in 0..12u64 {
         let went = stopped_after(&rt, calls)?;
-        assert!(rt; went == (calls >= 8), "after {calls}");
+        holds_after(&rt, calls, went == (calls >= 8));
     }
     Ok(())
 }

@@ -36,17 +36,33 @@ pub(super) fn union<L: Ledger>(alloc: Global, ledger: L) -> Union<L> {
     UnionKeeper::new(alloc, MapKeeper::new(alloc), ledger, EmptyShelf)
 }
 
+/// Three entries, of which one comes twice, are taken up by a union of these notes, which are handed back.
+fn three_taken<L: Ledger + Drop>(rt: &(impl Abort + AllocGlobal), ledger: L) -> Result<L, Fail> {
+    let alloc = rt.alloc();
+    let mut first = union(alloc, ledger);
+    let new = absorbed(alloc, &mut first, &[ENTRY, ENTRY_2])?;
+    assert!(rt; is_taken(new, (2, 2)));
+    let more = absorbed(alloc, &mut first, &[ENTRY_2, ENTRY_3])?;
+    assert!(rt; is_taken(more, (2, 1)));
+    let UnionKeeper { ledger, .. } = first;
+    Ok(ledger)
+}
+
+/// A new union of these notes knows the three, and tells that one differs.
+fn three_known<L: Ledger + Drop>(rt: &(impl Abort + AllocGlobal), ledger: L) -> Result<(), Fail> {
+    let alloc = rt.alloc();
+    let mut second = union(alloc, ledger);
+    let known = absorbed(alloc, &mut second, &[ENTRY_3, ENTRY])?;
+    assert!(rt; is_taken(known, (2, 0)));
+    let changed = absorbed(alloc, &mut second, &[ENTRY_2, CHANGED_ENTRY])?;
+    assert!(rt; matches!(changed, Ok(Absorbed::Conflict { index: 1 })));
+    Ok(())
+}
+
 /// What an earlier run noted is known, though the present database hasn't got it.
 #[test]
 fn what_is_in_the_files_is_not_taken_again(rt: HostRuntime) -> Result<(), Fail> {
     let alloc = rt.alloc();
-    let mut first = union(alloc, opened(alloc, MemoryFolder::unclaimed(alloc, NEVER)));
-    assert!(rt; is_taken(absorbed(alloc, &mut first, &[ENTRY, ENTRY_2])?, (2, 2)));
-    assert!(rt; is_taken(absorbed(alloc, &mut first, &[ENTRY_2, ENTRY_3])?, (2, 1)));
-    let UnionKeeper { ledger, .. } = first;
-    let mut second = union(alloc, opened(alloc, folder_of(ledger)));
-    assert!(rt; is_taken(absorbed(alloc, &mut second, &[ENTRY_3, ENTRY])?, (2, 0)));
-    let changed = absorbed(alloc, &mut second, &[ENTRY_2, CHANGED_ENTRY])?;
-    assert!(rt; matches!(changed, Ok(Absorbed::Conflict { index: 1 })));
-    Ok(())
+    let ledger = three_taken(&rt, opened(alloc, MemoryFolder::unclaimed(alloc, NEVER)))?;
+    three_known(&rt, opened(alloc, folder_of(ledger)))
 }

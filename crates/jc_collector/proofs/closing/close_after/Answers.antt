@@ -1,5 +1,7 @@
 -- The closed files have what the keeper had.
+use Rattle.jc_collector.proofs.Results.{of_some}
 use Rattle.jc_collector.proofs.closing.close_after.Goals as goal
 
-pub returns-in-Ok-clause-keeps : goal.returns-in-Ok-clause-keeps
-returns-in-Ok-clause-keeps g c = λ clean made. c.in-Ok.ensures.keeps made clean
+pub returns-in-Some-clause-keeps : goal.returns-in-Some-clause-keeps
+returns-in-Some-clause-keeps g c clean made =
+    of_some c.close_keeper.result c.in-Some.files _ c.in-Some.ensures.value (c.close_keeper.ensures.keeps made) clean

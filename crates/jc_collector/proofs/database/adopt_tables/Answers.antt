@@ -19,4 +19,7 @@ returns-in-Ok-clause-shown g c = c.in-Ok.ensures.shown
 
 pub returns-in-Err-clause-failed : goal.returns-in-Err-clause-failed
 returns-in-Err-clause-failed g c known =
-    why_refused g.L.Listed.adoption.refuses_by known c.in-Err.fault.code c.in-Err.fault.row c.in-Err.ensures.code c.refused.result c.refused.ensures
+    why_refused g.L.Listed.adoption.refuses_by known c.in-Err.fault.code c.in-Err.fault.row c.in-Err.ensures.code c.why_refused.result c.why_refused.ensures
+
+pub returns-in-Err-clause-crash : goal.returns-in-Err-clause-crash
+returns-in-Err-clause-crash g c before from = c.close_refused.ensures.left before c.args.conn from c.in-Err.ensures.crash_refused

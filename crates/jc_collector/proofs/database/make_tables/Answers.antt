@@ -19,4 +19,8 @@ returns-in-Ok-clause-empty g c = c.in-Ok.ensures.empty
 pub returns-in-Err-clause-failed : goal.returns-in-Err-clause-failed
 returns-in-Err-clause-failed g c =
     why_refused (λ code. code ≡ NotAJournal) (λ code is. inl is) c.in-Err.fault.code c.in-Err.fault.row (inr (c.in-Err.ensures.row, inr c.in-Err.ensures.code))
-    c.refused.result c.refused.ensures
+    c.why_refused.result c.why_refused.ensures
+
+pub returns-in-Err-clause-crash : goal.returns-in-Err-clause-crash
+returns-in-Err-clause-crash g c lawful before from blank =
+    c.close_unmade.ensures.left lawful before c.args.conn from blank c.in-Err.ensures.clean c.in-Err.ensures.crash_refused

@@ -4,7 +4,7 @@ use Rattle.sqlite.specs.WalFiles.{image_at}
 use Rattle.jc_schema_one.specs.Tables.{one}
 use Rattle.jc_collector.proofs.Causes.{no_tables}
 use Rattle.jc_collector.proofs.OverFiles.{adopted}
-use Rattle.jc_collector.proofs.Results.{IfErr-each, IfOk-both}
+use Rattle.jc_collector.proofs.Results.{IfErr-each, IfOk-both, if_some_each}
 use Rattle.jc_collector.proofs.database.open_old.Goals as goal
 
 pub returns-clause-begins : goal.returns-clause-begins
@@ -14,4 +14,13 @@ returns-clause-begins g c =
     c.adopt_tables.ensures.before c.adopt_tables.ensures.keeps
 
 pub returns-clause-failed : goal.returns-clause-failed
-returns-clause-failed g c = IfErr-each c.adopt_tables.result _ _ (no_tables c.args.path.now) (c.adopt_tables.ensures.failed (λ code is. inl is))
+returns-clause-failed g c = IfErr-each c.adopt_tables.result _ _ (λ unopened. no_tables c.args.path.now unopened.failure) (c.adopt_tables.ensures.failed (λ code is. inl is))
+
+pub returns-clause-crash : goal.returns-clause-crash
+returns-clause-crash g c =
+    IfErr-each c.adopt_tables.result _ _
+    (λ unopened. if_some_each unopened.left _ _ (λ left leaves. leaves (image_at g.S.Start) c.in_ok-conn.ensures.found))
+    c.adopt_tables.ensures.crash
+
+pub returns-clause-handed : goal.returns-clause-handed
+returns-clause-handed g c = IfErr-each c.adopt_tables.result _ _ (λ unopened some. inl some) c.adopt_tables.ensures.kept

@@ -1,35 +1,61 @@
 -- The keeper has the journal that the files had, or the empty one if they had none.
-use Rattle.std.proofs.Common.{true≢false, sym, ◌∙◌}
+use Rattle.std.proofs.Common.{inl, true≢false, sym, ◌∙◌}
 use Rattle.sqlite.specs.WalFiles.{image_at}
 use Rattle.jc_collector.proofs.Causes.{no_tables}
 use Rattle.jc_collector.proofs.Found.{found_adopted, found_made, one_adopted, one_made}
-use Rattle.jc_collector.proofs.Results.{IfErr-each, IfOk-each}
+use Rattle.jc_collector.proofs.Results.{IfErr-each, IfOk-each, if_some_each}
+use Rattle.jc_collector.proofs.BeginAgain.{as_before, unmade}
 use Rattle.jc_collector.proofs.database.open_or_make.Goals as goal
 
 pub returns-then-is_empty-clause-found : goal.returns-then-is_empty-clause-found
 returns-then-is_empty-clause-found g c =
     IfOk-each c.make.result _ _
-    (λ opened made. found_made (image_at g.S.Start) c.in_ok-conn.conn c.in_ok-conn.ensures.found opened c.args.tables
+    (λ opened made. found_made (image_at g.S.Start) c.in-Ok.conn c.in-Ok.ensures.found opened c.args.tables
     (sym c.schema_of.ensures ∙ c.is_empty.ensures.0 c.if-is_empty.true) made)
     c.make.ensures.made
 
 pub returns-else-is_empty-clause-found : goal.returns-else-is_empty-clause-found
 returns-else-is_empty-clause-found g c =
     IfOk-each c.adopt.result _ _
-    (λ opened adopted. found_adopted (image_at g.S.Start) c.in_ok-conn.conn c.in_ok-conn.ensures.found opened
+    (λ opened adopted. found_adopted (image_at g.S.Start) c.in-Ok.conn c.in-Ok.ensures.found opened
     (λ blank. true≢false (sym (c.is_empty.ensures.1 (c.schema_of.ensures ∙ blank)) ∙ c.if-is_empty.false)) adopted c.args.tables)
     c.adopt.ensures.adopted
 
 pub returns-then-is_empty-clause-one : goal.returns-then-is_empty-clause-one
 returns-then-is_empty-clause-one g c =
-    IfOk-each c.make.result _ _ (λ opened made. one_made (image_at g.S.Start) c.in_ok-conn.conn c.in_ok-conn.ensures.found opened c.args.tables made) c.make.ensures.made
+    IfOk-each c.make.result _ _ (λ opened made. one_made (image_at g.S.Start) c.in-Ok.conn c.in-Ok.ensures.found opened c.args.tables made) c.make.ensures.made
 
 pub returns-else-is_empty-clause-one : goal.returns-else-is_empty-clause-one
 returns-else-is_empty-clause-one g c =
-    IfOk-each c.adopt.result _ _ (λ opened adopted. one_adopted (image_at g.S.Start) c.in_ok-conn.conn c.in_ok-conn.ensures.found opened adopted) c.adopt.ensures.adopted
+    IfOk-each c.adopt.result _ _ (λ opened adopted. one_adopted (image_at g.S.Start) c.in-Ok.conn c.in-Ok.ensures.found opened adopted) c.adopt.ensures.adopted
 
 pub returns-then-is_empty-clause-failed : goal.returns-then-is_empty-clause-failed
-returns-then-is_empty-clause-failed g c = IfErr-each c.make.result _ _ (no_tables c.args.path.now) c.make.ensures.failed
+returns-then-is_empty-clause-failed g c = IfErr-each c.make.result _ _ (λ unopened. no_tables c.args.path.now unopened.failure) c.make.ensures.failed
 
 pub returns-else-is_empty-clause-failed : goal.returns-else-is_empty-clause-failed
-returns-else-is_empty-clause-failed g c = IfErr-each c.adopt.result _ _ (no_tables c.args.path.now) c.adopt.ensures.failed
+returns-else-is_empty-clause-failed g c = IfErr-each c.adopt.result _ _ (λ unopened. no_tables c.args.path.now unopened.failure) c.adopt.ensures.failed
+
+pub returns-then-is_empty-clause-crash : goal.returns-then-is_empty-clause-crash
+returns-then-is_empty-clause-crash g c =
+    IfErr-each c.make.result _ _
+    (λ unopened. if_some_each unopened.left _ _
+    (λ left. unmade c.args.tables (image_at g.S.Start) left c.in-Ok.conn c.in-Ok.ensures.found
+    (sym c.schema_of.ensures ∙ c.is_empty.ensures.0 c.if-is_empty.true)))
+    c.make.ensures.crash
+
+pub returns-else-is_empty-clause-crash : goal.returns-else-is_empty-clause-crash
+returns-else-is_empty-clause-crash g c =
+    IfErr-each c.adopt.result _ _
+    (λ unopened. if_some_each unopened.left _ _
+    (λ left leaves. as_before c.args.tables (image_at g.S.Start) left (leaves (image_at g.S.Start) c.in-Ok.ensures.found)))
+    c.adopt.ensures.crash
+
+pub returns-in-Err-clause-crash : goal.returns-in-Err-clause-crash
+returns-in-Err-clause-crash g c =
+    if_some_each c.in-Err.unopened.left _ _ (as_before c.args.tables (image_at g.S.Start)) c.in-Err.ensures.crash
+
+pub returns-then-is_empty-clause-handed : goal.returns-then-is_empty-clause-handed
+returns-then-is_empty-clause-handed g c = IfErr-each c.make.result _ _ (λ unopened some. inl some) c.make.ensures.kept
+
+pub returns-else-is_empty-clause-handed : goal.returns-else-is_empty-clause-handed
+returns-else-is_empty-clause-handed g c = IfErr-each c.adopt.result _ _ (λ unopened some. inl some) c.adopt.ensures.kept

@@ -1,8 +1,9 @@
 -- The keeper has the journal that the files had.
+use Rattle.std.proofs.Common.{inl}
 use Rattle.sqlite.specs.WalFiles.{image_at}
 use Rattle.jc_collector.proofs.Causes.{no_tables}
 use Rattle.jc_collector.proofs.Older.{earlier_found}
-use Rattle.jc_collector.proofs.Results.{IfErr-each, IfOk-each}
+use Rattle.jc_collector.proofs.Results.{IfErr-each, IfOk-each, if_some_each}
 use Rattle.jc_collector.proofs.earlier.open_earlier.Goals as goal
 
 pub returns-clause-found : goal.returns-clause-found
@@ -12,4 +13,13 @@ returns-clause-found g c =
     c.adopt_earlier.ensures.adopted
 
 pub returns-clause-failed : goal.returns-clause-failed
-returns-clause-failed g c = IfErr-each c.adopt_earlier.result _ _ (no_tables c.args.path.now) c.adopt_earlier.ensures.failed
+returns-clause-failed g c = IfErr-each c.adopt_earlier.result _ _ (λ unopened. no_tables c.args.path.now unopened.failure) c.adopt_earlier.ensures.failed
+
+pub returns-clause-crash : goal.returns-clause-crash
+returns-clause-crash g c =
+    IfErr-each c.adopt_earlier.result _ _
+    (λ unopened. if_some_each unopened.left _ _ (λ left leaves. leaves (image_at g.S.Start) c.in_ok-conn.ensures.found))
+    c.adopt_earlier.ensures.crash
+
+pub returns-clause-handed : goal.returns-clause-handed
+returns-clause-handed g c = IfErr-each c.adopt_earlier.result _ _ (λ unopened some. inl some) c.adopt_earlier.ensures.kept

@@ -1,5 +1,5 @@
 -- A request is performed; what clap answers in place of one is printed.
-use Rattle.std.proofs.Common.{None, map, rules, string_bytes}
+use Rattle.std.proofs.Common.{None, inr, map, rules, string_bytes}
 use Rattle.clap.specs.Words.{kind_of}
 use Rattle.jc_command.specs.Run.{Stops}
 use Rattle.jc_command.proofs.Runs.{at_err, at_ok, failed, performed, ends_as, ends_words, stops_answered, IfErr-both, IfOk-both}
@@ -47,3 +47,6 @@ returns-in_err-answer_words-in-Err-clause-stopped g c =
     (stops_answered words (kind_of c.in-Err.answer) c.answer_words.result given output output' (g.E.Write.contents c.args.errors.now)
     (g.E.Write.contents c.answer_words.new.errors) prints.asked prints.mistaken prints.memory) in
     search rules
+
+pub returns-in-Ok-clause-touched : goal.returns-in-Ok-clause-touched
+returns-in-Ok-clause-touched g c = inr (c.in-Ok.request, c.in-Ok.ensures.request, c.perform.ensures.touched)

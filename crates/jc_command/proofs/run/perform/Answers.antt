@@ -36,7 +36,7 @@ returns-in_ok-run-in-CollectIntoUnion-clause-performed g c =
       stores = leads_from _ _ _ _ _ _
           (λ before asked. (same_start opened.known (λ e came. (opened.came e).1 came) asked.0, asked.1, asked.2)) it.each;
       owners = record {
-        stay = c.in_ok-run-in-CollectIntoUnion.run'.ledger.stay;
-        after = c.in_ok-run-in-CollectIntoUnion.run'.ledger.stay_after;
+        stay = c.show_steady.ensures.stay;
+        after = c.show_steady.ensures.stay_after;
       };
     })

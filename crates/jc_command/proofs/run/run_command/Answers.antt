@@ -48,3 +48,9 @@ returns-clause-misused g c = λ number.
     c.number-in-Err.result c.in-Err.failure
     (ap (map string_bytes) c.as_slice.ensures.value) (c.number-in-Err.ensures ∙ ap number_of c.report.ensures) number
     c.in-Err.ensures.stopped
+
+pub returns-in-Ok-clause-touched : goal.returns-in-Ok-clause-touched
+returns-in-Ok-clause-touched g c = rw c.as_slice.ensures.value at c.answered.ensures.touched
+
+pub returns-clause-touched : goal.returns-clause-touched
+returns-clause-touched g c = rw c.as_slice.ensures.value at c.answered.ensures.touched

@@ -1,8 +1,7 @@
 -- A crash leaves a database of those that the store allows, and each of them is a journal.
-use Rattle.std.proofs.Common.{◌≡◌, arith, subst, sym}
+use Rattle.std.proofs.Common.{arith, subst}
 use Rattle.sqlite.specs.State.{HasCleanDisk}
 use Rattle.sqlite.specs.Held.{Held}
-use Rattle.sqlite.specs.Tree.{Trees}
 use Rattle.sqlite.specs.Files.{file_state}
 use Rattle.jc_database.proofs.Left.{journal_left}
 use Rattle.jc_database.proofs.closing.stop_keeper.Goals as goal

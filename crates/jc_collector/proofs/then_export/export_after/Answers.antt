@@ -1,0 +1,7 @@
+use Rattle.jc_collector.proofs.then_export.export_after.Goals as goal
+
+pub returns-in_err-export_file-clause-touched : goal.returns-in_err-export_file-clause-touched
+returns-in_err-export_file-clause-touched g c = rw c.in-Some.is c.export_file.ensures.touched
+
+pub returns-clause-touched : goal.returns-clause-touched
+returns-clause-touched g c = rw c.in-Some.is c.export_file.ensures.touched

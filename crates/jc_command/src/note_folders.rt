@@ -1,0 +1,50 @@
+//! The notes of sequences, as a run opens them.
+
+ghost use Rattle.std.specs.Prelude.{◌≡◌, ◌↔◌, ◌⊎◌, IfErr, IfOk};
+ghost use Rattle.jc_base.specs.declared.id.Id128.{Id128};
+ghost use Rattle.jc_base.specs.declared.id.Key.{Key};
+ghost use Rattle.jc_base.specs.LogEntry.{LogEntry};
+ghost use Rattle.jc_ledger.specs.Owners.{StayOwned, StayOwnedAfter};
+ghost use Rattle.jc_ledger_files.specs.NotesOf.{notes_of};
+ghost use Rattle.jc_ledger_files.specs.Owned.{owner_found};
+ghost use Rattle.jc_ledger_files.specs.Windows.{known_in};
+
+use crate::begun::{Begun, BegunBy};
+use jc_command_shared::Failure;
+use jc_ledger::Ledger;
+use jc_sequences::{FileSequences, Folders, open_sequences};
+
+/// The notes of sequences in files, of which `S` says what they had.
+pub type Sequences<'a, S> = FileSequences<'a, BegunBy<S>, BegunBy<S>>;
+
+/// What opens the notes of sequences in a folder, of which `S` says what they have. A run is proved for any: what stands in
+/// for the files of `Folders` is large, and each contract that named it would be dear.
+pub trait NoteFolders<S: Begun>: Sized + Drop {
+    /// The notes of one folder.
+    type Notes: Ledger + Drop;
+
+    /// Opens the folder at `path`, or makes it. What is noted in it stays there.
+    fn open<'p>(self, path: &'p str) -> Result<Self::Notes, Failure<'p>>
+        ensures sound { IfOk result (λ notes. Self.Notes.sound notes) }
+        // What is noted at first is what the files have as they are opened, and so is whom sequences belong to.
+        ensures known { IfOk result (λ notes. (k : Key) → Self.Notes.known notes k ≡ known_in (λ w. notes_of (S.windows w)) k) }
+        ensures owner { IfOk result (λ notes. (s : Id128) → Self.Notes.owner notes s ≡ owner_found S.windows s) }
+        ensures came { IfOk result (λ notes. (e : LogEntry) → Self.Notes.came notes e ↔ S.came e) }
+        ensures failed { IfErr result (λ failure. (failure ≡ Failure.CannotOpen path.entry) ⊎ (failure ≡ Failure.OutOfMemory)) };
+
+    /// Whatever was called of these notes, each sequence that belonged to a machine at first belongs to it, if they are
+    /// sound, and after a crash, if their disk returned what was written. Does nothing.
+    fn show_steady(notes: &Self::Notes)
+        ensures stay { Self.Notes.sound notes.now → StayOwned (owner_found S.windows) (Self.Notes.owner notes.now) }
+        ensures stay_after { Self.Notes.clean notes.now → StayOwnedAfter (owner_found S.windows) (Self.Notes.may_own notes.now) };
+}
+
+impl<'a, S: Begun> NoteFolders<S> for Folders<'a> {
+    type Notes = Sequences<'a, S>;
+
+    fn open<'p>(self, path: &'p str) -> Result<Sequences<'a, S>, Failure<'p>> {
+        open_sequences::<BegunBy<S>, BegunBy<S>>(self, path)
+    }
+
+    fn show_steady(notes: &Sequences<'a, S>) {}
+}
