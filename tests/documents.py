@@ -2,9 +2,9 @@
 """Compares the documents with each other and with the sources: documents.py PROGRAM [FOLDER]
 
 One version, one toolchain, one table of codes, which the program prints too, a list of crates that is whole, scripts
-that say what they test, the number of edits, one table of the figures to plan with, the functions that the README names
-for its claims on the page of contracts, links to headings that are there, and a README that stays short. Prints what
-differs.
+that say what they test, the number of edits, each of which names a goal, one table of the figures to plan with, the
+functions that the README names for its claims on the page of contracts, links to headings that are there, and a README
+that stays short. Prints what differs.
 """
 import re
 import subprocess
@@ -123,10 +123,13 @@ def lists() -> Iterator[str]:
 
 
 def edits() -> Iterator[str]:
-    """A number of edits in docs/GATE.md that isn't theirs."""
-    there, told = len(list(ROOT.glob("crates/*/refused/*.edit"))), found(r"^There are (\d+)\.$", "docs/GATE.md")
-    if told != str(there):
-        yield f"docs/GATE.md tells of {told} edits, and there are {there}"
+    """A number of edits in docs/GATE.md that isn't theirs, and edits that don't name what has to refuse them."""
+    there, told = sorted(ROOT.glob("crates/*/refused/*.edit")), found(r"^There are (\d+)\.$", "docs/GATE.md")
+    if told != str(len(there)):
+        yield f"docs/GATE.md tells of {told} edits, and there are {len(there)}"
+    for it in there:
+        if not re.search(r"^goal: \S", it.read_text(encoding="utf-8"), re.M):
+            yield f"{it.relative_to(ROOT)} names no goal that has to refuse it"
 
 
 def figures(text: str) -> set[str]:

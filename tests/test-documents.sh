@@ -1,8 +1,8 @@
 #!/usr/bin/env bash
 # The documents agree with each other, with the sources and with the program: one version, one toolchain, one table of
-# codes, all crates in the list, scripts that say what they test, the number of edits, one table of the figures to plan
-# with, the functions that the README names for its claims on the page of contracts, links to headings that are there,
-# and a README that stays short. Each file says what it is about (`make files`).
+# codes, all crates in the list, scripts that say what they test, the number of edits, each of which names a goal, one
+# table of the figures to plan with, the functions that the README names for its claims on the page of contracts, links
+# to headings that are there, and a README that stays short. Each file says what it is about (`make files`).
 set -uo pipefail
 . "$(dirname "$0")/expect.sh"
 
@@ -56,6 +56,8 @@ changed docs/GUIDE.md 's/^## Sizing$/## Size/' \
     "docs/PERFORMANCE.md: there is no GUIDE.md#sizing"
 changed docs/GUIDE.md 's/\]\(#an-engine\)/](#engine)/' "docs/GUIDE.md: there is no #engine"
 changed docs/GATE.md 's/^There are [0-9]+\.$/There are 7./' "~docs/GATE.md tells of 7 edits, and there are *"
+changed crates/jc_base/refused/limit-off-by-one.edit '/^goal:/d' \
+    "crates/jc_base/refused/limit-off-by-one.edit names no goal that has to refuse it"
 changed docs/CONTRACTS.md 's/\*\*`export_reads_back`\*\*/**`export_reads`**/' \
     "README.md names export_reads_back for a claim, and docs/CONTRACTS.md doesn't have it"
 changed README.md 's/\(`Keeper::absorb`, /(`Keeper::absorbs`, /' \

@@ -4,11 +4,12 @@ usage: python3 tests/refused [--only CRATE] [--list] [--beside]
 
 An edit gives one function another body, in CONTRIBUTING.md's form. Many are applied at once, one a function, where a
 copy under another name counts as one, and each is judged by what the check says of its own function, while all others
-and the lemmas are taken at their word: a promise of that function must be refused. It may name goals that are left
-open, as they aren't what it is about. It fails if it doesn't apply, changes more than a body, leaves open what is no
-goal, can't be read, or if its function is proved, or refused only by arithmetic, by bounds or by what a call requires.
-At the end each function must be proved without its edits, and so must the crate, unless its library is built from the
-sources as they are.
+and the lemmas are taken at their word: a promise of that function must be refused. If it names the goals that it is
+about, it must be refused by these, and the function's other promises are left open, as are goals that it names for
+that. It fails if it doesn't apply, changes more than a body, leaves open what is no goal, can't be read, or if its
+function is proved, refused by something else, or only by arithmetic, by bounds or by what a call requires. At the end
+each function must be proved without its edits, and so must the crate, unless its library is built from the sources as
+they are.
 
 The libraries below a crate are taken as `rt ci` left them, and built if they aren't there or older than their sources.
 With --beside an `rt ci` runs meanwhile, and its words come on standard input until it ends: a crate's edits are judged

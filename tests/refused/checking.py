@@ -12,6 +12,7 @@ from typing import Any
 import toolchain
 from edits import Edit
 from functions import Function
+from goals import promises_of
 from lemmas import leave_lemmas_open
 
 # A proof that is left open: it says what there is to prove, and takes it at its word.
@@ -22,10 +23,13 @@ use Rattle.{crate}.proofs.AtItsWord.{{at_its_word}}
 pub {name}_spec : {{M : Type 1}} → statement M
 {name}_spec = at_its_word
 """
+# An answer, by its name, up to where something else is declared.
+ANSWER = re.compile(r"^pub (\S+) :.*?(?=^(?:\w+ )*\S+ :|\Z)", re.M | re.S)
 # An answer that is left open.
-OPEN_ANSWER = """
+OPEN_ANSWER = """\
 pub {goal} : goal.{goal}
 {goal} = at_its_word
+
 """
 # What no function has to prove. Where it is answered all the same, the checker doesn't print what is left to prove of a
 # function, for which it would go over all of it once more.
@@ -41,8 +45,8 @@ at_its_word = ?
 def check(crate: Any, texts: dict[str, str], words: list[str], taken: list[Function], edits: list[Edit]) -> Any:
     """What a check of the crate with these texts, by their path in it, ended with and said. The functions `taken` are
     taken at their word: whatever their bodies are, the others are judged by what their contracts say. If there are
-    edits, so are the lemmas; and of the edited functions the goals are left open that their edits name. It keeps no
-    work for another check, as it costs more than it saves."""
+    edits, so are the lemmas; and of the edited functions the goals are left open that their edits aren't about. It
+    keeps no work for another check, as it costs more than it saves."""
     with tempfile.TemporaryDirectory(prefix="refused-") as room:
         for part in toolchain.rt().rtlib.PARTS:
             if os.path.isdir(os.path.join(crate.folder, part)):
@@ -60,7 +64,7 @@ def check(crate: Any, texts: dict[str, str], words: list[str], taken: list[Funct
         for it in taken:
             _leave_open(room, it)
         for edit in edits:
-            _leave_goals_open(room, edit)
+            _leave_goals_open(room, edit, promises_of(crate, edit.function) if edit.about else [])
         rtlib = toolchain.rt().rtlib
         flags = ["--jobs", "1", *(["--allow-holes"] if edits else []), *words]
         command = [*rtlib.guarded(), rtlib.RATTLE, "check", *crate.words(flags, keeps=False)]
@@ -97,9 +101,10 @@ def _leave_open(room: str, function: Function) -> None:
     _write(os.path.join(room, folder, "Proof.antt"), OPEN_PROOF.format(crate=crate, module=module, name=path[-1]))
 
 
-def _leave_goals_open(room: str, edit: Edit) -> None:
-    """Puts open answers in the place of those that are written for these goals, or behind the others. A function whose
-    proof is written whole, or which may have two names, has no such answers."""
+def _leave_goals_open(room: str, edit: Edit, promises: list[str]) -> None:
+    """Puts open answers in the place of those that are written for what the edit leaves open, and for these promises
+    but those that it is about, or behind the others. A function whose proof is written whole, or which may have two
+    names, has no such answers."""
     symbol, folder = edit.function.symbols[0], edit.function.proofs[0]
     if len(edit.function.symbols) > 1 or os.path.exists(os.path.join(room, folder, "Proof.antt")):
         return
@@ -110,10 +115,29 @@ def _leave_goals_open(room: str, edit: Edit) -> None:
             answers = it.read()
     else:
         answers = f"use {'.'.join(['Rattle', crate, 'proofs', *path])}.Goals as goal\n"
-    for it in edit.left_open:
-        answers = re.sub(rf"(?ms)^pub {re.escape(it)} :.*?(?=^pub |\Z)", "", answers)
-    answers = f"use Rattle.{crate}.proofs.AtItsWord.{{at_its_word}}\n{answers}"
-    _write(file, answers + "".join(OPEN_ANSWER.format(goal=it) for it in [*edit.left_open, NOT_A_GOAL]))
+    answered = set(ANSWER.findall(answers))
+    left_open = dict.fromkeys([*edit.left_open, *_others(promises, edit.about, answered)])
+
+    def opened(answer: re.Match[str]) -> str:
+        return OPEN_ANSWER.format(goal=answer[1]) if answer[1] in left_open else answer[0]
+
+    answers = f"use Rattle.{crate}.proofs.AtItsWord.{{at_its_word}}\n{ANSWER.sub(opened, answers)}\n"
+    added = [it for it in [*left_open, NOT_A_GOAL] if it not in answered]
+    _write(file, answers + "".join(OPEN_ANSWER.format(goal=it) for it in added))
+
+
+def _others(promises: list[str], about: tuple[str, ...], answered: set[str]) -> list[str]:
+    """The promises but these. What is promised at one exit can be answered clause by clause, or at once where it is
+    answered so already."""
+    exits = {_exit(it) for it in promises if it != _exit(it)}
+    at_once = answered.intersection(exits)
+    by_clause = [it for it in promises if it not in exits and _exit(it) not in at_once]
+    return [it for it in [*by_clause, *at_once] if it not in about and _exit(it) not in about]
+
+
+def _exit(goal: str) -> str:
+    """The exit at which a clause is promised, or the goal itself."""
+    return goal.partition("-clause-")[0]
 
 
 def _write(file: str, text: str) -> None:

@@ -14,13 +14,14 @@ from functions import Function, functions_of
 
 @dataclass(frozen=True)
 class Edit:
-    """The body, in bytes of UTF-8, that takes the place of a function's own, and the goals that are left open of the
-    function with it."""
+    """The body, in bytes of UTF-8, that takes the place of a function's own; the goals of the function with it that the
+    edit is about, by which it has to be refused; and those that are left open."""
 
     name: str
     function: Function
     body: bytes
-    left_open: tuple[str, ...]
+    about: tuple[str, ...] = ()
+    left_open: tuple[str, ...] = ()
 
 
 @dataclass(frozen=True)
@@ -108,19 +109,24 @@ def _read_edit(sources: Sources, path: str) -> Edit | BadEdit:
         return BadEdit(name, "it changes more than one file")
     [(file, text)] = texts.items()
     found = [it for it in sources.functions if it.file == file]
+    edit = _new_body(name, found, sources.text(file), text.encode())
+    if isinstance(edit, BadEdit):
+        return edit
+    return replace(edit, about=_goals(path, "goal"), left_open=_goals(path, "open"))
+
+
+def _goals(path: str, word: str) -> tuple[str, ...]:
+    """The goals that the lines of a file name which begin with this word."""
     with open(path, encoding="utf-8") as lines:
-        left_open = tuple(goal for line in lines if line.startswith("open: ") for goal in line.split()[1:])
-    return _new_body(name, found, sources.text(file), text.encode(), left_open)
+        return tuple(goal for line in lines if line.startswith(f"{word}: ") for goal in line.split()[1:])
 
 
-def _new_body(
-    name: str, functions: list[Function], old: bytes, new: bytes, left_open: tuple[str, ...]
-) -> Edit | BadEdit:
+def _new_body(name: str, functions: list[Function], old: bytes, new: bytes) -> Edit | BadEdit:
     """The edit from a file's old text to its new one, which must differ in one function's body alone."""
     if old == new:
         return BadEdit(name, "it changes nothing")
     for it in functions:
         end = len(new) - (len(old) - it.end)
         if new[: it.start] == old[: it.start] and end > it.start and new[end:] == old[it.end :]:
-            return Edit(name, it, new[it.start : end], left_open)
+            return Edit(name, it, new[it.start : end])
     return BadEdit(name, "it changes more than the body of one function")

@@ -80,6 +80,14 @@ pub fn none(number: u64) -> u64
     none
 }
 
+pub fn about(number: u64) -> u64
+    ensures low { result ≤ number }
+    ensures none { result ≡ 0 }
+{
+    let about = 0;
+    about
+}
+
 pub struct Kept {
     number: u64,
 }
@@ -167,6 +175,20 @@ use Rattle.small.proofs.doubled.Goals as goal
 pub returns : goal.returns
 returns c = sym (twice_is c.args.number)
 """,
+    # what stands behind an answer that is left open isn't taken away with it
+    "proofs/about/Answers.antt": """\
+use Rattle.std.proofs.Common.{rules}
+use Rattle.small.proofs.about.Goals as goal
+
+pub returns-clause-low : goal.returns-clause-low
+returns-clause-low c = search rules
+
+itself : {A : Type 0} → A → A
+itself a = a
+
+pub returns-clause-none : goal.returns-clause-none
+returns-clause-none c = itself (search rules)
+""",
 }
 
 REFUSED = "refused, as it must be: "
@@ -174,11 +196,16 @@ PASSED = "NOT REFUSED: nothing of it is refused"
 UNREAD = "NOT REFUSED: the checker's words can't be read"
 UNTELLING = "NOT REFUSED: no promise of its own is refused: "
 NO_GOAL = "NOT REFUSED: it leaves open what is no goal: "
+ANOTHER = "NOT REFUSED: it is refused by what it isn't about: "
 
 Edits = dict[str, tuple[str, str, str]]
 
 # For each edit: the text that is there once, what takes its place, and how the report on it must begin.
 EDITS: Edits = {
+    "about-no-goal": ("let about = 0;", "let about = 4;", PASSED),
+    "about-one": ("let about = 0;", "let about = 1;", REFUSED + "returns-clause-none"),
+    "about-the-next": ("let about = 0;", "if number < 3 { return 3; } let about = 0;", ANOTHER + "returns-then-"),
+    "about-what-holds": ("let about = 0;", "let about = number;", PASSED),
     "all-left-open": ("let first = 0;", "let first = 1;", PASSED),
     "another-answer": ("number <= 9", "number <= 8", REFUSED + "returns"),
     "another-answer-of-a-trait": ("3 + 4", "3 + 5", REFUSED + "returns"),
@@ -187,6 +214,8 @@ EDITS: Edits = {
     "beside-a-refused-function": ("{ Some(number) }", "{ Some(0) }", REFUSED + "returns"),
     "clause-turned": ("≡ number + 1", "≡ number + 2", "BAD EDIT: it changes more than the body"),
     "double-of-another": ("    number + number", "    number + 9", REFUSED + "returns"),
+    "double-named": ("    number + number", "    number + 7", REFUSED + "returns"),
+    "double-named-otherwise": ("    number + number", "    let one = number; one + number", PASSED),
     "double-otherwise": ("    number + number", "    let other = number; number + other", PASSED),
     "double-with-eight": ("    number + number", "    number + 8", REFUSED + "returns"),
     "hidden-by-a-refused-function": ("    if is_digit(number) {", "    if !!is_digit(number) {", PASSED),
@@ -202,11 +231,17 @@ EDITS: Edits = {
     "twofold-otherwise": ("self.number + self.number", "let one = self.number; one + self.number", PASSED),
 }
 
-# The goals that edits leave open.
-LEFT_OPEN = {
-    "all-left-open": ["returns-clause-low", "returns-clause-none"],
-    "no-goal-left-open": ["returns-clause-high"],
-    "one-left-open": ["returns-clause-low"],
+# The goals that edits are about, and those that they leave open.
+GOALS = {
+    "about-no-goal": "goal: returns-clause-high\n",
+    "about-one": "goal: returns-clause-none\n",
+    "about-the-next": "goal: returns-clause-low\n",
+    "about-what-holds": "goal: returns-clause-low\n",
+    "all-left-open": "open: returns-clause-low\nopen: returns-clause-none\n",
+    "double-named": "goal: returns\n",
+    "double-named-otherwise": "goal: returns\n",
+    "no-goal-left-open": "open: returns-clause-high\n",
+    "one-left-open": "open: returns-clause-low\n",
 }
 
 # Edits that can't be read, beside one that can: if a check can't be read, its halves are tried.
@@ -217,6 +252,8 @@ UNREADABLE: Edits = {
 }
 
 ONE = {"another-answer": EDITS["another-answer"]}
+# Of a library that isn't built the other goals aren't known, and so aren't left open.
+NOT_BUILT = {**ONE, "about-one": (*EDITS["about-one"][:2], REFUSED + "returns-clause-low, returns-clause-none")}
 PROVED = "without its edits it is proved"
 # An edit of a function whose answer cites a lemma that is gone, beside another.
 TWICE_IS = """\
@@ -320,7 +357,7 @@ def main() -> int:
         failures.append(f"lemmas taken at their word: {opened}")
     with tempfile.TemporaryDirectory(prefix="refused-test-") as root:
         small = Small(root)
-        failures += small.failures("not built", LIBRARY, ONE, PROVED)
+        failures += small.failures("not built", LIBRARY, NOT_BUILT, PROVED)
         small.build(LIBRARY)
         failures += small.failures("as it is", LIBRARY, EDITS, PROVED)
         failures += small.failures("built", LIBRARY, UNREADABLE, PROVED)
@@ -370,8 +407,8 @@ class Small:
         folder = os.path.join(self.folder, "refused")
         shutil.rmtree(folder, ignore_errors=True)
         for name, (old, new, _) in edits.items():
-            left_open = "".join(f"open: {it}\n" for it in LEFT_OPEN.get(name, []))
-            _write(os.path.join(folder, f"{name}.edit"), f"file: src/lib.rt\nold: {old}\nnew: {new}\n{left_open}")
+            text = f"file: src/lib.rt\nold: {old}\nnew: {new}\n{GOALS.get(name, '')}"
+            _write(os.path.join(folder, f"{name}.edit"), text)
         return judge(small)
 
 

@@ -26,6 +26,7 @@ import toolchain
 from checking import NOT_A_GOAL
 from edits import Edit
 from functions import Function
+from goals import PROMISE
 
 FUNCTION = re.compile(r"fn (\S+): (.*)")
 GOAL_AT_LINE = re.compile(
@@ -43,9 +44,6 @@ LEMMA = re.compile(
     r"(?:\./)?proofs/(?!AtItsWord\.)(?:\S+/)?(?!Answers\.|Invariants\.|Proof\.)\w+\.antt:\d+:\d+: "
     r"(?:error|.* is not admitted)"
 )
-# A goal of the function's own promises: its clauses, a loop's invariant, or what its type always keeps. The other goals
-# are of arithmetic, of bounds, of an end, or of what a call requires.
-PROMISE = re.compile(r"returns(-|$)|invariant_of-|(?!.*-requires(-|$)).*-(init|preserved)(-|$)")
 # What is said of a function that is proved, by the contracts of those whose proofs are left open.
 PROVED = re.compile(r"proved$|no holes$|depends on a hole in ")
 # The last line of a check that ended.
@@ -58,6 +56,7 @@ class Kind(Enum):
     REFUSED = "a promise of its own isn't proved"
     PROVED = "nothing of it is refused"
     UNTELLING = "no promise of its own is refused"
+    ANOTHER = "it is refused by what it isn't about"
     HIDDEN = "the checker says only that it calls what isn't proved"
     OPENS_NOTHING = "it leaves open what is no goal"
     UNREAD = "the checker's words can't be read"
@@ -106,10 +105,11 @@ class Report:
         if len(found) != 1 or not re.match(r"no proof: |not proved(;|$)", found[0]):
             return Ruling(Kind.UNREAD, tuple(found))
         goals = tuple(dict.fromkeys([*_searched(found[0]), *self._goals_at(function)]))
-        if any(PROMISE.match(it) for it in goals):
-            return Ruling(Kind.REFUSED, goals)
+        if goals and not set(edit.about) <= set(goals):
+            return Ruling(Kind.ANOTHER, goals)
         if goals:
-            return Ruling(Kind.UNTELLING, goals)
+            is_refused = any(PROMISE.match(it) for it in edit.about or goals)
+            return Ruling(Kind.REFUSED if is_refused else Kind.UNTELLING, goals)
         if hidden_by := self._unproved(_ticked(" ".join(CALLED.findall(found[0])))):
             return Ruling(Kind.HIDDEN, hidden_by=hidden_by)
         return Ruling(Kind.PROVED)
