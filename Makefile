@@ -17,8 +17,8 @@ build: $(PROGRAM) ## prove and build the program: the first goal, and make witho
 help: ## this listing
 	@awk -F ':[^#]*## ' '/^[a-z-]+:.*## / { printf "make %-12s %s\n", $$1, $$2 }' $(MAKEFILE_LIST)
 
-demo: $(PROGRAM) ## a collector that is killed: the same upload is sent again, and nothing is lost or doubled
-	@bash examples/demo.sh $(PROGRAM)
+demo: ## a collector that is killed: the same upload is sent again, and nothing is lost or doubled
+	@program=$$(python3 -ESB tools/trial.py jc_cli) && bash examples/demo.sh "$$program"
 
 check: ## prove the crates that changed, and what stands on them; with SINCE=REVISION only what git says has changed
 	@python3 -ESB tools/check.py $(if $(SINCE),--since "$(SINCE)")

@@ -54,9 +54,10 @@ types.py:1: one has no type for a (types)
 types.py:4: four has no type for what it returns (types)
 width.md:2: 121 characters, and at most 120 are read at once (width)
 skipped: shellcheck isn't installed, so 1 texts of shell aren't read by it
-skipped: pyflakes3 isn't installed, so 2 texts of python aren't read by it"
+skipped: pyflakes3 isn't installed, so 2 texts of python aren't read by it
+skipped: rattle isn't installed, so 0 texts of rattle aren't read by it"
 expect 1 "$found
-9 texts: 9 mistakes, 0 exceptions, 2 checks skipped" "" lint_alone "$folder/tree"
+9 texts: 9 mistakes, 0 exceptions, 3 checks skipped" "" lint_alone "$folder/tree"
 
 # a page that isn't as its tool prints it
 printf 'import sys\nsys.exit("it is older")\n' > "$folder/tree/tools/contracts.py"
@@ -70,7 +71,7 @@ exceptions=$folder/tree/tools/lint/exceptions.txt
 printf '%s\n' '# why' 'blanks *.md they are old' 'types *.py so are they' 'steps steps as well' 'width width.md too' \
     'shell steps old' > "$exceptions"
 expect 0 "~*
-10 texts: 0 mistakes, 5 exceptions, 2 checks skipped" "" lint_alone "$folder/tree"
+10 texts: 0 mistakes, 5 exceptions, 3 checks skipped" "" lint_alone "$folder/tree"
 sed -i 's/width\.md/another.md/' "$exceptions"
 expect 1 "~tools/lint/exceptions.txt:5: nothing is to be passed over in another.md: take the line away (width)
 width.md:2: *
@@ -89,6 +90,15 @@ if command -v shellcheck > "$folder/said"; then
 fi
 if command -v pyflakes3 > "$folder/said"; then
     expect 1 "~*careless.py:1: 'os' imported but unused (python)*" "" lint "$folder/tree"
+fi
+mkdir "$folder/crates"
+printf 'fn  one() {}\n' > "$folder/crates/spread.rt"
+printf 'fn two( {\n' > "$folder/crates/open.rt"
+printf 'fn three() {}\n' > "$folder/crates/laid.rt"
+if command -v rattle > "$folder/said"; then
+    expect 1 "~open.rt:1: it does not parse: *unclosed delimiter* (layout)
+spread.rt:1: is not in the layout (layout)
+3 texts: 2 mistakes, *" "" lint "$folder/crates"
 fi
 printf '#!/bin/sh\nexit 3\n' > "$folder/programs/shellcheck"
 printf '#!/bin/sh\necho lost >&2\n' > "$folder/programs/pyflakes3"

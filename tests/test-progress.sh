@@ -80,8 +80,10 @@ on_terminal "$folder/told" "$PROGRAM" collect "$folder/logs.db" "$folder/slow" "
 wait
 seen=$(< "$folder/seen")
 [[ $seen == *"${clear}collect: 1 of 2 uploads answered$clear"* ]] || differs "uploads: $seen"
-for place in "$folder/up" "$folder/in"; do echo "$place"; sleep 1.5; done |
+{ cat "$folder/up"; sleep 1.5; } > "$folder/slow" &
+printf '%s\n' "$folder/slow" "$folder/in" |
     on_terminal "$folder/told" "$PROGRAM" collect --files-from - "$folder/logs.db" > "$folder/seen"
+wait
 seen=$(< "$folder/seen")
 [[ $seen == *"${clear}collect: "[12]" uploads answered"*"$clear" ]] || differs "a list: $seen"
 

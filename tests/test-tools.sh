@@ -1,7 +1,7 @@
 #!/usr/bin/env bash
 # tools/ and tests/refused say so if the toolchain isn't one that they know, before they load any part of it. `make
 # check` proves exactly what isn't proved as it is, lowest first: over a small repository, and an rt that only notes
-# where it checks.
+# where it checks. `make demo` takes the proved program, or keeps the one that `rt try` builds.
 set -uo pipefail
 . "$(dirname "$0")/expect.sh"
 cd "$(dirname "$0")/.." || exit
@@ -68,6 +68,8 @@ cat > "$folder/rt/rt" << END
 #!$python
 import importlib.machinery, importlib.util, os, sys
 if __name__ == "__main__":
+    if sys.argv[1] == "try":
+        os.execv("$folder/try", ["$folder/try", *sys.argv[2:]])
     if sys.argv[1:] != ["check"]:
         os.execv("$real", ["$real", *sys.argv[1:]])
     with open("$folder/checked", "a") as it:
@@ -160,4 +162,66 @@ import kit
 print(next(it for it in kit.rt().rtlib.crates_below(os.getcwd()) if it.name == "low").stamp(), end="")
 END
 checks 0 "aside mid top"
+# a program before its proofs: what rt try links, and takes away again, is kept; the proved one is taken if it is newer
+# than all sources
+cat > "$folder/try" << END
+#!/bin/bash
+echo "\$*" >> "$folder/tried"
+[[ ! -e nothing ]] || exit 0
+[[ ! -e changing ]] || { sleep 0.1; touch src/main.rt; }
+mkdir "\$TMPDIR/native"
+cd "\$TMPDIR/native" || exit
+install -m 755 /dev/null another
+install -m 755 /dev/null program.tmp
+sleep 0.5
+printf '#!/bin/sh\necho tried\n' > program.tmp
+mv program.tmp program
+sleep 0.5
+rm -r "\$TMPDIR/native"
+[[ ! -e $folder/tree/crates/shown/failing ]] || { echo "it fails"; exit 3; }
+END
+chmod 755 "$folder/try"
+mkdir -p crates/shown/src crates/shown/out
+echo "//! shown" > crates/shown/src/main.rt
+find crates crates.txt -exec touch -d '1 minute ago' {} +
+trial() {
+    "$python" -ESB "$tools/trial.py" "$@"
+}
+told="shown is built before its proofs, which takes some 3 minutes; make proves it"
+# nothing is built yet, so it has to ask the toolchain
+expect 1 "" "~'$folder/other/rt version' says 'rattle-kit-12a logic 0', and wanted is *" \
+    env PATH="$folder/other:$PATH" "$python" -ESB "$tools/trial.py" shown
+expect 0 "build/trial/shown" "$told" trial shown
+expect 0 "tried" "" build/trial/shown
+expect 0 "build/trial/shown" "" trial shown
+[[ $(cat "$folder/tried") == "-- --version" ]] || differs "tried: $(cat "$folder/tried")"
+
+# of two that are newer than all sources the proved one; it needs no rt
+install -m 755 /dev/null crates/shown/out/shown
+expect 0 "crates/shown/out/shown" "" env PATH="$folder/none" "$python" -ESB "$tools/trial.py" shown
+for newer in crates/low/src/lib.rt crates.txt; do
+    touch -d '+1 minute' "$newer"
+    expect 0 "build/trial/shown" "$told" trial shown
+    touch -d '1 minute ago' "$newer"
+done
+[[ $(ls build/trial) == shown ]] || differs "left in build/trial: $(ls build/trial)"
+rm crates/shown/out/shown
+
+# one whose source changes meanwhile is old at once; one that fails, or isn't there, leaves the last one
+touch crates/shown/changing
+touch crates/shown/src/main.rt
+expect 0 "build/trial/shown" "$told" trial shown
+expect 0 "build/trial/shown" "$told" trial shown
+rm crates/shown/changing
+touch crates/shown/failing
+expect 1 "" "~$told
+rt try ended with status 3, and said:
+it fails*" trial shown
+rm crates/shown/failing
+touch crates/shown/nothing
+expect 1 "" "~$told
+rt try ended with status 0, and said:*" trial shown
+[[ $(ls build/trial) == shown ]] || differs "left in build/trial: $(ls build/trial)"
+expect 0 "tried" "" build/trial/shown
+expect 1 "" "there is no program low: crates/low/src/main.rt isn't there" trial low
 finish

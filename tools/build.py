@@ -24,7 +24,7 @@ import lanes
 
 # Processor seconds that a line of a crate's code takes to be proved, on the whole (docs/GATE.md), with a fifth more for
 # what checks by several processors do twice.
-SECONDS_A_LINE = 0.27
+SECONDS_A_LINE = 0.37
 # How much of the free memory the checks may take by what the toolchain reckons: some take a fifth more than that.
 MEMORY = 0.85
 # How often it says how far it is, in seconds.

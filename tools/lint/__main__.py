@@ -4,9 +4,10 @@ usage: python3 tools/lint [FOLDER]
 
 The checks are: `width`, lines of at most 120 characters; `blanks`, no tabs, no blanks at an end; `steps` of four blanks
 in shell; `types` at public functions of Python; `printed`, that docs/CONTRACTS.md is as tools/contracts.py prints it;
-`shell`, what shellcheck says; `python`, what pyflakes says. What they pass over is in tools/lint/exceptions.txt of the
-folder. A line is printed for each mistake, and one that begins with `skipped:` for a program that isn't installed. The
-last line says how many texts were read and what was found.
+`shell`, what shellcheck says; `python`, what pyflakes says; `layout`, what `rattle fmt` says, without which no crate is
+proved. What they pass over is in tools/lint/exceptions.txt of the folder. A line is printed for each mistake, and one
+that begins with `skipped:` for a program that isn't installed. The last line says how many texts were read and what was
+found.
 """
 
 from __future__ import annotations

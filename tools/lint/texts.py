@@ -10,13 +10,13 @@ from dataclasses import dataclass
 # What .gitignore names: folders of any place, and those of one.
 BUILT = {".git", "out", "__pycache__"}
 BUILT_AT = {"build", "bench/out"}
-KINDS = {".sh": "shell", ".py": "python"}
+KINDS = {".sh": "shell", ".py": "python", ".rt": "rattle", ".antt": "rattle"}
 PROGRAMS = ((re.compile(r"#!.*\b(ba|da)?sh\b"), "shell"), (re.compile(r"#!.*\bpython3\b"), "python"))
 
 
 @dataclass(frozen=True)
 class Text:
-    """A text by its path below the top: shell, python, or of no kind that has rules of its own."""
+    """A text by its path below the top: shell, python, rattle, or of no kind that has rules of its own."""
 
     path: str
     kind: str
