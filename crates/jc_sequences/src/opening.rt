@@ -23,20 +23,22 @@ pub type FileSequences<'a, F, A> = SteadyOwners<
     F,
 >;
 
-/// The folders of the system in which sequences have notes. Whoever has this alone makes and changes files of notes, and
-/// no others.
+/// The folders of the system in which sequences have notes. Whoever has this alone makes and changes files of notes and
+/// the logs beside them, and no others.
 #[derive(Clone, Copy)]
 pub struct Folders<'a> {
     runtime: &'a HostRuntime,
 }
 
 impl<'a> Folders<'a> {
+    /// The folders of this runtime's system.
     pub fn new(runtime: &'a HostRuntime) -> Folders<'a> {
         Folders { runtime }
     }
 }
 
-/// Opens the folder at `path`, or makes it. What is noted in it stays there.
+/// Opens the folder at `path`, or makes it. What is noted in it stays there. It fails with `CannotOpen` if there is
+/// none and none can be made that stays, and with `OutOfMemory`. Whether files in it can be read isn't seen yet.
 pub fn open_sequences<'a, 'p, F: Found, A: Arrivals>(
     folders: Folders<'a>,
     path: &'p str,

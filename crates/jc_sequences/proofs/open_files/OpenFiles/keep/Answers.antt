@@ -2,4 +2,4 @@ use Rattle.jc_sequences.proofs.open_files.OpenFiles.keep.Goals as goal
 
 pub returns-in-Ok-clause-clean : goal.returns-in-Ok-clause-clean
 returns-in-Ok-clause-clean g c = λ whole clean.
-    (c.in-Ok.ensures.clean clean, c.in-Ok.ensures.clean_others (c.has.ensures c.if-has.false) clean)
+    (c.in-Ok.ensures.clean clean, c.in-Ok.ensures.clean_others (c.has.ensures.away c.if-has.false) clean)
