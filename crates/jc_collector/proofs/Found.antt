@@ -24,7 +24,7 @@ use Rattle.jc_database.specs.Files.{AreLawful, EndsWith, HoldsJournal, IsFound, 
 use Rattle.jc_database.specs.FilesLaws.{database_found, keeps_found}
 use Rattle.jc_collector.specs.Open.{Begun, HasKind, IsFoundIn, IsOne}
 use Rattle.jc_collector.specs.KindLaws.{at_kind}
-use Rattle.jc_collector.specs.Kinds.{AreAlone, AreByNumber, BeginsIn, IsAdoptedFrom, IsMadeIn, LeadsIn, OpenedFiles, conn_of, kind_of, meaning_of}
+use Rattle.jc_collector.specs.Kinds.{AreAlone, AreByNumber, BeginsIn, IsAdoptedFrom, IsMadeIn, IsShown, LeadsIn, OpenedFiles, conn_of, kind_of, meaning_of}
 
 -- ---- the tables of each kind
 
@@ -120,6 +120,9 @@ module _ {D : Type 0} {g : disk.Ghosts D} (image : Image) (first : Held (FileSto
         let same = it.same sound in
         let journal = it.found sound (subst (AreAlone kind) same.now_is alone) was.ordered in
         record { journal = subst (λ (d : Database). (meaning_of kind).is_journal d) (sym same.now_is) journal; settled = same.committed_is ∙ (was.settled ∙ sym same.now_is) }
+
+    pub shown_adopted : IsAdoptedFrom first opened → IsSound over_files (conn_of opened) → IsShown opened
+    shown_adopted it sound = record { was = first; same = it.same sound; shows = it.shown sound }
 
     pub one_made : (made : Tables) → IsMadeIn first made opened → IsOne (kind_of opened) (conn_of opened)
     one_made made it alone = it.made

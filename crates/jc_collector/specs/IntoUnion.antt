@@ -47,8 +47,8 @@ pub record StoresNotedListed (past : Journal) (known : Known) (came : LogEntry �
 abbrev pub UnionStopsBy : Failure → Type 0
 UnionStopsBy failure = NotedFailsBy failure ⊎ (failure ≡ ReadFailed)
 
--- Why a command over a union fails: its present database has another entry than is noted, or one over the limits; or it fails
--- as another command over a database does that reads files with these paths.
+-- Why a command over a union fails: with a fault, of which nothing is said here, or as another command over a database does
+-- that reads files with these paths.
 abbrev pub UnionFailsBy : (database : List ℕ) → (paths : List (List ℕ)) → Failure → Type 0
 UnionFailsBy database paths (Bad fault) = ⊤
 UnionFailsBy database paths failure = CollectFailsBy database paths failure

@@ -11,7 +11,7 @@ use Rattle.sqlite.specs.WalReads.{AreClean}
 use Rattle.sqlite.specs.Held.{Held}
 use Rattle.sqlite.specs.declared.FileStore.{FileStore}
 use Rattle.sqlite.specs.Files.{file_state, over_files}
-use Rattle.sqlite.specs.State.{HasCleanDisk}
+use Rattle.sqlite.specs.State.{HasCleanDisk, State}
 use Rattle.jc_base.specs.Journal.{Journal}
 use Rattle.jc_command_args.specs.declared.request.Tables.{Tables}
 use Rattle.jc_command_args.specs.declared.request.Tables.TheVariants.{ByKey, ByNumber}
@@ -35,6 +35,11 @@ meaning_of ByNumber = three
 abbrev pub AreAlone : Tables → Database → Type 0
 AreAlone ByKey db = of_two.AreAlone db
 AreAlone ByNumber db = of_three.AreAlone db
+
+-- The tables show a journal of a kind: their version is its own, and each row shows an entry or a field of one.
+abbrev pub Shows : Tables → State → Type 0
+Shows ByKey s = of_two.ShowsRecords s
+Shows ByNumber s = of_three.ShowsNumbers s
 
 -- A keeper's kind, and its connection.
 abbrev pub kind_of : {K N : Type 0} → Opened K N → Tables
@@ -74,9 +79,22 @@ module _ {D : Type 0} {g : disk.Ghosts D} (before : Held (FileStore D g)) where
     pub was_sound : IsSound over_files (conn_of opened) → IsSound over_files before
     pub keeps : KeepsJournal (meaning_of (kind_of opened)) over_files before (conn_of opened)
     pub same : IsSound over_files (conn_of opened) → IsSame (file_state before) (file_state (conn_of opened))
-    -- They are one, if nothing stands beside them.
+    -- They show a journal, and are one, if nothing stands beside them.
+    pub shown : IsSound over_files (conn_of opened) → Shows (kind_of opened) (file_state before)
     pub found : IsSound over_files (conn_of opened) → AreAlone (kind_of opened) (file_state before).now → AreInOrder (file_state before).now
         → (meaning_of (kind_of opened)).is_journal (file_state before).now
+
+module _ {D : Type 0} {g : disk.Ghosts D} (opened : OpenedFiles D g) where
+  -- A keeper's tables show a journal of its kind, as they stood when they were looked at. They are the same since.
+  pub record IsShown : Type 0 where
+    pub was : Held (FileStore D g)
+    pub same : IsSame (file_state was) (file_state (conn_of opened))
+    pub shows : Shows (kind_of opened) (file_state was)
+
+  -- They were made, and their journal is empty.
+  pub record IsMadeEmpty : Type 0 where
+    pub made : AreMade (meaning_of (kind_of opened)) over_files (conn_of opened)
+    pub empty : journal_in opened ≡ none
 
 -- ---- files
 

@@ -32,6 +32,7 @@ pub fn close_opened<'a, T: Drop, S: Start>(
     ensures keeps { IfOk result (λ closed. AreClean ⟦<FileFrom<S> as Disk>⟧ closed.files.log closed.files.db
         → AreMade (meaning_of (kind_of opened)) over_files (conn_of opened)
         → KeepsAlways (meaning_of (kind_of opened)) ⟦<FileFrom<S> as Disk>⟧ closed.files (journal_in opened)) }
+    ensures passed_on { IfErr done.entry (λ failure. result ≡ Err failure) }
     ensures failed { IfErr result (λ failure. (done.entry ≡ Err failure) ⊎ (failure ≡ Failure.StoreFailed)) }
 {
     match opened {
@@ -51,6 +52,7 @@ pub fn close_after<'a, T: Drop, S: Start, L: Layout>(
     ensures keeps { IfOk result (λ closed. AreClean ⟦<FileFrom<S> as Disk>⟧ closed.files.log closed.files.db
         → AreMade L.meaning over_files keeper.conn
         → KeepsAlways L.meaning ⟦<FileFrom<S> as Disk>⟧ closed.files (journal_of L.meaning over_files keeper.conn)) }
+    ensures passed_on { IfErr done.entry (λ failure. result ≡ Err failure) }
     ensures failed { IfErr result (λ failure. (done.entry ≡ Err failure) ⊎ (failure ≡ Failure.StoreFailed)) }
 {
     let closed = close_keeper(keeper).ok();

@@ -2,7 +2,8 @@
 
 ghost use Rattle.std.specs.Prelude.{◌≡◌, ◌≢◌, ◌⊎◌, ◌∷◌, [], IfOk, IfErr, OnOk, option_map};
 ghost use Rattle.std.specs.Io.KnownBytes.{Keeps as KeepsBytes};
-ghost use Rattle.sqlite.specs.Files.{file_state, over_files};
+ghost use Rattle.sqlite.specs.Files.{over_files};
+ghost use Rattle.sqlite.specs.Held.{state};
 ghost use Rattle.sqlite.specs.State.{HasCleanDisk};
 ghost use Rattle.sqlite.specs.WalFiles.{image_at};
 ghost use Rattle.sqlite.specs.WalReads.{AreClean};
@@ -24,7 +25,7 @@ ghost use Rattle.jc_command_shared.specs.Deeds.{ChangesOnly, IsReplacedIf, Opens
 
 use crate::database::{FileKeeper, Opened, check_name, open_or_make};
 use crate::listed::INPUT;
-use crate::then_export::{check_export, export_files_after};
+use crate::then_export::{check_export, export_after};
 use jc_collector_answers::{NameLines, answer_names};
 use jc_command_args::Tables;
 use jc_command_shared::{Failure, Status, System, open_file};
@@ -33,20 +34,18 @@ use jc_keeper::Keeper;
 use jc_ledger::{Ledger, Past};
 use jc_schema_three::SchemaThree;
 use jc_schema_two::SchemaTwo;
-use jc_store::Listed;
+use jc_store::{Listed, TableKeeper};
 use jc_union::{
     AnsweredUnion, NotedRun, OpenedUnion, TableUnion, close_union, open_union, why_no_union,
 };
-use sqlite::{FileFrom, FileStore, Start};
+use sqlite::{Alter, FileFrom, FileStore, Start};
 use sqlite_disk::Disk;
 use std::io::{BufRead, BufReader, Read, Write};
 
-/// The keeper of a union whose present database is in files.
-pub type FilesUnion<S, T, L, P> = TableUnion<FileStore<FileFrom<S>>, T, L, P>;
-
 /// Takes the uploads that the lines of a list name up into the union of the databases that are finished and the present
-/// one, which is made if there is none, and prints an answer for each line. The list, the export and the status are as
-/// `collect_listed` has them.
+/// one, which is made if there is none, and prints an answer for each line. The export and the status are as
+/// `collect_listed` has them, and so is the list, but that a line may name the machine before a tab. It fails besides with
+/// a fault if an entry of the present database isn't the one that is noted, or is over the limits.
 #[tactic(auto, using(jc_command_shared::specs::DeedLaws::does_nothing))]
 pub fn collect_into_union<
     'a,
@@ -256,15 +255,16 @@ fn join_over<
         → KeepsBytes (O.contents output.old) (O.contents output.new)) }
     ensures touched { ChangesOnly (IsReplacedIf (option_map (λ name. name.now) then_export.entry)) (Y.deeds rt.old) (Y.deeds rt.new) }
 {
-    let AnsweredUnion { answered, union } = join_open::<_, S, T, L, P, _, _, _>(
-        rt,
-        present,
-        ledger,
-        then_export,
-        names,
-        output,
-        errors,
-    );
+    let AnsweredUnion { answered, union } = join_open::<
+        _,
+        FileStore<FileFrom<S>>,
+        T,
+        L,
+        P,
+        _,
+        _,
+        _,
+    >(rt, present, ledger, then_export, names, output, errors);
     close_union(union, answered)
 }
 
@@ -274,7 +274,7 @@ fn join_over<
 pub fn join_open<
     'a,
     Y: System,
-    S: Start,
+    S: Alter + Drop,
     T: Listed + Drop,
     L: Ledger + Drop,
     P: Past,
@@ -283,38 +283,38 @@ pub fn join_open<
     E: Write,
 >(
     rt: &mut Y,
-    present: FileKeeper<S, T>,
+    present: TableKeeper<S, T>,
     ledger: L,
     then_export: Option<&'a str>,
     names: &mut N,
     output: &mut O,
     errors: &mut E,
-) -> AnsweredUnion<'a, FilesUnion<S, T, L, P>>
+) -> AnsweredUnion<'a, TableUnion<S, T, L, P>>
     // What the printed lines acknowledge is stored and noted, and found after a crash.
-    ensures each { ⟦<FilesUnion<S, T, L, P> as Keeper>⟧.clean result.union
-        → MayOpen T.meaning over_files present.conn (L.known ledger) P.journal (L.came ledger) → L.sound ledger
+    ensures each { ⟦<TableUnion<S, T, L, P> as Keeper>⟧.clean result.union
+        → MayOpen T.meaning S.Store present.conn (L.known ledger) P.journal (L.came ledger) → L.sound ledger
         → IfOk result.answered (λ status. NamedWith
-        (HoldsNoted P.journal (journal_of T.meaning over_files present.conn) (journal_of T.meaning over_files result.union.present.conn)
-        (⟦<FilesUnion<S, T, L, P> as Keeper>⟧.sound result.union) (L.known result.union.ledger) (L.came result.union.ledger)
-        (MayLeave T.meaning over_files result.union.present.conn) (L.may_leave result.union.ledger))
+        (HoldsNoted P.journal (journal_of T.meaning S.Store present.conn) (journal_of T.meaning S.Store result.union.present.conn)
+        (⟦<TableUnion<S, T, L, P> as Keeper>⟧.sound result.union) (L.known result.union.ledger) (L.came result.union.ledger)
+        (MayLeave T.meaning S.Store result.union.present.conn) (L.may_leave result.union.ledger))
         (N.remaining names.old) status (O.contents output.old) (O.contents output.new)) }
     // ... what those acknowledge that were printed before a failure, too.
-    ensures each_failed { ⟦<FilesUnion<S, T, L, P> as Keeper>⟧.clean result.union
-        → MayOpen T.meaning over_files present.conn (L.known ledger) P.journal (L.came ledger) → L.sound ledger
+    ensures each_failed { ⟦<TableUnion<S, T, L, P> as Keeper>⟧.clean result.union
+        → MayOpen T.meaning S.Store present.conn (L.known ledger) P.journal (L.came ledger) → L.sound ledger
         → IfErr result.answered (λ _. PrintsFront
-        (HoldsNoted P.journal (journal_of T.meaning over_files present.conn) (journal_of T.meaning over_files result.union.present.conn)
-        (⟦<FilesUnion<S, T, L, P> as Keeper>⟧.sound result.union) (L.known result.union.ledger) (L.came result.union.ledger)
-        (MayLeave T.meaning over_files result.union.present.conn) (L.may_leave result.union.ledger))
+        (HoldsNoted P.journal (journal_of T.meaning S.Store present.conn) (journal_of T.meaning S.Store result.union.present.conn)
+        (⟦<TableUnion<S, T, L, P> as Keeper>⟧.sound result.union) (L.known result.union.ledger) (L.came result.union.ledger)
+        (MayLeave T.meaning S.Store result.union.present.conn) (L.may_leave result.union.ledger))
         (O.contents output.old) (O.contents output.new)) }
     // Whatever a crash leaves, a union is made of it again.
-    ensures recovers { ⟦<FilesUnion<S, T, L, P> as Keeper>⟧.clean result.union
-        → MayOpen T.meaning over_files present.conn (L.known ledger) P.journal (L.came ledger) → L.sound ledger
-        → ⟦<FilesUnion<S, T, L, P> as Keeper>⟧.leaves_journals result.union }
-    ensures made { ⟦<FilesUnion<S, T, L, P> as Keeper>⟧.clean result.union
-        → MayOpen T.meaning over_files present.conn (L.known ledger) P.journal (L.came ledger)
-        → OnOk result.answered (⟦<FilesUnion<S, T, L, P> as Keeper>⟧.made result.union) }
-    ensures before { ⟦<FilesUnion<S, T, L, P> as Keeper>⟧.sound result.union → IsSound over_files present.conn × L.sound ledger }
-    ensures clean { ⟦<FilesUnion<S, T, L, P> as Keeper>⟧.clean result.union → HasCleanDisk (file_state present.conn) × L.clean ledger }
+    ensures recovers { ⟦<TableUnion<S, T, L, P> as Keeper>⟧.clean result.union
+        → MayOpen T.meaning S.Store present.conn (L.known ledger) P.journal (L.came ledger) → L.sound ledger
+        → ⟦<TableUnion<S, T, L, P> as Keeper>⟧.leaves_journals result.union }
+    ensures made { ⟦<TableUnion<S, T, L, P> as Keeper>⟧.clean result.union
+        → MayOpen T.meaning S.Store present.conn (L.known ledger) P.journal (L.came ledger)
+        → OnOk result.answered (⟦<TableUnion<S, T, L, P> as Keeper>⟧.made result.union) }
+    ensures before { ⟦<TableUnion<S, T, L, P> as Keeper>⟧.sound result.union → IsSound S.Store present.conn × L.sound ledger }
+    ensures clean { ⟦<TableUnion<S, T, L, P> as Keeper>⟧.clean result.union → HasCleanDisk (state S.Store present.conn) × L.clean ledger }
     ensures printed { IfOk result.answered (λ status. PrintsNamed (N.remaining names.old) status (O.contents output.old) (O.contents output.new)) }
     ensures quiet { IfOk result.answered (λ status. status ≡ Status.Success → KeepsBytes (E.contents errors.old) (E.contents errors.new)) }
     ensures failed { IfErr result.answered UnionStopsBy }
@@ -322,16 +322,12 @@ pub fn join_open<
         → KeepsBytes (O.contents output.old) (O.contents output.new)) }
     ensures touched { ChangesOnly (IsReplacedIf (option_map (λ name. name.now) then_export.entry)) (Y.deeds rt.old) (Y.deeds rt.new) }
 {
-    let OpenedUnion { mut union, opened } = open_union::<FileStore<FileFrom<S>>, T, L, P>(
-        rt.alloc(),
-        present,
-        ledger,
-    );
+    let OpenedUnion { mut union, opened } = open_union::<S, T, L, P>(rt.alloc(), present, ledger);
     match opened {
         Ok(()) => {
             let lines = NameLines::MachinesAndUploads;
             let answered = answer_names(rt, &mut union, names, lines, output, errors);
-            let done = export_files_after(rt, &mut union.present, answered, then_export);
+            let done = export_after(rt, &mut union.present, answered, then_export);
             AnsweredUnion {
                 answered: done,
                 union,

@@ -23,7 +23,7 @@ pub use collecting::{collect, collect_deliveries};
 pub use database::{FileKeeper, Opened, OpenedFiles, open_or_make};
 pub use health::{Examined, Health, check};
 pub use inspecting::inspect;
-pub use into_union::{FilesUnion, collect_into_union, join_open};
+pub use into_union::{collect_into_union, join_open};
 pub use listed::collect_listed;
 pub use listing::{export, show};
 pub use migrating::migrate;

@@ -6,12 +6,23 @@ use Rattle.jc_base.specs.Journal.{Journal}
 use Rattle.jc_base.specs.LogEntry.{LogEntry}
 use Rattle.jc_collect.specs.Each.{HoldsEach, KeepsEach, NoneAcknowledged, StoresEach, held}
 use Rattle.jc_collect.specs.EachLaws.{holds_refused}
+use Rattle.jc_keeper.specs.declared.keeper.KeepStop.TheVariants as keep
 use Rattle.jc_ledger.specs.Kept.{ComesToo, IsKept}
 use Rattle.jc_ledger.specs.Known.{Known}
 use Rattle.jc_ledger.specs.Lagging.{LeaveLagging, MayCatchUp}
 use Rattle.jc_ledger.specs.Union.{union}
 use Rattle.jc_upload.specs.declared.answer.Answer.{Answer}
-use Rattle.jc_union.specs.Noted.{HoldsNoted}
+use Rattle.jc_union.specs.declared.opening.OpenStop.{OpenStop}
+use Rattle.jc_union.specs.declared.opening.OpenStop.TheVariants as stop
+use Rattle.jc_union.specs.Noted.{HoldsNoted, WhyNoUnion, failure_of}
+
+-- whatever stops an opening, a command can say so
+pub no_union : (why : OpenStop) → WhyNoUnion (failure_of why)
+no_union (stop.Stopped keep.OutOfMemory) = tt
+no_union (stop.Stopped keep.StoreFailed) = tt
+no_union (stop.Stopped keep.ReadFailed) = tt
+no_union (stop.Differs index) = tt
+no_union (stop.Faulty fault) = tt
 
 -- what is known alike lags alike
 pub alike : {known : Known} {past now : Journal} {came : LogEntry → Type 0} → MayCatchUp known past now came → (found : Known) → ((k : Key) → found k ≡ known k)

@@ -1,8 +1,8 @@
 -- The keeper has the journal that the files had, or the empty one if they had none.
-use Rattle.std.proofs.Common.{inl, true≢false, sym, ◌∙◌}
+use Rattle.std.proofs.Common.{inl, inr, true≢false, sym, ◌∙◌}
 use Rattle.sqlite.specs.WalFiles.{image_at}
 use Rattle.jc_collector.proofs.Causes.{no_tables}
-use Rattle.jc_collector.proofs.Found.{found_adopted, found_made, one_adopted, one_made}
+use Rattle.jc_collector.proofs.Found.{found_adopted, found_made, one_adopted, one_made, shown_adopted}
 use Rattle.jc_collector.proofs.Results.{IfErr-each, IfOk-each, if_some_each}
 use Rattle.jc_collector.proofs.BeginAgain.{as_before, unmade}
 use Rattle.jc_collector.proofs.database.open_or_make.Goals as goal
@@ -28,6 +28,15 @@ returns-then-is_empty-clause-one g c =
 pub returns-else-is_empty-clause-one : goal.returns-else-is_empty-clause-one
 returns-else-is_empty-clause-one g c =
     IfOk-each c.adopt.result _ _ (λ opened adopted. one_adopted (image_at g.S.Start) c.in-Ok.conn c.in-Ok.ensures.found opened adopted) c.adopt.ensures.adopted
+
+pub returns-then-is_empty-clause-shown : goal.returns-then-is_empty-clause-shown
+returns-then-is_empty-clause-shown g c =
+    IfOk-each c.make.result _ _ (λ opened made sound. inl (record { made = made.made; empty = made.empty sound })) c.make.ensures.made
+
+pub returns-else-is_empty-clause-shown : goal.returns-else-is_empty-clause-shown
+returns-else-is_empty-clause-shown g c =
+    IfOk-each c.adopt.result _ _
+    (λ opened adopted sound. inr (shown_adopted (image_at g.S.Start) c.in-Ok.conn c.in-Ok.ensures.found opened adopted sound)) c.adopt.ensures.adopted
 
 pub returns-then-is_empty-clause-failed : goal.returns-then-is_empty-clause-failed
 returns-then-is_empty-clause-failed g c = IfErr-each c.make.result _ _ (λ unopened. no_tables c.args.path.now unopened.failure) c.make.ensures.failed

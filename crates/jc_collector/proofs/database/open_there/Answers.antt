@@ -2,7 +2,7 @@
 use Rattle.std.proofs.Common.{inl}
 use Rattle.sqlite.specs.WalFiles.{image_at}
 use Rattle.jc_collector.proofs.Causes.{no_tables}
-use Rattle.jc_collector.proofs.Found.{found_adopted, one_adopted}
+use Rattle.jc_collector.proofs.Found.{found_adopted, one_adopted, shown_adopted}
 use Rattle.jc_collector.proofs.Results.{IfErr-each, IfOk-each, if_some_each}
 use Rattle.jc_collector.proofs.database.open_there.Goals as goal
 
@@ -18,6 +18,11 @@ returns-clause-failed g c = IfErr-each c.adopt.result _ _ (λ unopened. no_table
 pub returns-clause-one : goal.returns-clause-one
 returns-clause-one g c =
     IfOk-each c.adopt.result _ _ (λ opened adopted. one_adopted (image_at g.S.Start) c.in_ok-conn.conn c.in_ok-conn.ensures.found opened adopted) c.adopt.ensures.adopted
+
+pub returns-clause-shown : goal.returns-clause-shown
+returns-clause-shown g c =
+    IfOk-each c.adopt.result _ _
+    (λ opened adopted. shown_adopted (image_at g.S.Start) c.in_ok-conn.conn c.in_ok-conn.ensures.found opened adopted) c.adopt.ensures.adopted
 
 pub returns-clause-crash : goal.returns-clause-crash
 returns-clause-crash g c =

@@ -1,9 +1,10 @@
 -- What the printed lines acknowledge stands in the union, and in what a crash leaves of it.
+use Rattle.std.proofs.Common.{inl}
 use Rattle.std.specs.Prelude.{⊤}
 use Rattle.jc_ledger.specs.Kept.{NoneCollide}
 use Rattle.jc_store.specs.Crash.{MayLeave}
 use Rattle.jc_store.specs.Meaning.{IsSound, journal_of}
-use Rattle.jc_union.specs.HoldingLaws.{holds_noted, holds_nothing}
+use Rattle.jc_union.specs.HoldingLaws.{holds_noted, holds_nothing, no_union}
 use Rattle.jc_union.proofs.Printed.{front_none, front_other, with_other}
 use Rattle.jc_union.proofs.Results.{at_success, if_err_each, if_ok_each, on_success}
 use Rattle.jc_union.proofs.collecting.answer_noted.Goals as goal
@@ -83,3 +84,6 @@ returns-in-Err-clause-each_failed g c = λ clean may l_sound.
 
 pub returns-in-Err-clause-before : goal.returns-in-Err-clause-before
 returns-in-Err-clause-before g c = λ sound. (c.open_union-union.ensures.before sound.0, c.open_union-union.ensures.ledger sound.1.0)
+
+pub returns-in-Err-clause-failed : goal.returns-in-Err-clause-failed
+returns-in-Err-clause-failed g c = rw c.why_no_union.ensures (inl (no_union c.in-Err.stop))
