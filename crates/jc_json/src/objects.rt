@@ -18,8 +18,14 @@ use std::{io, str};
 #[derive(Drop)]
 pub struct Objects<W: Write + Drop> {
     inner: W,
-    lines: Option<Lines>,
+    telling: Option<Telling>,
+}
+
+/// Lines that are told as objects.
+#[derive(Drop)]
+struct Telling {
     alloc: Global,
+    lines: Lines,
     /// The line that has begun.
     begun: Vec<u8>,
     has_memory: bool,
@@ -27,34 +33,68 @@ pub struct Objects<W: Write + Drop> {
 
 impl<W: Write + Drop> Objects<W> {
     pub fn new(alloc: Global, lines: Option<Lines>, inner: W) -> Objects<W>
-        ensures inner { result.inner ≡ inner }
-        ensures lines { result.lines ≡ lines }
+        ensures passed { ⟦<Objects<W> as Write>⟧.contents result ≡ passed lines (W.contents inner) }
+    {
+        let telling = match lines {
+            Some(lines) => Some(Telling::new(alloc, lines)),
+            None => None,
+        };
+        Objects { inner, telling }
+    }
+
+    /// Passes on what has begun and has no end, and says whether memory was refused. If no objects are asked for, nothing
+    /// has.
+    pub fn end(&mut self) -> Result<(), Failure<'static>>
+        ensures kept { OnOk result (Keeps (⟦<Objects<W> as Write>⟧.contents self.old) (⟦<Objects<W> as Write>⟧.contents self.new)) }
+        ensures failed { IfErr result (λ failure. (failure ≡ Failure.WriteFailed) ⊎ (failure ≡ Failure.OutOfMemory)) }
+    {
+        let Some(telling) = &mut self.telling else {
+            return printed(Ok(()), &mut self.inner);
+        };
+        if !telling.has_memory {
+            return Err(Failure::OutOfMemory);
+        }
+        let written = self.inner.write_all(&telling.begun);
+        telling.begun.clear();
+        printed(written, &mut self.inner)
+    }
+}
+
+impl<W: Write + Drop> Write for Objects<W> {
+    ghost contents = { λ s. passed s.telling (W.contents s.inner) };
+
+    fn write(&mut self, buf: &[u8]) -> io::Result<usize> {
+        let Some(telling) = &mut self.telling else {
+            return self.inner.write(buf);
+        };
+        let (length, ends) = match buf.iter().position(|byte| *byte == b'\n') {
+            Some(at) => (at + 1, true),
+            None => (buf.len(), false),
+        };
+        telling.take(&buf[..length], ends, &mut self.inner)?;
+        Ok(length)
+    }
+
+    fn flush(&mut self) -> io::Result<()> {
+        self.inner.flush()
+    }
+}
+
+impl Telling {
+    fn new(alloc: Global, lines: Lines) -> Telling
         ensures begun { result.begun.items ≡ [] }
         ensures has_memory { result.has_memory ≡ true }
     {
-        Objects {
-            inner,
-            lines,
+        Telling {
             alloc,
+            lines,
             begun: Vec::new(alloc),
             has_memory: true,
         }
     }
 
-    /// Passes on what has begun and has no end, and says whether memory was refused.
-    pub fn end(&mut self) -> Result<(), Failure<'static>>
-        ensures { IfErr result (λ failure. (failure ≡ Failure.WriteFailed) ⊎ (failure ≡ Failure.OutOfMemory)) }
-    {
-        if !self.has_memory {
-            return Err(Failure::OutOfMemory);
-        }
-        let written = self.inner.write_all(&self.begun);
-        self.begun.clear();
-        printed(written, &mut self.inner)
-    }
-
     /// Takes bytes up to the end of a line, with which the line is passed on.
-    fn take(&mut self, lines: Lines, piece: &[u8], ends: bool) -> io::Result<()> {
+    fn take<W: Write>(&mut self, piece: &[u8], ends: bool, inner: &mut W) -> io::Result<()> {
         if !self.has_memory {
             return Ok(());
         }
@@ -62,41 +102,21 @@ impl<W: Write + Drop> Objects<W> {
             self.has_memory = false;
             return Ok(());
         }
-        if ends { self.pass_on(lines) } else { Ok(()) }
+        if ends { self.pass_on(inner) } else { Ok(()) }
     }
 
     /// Passes on the line that has come to its end.
-    fn pass_on(&mut self, lines: Lines) -> io::Result<()> {
-        match told_for(self.alloc, lines, self.begun.as_slice()) {
+    fn pass_on<W: Write>(&mut self, inner: &mut W) -> io::Result<()> {
+        match told_for(self.alloc, self.lines, self.begun.as_slice()) {
             Ok(told) => {
                 self.begun.clear();
-                self.inner.write_all(&told)
+                inner.write_all(&told)
             }
             Err(_) => {
                 self.has_memory = false;
                 Ok(())
             }
         }
-    }
-}
-
-impl<W: Write + Drop> Write for Objects<W> {
-    ghost contents = { λ s. passed s.lines (W.contents s.inner) };
-
-    fn write(&mut self, buf: &[u8]) -> io::Result<usize> {
-        let Some(lines) = self.lines else {
-            return self.inner.write(buf);
-        };
-        let (length, ends) = match buf.iter().position(|byte| *byte == b'\n') {
-            Some(at) => (at + 1, true),
-            None => (buf.len(), false),
-        };
-        self.take(lines, &buf[..length], ends)?;
-        Ok(length)
-    }
-
-    fn flush(&mut self) -> io::Result<()> {
-        self.inner.flush()
     }
 }
 
