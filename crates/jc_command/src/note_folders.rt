@@ -23,7 +23,8 @@ pub trait NoteFolders<S: Begun>: Sized + Drop {
     /// The notes of one folder.
     type Notes: Ledger + Drop;
 
-    /// Opens the folder at `path`, or makes it. What is noted in it stays there.
+    /// Opens the folder at `path`, or makes it. What is noted in it stays there. It fails with `CannotOpen` if there is
+    /// none and none can be made that stays, and with `OutOfMemory`. Whether files in it can be read isn't seen yet.
     fn open<'p>(self, path: &'p str) -> Result<Self::Notes, Failure<'p>>
         ensures sound { IfOk result (λ notes. Self.Notes.sound notes) }
         // What is noted at first is what the files have as they are opened, and so is whom sequences belong to.

@@ -136,7 +136,7 @@ pub fn command<'a, Y: Databases, S: Start + Begun, I: Read, O: Write, E: Write>(
 /// Does what the arguments ask for. The first argument is the program's name.
 ///
 /// What is asked for goes to `output`. A failure, or what is wrong with the arguments, goes to `errors`. With status 3
-/// something failed, and no clause says what went to either. `input` has the answers for `ack`, and for `collect` the
+/// something failed: no clause says what went to `errors` then, and of `output` one does if files come back. `input` has the answers for `ack`, and for `collect` the
 /// upload if none is named, or their names if the list is `-`. `start` stands for what a database's files hold as they are
 /// opened, and those of sequences, and the files that come back are those. `folders` opens the notes of sequences.
 pub fn run_command<Y: Databases, S: Start + Begun, N: NoteFolders<S>, I: Read, O: Write, E: Write>(
