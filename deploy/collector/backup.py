@@ -195,7 +195,7 @@ def restore(folder: str) -> int:
     except state.Damaged as error:
         tell(f"collect-incoming: {error}; nothing was changed")
         return 1
-    put = sum(restore_database(name, digest, folder) for name, digest in sorted(backup.databases.items()))
+    put = [name for name, digest in sorted(backup.databases.items()) if restore_database(name, digest, folder)]
     machines = os.path.join(folder, backup.state, "sources")
     known = 0
     for machine in files.names(machines):
@@ -204,8 +204,9 @@ def restore(folder: str) -> int:
             known += sum(restore_source(machine, name, machines) for name in names)
     if not os.path.lexists(kept.PATH) and state.is_file(os.path.join(folder, backup.state, kept.PATH)):
         copy_file(os.path.join(folder, backup.state, kept.PATH), kept.PATH)
+    kept.note_settled(frozenset(put))
     made = time.strftime("%Y-%m-%d %H:%M:%S UTC", time.gmtime(backup.made))
-    report(0, f"put back as of {made}: {put} of {len(backup.databases)} databases, and what was known of {known} "
+    report(0, f"put back as of {made}: {len(put)} of {len(backup.databases)} databases, and what was known of {known} "
            "sources")
     notes.begin_anew(forgets=False)
     owners.put_back(os.path.join(folder, backup.state, owners.NAME))

@@ -7,7 +7,7 @@ import time
 
 from shared import files
 
-from . import aside, costs, databases, noted, program, shares, spool, storing
+from . import aside, costs, databases, kept, noted, program, shares, spool, storing
 from .answer import NO_MEMORY, UNREAD
 from .collecting import Collecting
 from .holding import Holding
@@ -51,9 +51,10 @@ class Shared:
         self.holding = Holding()
 
     def reserve(self) -> str:
-        """A name for a database that nobody else uses."""
+        """A name for a database that nobody else uses, and that isn't noted as gone."""
+        gone = kept.names_gone()
         with self.lock:
-            name = databases.reserve(self.settings, self.in_use)
+            name = databases.reserve(self.settings, self.in_use | gone)
             self.in_use.add(name)
             return name
 

@@ -91,8 +91,13 @@ def passed(_: Settings, days: str) -> int:
     return retention.passed(int(days))
 
 
-def moved(_: Settings, name: str) -> int:
-    """A person has moved a database away, or is about to; the status."""
+def moved(_: Settings, word: str) -> int:
+    """A person has moved a database away, or is about to; the status. He may give the name of its file."""
+    known = missing.known_names()
+    name = word if word in known else word.removesuffix(".db")
+    if name not in known:
+        tell(f"collect-incoming: nothing is known of the database {word}; nothing was changed")
+        return 1
     kept.note_gone([name])
     return 0
 

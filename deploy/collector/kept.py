@@ -4,8 +4,10 @@
     age DAYS BOOT RUNNING WALL UNCOUNTED TOLD       the age, what the clocks said then, days that weren't counted
     open NAME                                       the database was in use, or wasn't finished
     closed DAYS NAME                                it was closed at this age, or before
-    gone NAME                                       it was deleted since its days were over, or a person moved it away
+    gone NAME                                       it is deleted since its days are over, or a person moves it away
     sum SUM                                         the sum of all lines before it
+
+One that is said to be gone may be there for a while yet. Until it isn't, its days count, and both of its lines stay.
 
 All of it is in one file, so no part of it can be older than the rest. Earlier versions had `age`, which went by other
 clocks too, and a `kept` without it.
@@ -79,9 +81,8 @@ def parsed(lines: list[str]) -> Kept:
 
 def read() -> Kept:
     """What was noted. If nothing was, or it isn't right, nothing is known of databases."""
-    kept, gone = read_file(), databases.names_gone()
-    return kept._replace(databases={name: days for name, days in kept.databases.items() if name not in gone},
-                         gone=kept.gone | gone)
+    kept = read_file()
+    return kept._replace(gone=kept.gone | databases.names_gone())
 
 
 def read_file() -> Kept:
@@ -135,19 +136,26 @@ def write(kept: Kept) -> bool:
     return True
 
 
+def names_gone() -> frozenset[str]:
+    """The databases that go from here with right, of which some may still be there."""
+    with locked():
+        return read().gone
+
+
 def note_gone(names: list[str]) -> None:
     """Databases go from here with right, so nobody misses them. Fails if that can't be noted."""
     with locked():
         kept = read()
-        files.replace(PATH, text(kept._replace(
-            databases={name: days for name, days in kept.databases.items() if name not in names},
-            gone=kept.gone | set(names))))
+        files.replace(PATH, text(kept._replace(gone=kept.gone | set(names))))
 
 
-def note_settled() -> None:
-    """Nothing names those that are gone any more."""
+def note_settled(names: frozenset[str]) -> None:
+    """Of these databases, those that are gone with right aren't noted any more: nothing names them, or they are put
+    back."""
     with locked():
         kept = read()
-        if kept.gone and write(kept._replace(gone=frozenset())):
-            for name in databases.names_gone():
+        settled = kept.gone & names
+        noted = {name: days for name, days in kept.databases.items() if name not in settled}
+        if settled and write(kept._replace(databases=noted, gone=kept.gone - settled)):
+            for name in databases.names_gone() & settled:
                 files.remove(databases.gone_of(name))

@@ -15,8 +15,7 @@ def look() -> None:
     there = set(databases.all_names())
     with kept.locked():
         noted = kept.read()
-    wanted = {name for name, closed in noted.databases.items() if closed is not None}
-    wanted |= {known.database for _, _, known in notes.sources() if known.database}
+    wanted = {name for name, closed in noted.databases.items() if closed is not None} | named_by_sources()
     missing = wanted - there - noted.gone
     for name in sorted(missing):
         report(1, f"{databases.path_of(name)} is missing, and wasn't deleted here: what it had {AGAIN}")
@@ -24,14 +23,28 @@ def look() -> None:
         notes.begin_anew(forgets=True)
         notes.forget_answers()
         kept.note_gone(sorted(missing))
-    settle(noted.gone | missing)
+    settle()
 
 
-def settle(gone: frozenset[str]) -> None:
-    """Nothing names databases any more that are gone."""
+def named_by_sources() -> set[str]:
+    """The databases that had the last new entries of some source."""
+    return {known.database for _, _, known in notes.sources() if known.database}
+
+
+def settle() -> None:
+    """Nothing names databases any more that are gone. One that a person says that he moves away may be there yet: that
+    it goes with right stays noted until it isn't."""
+    gone = kept.names_gone() - set(databases.all_names())
     if gone:
         notes.forget_databases(gone)
-        kept.note_settled()
+        kept.note_settled(gone)
+
+
+def known_names() -> set[str]:
+    """The databases that are there, and those that something names."""
+    with kept.locked():
+        noted = kept.read()
+    return {*databases.all_names(), *noted.databases, *noted.gone, *named_by_sources()}
 
 
 def is_short(name: str, entries: int) -> bool:

@@ -146,7 +146,7 @@ def round_of(shared: collector.Shared) -> None:
         missing.look()
     with files.locked_now(BACKUP) as is_free:
         if is_free:
-            delete_old(shared.settings, {name: days for name, days in closed.items() if name in there}, noted)
+            delete_old(shared.settings, {name: days for name, days in closed.items() if name in there}, noted.age.days)
     expire_sources(noted.age.days, shared.settings)
     expire_notes(shared, noted.age.days)
 
@@ -162,14 +162,10 @@ def expire_notes(shared: collector.Shared, age: float) -> None:
             shared.notes_day = int(age)
 
 
-def delete_old(settings: Settings, closed: dict[str, float], noted: Kept) -> None:
+def delete_old(settings: Settings, closed: dict[str, float], age: float) -> None:
     """Deletes the databases whose days are over, or for which there is no room."""
-    age = noted.age.days
     delete(due(closed, age - settings.keep_days), closed, age, "")
     if settings.delete_oldest and files.free_bytes() <= settings.free_bytes:
         finished = {name: days for name, days in closed.items() if databases.is_finished(name)}
         make_room(finished, age, settings.free_bytes)
-    # What a person says that he moves away may be there yet.
-    gone = (noted.gone | frozenset(closed)) - frozenset(databases.all_names())
-    if gone:
-        missing.settle(gone)
+    missing.settle()

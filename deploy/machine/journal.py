@@ -86,7 +86,7 @@ def named_in(said: str) -> list[JournalFile]:
 @dataclass
 class Listing:
     """The journal's files. `unreadable` are those that are there, and that journalctl can't read; if it complained of
-    others, the list isn't whole."""
+    others, or was ended before it had named all, the list isn't whole."""
     files: list[JournalFile]
     unreadable: set[str]
     is_whole: bool
@@ -142,9 +142,12 @@ class Journal:
 
     def files(self) -> Listing:
         """The files that journalctl can read, and what it says of others."""
-        _, headers, errors = processes.run(["journalctl", *self.options, "--quiet", "--header"], held=[self.lock])
+        command = ["journalctl", *self.options, "--quiet", "--header"]
+        status, headers, errors = processes.run(command, held=[self.lock])
         found: dict[str, JournalFile] = {}
         said = errors.decode(errors="surrogateescape")
+        if status < 0:
+            said += f"journalctl was ended by signal {-status}\n"
         for line in headers.decode(errors="surrogateescape").splitlines():
             if line.startswith("File path: "):
                 file, fault = look_at(line[len("File path: "):])
@@ -155,7 +158,7 @@ class Journal:
         named = named_in(said) if said else []
         unreadable = {file.file_id for file in named}
         files = sorted(found.values(), key=lambda file: (file.head_realtime, file.seqnum_id, file.head))
-        return Listing(files, unreadable, not said or bool(named), said)
+        return Listing(files, unreadable, status >= 0 and (not said or bool(named)), said)
 
     def open(self, file: JournalFile) -> Optional[int]:
         """A handle of the file if it is still under its name. What its header says may have become more."""

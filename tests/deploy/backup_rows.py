@@ -186,6 +186,25 @@ def damaged_and_set_aside(row: Row, case: Case) -> None:
 
 
 @ROWS.once
+def put_back_after_a_move(row: Row, case: Case) -> None:
+    """A database that a person moved away is put back before the service has had a look: it is missed when it is
+    lost after that."""
+    case.set(DATABASE_NAME="d")
+    case.store(upload(entries(1, 5)))
+    case.collect("--backup", f"{case.base}/backup")
+    row.expect("told", case.collect("--moved", "d"), (0, ""))
+    for path in glob.glob(case.path("databases", "*")):
+        os.unlink(path)
+    status, said = case.collect("--restore", f"{case.base}/backup")
+    row.expect("put back", (status, "1 of 1 databases" in said, case.numbers()), (0, True, [1, 2, 3, 4, 5]))
+    row.expect("a run", case.collect(), (0, ""))
+    for path in glob.glob(case.path("databases", "*")):
+        os.unlink(path)
+    status, said = case.collect()
+    row.expect("missing", (status, "databases/d.db is missing" in said, case.answers()), (1, True, []))
+
+
+@ROWS.once
 def over_newer_state(row: Row, case: Case) -> None:
     """Nothing that is whole is replaced; what is missing or damaged is put back, and nothing is stored twice."""
     case.set(DATABASE_NAME="d")

@@ -97,6 +97,33 @@ def stopped_journalctl(row: Row, machine: Machine) -> None:
 
 
 @ROWS.each
+def killed_journalctl(row: Row, machine: Machine) -> None:
+    """journalctl is killed once it has named one of three files, and has said nothing else. That is told, once; no
+    place is forgotten, and the next run gathers nothing a second time."""
+    for _ in range(2):
+        machine.journal.grow(4)
+        machine.journal.rotate()
+    machine.journal.grow(4)
+    row.expect("before", machine.send(), (0, ""))
+    machine.answers(machine.collect())
+    before = places_of(machine)
+    row.expect("places", len(before), 3)
+    status, said = machine.send(KILLED="1")
+    row.expect("status", (status, "journalctl was ended by signal 9\n" in said, "a gap" in said), (1, True, False))
+    row.expect("once", machine.send(KILLED="1"), (0, ""))
+    row.expect("places afterwards", places_of(machine), before)
+    row.expect("the next run", machine.send(), (0, ""))
+    row.all_stored(machine)
+    row.expect("what came", sum(1 for _ in machine.entries_sent()), 12)
+
+
+def places_of(machine: Machine) -> list[str]:
+    """How far each of the journal's files was gathered."""
+    with open(f"{machine.folder}/gathered", encoding="ascii") as file:
+        return [line for line in file if line.startswith("file ")]
+
+
+@ROWS.each
 def clock_behind(row: Row, machine: Machine) -> None:
     """A new sequence whose clock is behind."""
     machine.journal.grow(5)

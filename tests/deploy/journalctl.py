@@ -13,6 +13,7 @@ of the real one:
 - It opens no file that is removed, also if it is handed over open. Once it has it open it reads on.
 - `--since` takes `@SECONDS`, `today` and `-HOURSh`, by the clock of this machine or by NOW.
 - GROWS is a command that is run once it has looked at its first file, so that journals grow while it opens others.
+- KILLED is of how many files it prints headers before it is killed, as by a kernel that is out of memory.
 """
 from __future__ import annotations
 
@@ -20,6 +21,7 @@ import glob
 import io
 import os
 import re
+import signal
 import subprocess
 import sys
 import time
@@ -229,8 +231,10 @@ def main() -> int:
     check_options()
     files = read_files()
     if "header" in OPTIONS:
-        for file in files:
+        for number, file in enumerate(files, 1):
             print(f"File path: {file.path}\nFile ID: -\n", flush=True)
+            if os.environ.get("KILLED") == str(number):
+                os.kill(os.getpid(), signal.SIGKILL)
         return 0
     entries, passed = shown_entries(files)
     entries = entries[:int(OPTIONS.get("lines", len(entries)))]

@@ -10,6 +10,7 @@ import shutil
 import subprocess
 import sys
 import time
+from collections.abc import Callable
 
 from collector_case import DAY, SOURCE, Case, entries, tried, upload
 from forked import STOP_AT
@@ -113,10 +114,47 @@ def no_room_for_files(row: Row, case: Case) -> None:
 
 def collect_without_files(case: Case, step: int) -> str:
     """A run that can make no file from this step on; what it said."""
+    return stopped_run(case, step, FILES="no")[1]
+
+
+def stopped_run(case: Case, step: int, **more: str) -> tuple[int, str]:
+    """A run that is killed before this step; its status, and what it said."""
     words = [*STOP_AT, f"{case.library}/collect-incoming", "--once", case.conf]
-    told = subprocess.run(words, env={**case.environment(), "FILES": "no", "STOP_AT": str(step)}, capture_output=True,
+    told = subprocess.run(words, env={**case.environment(), "STOP_AT": str(step), **more}, capture_output=True,
                           check=False, timeout=600)
-    return told.stderr.decode()
+    return told.returncode, told.stderr.decode()
+
+
+@ROWS.once
+def stopped_while_it_deletes(row: Row, case: Case) -> None:
+    """A run in which a database goes whose days are over is killed at some step: nobody misses it, what it had isn't
+    stored again, and what is left of it goes, no later than after as many days."""
+    case.set(KEEP_DAYS=3, DATABASE_NAME="d")
+    given, step, status = upload(entries(1, 5)), 1, -9
+    case.store(given)
+    case.later(days=3.1)
+    case.keep("before")
+    while status < 0:
+        step += 4
+        case.put_back("before")
+        status, _ = stopped_run(case, step)
+        expect_gone_later(row, case, f"step {step}", given)
+    # a full disk had no room to note it, and a file of the database says that it is gone
+    case.put_back("before")
+    os.rename(case.path("databases", "d.db.sha256"), case.path("gone-d"))
+    expect_gone_later(row, case, "the file", given)
+
+
+def expect_gone_later(row: Row, case: Case, what: str, given: bytes) -> None:
+    """A database that was begun to be deleted goes when its days are over once more, at the latest."""
+    before = case.wall, case.running
+    row.expect(f"{what}: the next run", case.collect()[1].count("missing"), 0)
+    case.later(days=3.1)
+    row.expect(f"{what}: later", (case.collect()[1].count("missing"), case.names()), (0, []))
+    case.store(given)
+    row.expect(f"{what}: it comes again", case.names(), [])
+    row.expect(f"{what}: what is left", [name for name in os.listdir(case.folder) if name.startswith("gone-")], [])
+    case.wall, case.running = before
 
 
 @ROWS.once
@@ -196,11 +234,112 @@ def deleted_and_moved_databases(row: Row, case: Case) -> None:
     row.expect("not missed", case.collect(), (0, ""))
     case.store(upload(entries(6, 9), start=5))
     row.expect("told", case.collect("--moved", "d"), (0, ""))
-    for path in glob.glob(case.path("databases", "d.*")):
-        os.rename(path, f"{case.base}/{os.path.basename(path)}")
+    move_away(case, "d")
     row.expect("moved away", case.collect(), (0, ""))
     case.store(upload(entries(1, 9)))
     row.expect("still acknowledged", (case.answers()[0], case.numbers()), (f"ack {SOURCE} 0 9 0 0", []))
+
+
+def move_away(case: Case, name: str) -> None:
+    """A person moves a database with all its files away."""
+    for path in glob.glob(case.path("databases", f"{name}.*")):
+        os.rename(path, f"{case.base}/{os.path.basename(path)}")
+
+
+# What the service does every ten minutes, without what it does as it starts.
+ROUND = ("import sys; sys.path.insert(0, sys.argv[1]); from collector import collector, report, retention, settings; "
+         "chosen = settings.read(sys.argv[2]); settings.enter(chosen); "
+         "retention.round_of(collector.Shared(chosen, [])); sys.exit(report.status())")
+
+
+def round_of(case: Case) -> tuple[int, str]:
+    """A round of the service; the status, and what it said."""
+    told = subprocess.run([sys.executable, "-BS", "-c", ROUND, case.library, case.conf], env=case.environment(),
+                          capture_output=True, check=False, timeout=600)
+    return told.returncode, told.stderr.decode()
+
+
+def expect_not_missed(row: Row, case: Case, what: Callable[[Case], tuple[int, str]], given: bytes, ack: str) -> None:
+    """Nobody misses a database that was moved away: in three rounds or runs nothing is said, and what it had is
+    acknowledged, and not stored again."""
+    for number in (1, 2, 3):
+        row.expect(f"{number} after the move", what(case), (0, ""))
+    case.store(given)
+    row.expect("still acknowledged", (case.answers()[0], case.numbers()), (ack, []))
+
+
+@ROWS.once
+def round_before_a_move(row: Row, case: Case) -> None:
+    """A round of the service comes after a person said that he moves a database away, and before he has: nobody misses
+    it afterwards."""
+    case.set(DATABASE_NAME="d")
+    case.store(upload(entries(1, 5)))
+    row.expect("told", case.collect("--moved", "d"), (0, ""))
+    row.expect("before the move", round_of(case), (0, ""))
+    move_away(case, "d")
+    expect_not_missed(row, case, round_of, upload(entries(1, 5)), f"ack {SOURCE} 0 5 0 0")
+
+
+@ROWS.once
+def another_goes_before_a_move(row: Row, case: Case) -> None:
+    """The same, and in that round another database goes, whose days are over."""
+    case.set(DATABASE_NAME="d", KEEP_DAYS=3)
+    case.store(upload(entries(1, 5)))
+    case.later(days=2)
+    case.store(upload(entries(6, 9), start=5))
+    case.later(days=1.1)
+    row.expect("told", case.collect("--moved", "d-2"), (0, ""))
+    status, said = round_of(case)
+    row.expect("before the move", (status, "deleted: databases/d.db" in said, case.names()), (0, True, ["d-2"]))
+    move_away(case, "d-2")
+    expect_not_missed(row, case, round_of, upload(entries(1, 9)), f"ack {SOURCE} 0 9 0 0")
+
+
+@ROWS.once
+def start_before_a_move(row: Row, case: Case) -> None:
+    """The service starts after a person said that he moves a database away, and before he has."""
+    case.set(DATABASE_NAME="d")
+    case.store(upload(entries(1, 5)))
+    row.expect("told", case.collect("--moved", "d"), (0, ""))
+    row.expect("before the move", case.collect(), (0, ""))
+    move_away(case, "d")
+    expect_not_missed(row, case, Case.collect, upload(entries(1, 5)), f"ack {SOURCE} 0 5 0 0")
+
+
+@ROWS.once
+def said_and_not_moved(row: Row, case: Case) -> None:
+    """A person said that he moves a database away, and doesn't: its days go on, and it goes when they are over."""
+    case.set(DATABASE_NAME="d", KEEP_DAYS=3)
+    case.store(upload(entries(1, 5)))
+    case.later(days=2)
+    row.expect("told", case.collect("--moved", "d"), (0, ""))
+    for days in (0.5, 0.4):
+        case.later(days=days)
+        row.expect("not yet", (case.collect(), case.numbers()), ((0, ""), [1, 2, 3, 4, 5]))
+    case.later(days=0.2)
+    status, said = case.collect()
+    row.expect("deleted", (status, "deleted: databases/d.db, 3.1 days" in said, case.names()), (0, True, []))
+    expect_not_missed(row, case, Case.collect, upload(entries(1, 5)), f"ack {SOURCE} 0 5 0 0")
+
+
+@ROWS.once
+def move_of_another_name(row: Row, case: Case) -> None:
+    """What is no database's name is said to be none, with a status, and changes nothing. The name of a database's file,
+    as a shell completes it, is its own."""
+    case.set(DATABASE_NAME="d")
+    case.store(upload(entries(1, 5)))
+    with open(case.path("kept"), "rb") as file:
+        before = file.read()
+    for word in ("d-2", "d-2.db", "d.db.sha256", "d.d"):
+        said = f"collect-incoming: nothing is known of the database {word}; nothing was changed\n"
+        row.expect(word, case.collect("--moved", word), (1, said))
+    with open(case.path("kept"), "rb") as file:
+        row.expect("what is noted", file.read(), before)
+    row.expect("its file", case.collect("--moved", "d.db"), (0, ""))
+    row.expect("once more", case.collect("--moved", "d"), (0, ""))
+    move_away(case, "d")
+    row.expect("when it is moved", case.collect("--moved", "d"), (0, ""))
+    expect_not_missed(row, case, Case.collect, upload(entries(1, 5)), f"ack {SOURCE} 0 5 0 0")
 
 
 @ROWS.once

@@ -112,6 +112,29 @@ def words_that_cannot_be(row: Row, case: Case) -> None:
 
 
 @ROWS.once
+def name_of_one_that_is_moved(row: Row, case: Case) -> None:
+    """The service begins a database after another one was moved away, and before it has a look at that: it has another
+    name. So it is missed when it is lost, though the other one isn't."""
+    case.set(DATABASE_NAME="d", DATABASE_SECONDS=1000)
+    case.receive(upload(entries(1, 5)))
+    service = begin(case)
+    wait_for(row, case.names)
+    service.send_signal(signal.SIGHUP)
+    wait_for(row, lambda: os.path.exists(case.path("databases", "d.db.sha256")))
+    row.expect("told", case.collect("--moved", "d"), (0, ""))
+    for path in glob.glob(case.path("databases", "d.*")):
+        os.rename(path, f"{case.base}/{os.path.basename(path)}")
+    case.receive(upload(entries(6, 9), start=5))
+    wait_for(row, case.names)
+    row.expect("names", case.names(), ["d-2"])
+    stop(row, case, service)
+    for path in glob.glob(case.path("databases", "*")):
+        os.unlink(path)
+    status, said = case.collect()
+    row.expect("missing", (status, said.count("is missing"), "databases/d-2.db is missing" in said), (1, 1, True))
+
+
+@ROWS.once
 def full_disk_is_told(row: Row, case: Case) -> None:
     """Once, with the folder and the limit; and again if it was free meanwhile. A stop isn't kept waiting."""
     case.set(FREE_BYTES=10**15)
