@@ -136,15 +136,16 @@ fn stop_over<
         → HasCleanDisk (file_state present.conn) }
     ensures touched { ChangesOnly (IsReplacedIf (option_map (λ name. name.now) then_export.entry)) (Y.deeds rt.old) (Y.deeds rt.new) }
 {
-    let AnsweredUnion { answered, union } = join_open::<_, S, T, L, P, _, _, _>(
-        rt,
-        present,
-        ledger,
-        then_export,
-        names,
-        output,
-        errors,
-    );
+    let AnsweredUnion { answered, union } = join_open::<
+        _,
+        FileStore<FileFrom<S>>,
+        T,
+        L,
+        P,
+        _,
+        _,
+        _,
+    >(rt, present, ledger, then_export, names, output, errors);
     let UnionKeeper {
         present,
         ledger,
