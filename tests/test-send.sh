@@ -5,7 +5,7 @@ set -uo pipefail
 # shellcheck source=tests/installed.sh
 . "$(dirname "$0")/installed.sh"
 
-rows deploy/gather_rows deploy/large_rows deploy/since_rows deploy/send_rows deploy/refusal_rows
+rows deploy/gather_rows deploy/broken_rows deploy/large_rows deploy/since_rows deploy/send_rows deploy/refusal_rows
 if command -v journalctl > "$folder/told"; then
     rows deploy/real_rows
 else
