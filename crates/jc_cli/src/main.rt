@@ -1,8 +1,11 @@
 //! The program `journal-collect`.
 #![tactic(auto)]
 
+ghost use Rattle.std.specs.Prelude.{◌≤◌};
+
 pub use jc_command::command;
 use jc_command_shared::{Failure, Host, Status};
+use jc_database::{OpenFromFiles, OverFiles, over_files};
 use jc_explain::{EXPLAIN, Watched, explained, take_option};
 use jc_json::{JSON, Lines, Objects, lines_of};
 use jc_progress::{Counted, Wiping, board_for};
@@ -28,7 +31,15 @@ fn run(rt: &HostRuntime, mut words: Vec<String>) -> u8 {
     let mut errors = Wiping::new(rt.stderr(), board.is_some());
     let objects = Objects::new(rt.alloc(), lines, rt.stdout());
     let mut output = Counted::new(objects, board, rt.stdout().is_terminal());
-    let status = run_into(rt, words, explains, &mut output, &mut errors);
+    let asked = Asked {
+        rt,
+        words,
+        explains,
+        output: &mut output,
+        errors: &mut errors,
+    };
+    // A commit syncs once, as under SQLite's `synchronous=FULL`.
+    let status = over_files(asked, Unknown);
     output.wipe();
     match output.inner.end() {
         // A run that has failed has said why.
@@ -43,25 +54,40 @@ fn take_lines(words: &mut Vec<String>) -> Option<Lines> {
     take_option(words, JSON).then_some(lines)
 }
 
-/// Does what the words ask for, and explains it if they ask for that too.
-fn run_into<O: Write>(
-    rt: &HostRuntime,
+/// What the words ask for, explained if they ask for that too, and where it is written.
+struct Asked<'a, O: Write> {
+    rt: &'a HostRuntime,
     words: Vec<String>,
     explains: bool,
-    output: &mut O,
-    errors: &mut Wiping<Stderr>,
-) -> u8 {
-    let input = &mut rt.reader();
-    // A commit syncs once, as under SQLite's `synchronous=FULL`.
-    let start = Unknown;
-    if !explains {
-        let mut host = Host::new(rt);
-        let folders = Folders::new(rt);
-        return command(&mut host, folders, start, words, input, output, errors);
+    output: &'a mut O,
+    errors: &'a mut Wiping<Stderr>,
+}
+
+impl<'a, O: Write> OverFiles for Asked<'a, O> {
+    type Outcome = u8;
+
+    ghost ends = { λ _ status. status ≤ 3 };
+
+    fn over<F: OpenFromFiles>(self, start: F::Start) -> u8 {
+        let Asked {
+            rt,
+            words,
+            explains,
+            output,
+            errors,
+        } = self;
+        let input = &mut rt.reader();
+        if !explains {
+            let mut host = Host::new(rt);
+            let folders = Folders::new(rt);
+            return command::<_, F, Unknown, _, _, _>(
+                &mut host, folders, start, words, input, output, errors,
+            );
+        }
+        let mut output = Watched::new(rt.alloc(), output);
+        let mut errors = Watched::new(rt.alloc(), errors);
+        explained::<F, Unknown, _, _, _>(rt, start, words, input, &mut output, &mut errors)
     }
-    let mut output = Watched::new(rt.alloc(), output);
-    let mut errors = Watched::new(rt.alloc(), errors);
-    explained(rt, start, words, input, &mut output, &mut errors)
 }
 
 /// The arguments of the command line, the program's name first.

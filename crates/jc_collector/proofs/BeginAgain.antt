@@ -2,16 +2,13 @@
 use Rattle.std.proofs.Common.{◌⊎◌, inl, inr, subst, sym}
 use Rattle.std.proofs.Math.Logic.{∥∥₁_map}
 use Rattle.std.specs.FinMap.{empty as none}
-use Rattle.sqlite_disk.specs.declared.Disk as disk
-use Rattle.sqlite.specs.declared.FileStore.{FileStore}
-use Rattle.sqlite.specs.declared.file.Leftover.{Leftover}
+use Rattle.sqlite.specs.Store.{Ghosts}
 use Rattle.sqlite.specs.Recovery.{Image}
-use Rattle.sqlite.specs.Held.{Held}
-use Rattle.sqlite.specs.Files.{file_state}
+use Rattle.sqlite.specs.Held.{Held, state}
 use Rattle.jc_base.specs.Journal.{Journal}
 use Rattle.jc_command_args.specs.declared.request.Tables.{Tables}
 use Rattle.jc_store.specs.Statements.{IsBlank}
-use Rattle.jc_database.specs.Files.{HoldsJournal}
+use Rattle.jc_database.specs.Files.{HoldsJournal, InFiles}
 use Rattle.jc_database.specs.Left.{HaveNoTables, IsFrom, LeavesAsBefore, StaysAs, StaysOrIsMade}
 use Rattle.jc_database.specs.LeftLaws.{journal_stays}
 use Rattle.jc_collector.specs.Kinds.{BeginsIn, meaning_of}
@@ -38,10 +35,10 @@ module _ (made : Tables) (before left : Image) where
   made_begun : StaysOrIsMade (meaning_of made) before left → BeginsAgain made before left
   made_begun either kind found begins = ∥∥₁_map either (λ it. begins_made it kind found begins)
 
-module _ {D : Type 0} {g : disk.Ghosts D} (made : Tables) (before : Image) (left : Leftover D g) where
-  pub as_before : LeavesAsBefore before left → LeavesBegun made before left
+module _ {S C L : Type 0} (o : InFiles S C L) (made : Tables) (before : Image) (left : L) where
+  pub as_before : LeavesAsBefore o before left → LeavesBegun o made before left
   as_before leaves clean usual image may = stays_begun made before image (leaves clean usual image may)
 
-  pub unmade : (conn : Held (FileStore D g)) → IsFrom before conn → IsBlank (file_state conn).now → LeavesUnmade made conn left
-      → LeavesBegun made before left
-  unmade conn from blank leaves clean usual image may = made_begun made before image (leaves before from blank clean usual image may)
+  pub unmade : (g : Ghosts S) (conn : Held S) → IsFrom g before conn → IsBlank (state g conn).now → LeavesUnmade g o made conn left
+      → LeavesBegun o made before left
+  unmade g conn from blank leaves clean usual image may = made_begun made before image (leaves before from blank clean usual image may)

@@ -1,20 +1,16 @@
 -- A run over a union of databases: why it fails, and what it makes of the files.
 use Rattle.std.proofs.Common.{◌≡◌, ◌⊎◌, ℕ, List, Option, inl, inr, sym, subst}
 use Rattle.std.specs.Prelude.{codes}
-use Rattle.sqlite_disk.specs.declared.Disk as disk
-use Rattle.sqlite.specs.declared.Files.{Files}
-use Rattle.sqlite.specs.declared.FileStore.{FileStore}
+use Rattle.sqlite.specs.Store.{Ghosts}
 use Rattle.sqlite.specs.Recovery.{Image}
-use Rattle.sqlite.specs.WalReads.{AreClean}
 use Rattle.sqlite.specs.Held.{Held}
-use Rattle.sqlite.specs.Files.{over_files}
 use Rattle.jc_base.specs.Journal.{Journal}
 use Rattle.jc_base.specs.LogEntry.{LogEntry}
 use Rattle.jc_command_args.specs.declared.request.Tables.{Tables}
 use Rattle.jc_command_shared.specs.declared.failure.Failure.{Failure}
 use Rattle.jc_command_shared.specs.declared.failure.Failure.TheVariants.{Bad, BadAnswer, BadDatabaseName, BadExportName, BadFieldName, BadId, BadResume, CannotOpen, OutOfMemory, ReadFailed, SourceChanged, StoreFailed, WordsAreNoText, WriteFailed}
 use Rattle.jc_command_shared.specs.declared.status.Status.{Status}
-use Rattle.jc_database.specs.Files.{EndsWith, Keeps, KeepsAlways}
+use Rattle.jc_database.specs.Files.{EndsWith, InFiles, Keeps, KeepsAlways}
 use Rattle.jc_ledger.specs.Kept.{IsKept}
 use Rattle.jc_ledger.specs.Known.{Known}
 use Rattle.jc_store.specs.Meaning.{IsSound, Meaning}
@@ -74,9 +70,9 @@ module _ (database : List ℕ) (paths : List (List ℕ)) where
 -- ---- what it makes of the files
 
 -- a step that says less
-pub leads_weaker : {D : Type 0} {g : disk.Ghosts D} (made : Tables) (image : Image) (files : Files D) (Holds : Journal → Type 0)
+pub leads_weaker : {S C L : Type 0} {o : InFiles S C L} (made : Tables) (image : Image) (files : C) (Holds : Journal → Type 0)
     (Step Other : Journal → Journal → Type 0) → ((before after : Journal) → Step before after → Other before after)
-    → LeadsIf made image g files Holds Step → LeadsIf made image g files Holds Other
+    → LeadsIf made image o files Holds Step → LeadsIf made image o files Holds Other
 leads_weaker made image files Holds Step Other each leads clean kind before begin holds =
     let it = leads clean kind before begin holds in record { found = it.found; is = each before it.found it.is; keeps = it.keeps }
 
@@ -95,17 +91,17 @@ module _ (past : Journal) (known : Known) (came : LogEntry → Type 0) (status :
 pub kept_same : {known : Known} {past one other : Journal} {came : LogEntry → Type 0} → other ≡ one → IsKept known past one came → IsKept known past other came
 kept_same {known = known} {past = past} {came = came} same kept = subst (λ (j : Journal). IsKept known past j came) (sym same) kept
 
-pub keeps_same : {D : Type 0} {g : disk.Ghosts D} (m : Meaning) (files : Files D) (one other : Journal) → one ≡ other → KeepsAlways m g files one
-    → KeepsAlways m g files other
-keeps_same {g = g} m files one other same keeps = subst (λ (j : Journal). KeepsAlways m g files j) same keeps
+pub keeps_same : {S C L : Type 0} {o : InFiles S C L} (m : Meaning) (files : C) (one other : Journal) → one ≡ other → KeepsAlways m o files one
+    → KeepsAlways m o files other
+keeps_same {o = o} m files one other same keeps = subst (λ (j : Journal). KeepsAlways m o files j) same keeps
 
 -- what was found in the files is what the run begins with
-pub leads_found : {D : Type 0} {g : disk.Ghosts D} (made mine : Tables) (image : Image) (first : Held (FileStore D g)) (files : Files D)
-    (Holds : Journal → Type 0) (Step : Journal → Journal → Type 0) → IsFoundIn made mine image first
-    → (AreClean g files.log files.db → (before : Journal) → Holds before → IsSound over_files first)
-    → (AreClean g files.log files.db → (before : Journal) → Keeps (meaning_of mine) first before → Holds before
-    → EndsWith (meaning_of mine) g files (Step before))
-    → LeadsIf made image g files Holds Step
-leads_found {g = g} made mine image first files Holds Step found sound each clean kind before begin holds =
+pub leads_found : {S C L : Type 0} {g : Ghosts S} {o : InFiles S C L} (made mine : Tables) (image : Image) (first : Held S) (files : C)
+    (Holds : Journal → Type 0) (Step : Journal → Journal → Type 0) → IsFoundIn g made mine image first
+    → (o.clean files → (before : Journal) → Holds before → IsSound g first)
+    → (o.clean files → (before : Journal) → Keeps (meaning_of mine) g first before → Holds before
+    → EndsWith (meaning_of mine) o files (Step before))
+    → LeadsIf made image o files Holds Step
+leads_found {o = o} made mine image first files Holds Step found sound each clean kind before begin holds =
     let it = (found (sound clean before holds).clean).1 kind before begin in
-    subst (λ (k : Tables). EndsWith (meaning_of k) g files (Step before)) (sym it.0) (each clean before it.1 holds)
+    subst (λ (k : Tables). EndsWith (meaning_of k) o files (Step before)) (sym it.0) (each clean before it.1 holds)

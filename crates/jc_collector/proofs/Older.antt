@@ -1,20 +1,18 @@
 -- Which tables `migrate` finds in a database, and what becomes of their journal.
 use Rattle.std.proofs.Common.{◌≡◌, ◌↔◌, inl, inr, refl, sym, ap, subst, ◌∙◌}
-use Rattle.sqlite_disk.specs.declared.Disk as disk
-use Rattle.sqlite.specs.declared.FileStore.{FileStore}
+use Rattle.sqlite.specs.Store.{Ghosts}
 use Rattle.sqlite.specs.Recovery.{Image}
 use Rattle.sqlite.specs.State.{HasCleanDisk}
-use Rattle.sqlite.specs.Held.{Held}
+use Rattle.sqlite.specs.Held.{Held, state}
 use Rattle.sqlite_tied.specs.Compute.{everything}
 use Rattle.sqlite.specs.Effect.{Database}
-use Rattle.sqlite.specs.Files.{file_state}
 use Rattle.jc_command_args.specs.declared.request.Tables.TheVariants.{ByKey}
 use Rattle.jc_store.specs.SchemaOne.{schema_one}
 use Rattle.jc_store.specs.Statements.{IsBlank}
 use Rattle.jc_schema_two.specs.Schema.{Shape, fresh, migrated, schema_two}
 use Rattle.jc_database.specs.Files.{HoldsJournal, IsFound}
 use Rattle.jc_database.specs.FilesLaws.{database_found, keeps_found}
-use Rattle.jc_collector.specs.Earlier.{Becomes, EarlierFiles, HasFields, IsEarlierFound, IsTakenFrom, Older, meaning_before, older_of, oldest, by_key}
+use Rattle.jc_collector.specs.Earlier.{Becomes, EarlierOver, HasFields, IsEarlierFound, IsTakenFrom, Older, meaning_before, older_of, oldest, by_key}
 
 -- ---- the tables of each kind
 
@@ -39,13 +37,13 @@ which_older by_key now tells by_key db journal is = refl
 
 -- ---- how a run begins
 
-pub earlier_found : {D : Type 0} {g : disk.Ghosts D} (image : Image) (opened : Held (FileStore D g)) → (HasCleanDisk (file_state opened) → IsFound image opened)
-    → (¬ IsBlank (file_state opened).now) → (taken : EarlierFiles D g) → IsTakenFrom opened taken → IsEarlierFound image taken
-earlier_found image opened found tables taken it sound kind before (inl holds) =
+pub earlier_found : {S : Type 0} {g : Ghosts S} (image : Image) (opened : Held S) → (HasCleanDisk (state g opened) → IsFound g image opened)
+    → (¬ IsBlank (state g opened).now) → (taken : EarlierOver S) → IsTakenFrom g opened taken → IsEarlierFound g image taken
+earlier_found {g = g} image opened found tables taken it sound kind before (inl holds) =
     let mine = older_of taken in
     let was = it.was_sound sound in
     let is = database_found (meaning_before kind) image opened (found was.clean) before holds in
-    let same = which_older mine (file_state opened).now it.kind kind holds.database holds.is_journal (sym is) in
+    let same = which_older mine (state g opened).now it.kind kind holds.database holds.is_journal (sym is) in
     let kept = keeps_found (meaning_before mine) image opened (found was.clean) before (subst (λ (k : Older). HoldsJournal (meaning_before k) image before) same holds) in
     (same, record { made = it.keeps.made kept.made; is = it.keeps.same was kept.made sound ∙ kept.is })
 earlier_found image opened found tables taken it sound kind before (inr nothing) =

@@ -3,14 +3,10 @@ use Rattle.std.proofs.Common.{◌≡◌, ℕ, zero, suc, ◌≤◌, ◌-◌, Lis
 use Rattle.std.specs.Prelude.{IfOk, IfErr, OnOk, ⊤}
 use Rattle.std.specs.Io.KnownBytes.{Appends}
 use Rattle.std.proofs.lemmas.List.{length-append, take_all}
-use Rattle.sqlite_disk.specs.declared.Disk as disk
-use Rattle.sqlite.specs.declared.Files.{Files}
-use Rattle.sqlite.specs.declared.FileStore.{FileStore}
+use Rattle.sqlite.specs.Store.{Ghosts}
 use Rattle.sqlite.specs.Recovery.{Image}
-use Rattle.sqlite.specs.WalReads.{AreClean}
 use Rattle.sqlite.specs.State.{HasCleanDisk}
-use Rattle.sqlite.specs.Held.{Held}
-use Rattle.sqlite.specs.Files.{file_state, over_files}
+use Rattle.sqlite.specs.Held.{Held, state}
 use Rattle.jc_base.specs.Journal.{Journal}
 use Rattle.jc_collect.specs.Crash.{KeepsAcknowledged}
 use Rattle.jc_collect.specs.Each.{HoldsEach, KeepsEach, StoresEach, held}
@@ -21,13 +17,13 @@ use Rattle.jc_collector_answers.specs.Tied.{NamedWith, PrintsFront, PrintsWith}
 use Rattle.jc_command_shared.specs.declared.failure.Failure.{Failure}
 use Rattle.jc_command_shared.specs.declared.status.Status.{Status}
 use Rattle.jc_command_args.specs.declared.request.Tables.{Tables}
-use Rattle.jc_database.specs.Files.{Keeps, KeepsAlways}
+use Rattle.jc_database.specs.Files.{InFiles, Keeps, KeepsAlways}
 use Rattle.jc_store.specs.Crash.{LeavesNoMore, MayLeave}
 use Rattle.jc_store.specs.Meaning.{AreMade, IsSound, KeepsJournal, Meaning, journal_of}
 use Rattle.jc_upload.specs.Answer.{answer_text}
 use Rattle.jc_upload.specs.declared.answer.Answer.{Answer}
 use Rattle.jc_collector.specs.Open.{CleanIn, HasKind, HoldsIn, HoldsOpen, RecoversIn}
-use Rattle.jc_collector.specs.Kinds.{LeadsIn, OpenedFiles, conn_of, journal_in, kind_of, meaning_of}
+use Rattle.jc_collector.specs.Kinds.{LeadsIn, OpenedOver, conn_of, journal_in, kind_of, meaning_of}
 use Rattle.jc_collector.specs.OverFiles.{StoresNamed, StoresPrinted}
 use Rattle.jc_collector.specs.PrintedLaws.{named_other, with_other}
 use Rattle.jc_collector.proofs.Found.{leads_kind}
@@ -116,19 +112,19 @@ all_first uploads before old new found p =
 pub clean_before : {before later : ℕ} → before ≤ later → later ≡ 0 → before ≡ 0
 clean_before less clean = omega (arith, less, clean)
 
-module _ {D : Type 0} {g : disk.Ghosts D} (m : Meaning) (first then last : Held (FileStore D g)) (before : Journal) (sound : IsSound over_files first)
-    (has : Keeps m first before) (durable : (found : Journal) → MayLeave m over_files first found → found ≡ journal_of m over_files first)
-    (made : AreMade m over_files then)
-    (back : IsSound over_files last → IsSound over_files then) (keeps : KeepsJournal m over_files then last)
-    (less : LeavesNoMore (file_state then) (file_state last)) (clean : HasCleanDisk (file_state last))
+module _ {S : Type 0} {g : Ghosts S} (m : Meaning) (first then last : Held S) (before : Journal) (sound : IsSound g first)
+    (has : Keeps m g first before) (durable : (found : Journal) → MayLeave m g first found → found ≡ journal_of m g first)
+    (made : AreMade m g then)
+    (back : IsSound g last → IsSound g then) (keeps : KeepsJournal m g then last)
+    (less : LeavesNoMore (state g then) (state g last)) (clean : HasCleanDisk (state g last))
   where
-    pub less_left : (found : Journal) → MayLeave m over_files last found → MayLeave m over_files then found
+    pub less_left : (found : Journal) → MayLeave m g last found → MayLeave m g then found
     less_left found may = record { trees = may.trees; left = less clean may.trees may.left; is = may.is }
 
     pub holds_open : (answers : List Answer)
-        → HoldsEach (held (journal_of m over_files first) (IsSound over_files first) (MayLeave m over_files first))
-        (held (journal_of m over_files then) (IsSound over_files then) (MayLeave m over_files then)) answers
-        → HoldsOpen m last before answers
+        → HoldsEach (held (journal_of m g first) (IsSound g first) (MayLeave m g first))
+        (held (journal_of m g then) (IsSound g then) (MayLeave m g then)) answers
+        → HoldsOpen m g last before answers
     holds_open answers h = record {
       stored = λ late. let early = back late in
           subst₂ (λ (b a : Journal). StoresEach b answers a) has.is (sym (keeps.same early made late)) (h.stored early);
@@ -144,36 +140,36 @@ module _ {D : Type 0} {g : disk.Ghosts D} (m : Meaning) (first then last : Held 
 
 -- ---- once it is closed
 
-module _ {D : Type 0} {g : disk.Ghosts D} (made : Tables) (image : Image) (opened : OpenedFiles D g) (files : Files D)
-    (sound : AreClean g files.log files.db → IsSound over_files (conn_of opened))
-    (always : AreClean g files.log files.db → AreMade (meaning_of (kind_of opened)) over_files (conn_of opened)
-    → KeepsAlways (meaning_of (kind_of opened)) g files (journal_in opened))
-    (kind : HasKind opened made image)
-    (recovers : CleanIn opened made image (λ _. RecoversIn opened))
+module _ {S C L : Type 0} {g : Ghosts S} {o : InFiles S C L} (made : Tables) (image : Image) (opened : OpenedOver S) (files : C)
+    (sound : o.clean files → IsSound g (conn_of opened))
+    (always : o.clean files → AreMade (meaning_of (kind_of opened)) g (conn_of opened)
+    → KeepsAlways (meaning_of (kind_of opened)) o files (journal_in g opened))
+    (kind : HasKind g opened made image)
+    (recovers : CleanIn g opened made image (λ _. RecoversIn g opened))
     (status : Status) (old new : Option (List ℕ)) (done : Result Status Failure) (is : done ≡ Ok status)
   where
     pub leads_with : (count : ℕ)
-        → CleanIn opened made image (λ before. IfOk done (λ status. PrintsWith (HoldsIn opened before) count status old new))
-        → LeadsIn made image g files (StoresPrinted count status old new)
+        → CleanIn g opened made image (λ before. IfOk done (λ status. PrintsWith (HoldsIn g opened before) count status old new))
+        → LeadsIn made image o files (StoresPrinted count status old new)
     leads_with count each = leads_kind made image opened kind files sound (StoresPrinted count status old new)
         (λ clean before begin.
         let late = sound clean in
         record {
-          found = journal_in opened;
-          is = with_other (HoldsIn opened before) (λ answers. StoresEach before answers (journal_in opened))
+          found = journal_in g opened;
+          is = with_other (HoldsIn g opened before) (λ answers. StoresEach before answers (journal_in g opened))
               (λ answers h. h.stored late) count status old new (at_ok done status _ is (each late.clean before begin));
           keeps = always clean (recovers late.clean before begin).made;
         })
 
     pub leads_named : (text : Option (List ℕ))
-        → CleanIn opened made image (λ before. IfOk done (λ status. NamedWith (HoldsIn opened before) text status old new))
-        → LeadsIn made image g files (StoresNamed text status old new)
+        → CleanIn g opened made image (λ before. IfOk done (λ status. NamedWith (HoldsIn g opened before) text status old new))
+        → LeadsIn made image o files (StoresNamed text status old new)
     leads_named text each = leads_kind made image opened kind files sound (StoresNamed text status old new)
         (λ clean before begin.
         let late = sound clean in
         record {
-          found = journal_in opened;
-          is = named_other (HoldsIn opened before) (λ answers. StoresEach before answers (journal_in opened))
+          found = journal_in g opened;
+          is = named_other (HoldsIn g opened before) (λ answers. StoresEach before answers (journal_in g opened))
               (λ answers h. h.stored late) text status old new (at_ok done status _ is (each late.clean before begin));
           keeps = always clean (recovers late.clean before begin).made;
         })

@@ -2,23 +2,19 @@
 use Rattle.std.proofs.Common.{◌≡◌, ℕ, List, [], ◌∷◌, ◌++◌, Option, Some, None, inl, inr, refl, sym, subst, subst₂, ◌∙◌}
 use Rattle.std.specs.Prelude.{MatchOption, codes}
 use Rattle.std.specs.Io.KnownBytes.{Appends, prepend_known}
-use Rattle.sqlite_disk.specs.declared.Disk as disk
-use Rattle.sqlite.specs.declared.Files.{Files}
-use Rattle.sqlite.specs.declared.FileStore.{FileStore}
+use Rattle.sqlite.specs.Store.{Ghosts}
 use Rattle.sqlite.specs.Recovery.{Image}
 use Rattle.sqlite.specs.State.{HasCleanDisk}
-use Rattle.sqlite.specs.WalReads.{AreClean}
-use Rattle.sqlite.specs.Held.{Held}
-use Rattle.sqlite.specs.Files.{file_state, over_files}
+use Rattle.sqlite.specs.Held.{Held, state}
 use Rattle.jc_base.specs.Journal.{Journal}
 use Rattle.jc_store.specs.Meaning.{Meaning, AreMade, IsSound, KeepsJournal, MovesJournal, journal_of}
 use Rattle.jc_store.specs.Statements.{IsBlank}
 use Rattle.jc_command_args.specs.declared.request.Tables.{Tables}
-use Rattle.jc_database.specs.Files.{BeginsWith, IsFound, Keeps, KeepsAlways}
+use Rattle.jc_database.specs.Files.{BeginsWith, InFiles, IsFound, Keeps, KeepsAlways}
 use Rattle.jc_command_shared.specs.declared.status.Status.{Status}
 use Rattle.jc_collector.specs.declared.health.Health.{Health}
 use Rattle.jc_collector.specs.Open.{Begun, EndsOver, HasKind, StandsIn, StandsOver}
-use Rattle.jc_collector.specs.Kinds.{LeadsIn, OpenedFiles, conn_of, journal_in, kind_of, meaning_of}
+use Rattle.jc_collector.specs.Kinds.{LeadsIn, OpenedOver, conn_of, journal_in, kind_of, meaning_of}
 use Rattle.jc_collector.specs.Checked.{Counts, PrintsHealth, count_line, health_text}
 use Rattle.jc_collector.specs.OverFiles.{Prints, StoresListed, StoresNamed, StoresPrinted}
 use Rattle.jc_database.specs.FilesLaws.{keeps_found}
@@ -26,12 +22,12 @@ use Rattle.jc_collector.proofs.Found.{leads_kind}
 
 -- ---- how a run begins
 
-module _ {D : Type 0} {g : disk.Ghosts D} (image : Image) (opened kept : Held (FileStore D g))
-    (found : HasCleanDisk (file_state opened) → IsFound image opened) (back : IsSound over_files kept → IsSound over_files opened)
+module _ {S : Type 0} {g : Ghosts S} (image : Image) (opened kept : Held S)
+    (found : HasCleanDisk (state g opened) → IsFound g image opened) (back : IsSound g kept → IsSound g opened)
   where
     -- tables that were there
-    pub adopted : (m : Meaning) → (¬ IsBlank (file_state opened).now) → KeepsJournal m over_files opened kept
-        → IsSound over_files kept → (before : Journal) → BeginsWith m image before → Keeps m kept before
+    pub adopted : (m : Meaning) → (¬ IsBlank (state g opened).now) → KeepsJournal m g opened kept
+        → IsSound g kept → (before : Journal) → BeginsWith m image before → Keeps m g kept before
     adopted m tables keeps sound before (inl holds) =
         let was = back sound in
         let it = keeps_found m image opened (found was.clean) before holds in
@@ -40,42 +36,42 @@ module _ {D : Type 0} {g : disk.Ghosts D} (image : Image) (opened kept : Held (F
 
 -- ---- how it ends
 
-module _ {D : Type 0} {g : disk.Ghosts D} (made : Tables) (image : Image) (opened : OpenedFiles D g) (files : Files D)
-    (sound : AreClean g files.log files.db → IsSound over_files (conn_of opened))
-    (always : AreClean g files.log files.db → AreMade (meaning_of (kind_of opened)) over_files (conn_of opened)
-    → KeepsAlways (meaning_of (kind_of opened)) g files (journal_in opened))
-    (kind : HasKind opened made image)
+module _ {S C L : Type 0} {g : Ghosts S} {o : InFiles S C L} (made : Tables) (image : Image) (opened : OpenedOver S) (files : C)
+    (sound : o.clean files → IsSound g (conn_of opened))
+    (always : o.clean files → AreMade (meaning_of (kind_of opened)) g (conn_of opened)
+    → KeepsAlways (meaning_of (kind_of opened)) o files (journal_in g opened))
+    (kind : HasKind g opened made image)
   where
-    pub leads_on : (Step : Journal → Journal → Type 0) → StandsIn opened made image Step → LeadsIn made image g files Step
+    pub leads_on : (Step : Journal → Journal → Type 0) → StandsIn g opened made image Step → LeadsIn made image o files Step
     leads_on Step stands = leads_kind made image opened kind files sound Step
-        (λ clean before begin. let it = stands (sound clean) before begin in record { found = journal_in opened; is = it.1; keeps = always clean it.0 })
+        (λ clean before begin. let it = stands (sound clean) before begin in record { found = journal_in g opened; is = it.1; keeps = always clean it.0 })
 
 -- ---- how it goes on
 
-module _ {D : Type 0} {g : disk.Ghosts D} (m : Meaning) (first then last : Held (FileStore D g))
-    (back : IsSound over_files then → IsSound over_files first) (made : AreMade m over_files first → AreMade m over_files then)
+module _ {S : Type 0} {g : Ghosts S} (m : Meaning) (first then last : Held S)
+    (back : IsSound g then → IsSound g first) (made : AreMade m g first → AreMade m g then)
     (Step : Journal → Journal → Type 0)
-    (step : IsSound over_files then → AreMade m over_files first → Step (journal_of m over_files first) (journal_of m over_files then))
-    (back' : IsSound over_files last → IsSound over_files then) (keeps : KeepsJournal m over_files then last)
+    (step : IsSound g then → AreMade m g first → Step (journal_of m g first) (journal_of m g then))
+    (back' : IsSound g last → IsSound g then) (keeps : KeepsJournal m g then last)
   where
-    pub stands_over : StandsOver m last (Begun m first) Step
+    pub stands_over : StandsOver m g last (Begun m g first) Step
     stands_over sound_last before begin =
         let sound_then = back' sound_last in
         let it = (begin (back sound_then).clean).1 in
         let made_then = made it.made in
         (keeps.made made_then, subst₂ Step it.is (sym (keeps.same sound_then made_then sound_last)) (step sound_then it.made))
 
-    pub ends_over : (files : Files D) → (AreClean g files.log files.db → IsSound over_files last)
-        → (AreClean g files.log files.db → AreMade m over_files last → KeepsAlways m g files (journal_of m over_files last))
-        → EndsOver m first files Step
+    pub ends_over : {C L : Type 0} {o : InFiles S C L} (files : C) → (o.clean files → IsSound g last)
+        → (o.clean files → AreMade m g last → KeepsAlways m o files (journal_of m g last))
+        → EndsOver m g o first files Step
     ends_over files sound always clean before begin =
         let it = stands_over (sound clean) before begin in
-        record { found = journal_of m over_files last; is = it.1; keeps = always clean it.0 }
+        record { found = journal_of m g last; is = it.1; keeps = always clean it.0 }
 
 -- tables that became those of another meaning
-pub went_over : (m n : Meaning) → {D : Type 0} {g : disk.Ghosts D} (first moved : Held (FileStore D g))
-    → (IsSound over_files moved → IsSound over_files first) → MovesJournal m n over_files first moved
-    → (before : Journal) → IsSound over_files moved → Keeps m first before → Keeps n moved before
+pub went_over : (m n : Meaning) → {S : Type 0} {g : Ghosts S} (first moved : Held S)
+    → (IsSound g moved → IsSound g first) → MovesJournal m n g first moved
+    → (before : Journal) → IsSound g moved → Keeps m g first before → Keeps n g moved before
 went_over m n first moved back moves before sound it = record { made = moves.made it.made; is = moves.same (back sound) it.made sound ∙ it.is }
 
 -- what was counted is printed
@@ -93,8 +89,8 @@ match_each None Without Lacking With Given is none some = none is
 match_each (Some f) Without Lacking With Given is none some = some f is
 
 -- a step that says less
-pub leads_weaker : {D : Type 0} {g : disk.Ghosts D} (made : Tables) (image : Image) (files : Files D) (Step Other : Journal → Journal → Type 0)
-    → ((before after : Journal) → Step before after → Other before after) → LeadsIn made image g files Step → LeadsIn made image g files Other
+pub leads_weaker : {S C L : Type 0} {o : InFiles S C L} (made : Tables) (image : Image) (files : C) (Step Other : Journal → Journal → Type 0)
+    → ((before after : Journal) → Step before after → Other before after) → LeadsIn made image o files Step → LeadsIn made image o files Other
 leads_weaker made image files Step Other each leads clean kind before begin =
     let it = leads clean kind before begin in record { found = it.found; is = each before it.found it.is; keeps = it.keeps }
 

@@ -1,14 +1,10 @@
 -- The tables that `migrate` takes a journal from. (own)
 use Rattle.std.specs.Prelude.{◌≡◌, ◌↔◌, ⊤, IsSome, codes}
-use Rattle.sqlite_disk.specs.declared.Disk as disk
-use Rattle.sqlite_disk.specs.declared.Files.{Files}
+use Rattle.sqlite.specs.Store.{Ghosts}
 use Rattle.sqlite.specs.Recovery.{Image}
 use Rattle.sqlite.specs.Schema.{Schema}
 use Rattle.sqlite_schema.specs.Names.{table_named}
-use Rattle.sqlite.specs.WalReads.{AreClean}
-use Rattle.sqlite.specs.Held.{Held}
-use Rattle.sqlite.specs.declared.FileStore.{FileStore}
-use Rattle.sqlite.specs.Files.{file_state, over_files}
+use Rattle.sqlite.specs.Held.{Held, state}
 use Rattle.jc_base.specs.Journal.{Journal}
 use Rattle.jc_command_args.specs.declared.request.Tables.{Tables}
 use Rattle.jc_command_args.specs.declared.request.Tables.TheVariants.{ByNumber}
@@ -16,7 +12,7 @@ use Rattle.jc_store.specs.Meaning.{IsSound, KeepsJournal, Kept, Meaning}
 use Rattle.jc_schema_one.specs.Tables.{one}
 use Rattle.jc_schema_two.specs.Tables.{two}
 use Rattle.jc_schema_three.specs.Tables.{three}
-use Rattle.jc_database.specs.Files.{BeginsWith, EndsWith, Keeps, LeadsOver}
+use Rattle.jc_database.specs.Files.{BeginsWith, EndsWith, InFiles, Keeps, LeadsOver}
 use Rattle.jc_collector.specs.Kinds.{meaning_of}
 use Rattle.jc_collector.specs.declared.earlier.Earlier.{Earlier}
 use Rattle.jc_collector.specs.declared.earlier.Earlier.TheVariants as earlier
@@ -46,9 +42,9 @@ abbrev pub conn_before : {S : Type 0} → Earlier (Kept S) (Kept S) → Held S
 conn_before (earlier.Oldest keeper) = keeper.conn
 conn_before (earlier.ByKey keeper) = keeper.conn
 
--- keepers over files
-abbrev pub EarlierFiles : (D : Type 0) → disk.Ghosts D → Type 0
-EarlierFiles D g = Earlier (Kept (FileStore D g)) (Kept (FileStore D g))
+-- keepers over a store
+abbrev pub EarlierOver : Type 0 → Type 0
+EarlierOver S = Earlier (Kept S) (Kept S)
 
 -- ---- a database
 
@@ -57,28 +53,28 @@ abbrev pub HasFields : Schema → Type 0
 HasFields schema = IsSome (table_named schema (codes "field"))
 
 -- The tables that a connection has were taken for a journal's, by the kind that they tell.
-pub record IsTakenFrom {D : Type 0} {g : disk.Ghosts D} (before : Held (FileStore D g)) (taken : EarlierFiles D g) : Type 0 where
-  pub kind : (older_of taken ≡ by_key) ↔ HasFields (file_state before).now.schema
-  pub was_sound : IsSound over_files (conn_before taken) → IsSound over_files before
-  pub keeps : KeepsJournal (meaning_before (older_of taken)) over_files before (conn_before taken)
+pub record IsTakenFrom {S : Type 0} (g : Ghosts S) (before : Held S) (taken : EarlierOver S) : Type 0 where
+  pub kind : (older_of taken ≡ by_key) ↔ HasFields (state g before).now.schema
+  pub was_sound : IsSound g (conn_before taken) → IsSound g before
+  pub keeps : KeepsJournal (meaning_before (older_of taken)) g before (conn_before taken)
 
 -- ---- files
 
 -- If a connection that was opened is sound, it keeps the journal that the files had, which stands in tables of this kind.
-abbrev pub IsEarlierFound : {D : Type 0} {g : disk.Ghosts D} → Image → EarlierFiles D g → Type 0
-IsEarlierFound image taken =
-    IsSound over_files (conn_before taken) → (kind : Older) (before : Journal) → BeginsWith (meaning_before kind) image before
-    → (kind ≡ older_of taken) × Keeps (meaning_before (older_of taken)) (conn_before taken) before
+abbrev pub IsEarlierFound : {S : Type 0} → Ghosts S → Image → EarlierOver S → Type 0
+IsEarlierFound g image taken =
+    IsSound g (conn_before taken) → (kind : Older) (before : Journal) → BeginsWith (meaning_before kind) image before
+    → (kind ≡ older_of taken) × Keeps (meaning_before (older_of taken)) g (conn_before taken) before
 
 -- What becomes of the journal of a connection in files that are closed, in tables by number.
-abbrev pub EndsByNumber : {D : Type 0} {g : disk.Ghosts D} → EarlierFiles D g → Files D → (Journal → Journal → Type 0) → Type 0
-EndsByNumber {g = g} taken files Step =
-    AreClean g files.log files.db → (before : Journal)
-    → (IsSound over_files (conn_before taken) → Keeps (meaning_before (older_of taken)) (conn_before taken) before)
-    → EndsWith three g files (Step before)
+abbrev pub EndsByNumber : {S C L : Type 0} → Ghosts S → InFiles S C L → EarlierOver S → C → (Journal → Journal → Type 0) → Type 0
+EndsByNumber g o taken files Step =
+    o.clean files → (before : Journal)
+    → (IsSound g (conn_before taken) → Keeps (meaning_before (older_of taken)) g (conn_before taken) before)
+    → EndsWith three o files (Step before)
 
 -- What `migrate` does with the journal in the files that it began with, if their disks returned what was written: it finds
 -- it in tables of an earlier kind, and leaves one in these.
-abbrev pub LeadsFrom : (tables : Tables) → {D : Type 0} → Image → disk.Ghosts D → Files D → (Journal → Journal → Type 0) → Type 0
-LeadsFrom tables image g files Step =
-    (kind : Older) → Becomes kind tables → LeadsOver (meaning_before kind) (meaning_of tables) image g files Step
+abbrev pub LeadsFrom : (tables : Tables) → {S C L : Type 0} → Image → InFiles S C L → C → (Journal → Journal → Type 0) → Type 0
+LeadsFrom tables image o files Step =
+    (kind : Older) → Becomes kind tables → LeadsOver (meaning_before kind) (meaning_of tables) image o files Step

@@ -1,9 +1,6 @@
 -- What `collect` makes of the union of finished databases and the one in its files. (own)
 use Rattle.std.specs.Prelude.{◌≡◌, ◌⊎◌, ⊤, ℕ, List, Option, codes}
-use Rattle.sqlite_disk.specs.declared.Disk as disk
-use Rattle.sqlite_disk.specs.declared.Files.{Files}
 use Rattle.sqlite.specs.Recovery.{Image}
-use Rattle.sqlite.specs.WalReads.{AreClean}
 use Rattle.jc_base.specs.Journal.{Journal}
 use Rattle.jc_base.specs.LogEntry.{LogEntry}
 use Rattle.jc_collect.specs.Each.{StoresEach}
@@ -12,7 +9,7 @@ use Rattle.jc_command_args.specs.declared.request.Tables.{Tables}
 use Rattle.jc_command_shared.specs.declared.failure.Failure.{Failure}
 use Rattle.jc_command_shared.specs.declared.failure.Failure.TheVariants.{Bad, ReadFailed}
 use Rattle.jc_command_shared.specs.declared.status.Status.{Status}
-use Rattle.jc_database.specs.Files.{EndsWith}
+use Rattle.jc_database.specs.Files.{EndsWith, InFiles}
 use Rattle.jc_ledger.specs.Kept.{IsKept}
 use Rattle.jc_ledger.specs.Known.{Known}
 use Rattle.jc_ledger.specs.Union.{union}
@@ -22,11 +19,11 @@ use Rattle.jc_collector.specs.Kinds.{BeginsIn, meaning_of}
 
 -- What a run does with the journal in the files that it began with, if their disks returned what was written and this holds
 -- of that journal. The tables stay of their kind.
-abbrev pub LeadsIf : (made : Tables) → {D : Type 0} → Image → disk.Ghosts D → Files D → (Holds : Journal → Type 0)
+abbrev pub LeadsIf : (made : Tables) → {S C L : Type 0} → Image → InFiles S C L → C → (Holds : Journal → Type 0)
     → (Journal → Journal → Type 0) → Type 0
-LeadsIf made image g files Holds Step =
-    AreClean g files.log files.db → (kind : Tables) (before : Journal) → BeginsIn made kind image before → Holds before
-    → EndsWith (meaning_of kind) g files (Step before)
+LeadsIf made image o files Holds Step =
+    o.clean files → (kind : Tables) (before : Journal) → BeginsIn made kind image before → Holds before
+    → EndsWith (meaning_of kind) o files (Step before)
 
 -- The line of an answer was printed for each line of a text, the status is theirs, and each acknowledged upload is stored in
 -- the union of the finished databases and the present one. What is known is what these have.

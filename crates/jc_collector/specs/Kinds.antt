@@ -1,27 +1,23 @@
 -- In which tables the journal of a database is, and what its files begin and end with. (own)
 use Rattle.std.specs.Prelude.{◌≡◌, ◌⊎◌, ◌↔◌, IsSome, IsSomeAnd, codes, option_and_then, slice_get}
 use Rattle.std.specs.FinMap.{empty as none}
-use Rattle.sqlite_disk.specs.declared.Disk as disk
-use Rattle.sqlite_disk.specs.declared.Files.{Files}
+use Rattle.sqlite.specs.Store.{Ghosts}
 use Rattle.sqlite.specs.Recovery.{Image}
 use Rattle.sqlite.specs.Schema.{Schema}
 use Rattle.sqlite.specs.Effect.{Database}
 use Rattle.sqlite_schema.specs.Names.{table_named}
-use Rattle.sqlite.specs.WalReads.{AreClean}
-use Rattle.sqlite.specs.Held.{Held}
-use Rattle.sqlite.specs.declared.FileStore.{FileStore}
-use Rattle.sqlite.specs.Files.{file_state, over_files}
+use Rattle.sqlite.specs.Held.{Held, state}
 use Rattle.sqlite.specs.State.{HasCleanDisk, State}
 use Rattle.jc_base.specs.Journal.{Journal}
 use Rattle.jc_command_args.specs.declared.request.Tables.{Tables}
 use Rattle.jc_command_args.specs.declared.request.Tables.TheVariants.{ByKey, ByNumber}
 use Rattle.jc_store.specs.Meaning.{AreMade, IsSound, KeepsJournal, Kept, Meaning, journal_of}
 use Rattle.jc_schema_two.specs.Tables.{two}
-use Rattle.jc_store.specs.Statements.{IsSame}
+use Rattle.jc_store.specs.Statements.{IsBlank, IsSame}
 use Rattle.jc_schema_two.specs.Adopting as of_two
 use Rattle.jc_schema_three.specs.Tables.{three}
 use Rattle.jc_schema_three.specs.Adopting as of_three
-use Rattle.jc_database.specs.Files.{AreInOrder, EndsWith, HoldsJournal, HoldsNone}
+use Rattle.jc_database.specs.Files.{AreInOrder, EndsWith, HoldsJournal, HoldsNone, InFiles, IsFound}
 use Rattle.jc_collector.specs.declared.database.Opened.{Opened}
 use Rattle.jc_collector.specs.declared.database.Opened.TheVariants as opened
 
@@ -50,12 +46,12 @@ abbrev pub conn_of : {S : Type 0} → Opened (Kept S) (Kept S) → Held S
 conn_of (opened.ByKey keeper) = keeper.conn
 conn_of (opened.ByNumber keeper) = keeper.conn
 
--- keepers over files, whose tables are of either kind
-abbrev pub OpenedFiles : (D : Type 0) → disk.Ghosts D → Type 0
-OpenedFiles D g = Opened (Kept (FileStore D g)) (Kept (FileStore D g))
+-- keepers over a store, whose tables are of either kind
+abbrev pub OpenedOver : Type 0 → Type 0
+OpenedOver S = Opened (Kept S) (Kept S)
 
-abbrev pub journal_in : {D : Type 0} {g : disk.Ghosts D} → OpenedFiles D g → Journal
-journal_in opened = journal_of (meaning_of (kind_of opened)) over_files (conn_of opened)
+abbrev pub journal_in : {S : Type 0} → Ghosts S → OpenedOver S → Journal
+journal_in g opened = journal_of (meaning_of (kind_of opened)) g (conn_of opened)
 
 -- ---- a database
 
@@ -63,38 +59,43 @@ journal_in opened = journal_of (meaning_of (kind_of opened)) over_files (conn_of
 abbrev pub AreByNumber : Schema → Type 0
 AreByNumber schema = IsSomeAnd (option_and_then (slice_get schema.tables) (table_named schema (codes "record"))) (λ table. IsSome table.key)
 
-module _ {D : Type 0} {g : disk.Ghosts D} (before : Held (FileStore D g)) where
+module _ {S : Type 0} (g : Ghosts S) (before : Held S) where
   -- Tables of a kind were made over a connection, of an empty journal.
-  pub record IsMadeIn (tables : Tables) (opened : OpenedFiles D g) : Type 0 where
+  pub record IsMadeIn (tables : Tables) (opened : OpenedOver S) : Type 0 where
     pub kind : kind_of opened ≡ tables
-    pub sound : HasCleanDisk (file_state (conn_of opened)) → IsSound over_files (conn_of opened)
-    pub was_sound : IsSound over_files (conn_of opened) → IsSound over_files before
-    pub made : AreMade (meaning_of (kind_of opened)) over_files (conn_of opened)
-    pub empty : IsSound over_files (conn_of opened) → journal_in opened ≡ none
+    pub sound : HasCleanDisk (state g (conn_of opened)) → IsSound g (conn_of opened)
+    pub was_sound : IsSound g (conn_of opened) → IsSound g before
+    pub made : AreMade (meaning_of (kind_of opened)) g (conn_of opened)
+    pub empty : IsSound g (conn_of opened) → journal_in g opened ≡ none
 
   -- The tables that a connection has were taken for a journal's, by the kind that they tell.
-  pub record IsAdoptedFrom (opened : OpenedFiles D g) : Type 0 where
-    pub kind : (kind_of opened ≡ ByNumber) ↔ AreByNumber (file_state before).now.schema
-    pub sound : HasCleanDisk (file_state (conn_of opened)) → IsSound over_files (conn_of opened)
-    pub was_sound : IsSound over_files (conn_of opened) → IsSound over_files before
-    pub keeps : KeepsJournal (meaning_of (kind_of opened)) over_files before (conn_of opened)
-    pub same : IsSound over_files (conn_of opened) → IsSame (file_state before) (file_state (conn_of opened))
+  pub record IsAdoptedFrom (opened : OpenedOver S) : Type 0 where
+    pub kind : (kind_of opened ≡ ByNumber) ↔ AreByNumber (state g before).now.schema
+    pub sound : HasCleanDisk (state g (conn_of opened)) → IsSound g (conn_of opened)
+    pub was_sound : IsSound g (conn_of opened) → IsSound g before
+    pub keeps : KeepsJournal (meaning_of (kind_of opened)) g before (conn_of opened)
+    pub same : IsSound g (conn_of opened) → IsSame (state g before) (state g (conn_of opened))
     -- They show a journal, and are one, if nothing stands beside them.
-    pub shown : IsSound over_files (conn_of opened) → Shows (kind_of opened) (file_state before)
-    pub found : IsSound over_files (conn_of opened) → AreAlone (kind_of opened) (file_state before).now → AreInOrder (file_state before).now
-        → (meaning_of (kind_of opened)).is_journal (file_state before).now
+    pub shown : IsSound g (conn_of opened) → Shows (kind_of opened) (state g before)
+    pub found : IsSound g (conn_of opened) → AreAlone (kind_of opened) (state g before).now → AreInOrder (state g before).now
+        → (meaning_of (kind_of opened)).is_journal (state g before).now
 
-module _ {D : Type 0} {g : disk.Ghosts D} (opened : OpenedFiles D g) where
-  -- A keeper's tables show a journal of its kind, as they stood when they were looked at. They are the same since.
+module _ {S : Type 0} (g : Ghosts S) (image : Image) (opened : OpenedOver S) where
+  -- A keeper's tables show a journal of its kind, as they stood when the files, which had this, were opened. They are the
+  -- same since.
   pub record IsShown : Type 0 where
-    pub was : Held (FileStore D g)
-    pub same : IsSame (file_state was) (file_state (conn_of opened))
-    pub shows : Shows (kind_of opened) (file_state was)
+    pub was : Held S
+    pub found : IsFound g image was
+    pub same : IsSame (state g was) (state g (conn_of opened))
+    pub shows : Shows (kind_of opened) (state g was)
 
-  -- They were made, and their journal is empty.
+  -- There were no tables when the files, which had this, were opened. These were made, and their journal is empty.
   pub record IsMadeEmpty : Type 0 where
-    pub made : AreMade (meaning_of (kind_of opened)) over_files (conn_of opened)
-    pub empty : journal_in opened ≡ none
+    pub was : Held S
+    pub found : IsFound g image was
+    pub blank : IsBlank (state g was).now
+    pub made : AreMade (meaning_of (kind_of opened)) g (conn_of opened)
+    pub empty : journal_in g opened ≡ none
 
 -- ---- files
 
@@ -105,11 +106,11 @@ BeginsIn made kind image before = HoldsJournal (meaning_of kind) image before �
 
 -- What a run does with the journal in the files that it began with, if their disks returned what was written. The tables stay
 -- of their kind.
-abbrev pub LeadsIn : (made : Tables) → {D : Type 0} → Image → disk.Ghosts D → Files D → (Journal → Journal → Type 0) → Type 0
-LeadsIn made image g files Step =
-    AreClean g files.log files.db → (kind : Tables) (before : Journal) → BeginsIn made kind image before
-    → EndsWith (meaning_of kind) g files (Step before)
+abbrev pub LeadsIn : (made : Tables) → {S C L : Type 0} → Image → InFiles S C L → C → (Journal → Journal → Type 0) → Type 0
+LeadsIn made image o files Step =
+    o.clean files → (kind : Tables) (before : Journal) → BeginsIn made kind image before
+    → EndsWith (meaning_of kind) o files (Step before)
 
 -- The same of a run that makes no tables, whichever it would make.
-abbrev pub LeadsThere : {D : Type 0} → Image → disk.Ghosts D → Files D → (Journal → Journal → Type 0) → Type 0
-LeadsThere image g files Step = (made : Tables) → LeadsIn made image g files Step
+abbrev pub LeadsThere : {S C L : Type 0} → Image → InFiles S C L → C → (Journal → Journal → Type 0) → Type 0
+LeadsThere image o files Step = (made : Tables) → LeadsIn made image o files Step

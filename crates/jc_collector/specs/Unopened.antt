@@ -1,17 +1,15 @@
 -- What a crash leaves of files while they are opened as a journal's. (own)
 use Rattle.std.specs.Prelude.{◌≡◌, ◌⊎◌, ⊤, List, Option, IsSome}
-use Rattle.sqlite_disk.specs.declared.Disk as disk
-use Rattle.sqlite.specs.declared.FileStore.{FileStore}
-use Rattle.sqlite.specs.declared.file.Leftover.{Leftover}
+use Rattle.sqlite.specs.Store.{Ghosts}
 use Rattle.sqlite.specs.Recovery.{Image}
-use Rattle.sqlite.specs.Held.{Held}
-use Rattle.sqlite.specs.Files.{file_state}
+use Rattle.sqlite.specs.Held.{Held, state}
 use Rattle.jc_base.specs.Journal.{Journal}
 use Rattle.jc_command_args.specs.declared.request.Tables.{Tables}
 use Rattle.jc_command_shared.specs.Deeds.{Deed}
 use Rattle.jc_command_shared.specs.declared.failure.Failure.{Failure}
 use Rattle.jc_command_shared.specs.declared.failure.Failure.TheVariants.{CannotOpen, OutOfMemory}
 use Rattle.jc_store.specs.Statements.{IsBlank}
+use Rattle.jc_database.specs.Files.{InFiles}
 use Rattle.jc_database.specs.Left.{IsFrom, LeavesAsBeforeOr, LeavesOnly}
 use Rattle.jc_collector.specs.Kinds.{BeginsIn, meaning_of}
 
@@ -25,16 +23,15 @@ IsEarlyFailure (CannotOpen path) = ⊤
 IsEarlyFailure OutOfMemory = ⊤
 IsEarlyFailure _ = ⊥
 
-module _ {D : Type 0} {g : disk.Ghosts D} where
-  -- What is left of a database's files is handed back, unless none was opened, or couldn't be for such a reason.
-  abbrev pub HandsBack : Option (Leftover D g) → Failure → (old new : Option (List Deed)) → Type 0
-  HandsBack left failure old new = IsSome left ⊎ ((new ≡ old) ⊎ IsEarlyFailure failure)
+-- What is left of a database's files is handed back, unless none was opened, or couldn't be for such a reason.
+abbrev pub HandsBack : {L : Type 0} → Option L → Failure → (old new : Option (List Deed)) → Type 0
+HandsBack left failure old new = IsSome left ⊎ ((new ≡ old) ⊎ IsEarlyFailure failure)
 
-  -- With whatever a crash leaves of the files a run begins so.
-  abbrev pub LeavesBegun : (made : Tables) → (before : Image) → Leftover D g → Type 0
-  LeavesBegun made before left = LeavesOnly (BeginsAgain made before) before left
+-- With whatever a crash leaves of the files a run begins so.
+abbrev pub LeavesBegun : {S C L : Type 0} → InFiles S C L → (made : Tables) → (before : Image) → L → Type 0
+LeavesBegun o made before left = LeavesOnly o (BeginsAgain made before) before left
 
-  -- A crash leaves files as a connection without tables was opened from, or such with an empty journal in tables of this kind.
-  abbrev pub LeavesUnmade : (made : Tables) → (conn : Held (FileStore D g)) → Leftover D g → Type 0
-  LeavesUnmade made conn left =
-      (before : Image) → IsFrom before conn → IsBlank (file_state conn).now → LeavesAsBeforeOr (meaning_of made) before left
+-- A crash leaves files as a connection without tables was opened from, or such with an empty journal in tables of this kind.
+abbrev pub LeavesUnmade : {S C L : Type 0} → Ghosts S → InFiles S C L → (made : Tables) → (conn : Held S) → L → Type 0
+LeavesUnmade g o made conn left =
+    (before : Image) → IsFrom g before conn → IsBlank (state g conn).now → LeavesAsBeforeOr o (meaning_of made) before left

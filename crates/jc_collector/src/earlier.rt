@@ -1,7 +1,6 @@
 //! The databases that `migrate` takes over to tables by number, opened.
 
 ghost use Rattle.std.specs.Prelude.{◌↔◌, IfOk, IfErr, IfSome, IsSome, IsTrue};
-ghost use Rattle.sqlite.specs.WalFiles.{image_at};
 ghost use Rattle.sqlite.specs.Recovery.{Image};
 ghost use Rattle.jc_database.specs.Left.{IsFrom, LeavesAsBefore};
 ghost use Rattle.jc_collector.specs.Database.{WhyNoJournal, WhyNoTables};
@@ -9,12 +8,13 @@ ghost use Rattle.jc_collector.specs.Earlier.{HasFields, IsEarlierFound, IsTakenF
 ghost use Rattle.jc_command_shared.specs.Deeds.{OpensOnce};
 ghost use Rattle.jc_collector.specs.Unopened.{HandsBack};
 
-use crate::database::{FileKeeper, adopt_tables, connect_there, schema_of};
+use crate::database::{adopt_tables, connect_there, schema_of};
 use crate::unopened::Unopened;
-use jc_database::Databases;
+use jc_database::{Databases, OpenFromFiles, StoreInFiles};
 use jc_schema_one::SqlKeeper1;
 use jc_schema_two::SchemaTwo;
-use sqlite::{Connection, FileFrom, FileStore, Start};
+use jc_store::TableKeeper;
+use sqlite::Connection;
 use sqlite_schema::schema::Schema;
 use std::alloc::Global;
 
@@ -26,18 +26,18 @@ pub enum Earlier<O: Drop, K: Drop> {
 }
 
 /// A keeper of the journal in a database's files, whose tables are of an earlier kind.
-pub type EarlierFiles<S> = Earlier<SqlKeeper1<FileStore<FileFrom<S>>>, FileKeeper<S, SchemaTwo>>;
+pub type EarlierFiles<F> = Earlier<SqlKeeper1<F>, TableKeeper<F, SchemaTwo>>;
 
 /// The journal in tables of an earlier kind in the database at `path`, which has to be there.
-pub fn open_earlier<'a, Y: Databases, S: Start>(
+pub fn open_earlier<'a, Y: Databases, F: OpenFromFiles>(
     rt: &mut Y,
     path: &'a str,
-    start: S,
-) -> Result<EarlierFiles<S>, Unopened<'a, FileFrom<S>>>
-    ensures found { IfOk result (IsEarlierFound (image_at S.Start)) }
+    start: F::Start,
+) -> Result<EarlierFiles<F>, Unopened<'a, F::Left>>
+    ensures found { IfOk result (IsEarlierFound F.Store F.first) }
     ensures failed { IfErr result (λ unopened. WhyNoJournal path.now unopened.failure) }
     ensures handed { IfErr result (λ unopened. HandsBack unopened.left unopened.failure (Y.deeds rt.old) (Y.deeds rt.new)) }
-    ensures crash { IfErr result (λ unopened. IfSome unopened.left (LeavesAsBefore (image_at S.Start))) }
+    ensures crash { IfErr result (λ unopened. IfSome unopened.left (LeavesAsBefore F.in_files F.first)) }
     ensures touched { OpensOnce path.now (Y.deeds rt.old) (Y.deeds rt.new) }
 {
     let conn = connect_there(rt, path, start)?;
@@ -45,14 +45,14 @@ pub fn open_earlier<'a, Y: Databases, S: Start>(
 }
 
 /// Takes the journal that stands in the tables of a database.
-fn adopt_earlier<'a, S: Start>(
+fn adopt_earlier<'a, F: StoreInFiles>(
     alloc: Global,
-    conn: Connection<FileStore<FileFrom<S>>>,
-) -> Result<EarlierFiles<S>, Unopened<'a, FileFrom<S>>>
-    ensures adopted { IfOk result (IsTakenFrom conn) }
+    conn: Connection<F>,
+) -> Result<EarlierFiles<F>, Unopened<'a, F::Left>>
+    ensures adopted { IfOk result (IsTakenFrom F.Store conn) }
     ensures failed { IfErr result (λ unopened. WhyNoTables unopened.failure) }
     ensures kept { IfErr result (λ unopened. IsSome unopened.left) }
-    ensures crash { IfErr result (λ unopened. IfSome unopened.left (λ left. (before : Image) → IsFrom before conn → LeavesAsBefore before left)) }
+    ensures crash { IfErr result (λ unopened. IfSome unopened.left (λ left. (before : Image) → IsFrom F.Store before conn → LeavesAsBefore F.in_files before left)) }
 {
     if !has_fields(schema_of(&conn)) {
         return match adopt_tables(alloc, conn) {

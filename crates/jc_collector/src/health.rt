@@ -3,9 +3,6 @@
 ghost use Rattle.std.specs.Prelude.{◌≡◌, ◌≢◌, None, Some, IfOk, IfErr, MatchOption};
 ghost use Rattle.std.specs.FinMap.{len};
 ghost use Rattle.std.specs.Io.KnownBytes.{Keeps};
-ghost use Rattle.sqlite.specs.WalFiles.{image_at};
-ghost use Rattle.sqlite.specs.WalReads.{AreClean};
-ghost use Rattle.sqlite.specs.Files.{over_files};
 ghost use Rattle.jc_store.specs.Meaning.{IsSound, KeepsJournal};
 ghost use Rattle.jc_collector.specs.Checked.{Counts, IsHealth, PrintsHealth, count_line, health_text, health_status};
 ghost use Rattle.jc_collector.specs.Database.{CheckFailsBy, IsStoreFailure, WhyNoHealth};
@@ -16,15 +13,14 @@ ghost use Rattle.jc_command_shared.specs.Failure.{status_of};
 ghost use Rattle.jc_command_shared.specs.Deeds.{OpensOnce};
 
 use crate::closing::{Closed, close_after};
-use crate::database::{FileKeeper, Opened, check_name, open_there};
+use crate::database::{Opened, check_name, open_there};
 use crate::failures::why_unanswered;
 use jc_base::Fault;
 use jc_command_shared::{Failure, Status, printed};
-use jc_database::Databases;
+use jc_database::{Databases, OpenFromFiles, StoreInFiles};
 use jc_keeper::Keeper;
 use jc_store::{Listed, TableKeeper};
-use sqlite::{Alter, FileFrom, Files, Start};
-use sqlite_disk::Disk;
+use sqlite::Alter;
 use std::fmt;
 use std::io::Write;
 
@@ -39,14 +35,14 @@ pub enum Health {
 
 /// What is said of a database, and its files, closed, if it has a journal.
 #[derive(Drop)]
-pub struct Examined<T: Drop, S: Start> {
+pub struct Examined<T: Drop, C: Drop> {
     pub value: T,
-    pub files: Option<Files<FileFrom<S>>>,
+    pub files: Option<C>,
 }
 
-impl<T: Drop, S: Start> Examined<T, S> {
+impl<T: Drop, C: Drop> Examined<T, C> {
     /// What is said of a database that was closed.
-    pub fn closed(closed: Closed<T, S>) -> Examined<T, S>
+    pub fn closed(closed: Closed<T, C>) -> Examined<T, C>
         ensures value { result.value ≡ closed.value }
         ensures files { result.files ≡ Some closed.files }
     {
@@ -81,15 +77,15 @@ impl fmt::Display for Health {
 }
 
 /// Prints what is in a database.
-pub fn check<'a, Y: Databases, S: Start, O: Write>(
+pub fn check<'a, Y: Databases, F: OpenFromFiles, O: Write>(
     rt: &mut Y,
-    start: S,
+    start: F::Start,
     database: &'a str,
     output: &mut O,
-) -> Result<Examined<Status, S>, Failure<'a>>
+) -> Result<Examined<Status, F::Files>, Failure<'a>>
     // It prints how many entries the files had, and they keep them; or the database is refused.
     ensures counted { IfOk result (λ examined. MatchOption examined.files (examined.value ≡ Status.Refused)
-        (λ files. LeadsThere (image_at S.Start) ⟦<FileFrom<S> as Disk>⟧ files
+        (λ files. LeadsThere F.first F.in_files files
         (Prints count_line (O.contents output.old) (O.contents output.new)))) }
     ensures printed { IfOk result (λ examined. (health : Health) × IsHealth health
         × PrintsHealth health examined.value (O.contents output.old) (O.contents output.new)) }
@@ -99,24 +95,24 @@ pub fn check<'a, Y: Databases, S: Start, O: Write>(
     ensures touched { OpensOnce database.now (Y.deeds rt.old) (Y.deeds rt.new) }
 {
     check_name(database)?;
-    let Examined { value, files } = read_health(rt, start, database)?;
+    let Examined { value, files } = read_health::<_, F>(rt, start, database)?;
     let value = print_health(value, output)?;
     Ok(Examined { value, files })
 }
 
 /// Counts the entries of the journal in the database at a path.
-fn read_health<'a, Y: Databases, S: Start>(
+fn read_health<'a, Y: Databases, F: OpenFromFiles>(
     rt: &mut Y,
-    start: S,
+    start: F::Start,
     database: &'a str,
-) -> Result<Examined<Health, S>, Failure<'a>>
+) -> Result<Examined<Health, F::Files>, Failure<'a>>
     ensures counted { IfOk result (λ examined. MatchOption examined.files (health_status examined.value ≡ Status.Refused)
-        (λ files. LeadsThere (image_at S.Start) ⟦<FileFrom<S> as Disk>⟧ files (Counts examined.value))) }
+        (λ files. LeadsThere F.first F.in_files files (Counts examined.value))) }
     ensures health { IfOk result (λ examined. IsHealth examined.value) }
     ensures failed { IfErr result (WhyNoHealth database.now) }
     ensures touched { OpensOnce database.now (Y.deeds rt.old) (Y.deeds rt.new) }
 {
-    match open_there(rt, database, start) {
+    match open_there::<_, F>(rt, database, start) {
         Ok(Opened::ByKey(keeper)) => Ok(Examined::closed(count_and_close(keeper)?)),
         Ok(Opened::ByNumber(keeper)) => Ok(Examined::closed(count_and_close(keeper)?)),
         Err(unopened) => match Failure::from(unopened) {
@@ -127,7 +123,7 @@ fn read_health<'a, Y: Databases, S: Start>(
 }
 
 /// What is said of a database with this fault. It has no journal, and so its files aren't given back.
-pub fn refused<S: Start>(fault: Fault) -> Examined<Health, S>
+pub fn refused<C: Drop>(fault: Fault) -> Examined<Health, C>
     ensures value { result.value ≡ Health.Bad fault }
     ensures files { result.files ≡ None }
 {
@@ -138,12 +134,12 @@ pub fn refused<S: Start>(fault: Fault) -> Examined<Health, S>
 }
 
 /// Counts the entries of a keeper's journal, and closes its database.
-pub fn count_and_close<'a, S: Start, L: Listed>(
-    mut keeper: FileKeeper<S, L>,
-) -> Result<Closed<Health, S>, Failure<'a>>
-    ensures sound { IfOk result (λ closed. AreClean ⟦<FileFrom<S> as Disk>⟧ closed.files.log closed.files.db
-        → IsSound over_files keeper.conn) }
-    ensures counted { IfOk result (λ closed. EndsOver L.meaning keeper.conn closed.files
+pub fn count_and_close<'a, F: StoreInFiles, L: Listed>(
+    mut keeper: TableKeeper<F, L>,
+) -> Result<Closed<Health, F::Files>, Failure<'a>>
+    ensures sound { IfOk result (λ closed. F.in_files.clean closed.files
+        → IsSound F.Store keeper.conn) }
+    ensures counted { IfOk result (λ closed. EndsOver L.meaning F.Store F.in_files keeper.conn closed.files
         (Counts closed.value)) }
     ensures health { IfOk result (λ closed. IsHealth closed.value) }
     ensures failed { IfErr result IsStoreFailure }

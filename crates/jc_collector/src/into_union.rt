@@ -2,11 +2,8 @@
 
 ghost use Rattle.std.specs.Prelude.{◌≡◌, ◌≢◌, ◌⊎◌, ◌∷◌, [], IfOk, IfErr, OnOk, option_map};
 ghost use Rattle.std.specs.Io.KnownBytes.{Keeps as KeepsBytes};
-ghost use Rattle.sqlite.specs.Files.{over_files};
 ghost use Rattle.sqlite.specs.Held.{state};
 ghost use Rattle.sqlite.specs.State.{HasCleanDisk};
-ghost use Rattle.sqlite.specs.WalFiles.{image_at};
-ghost use Rattle.sqlite.specs.WalReads.{AreClean};
 ghost use Rattle.jc_base.specs.Journal.{Journal};
 ghost use Rattle.jc_command_shared.specs.Failure.{status_of};
 ghost use Rattle.jc_collector_answers.specs.Named.{PrintsNamed};
@@ -23,13 +20,13 @@ ghost use Rattle.jc_collector.specs.IntoUnion.{LeadsIf, StoresNotedListed, Store
 ghost use Rattle.jc_collector.specs.Listed.{PrintsListed};
 ghost use Rattle.jc_command_shared.specs.Deeds.{ChangesOnly, IsReplacedIf, OpensAndChanges};
 
-use crate::database::{FileKeeper, Opened, check_name, open_or_make};
+use crate::database::{Opened, check_name, open_or_make};
 use crate::listed::INPUT;
 use crate::then_export::{check_export, export_after};
 use jc_collector_answers::{NameLines, answer_names};
 use jc_command_args::Tables;
 use jc_command_shared::{Failure, Status, System, open_file};
-use jc_database::Databases;
+use jc_database::{Databases, OpenFromFiles, StoreInFiles};
 use jc_keeper::Keeper;
 use jc_ledger::{Ledger, Past};
 use jc_schema_three::SchemaThree;
@@ -38,8 +35,7 @@ use jc_store::{Listed, TableKeeper};
 use jc_union::{
     AnsweredUnion, NotedRun, OpenedUnion, TableUnion, close_union, open_union, why_no_union,
 };
-use sqlite::{Alter, FileFrom, FileStore, Start};
-use sqlite_disk::Disk;
+use sqlite::Alter;
 use std::io::{BufRead, BufReader, Read, Write};
 
 /// Takes the uploads that the lines of a list name up into the union of the databases that are finished and the present
@@ -50,7 +46,7 @@ use std::io::{BufRead, BufReader, Read, Write};
 pub fn collect_into_union<
     'a,
     Y: Databases,
-    S: Start,
+    F: OpenFromFiles,
     L: Ledger + Drop,
     P: Past,
     I: Read,
@@ -58,7 +54,7 @@ pub fn collect_into_union<
     E: Write,
 >(
     rt: &mut Y,
-    start: S,
+    start: F::Start,
     ledger: L,
     database: &'a str,
     tables: Tables,
@@ -67,10 +63,10 @@ pub fn collect_into_union<
     input: &mut I,
     output: &mut O,
     errors: &mut E,
-) -> Result<NotedRun<FileFrom<S>, L>, Failure<'a>>
+) -> Result<NotedRun<F::Files, L>, Failure<'a>>
     // What the printed lines acknowledge is stored in the union, if what was noted is what the finished databases have, and
     // some of what the present one had. Then what is noted is what they have.
-    ensures each { IfOk result (λ run. LeadsIf tables (image_at S.Start) ⟦<FileFrom<S> as Disk>⟧ run.files
+    ensures each { IfOk result (λ run. LeadsIf tables F.first F.in_files run.files
         (λ before. MayCatchUp (L.known ledger) P.journal before (L.came ledger) × L.sound run.ledger × NoneCollide (L.came run.ledger))
         (StoresNotedListed P.journal (L.known run.ledger) (L.came run.ledger) list.now (I.remaining input.old) run.status
         (O.contents output.old) (O.contents output.new))) }
@@ -85,7 +81,7 @@ pub fn collect_into_union<
     check_name(database)?;
     check_export(rt, database, then_export)?;
     if list == INPUT {
-        return join_lines::<_, S, L, P, _, _, _>(
+        return join_lines::<_, F, L, P, _, _, _>(
             rt,
             start,
             ledger,
@@ -98,7 +94,7 @@ pub fn collect_into_union<
         );
     }
     let names = open_file(rt, list)?;
-    join_lines::<_, S, L, P, _, _, _>(
+    join_lines::<_, F, L, P, _, _, _>(
         rt,
         start,
         ledger,
@@ -116,7 +112,7 @@ pub fn collect_into_union<
 fn join_lines<
     'a,
     Y: Databases,
-    S: Start,
+    F: OpenFromFiles,
     L: Ledger + Drop,
     P: Past,
     N: Read + Drop,
@@ -124,7 +120,7 @@ fn join_lines<
     E: Write,
 >(
     rt: &mut Y,
-    start: S,
+    start: F::Start,
     ledger: L,
     database: &'a str,
     tables: Tables,
@@ -132,10 +128,10 @@ fn join_lines<
     list: N,
     output: &mut O,
     errors: &mut E,
-) -> Result<NotedRun<FileFrom<S>, L>, Failure<'a>>
+) -> Result<NotedRun<F::Files, L>, Failure<'a>>
     // What the printed lines acknowledge is stored in the union, if what was noted is what the finished databases have, and
     // some of what the present one had. Then what is noted is what they have.
-    ensures each { IfOk result (λ run. LeadsIf tables (image_at S.Start) ⟦<FileFrom<S> as Disk>⟧ run.files
+    ensures each { IfOk result (λ run. LeadsIf tables F.first F.in_files run.files
         (λ before. MayCatchUp (L.known ledger) P.journal before (L.came ledger) × L.sound run.ledger × NoneCollide (L.came run.ledger))
         (StoresNotedNames P.journal (L.known run.ledger) (L.came run.ledger) (N.remaining list) run.status
         (O.contents output.old) (O.contents output.new))) }
@@ -150,7 +146,7 @@ fn join_lines<
     let Ok(mut names) = BufReader::new(rt.alloc(), list) else {
         return Err(Failure::OutOfMemory);
     };
-    join_names::<_, S, L, P, _, _, _>(
+    join_names::<_, F, L, P, _, _, _>(
         rt,
         start,
         ledger,
@@ -168,7 +164,7 @@ fn join_lines<
 fn join_names<
     'a,
     Y: Databases,
-    S: Start,
+    F: OpenFromFiles,
     L: Ledger + Drop,
     P: Past,
     N: BufRead,
@@ -176,7 +172,7 @@ fn join_names<
     E: Write,
 >(
     rt: &mut Y,
-    start: S,
+    start: F::Start,
     ledger: L,
     database: &'a str,
     tables: Tables,
@@ -184,10 +180,10 @@ fn join_names<
     names: &mut N,
     output: &mut O,
     errors: &mut E,
-) -> Result<NotedRun<FileFrom<S>, L>, Failure<'a>>
+) -> Result<NotedRun<F::Files, L>, Failure<'a>>
     // What the printed lines acknowledge is stored in the union, if what was noted is what the finished databases have, and
     // some of what the present one had. Then what is noted is what they have.
-    ensures each { IfOk result (λ run. LeadsIf tables (image_at S.Start) ⟦<FileFrom<S> as Disk>⟧ run.files
+    ensures each { IfOk result (λ run. LeadsIf tables F.first F.in_files run.files
         (λ before. MayCatchUp (L.known ledger) P.journal before (L.came ledger) × L.sound run.ledger × NoneCollide (L.came run.ledger))
         (StoresNotedNames P.journal (L.known run.ledger) (L.came run.ledger) (N.remaining names.old) run.status
         (O.contents output.old) (O.contents output.new))) }
@@ -199,8 +195,8 @@ fn join_names<
     ensures touched { OpensAndChanges database.now (IsReplacedIf (option_map (λ name. name.now) then_export.entry))
         (Y.deeds rt.old) (Y.deeds rt.new) }
 {
-    match open_or_make(rt, database, start, tables)? {
-        Opened::ByKey(keeper) => join_over::<_, S, SchemaTwo, L, P, _, _, _>(
+    match open_or_make::<_, F>(rt, database, start, tables)? {
+        Opened::ByKey(keeper) => join_over::<_, F, SchemaTwo, L, P, _, _, _>(
             rt,
             keeper,
             ledger,
@@ -209,7 +205,7 @@ fn join_names<
             output,
             errors,
         ),
-        Opened::ByNumber(keeper) => join_over::<_, S, SchemaThree, L, P, _, _, _>(
+        Opened::ByNumber(keeper) => join_over::<_, F, SchemaThree, L, P, _, _, _>(
             rt,
             keeper,
             ledger,
@@ -225,7 +221,7 @@ fn join_names<
 fn join_over<
     'a,
     Y: System,
-    S: Start,
+    F: StoreInFiles,
     T: Listed + Drop,
     L: Ledger + Drop,
     P: Past,
@@ -234,20 +230,20 @@ fn join_over<
     E: Write,
 >(
     rt: &mut Y,
-    present: FileKeeper<S, T>,
+    present: TableKeeper<F, T>,
     ledger: L,
     then_export: Option<&'a str>,
     names: &mut N,
     output: &mut O,
     errors: &mut E,
-) -> Result<NotedRun<FileFrom<S>, L>, Failure<'a>>
-    ensures each { IfOk result (λ run. AreClean ⟦<FileFrom<S> as Disk>⟧ run.files.log run.files.db → (before : Journal)
-        → Keeps T.meaning present.conn before → MayCatchUp (L.known ledger) P.journal before (L.came ledger) → L.sound run.ledger
-        → NoneCollide (L.came run.ledger) → EndsWith T.meaning ⟦<FileFrom<S> as Disk>⟧ run.files
+) -> Result<NotedRun<F::Files, L>, Failure<'a>>
+    ensures each { IfOk result (λ run. F.in_files.clean run.files → (before : Journal)
+        → Keeps T.meaning F.Store present.conn before → MayCatchUp (L.known ledger) P.journal before (L.came ledger) → L.sound run.ledger
+        → NoneCollide (L.came run.ledger) → EndsWith T.meaning F.in_files run.files
         (StoresNotedNames P.journal (L.known run.ledger) (L.came run.ledger) (N.remaining names.old) run.status
         (O.contents output.old) (O.contents output.new) before)) }
-    ensures sound { IfOk result (λ run. AreClean ⟦<FileFrom<S> as Disk>⟧ run.files.log run.files.db → L.sound run.ledger
-        → NoneCollide (L.came run.ledger) → IsSound over_files present.conn) }
+    ensures sound { IfOk result (λ run. F.in_files.clean run.files → L.sound run.ledger
+        → NoneCollide (L.came run.ledger) → IsSound F.Store present.conn) }
     ensures printed { IfOk result (λ run. PrintsNamed (N.remaining names.old) run.status (O.contents output.old) (O.contents output.new)) }
     ensures quiet { IfOk result (λ run. run.status ≡ Status.Success → KeepsBytes (E.contents errors.old) (E.contents errors.new)) }
     ensures failed { IfErr result UnionStopsBy }
@@ -255,16 +251,15 @@ fn join_over<
         → KeepsBytes (O.contents output.old) (O.contents output.new)) }
     ensures touched { ChangesOnly (IsReplacedIf (option_map (λ name. name.now) then_export.entry)) (Y.deeds rt.old) (Y.deeds rt.new) }
 {
-    let AnsweredUnion { answered, union } = join_open::<
-        _,
-        FileStore<FileFrom<S>>,
-        T,
-        L,
-        P,
-        _,
-        _,
-        _,
-    >(rt, present, ledger, then_export, names, output, errors);
+    let AnsweredUnion { answered, union } = join_open::<_, F, T, L, P, _, _, _>(
+        rt,
+        present,
+        ledger,
+        then_export,
+        names,
+        output,
+        errors,
+    );
     close_union(union, answered)
 }
 

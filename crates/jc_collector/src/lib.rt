@@ -20,7 +20,7 @@ mod unopened;
 pub use answered::{Answered, answer_deliveries, answer_lines};
 pub use closing::Closed;
 pub use collecting::{collect, collect_deliveries};
-pub use database::{FileKeeper, Opened, OpenedFiles, open_or_make};
+pub use database::{Opened, OpenedFiles, open_or_make};
 pub use health::{Examined, Health, check};
 pub use inspecting::inspect;
 pub use into_union::{collect_into_union, join_open};

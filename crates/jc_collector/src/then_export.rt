@@ -3,19 +3,17 @@
 ghost use Rattle.std.specs.Prelude.{◌≡◌, ◌⊎◌, ◌≤◌, Ok, Err, IfOk, IfErr, option_map};
 ghost use Rattle.sqlite.specs.Held.{state};
 ghost use Rattle.sqlite.specs.View.{doubt};
-ghost use Rattle.sqlite.specs.Files.{file_state, over_files};
 ghost use Rattle.jc_command_shared.specs.Deeds.{ChangesOnly, IsReplaced, IsReplacedIf};
 ghost use Rattle.jc_store.specs.Crash.{LeavesNoMore};
 ghost use Rattle.jc_store.specs.Meaning.{IsSound, KeepsJournal};
 ghost use Rattle.jc_collector.specs.Database.{IsOutFailure};
 
-use crate::database::FileKeeper;
 use crate::listing::export_journal;
 use jc_command_shared::{
     Failure, Status, System, UNFINISHED, create_file, folder_and_name, name_beside, put_in_place,
 };
 use jc_store::{Listed, TableKeeper};
-use sqlite::{Alter, Start};
+use sqlite::Alter;
 use std::io::ErrorKind;
 use std::os::unix::fs::MetadataExt;
 
@@ -94,25 +92,6 @@ pub fn export_after<'a, Y: System, S: Alter, L: Listed>(
     };
     export_file(rt, keeper, path)?;
     Ok(status)
-}
-
-/// The same of a keeper over files.
-pub fn export_files_after<'a, Y: System, S: Start, L: Listed>(
-    rt: &mut Y,
-    keeper: &mut FileKeeper<S, L>,
-    answered: Result<Status, Failure<'a>>,
-    path: Option<&'a str>,
-) -> Result<Status, Failure<'a>>
-    ensures answered { IfOk result (λ status. answered.entry ≡ Ok status) }
-    ensures passed_on { IfErr answered.entry (λ failure. result ≡ Err failure) }
-    ensures before { IsSound over_files keeper.new.conn → IsSound over_files keeper.old.conn }
-    ensures keeps { KeepsJournal L.meaning over_files keeper.old.conn keeper.new.conn }
-    ensures clean { doubt (file_state keeper.old.conn).is_clean ≤ doubt (file_state keeper.new.conn).is_clean }
-    ensures crash { LeavesNoMore (file_state keeper.old.conn) (file_state keeper.new.conn) }
-    ensures failed { IfErr result (λ failure. (answered.entry ≡ Err failure) ⊎ IsOutFailure failure) }
-    ensures touched { ChangesOnly (IsReplacedIf (option_map (λ name. name.now) path.entry)) (Y.deeds rt.old) (Y.deeds rt.new) }
-{
-    export_after(rt, keeper, answered, path)
 }
 
 /// Puts what `export` prints of a keeper's journal into the file at a path, which stays as it was if that fails.

@@ -3,19 +3,17 @@
 ghost use Rattle.std.specs.Prelude.{◌≡◌, None};
 
 use jc_command_shared::Failure;
-use sqlite::Leftover;
-use sqlite_disk::Disk;
 
 /// Why there is no journal in a database, and what is left of its files, if they were opened.
 #[derive(Drop)]
-pub struct Unopened<'a, D: Disk + Drop> {
+pub struct Unopened<'a, L: Drop> {
     pub failure: Failure<'a>,
-    pub left: Option<Leftover<D>>,
+    pub left: Option<L>,
 }
 
-impl<'a, D: Disk + Drop> Unopened<'a, D> {
+impl<'a, L: Drop> Unopened<'a, L> {
     /// One of which no file was opened.
-    pub(crate) fn early(failure: Failure<'a>) -> Unopened<'a, D>
+    pub(crate) fn early(failure: Failure<'a>) -> Unopened<'a, L>
         ensures failure { result.failure ≡ failure.entry }
         ensures left { result.left ≡ None }
     {
@@ -26,10 +24,10 @@ impl<'a, D: Disk + Drop> Unopened<'a, D> {
     }
 }
 
-impl<'a, D: Disk + Drop> From<Unopened<'a, D>> for Failure<'a> {
+impl<'a, L: Drop> From<Unopened<'a, L>> for Failure<'a> {
     ghost from_gives = { λ unopened failure. failure ≡ unopened.failure };
 
-    fn from(unopened: Unopened<'a, D>) -> Self {
+    fn from(unopened: Unopened<'a, L>) -> Self {
         let Unopened { failure, left: _ } = unopened;
         failure
     }

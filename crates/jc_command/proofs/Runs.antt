@@ -4,8 +4,6 @@ use Rattle.std.specs.Prelude.{IfOk, IfErr, IfSome, Result, Ok, Err, if◌then◌
 use Rattle.std.specs.List.{list_any}
 use Rattle.std.specs.Io.KnownBytes.{Keeps}
 use Rattle.clap.specs.Words.{Text}
-use Rattle.sqlite_disk.specs.declared.Disk as disks
-use Rattle.sqlite_disk.specs.declared.Files.{Files}
 use Rattle.sqlite.specs.Recovery.{Image}
 use Rattle.jc_base.specs.declared.id.Key.{Key}
 use Rattle.jc_base.specs.Journal.{Journal}
@@ -14,6 +12,7 @@ use Rattle.jc_ledger.specs.Known.{Known}
 use Rattle.jc_ledger.specs.Lagging.{MayCatchUp}
 use Rattle.jc_command_args.specs.declared.request.Tables.{Tables}
 use Rattle.jc_collector.specs.IntoUnion.{LeadsIf}
+use Rattle.jc_database.specs.Files.{InFiles}
 use Rattle.clap.specs.declared.error.kind.ErrorKind.{ErrorKind}
 use Rattle.clap.specs.declared.error.kind.ErrorKind.TheVariants as kind
 use Rattle.jc_base.specs.declared.fault.Ending.{Ending}
@@ -60,7 +59,7 @@ judged_not_misused false true same = cc
 judged_not_misused false false same = cc
 
 -- what was asked for is performed
-pub performed : {D L : Type 0} (begun : Begins) (g : Devices D L) (left : Leaves D L) (words : List Text) (request : Request) (given output output' errors errors' : Option (List ℕ)) (status : Status)
+pub performed : {S C L N : Type 0} (begun : Begins) (g : Devices S C L N) (left : Leaves C N) (words : List Text) (request : Request) (given output output' errors errors' : Option (List ℕ)) (status : Status)
     → AskFor words request → Performs begun g left request given output output' status → (status ≡ Success → Keeps errors errors')
     → Ends begun g left words given output output' errors errors' status
 performed begun g left words request given output output' errors errors' Success asks does quiet = (quiet refl, inr (request, asks, does))
@@ -147,7 +146,7 @@ sorted kind.OutOfMemory = inr (inl refl)
 sorted _ = inr (inr (λ asked. elim asked [ inl e ↦ cc | inr e ↦ cc ], λ e. cc))
 
 -- the words are answered in place of a request
-ends_answered : {D L : Type 0} (begun : Begins) (g : Devices D L) (left : Leaves D L) (words : List Text) (k : ErrorKind) (r : Result Status Failure)
+ends_answered : {S C L N : Type 0} (begun : Begins) (g : Devices S C L N) (left : Leaves C N) (words : List Text) (k : ErrorKind) (r : Result Status Failure)
     (given output output' errors errors' : Option (List ℕ)) → AreAnswered words k
     → (IsAskedFor k → IfOk r (λ status. status ≡ Success) × IfErr r (λ why. why ≡ failures.WriteFailed) × Keeps errors errors')
     → (¬ IsAskedFor k → k ≢ kind.OutOfMemory → (r ≡ Ok Misused) × Keeps output output')
@@ -171,7 +170,7 @@ ends_answered begun g left words k r given output output' errors errors' answere
     shown (Err why) facts h = tt
 
 -- memory is refused, or the words are answered
-pub ends_words : {D L : Type 0} (begun : Begins) (g : Devices D L) (left : Leaves D L) (words : List Text) (k : ErrorKind) (r : Result Status Failure)
+pub ends_words : {S C L N : Type 0} (begun : Begins) (g : Devices S C L N) (left : Leaves C N) (words : List Text) (k : ErrorKind) (r : Result Status Failure)
     (given output output' errors errors' : Option (List ℕ)) → (k ≡ kind.OutOfMemory) ⊎ AreAnswered words k
     → (IsAskedFor k → IfOk r (λ status. status ≡ Success) × IfErr r (λ why. why ≡ failures.WriteFailed) × Keeps errors errors')
     → (¬ IsAskedFor k → k ≢ kind.OutOfMemory → (r ≡ Ok Misused) × Keeps output output')
@@ -202,7 +201,7 @@ same_status Failed Misused e = cc
 same_status Failed Failed e = refl
 
 -- the status that a number says, over words that are the same
-pub by_number : {D L : Type 0} (begun : Begins) (g : Devices D L) (left : Leaves D L) (words texts : List Text) (given output output' errors errors' : Option (List ℕ)) (n : ℕ) (status wanted : Status)
+pub by_number : {S C L N : Type 0} (begun : Begins) (g : Devices S C L N) (left : Leaves C N) (words texts : List Text) (given output output' errors errors' : Option (List ℕ)) (n : ℕ) (status wanted : Status)
     → texts ≡ words → n ≡ number_of status → n ≡ number_of wanted → Ends begun g left texts given output output' errors errors' status
     → Ends begun g left words given output output' errors errors' wanted
 by_number begun g left words texts given output output' errors errors' n status wanted same is wants ends =
@@ -210,7 +209,7 @@ by_number begun g left words texts given output output' errors errors' n status 
     (subst (λ (t : List Text). Ends begun g left t given output output' errors errors' status) same ends)
 
 -- a run that stops short ends with the failure's status
-stops : {D L : Type 0} (begun : Begins) (g : Devices D L) (left : Leaves D L) (words : List Text) (given output output' errors errors' : Option (List ℕ)) (failure : Failure) (wanted : Status)
+stops : {S C L N : Type 0} (begun : Begins) (g : Devices S C L N) (left : Leaves C N) (words : List Text) (given output output' errors errors' : Option (List ℕ)) (failure : Failure) (wanted : Status)
     → status_of failure ≡ wanted → (wanted ≡ Refused) ⊎ (wanted ≡ Misused) → Stops words given output output' failure
     → Ends begun g left words given output output' errors errors' wanted
 stops begun g left words given output output' errors errors' failure Success same which stopped = elim which [ inl e ↦ cc | inr e ↦ cc ]
@@ -224,7 +223,7 @@ stops begun g left words given output output' errors errors' failure Misused sam
   | inr asked ↦ inr (subst (StopsAsked words given output output') same asked)
 ]
 
-pub stops_by_number : {D L : Type 0} (begun : Begins) (g : Devices D L) (left : Leaves D L) (words texts : List Text) (given output output' errors errors' : Option (List ℕ)) (n : ℕ)
+pub stops_by_number : {S C L N : Type 0} (begun : Begins) (g : Devices S C L N) (left : Leaves C N) (words texts : List Text) (given output output' errors errors' : Option (List ℕ)) (n : ℕ)
     (failure : Failure) (wanted : Status) → texts ≡ words → n ≡ number_of (status_of failure) → n ≡ number_of wanted
     → (wanted ≡ Refused) ⊎ (wanted ≡ Misused) → Stops texts given output output' failure
     → Ends begun g left words given output output' errors errors' wanted
@@ -278,23 +277,23 @@ same_start alike too lag = record {
   lags = lag.lags;
 }
 
-pub leads_from : {D : Type 0} {d : disks.Ghosts D} (made : Tables) (image : Image) (files : Files D) (Asked Holds : Journal → Type 0)
-    (Step : Journal → Journal → Type 0) → ((before : Journal) → Asked before → Holds before) → LeadsIf made image d files Holds Step
-    → LeadsIf made image d files Asked Step
+pub leads_from : {S C L : Type 0} {o : InFiles S C L} (made : Tables) (image : Image) (files : C) (Asked Holds : Journal → Type 0)
+    (Step : Journal → Journal → Type 0) → ((before : Journal) → Asked before → Holds before) → LeadsIf made image o files Holds Step
+    → LeadsIf made image o files Asked Step
 leads_from made image files Asked Holds Step each leads clean kind before begin asked = leads clean kind before begin (each before asked)
 
 -- ---- what was done, in other words
 
-pub performs_as : {D L : Type 0} (begun : Begins) (g : Devices D L) (files shown : Option (Files D)) (ledger noted : Option L) (request asked : Request)
+pub performs_as : {S C L N : Type 0} (begun : Begins) (g : Devices S C L N) (files shown : Option C) (ledger noted : Option N) (request asked : Request)
     (given old new : Option (List ℕ)) (status is : Status) → asked ≡ request → shown ≡ files → noted ≡ ledger → is ≡ status
     → Performs begun g (leaves files ledger) request given old new status → Performs begun g (leaves shown noted) asked given old new is
-performs_as {D} {L} begun g files shown ledger noted request asked given old new status is same_request same_files same_ledger same_status does =
+performs_as {S} {C} {L} {N} begun g files shown ledger noted request asked given old new status is same_request same_files same_ledger same_status does =
     subst (λ (r : Request). Performs begun g (leaves shown noted) r given old new is) (sym same_request)
-    (subst (λ (f : Option (Files D)). Performs begun g (leaves f noted) request given old new is) (sym same_files)
-    (subst (λ (l : Option L). Performs begun g (leaves files l) request given old new is) (sym same_ledger)
+    (subst (λ (f : Option C). Performs begun g (leaves f noted) request given old new is) (sym same_files)
+    (subst (λ (l : Option N). Performs begun g (leaves files l) request given old new is) (sym same_ledger)
     (subst (Performs begun g (leaves files ledger) request given old new) (sym same_status) does)))
 
-pub ends_as : {D L : Type 0} (begun : Begins) (g : Devices D L) (left : Leaves D L) (words : List Text) (given output output' errors errors' : Option (List ℕ))
+pub ends_as : {S C L N : Type 0} (begun : Begins) (g : Devices S C L N) (left : Leaves C N) (words : List Text) (given output output' errors errors' : Option (List ℕ))
     (status is : Status) → is ≡ status → Ends begun g left words given output output' errors errors' status
     → Ends begun g left words given output output' errors errors' is
 ends_as begun g left words given output output' errors errors' status is same ends =

@@ -2,12 +2,11 @@
 use Rattle.std.specs.Prelude.{◌≡◌, ◌⊎◌, ◌∷◌, [], ⊤, ℕ, List, Option, IfSome, IsSomeAnd, MatchOption, length, map, option_map}
 use Rattle.std.specs.Io.KnownBytes.{Keeps}
 use Rattle.clap.specs.Words.{Text}
-use Rattle.sqlite_disk.specs.declared.Disk as disks
-use Rattle.sqlite_disk.specs.declared.Files.{Files}
 use Rattle.sqlite.specs.Recovery.{Image}
 use Rattle.jc_base.specs.Journal.{Journal}
 use Rattle.jc_base.specs.LogEntry.{LogEntry}
 use Rattle.jc_keeper.specs.Listing.{export_text}
+use Rattle.jc_database.specs.Files.{InFiles}
 use Rattle.jc_ledger.specs.declared.ledger.Ledger as ledgers
 use Rattle.jc_ledger.specs.Kept.{NoneCollide}
 use Rattle.jc_ledger.specs.Known.{Known}
@@ -58,31 +57,31 @@ abbrev pub begins_with : Image → (windows : WindowName → List ℕ) → (past
 begins_with image windows past came =
     record { image = image; noted = known_in (λ w. notes_of (windows w)); owner = owner_found windows; past = past; came = came }
 
--- what is said of the disks of its database, and of the notes of sequences
-pub record Devices (D L : Type 0) : Type 1 where
-  pub disk : disks.Ghosts D
-  pub ledger : ledgers.Ghosts L
+-- what is seen of the files of its database, of a store S, and of the notes N of sequences
+pub record Devices (S C L N : Type 0) : Type 1 where
+  pub database : InFiles S C L
+  pub ledger : ledgers.Ghosts N
 
-abbrev pub devices : {D L : Type 0} → disks.Ghosts D → ledgers.Ghosts L → Devices D L
-devices d l = record { disk = d; ledger = l }
+abbrev pub devices : {S C L N : Type 0} → InFiles S C L → ledgers.Ghosts N → Devices S C L N
+devices o n = record { database = o; ledger = n }
 
 -- what it leaves: the files of its database, closed, and the notes of sequences
-pub record Leaves (D L : Type 0) : Type 0 where
-  pub files : Option (Files D)
-  pub ledger : Option L
+pub record Leaves (C N : Type 0) : Type 0 where
+  pub files : Option C
+  pub ledger : Option N
 
-abbrev pub leaves : {D L : Type 0} → Option (Files D) → Option L → Leaves D L
+abbrev pub leaves : {C N : Type 0} → Option C → Option N → Leaves C N
 leaves files ledger = record { files = files; ledger = ledger }
 
-module _ {D L : Type 0} (begun : Begins) (g : Devices D L) (left : Leaves D L) where
+module _ {S C L N : Type 0} (begun : Begins) (g : Devices S C L N) (left : Leaves C N) where
   -- A run ends with the files of its database, closed, and made such a step over the journal that they had, or over the empty
   -- one in tables that it made.
   abbrev pub Leads : (made : Tables) → (Journal → Journal → Type 0) → Type 0
-  Leads made Step = IsSomeAnd left.files (λ closed. LeadsIn made begun.image g.disk closed Step)
+  Leads made Step = IsSomeAnd left.files (λ closed. LeadsIn made begun.image g.database closed Step)
 
   -- The same of a run that makes no tables.
   abbrev pub LeadsOn : (Journal → Journal → Type 0) → Type 0
-  LeadsOn Step = IsSomeAnd left.files (λ closed. LeadsThere begun.image g.disk closed Step)
+  LeadsOn Step = IsSomeAnd left.files (λ closed. LeadsThere begun.image g.database closed Step)
 
   -- An answer to each upload was printed, and what they acknowledge is in the files. What one upload on standard input makes
   -- of the journal, and how it is answered.
@@ -103,13 +102,13 @@ module _ {D L : Type 0} (begun : Begins) (g : Devices D L) (left : Leaves D L) w
   -- made over the present database's journal.
   abbrev pub LeadsNoted : (made : Tables) → ((known : Known) → (came : LogEntry → Type 0) → Journal → Journal → Type 0) → Type 0
   LeadsNoted made Step =
-      IsSomeAnd left.files (λ closed. IsSomeAnd left.ledger (λ notes. LeadsIf made begun.image g.disk closed
+      IsSomeAnd left.files (λ closed. IsSomeAnd left.ledger (λ notes. LeadsIf made begun.image g.database closed
       (λ before. MayCatchUp begun.noted begun.past before begun.came × g.ledger.sound notes × NoneCollide (g.ledger.came notes))
       (Step (g.ledger.known notes) (g.ledger.came notes))))
 
   -- Each sequence that belonged to a machine belongs to it, if the notes are sound at the end. If the disk returned what was
   -- written, it does also after a crash then.
-  pub record KeepOwners (notes : L) : Type 0 where
+  pub record KeepOwners (notes : N) : Type 0 where
     pub stay : g.ledger.sound notes → StayOwned begun.owner (g.ledger.owner notes)
     pub after : g.ledger.clean notes → StayOwnedAfter begun.owner (g.ledger.may_own notes)
 
@@ -126,14 +125,14 @@ module _ {D L : Type 0} (begun : Begins) (g : Devices D L) (left : Leaves D L) w
     pub health : Health
     pub is : IsHealth health
     pub printed : PrintsHealth health status old new
-    pub counted : MatchOption left.files (status ≡ Refused) (λ closed. LeadsThere begun.image g.disk closed (Prints count_line old new))
+    pub counted : MatchOption left.files (status ≡ Refused) (λ closed. LeadsThere begun.image g.database closed (Prints count_line old new))
 
   -- The same of a journal in tables of an earlier kind, which the files then have in these.
   pub record Migrates (tables : Tables) (old new : Option (List ℕ)) (status : Status) : Type 0 where
     pub health : Health
     pub is : IsHealth health
     pub printed : PrintsHealth health status old new
-    pub moved : MatchOption left.files (status ≡ Refused) (λ closed. LeadsFrom tables begun.image g.disk closed (Prints count_line old new))
+    pub moved : MatchOption left.files (status ≡ Refused) (λ closed. LeadsFrom tables begun.image g.database closed (Prints count_line old new))
 
   -- What standard output gains when a request is performed, over what standard input gives, the status, and what becomes of
   -- the files of its database: from `verify` a reading, from `inspect` what an upload says, from `upload` an upload, from
@@ -211,7 +210,7 @@ DoesAsked words old new = (new ≡ old) ⊎ ((request : Request) × AskFor words
 -- ---- a run
 
 -- The arguments ask for something, and it is performed.
-abbrev pub PerformsAsked : {D L : Type 0} → Begins → Devices D L → Leaves D L → List Text → (given old new : Option (List ℕ)) → Status → Type 0
+abbrev pub PerformsAsked : {S C L N : Type 0} → Begins → Devices S C L N → Leaves C N → List Text → (given old new : Option (List ℕ)) → Status → Type 0
 PerformsAsked begun g left words given old new status =
     (request : Request) × AskFor words request × Performs begun g left request given old new status
 
@@ -226,7 +225,7 @@ pub record StopsAsked (words : List Text) (given old new : Option (List ℕ)) (s
 
 -- How a run over these arguments ends, by its status, unless something fails that is reported on standard error: what it
 -- prints on standard output, and that it prints nothing on standard error if all is well.
-abbrev pub Ends : {D L : Type 0} → Begins → Devices D L → Leaves D L → List Text
+abbrev pub Ends : {S C L N : Type 0} → Begins → Devices S C L N → Leaves C N → List Text
     → (given output output' errors errors' : Option (List ℕ)) → Status → Type 0
 Ends begun g left words given output output' errors errors' Success =
     Keeps errors errors' × (AskForHelp words ⊎ PerformsAsked begun g left words given output output' Success)
@@ -237,9 +236,9 @@ Ends begun g left words given output output' errors errors' Misused =
 Ends begun g left words given output output' errors errors' Failed = PerformsAsked begun g left words given output output' Failed
 
 -- The same of a run that keeps what it leaves to itself.
-unfoldable pub EndsWithin : {D L : Type 0} → Begins → Devices D L → List Text → (given output output' errors errors' : Option (List ℕ)) → Status → Type 0
-EndsWithin {D} {L} begun g words given output output' errors errors' status =
-    (left : Leaves D L) × Ends begun g left words given output output' errors errors' status
+unfoldable pub EndsWithin : {S C L N : Type 0} → Begins → Devices S C L N → List Text → (given output output' errors errors' : Option (List ℕ)) → Status → Type 0
+EndsWithin {S} {C} {L} {N} begun g words given output output' errors errors' status =
+    (left : Leaves C N) × Ends begun g left words given output output' errors errors' status
 
 -- If a run stops short, a device or memory failed, or something was asked for that is refused.
 abbrev pub Stops : List Text → (given output output' : Option (List ℕ)) → Failure → Type 0

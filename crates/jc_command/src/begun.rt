@@ -10,8 +10,8 @@ use jc_ledger_files::{Arrivals, Found};
 use sqlite::{Unknown, Wary};
 use std::marker::PhantomData;
 
-/// What a run over a union of databases begins with, beside the files of the present one, which `Start` says. A function
-/// over `S: Begun` is proved for all of it, and no code can read it.
+/// What a run over a union of databases begins with, but for the files of the present one, of which `OpenFromFiles` says
+/// that. A function over `S: Begun` is proved for all of it, and no code can read it.
 pub trait Begun: Drop {
     /// What the file of each window of a sequence has.
     ghost windows: { WindowName → List ℕ };

@@ -3,7 +3,6 @@
 ghost use Rattle.std.specs.Prelude.{◌≡◌, ◌≢◌, ◌≤◌, ⊤, None, Some, IsSome, Ok, Err, OnOk, IfOk, IfErr, map, string_bytes};
 ghost use Rattle.std.specs.Io.KnownBytes.{Appends, Keeps};
 ghost use Rattle.clap.specs.Words.{kind_of};
-ghost use Rattle.sqlite.specs.WalFiles.{image_at};
 ghost use Rattle.jc_command_args.specs.Answer.{IsAskedFor};
 ghost use Rattle.jc_command_shared.specs.Failure.{status_of};
 ghost use Rattle.jc_command.specs.Run.{DoesAsked, DoesFor, Ends, EndsWithin, FailsBy, Performs, Stops, begins_with, devices, leaves};
@@ -18,35 +17,33 @@ use jc_collector::{
 };
 use jc_command_args::{CODES, Request, parse};
 use jc_command_shared::{Failure, Status, printed};
-use jc_database::Databases;
+use jc_database::{Databases, OpenFromFiles};
 use jc_ledger::Ledger;
 use jc_sender::{ack, upload, verify};
 use jc_sequences::Folders;
 use jc_union::NotedRun;
-use sqlite::{FileFrom, Files, Start};
-use sqlite_disk::Disk;
 use std::io::{Read, Write};
 
 /// What a run ended with: its status, and the files of its database, closed, if it had one open, with the notes of
 /// sequences, if it had those.
 #[derive(Drop)]
-pub struct Ended<S: Start, L: Ledger + Drop> {
+pub struct Ended<C: Drop, L: Ledger + Drop> {
     pub status: u8,
-    pub files: Option<Files<FileFrom<S>>>,
+    pub files: Option<C>,
     pub ledger: Option<L>,
 }
 
 /// What was asked for is done.
 #[derive(Drop)]
-struct Done<S: Start, L: Ledger + Drop> {
+struct Done<C: Drop, L: Ledger + Drop> {
     status: Status,
-    files: Option<Files<FileFrom<S>>>,
+    files: Option<C>,
     ledger: Option<L>,
 }
 
-impl<S: Start, L: Ledger + Drop> Done<S, L> {
+impl<C: Drop, L: Ledger + Drop> Done<C, L> {
     /// By a command that works on no database.
-    fn without(status: Status) -> Done<S, L>
+    fn without(status: Status) -> Done<C, L>
         ensures status { result.status ≡ status }
         ensures files { result.files ≡ None }
     {
@@ -58,7 +55,7 @@ impl<S: Start, L: Ledger + Drop> Done<S, L> {
     }
 
     /// By a command that answers a status, and has closed its database.
-    fn closed(closed: Closed<Status, S>) -> Done<S, L>
+    fn closed(closed: Closed<Status, C>) -> Done<C, L>
         ensures status { result.status ≡ closed.value }
         ensures files { result.files ≡ Some closed.files }
     {
@@ -70,7 +67,7 @@ impl<S: Start, L: Ledger + Drop> Done<S, L> {
     }
 
     /// By a command over the union of databases, which has closed the present one.
-    fn noted(run: NotedRun<FileFrom<S>, L>) -> Done<S, L>
+    fn noted(run: NotedRun<C, L>) -> Done<C, L>
         ensures status { result.status ≡ run.status }
         ensures files { result.files ≡ Some run.files }
         ensures ledger { result.ledger ≡ Some run.ledger }
@@ -83,7 +80,7 @@ impl<S: Start, L: Ledger + Drop> Done<S, L> {
     }
 
     /// By a command that lists a journal, and has closed its database.
-    fn listed(closed: Closed<(), S>) -> Done<S, L>
+    fn listed(closed: Closed<(), C>) -> Done<C, L>
         ensures status { result.status ≡ Status.Success }
         ensures files { result.files ≡ Some closed.files }
     {
@@ -95,7 +92,7 @@ impl<S: Start, L: Ledger + Drop> Done<S, L> {
     }
 
     /// By a command that says what there is of a journal.
-    fn examined(examined: Examined<Status, S>) -> Done<S, L>
+    fn examined(examined: Examined<Status, C>) -> Done<C, L>
         ensures status { result.status ≡ examined.value }
         ensures files { result.files ≡ examined.files }
     {
@@ -108,29 +105,29 @@ impl<S: Start, L: Ledger + Drop> Done<S, L> {
 }
 
 /// Does what the arguments ask for, as `run_command` does, and answers the status to end with.
-pub fn command<'a, Y: Databases, S: Start + Begun, I: Read, O: Write, E: Write>(
+pub fn command<'a, Y: Databases, F: OpenFromFiles, S: Begun, I: Read, O: Write, E: Write>(
     rt: &mut Y,
     folders: Folders<'a>,
-    start: S,
+    start: F::Start,
     words: Vec<String>,
     input: &mut I,
     output: &mut O,
     errors: &mut E,
 ) -> u8
     ensures status { result ≤ 3 }
-    ensures success { result ≡ 0 → EndsWithin (begins_with (image_at S.Start) S.windows S.past S.came)
-        (devices ⟦<FileFrom<S> as Disk>⟧ ⟦<Sequences<'a, S> as Ledger>⟧) (map string_bytes words.items) (I.remaining input.old)
+    ensures success { result ≡ 0 → EndsWithin (begins_with F.first S.windows S.past S.came)
+        (devices F.in_files ⟦<Sequences<'a, S> as Ledger>⟧) (map string_bytes words.items) (I.remaining input.old)
         (O.contents output.old) (O.contents output.new) (E.contents errors.old) (E.contents errors.new) Status.Success }
-    ensures refused { result ≡ 1 → EndsWithin (begins_with (image_at S.Start) S.windows S.past S.came)
-        (devices ⟦<FileFrom<S> as Disk>⟧ ⟦<Sequences<'a, S> as Ledger>⟧) (map string_bytes words.items) (I.remaining input.old)
+    ensures refused { result ≡ 1 → EndsWithin (begins_with F.first S.windows S.past S.came)
+        (devices F.in_files ⟦<Sequences<'a, S> as Ledger>⟧) (map string_bytes words.items) (I.remaining input.old)
         (O.contents output.old) (O.contents output.new) (E.contents errors.old) (E.contents errors.new) Status.Refused }
-    ensures misused { result ≡ 2 → EndsWithin (begins_with (image_at S.Start) S.windows S.past S.came)
-        (devices ⟦<FileFrom<S> as Disk>⟧ ⟦<Sequences<'a, S> as Ledger>⟧) (map string_bytes words.items) (I.remaining input.old)
+    ensures misused { result ≡ 2 → EndsWithin (begins_with F.first S.windows S.past S.came)
+        (devices F.in_files ⟦<Sequences<'a, S> as Ledger>⟧) (map string_bytes words.items) (I.remaining input.old)
         (O.contents output.old) (O.contents output.new) (E.contents errors.old) (E.contents errors.new) Status.Misused }
     // However it ends, this alone was done to files.
     ensures touched { DoesAsked (map string_bytes words.items) (Y.deeds rt.old) (Y.deeds rt.new) }
 {
-    run_command(rt, folders, start, words, input, output, errors).status
+    run_command::<_, F, S, _, _, _, _>(rt, folders, start, words, input, output, errors).status
 }
 
 /// Does what the arguments ask for. The first argument is the program's name.
@@ -138,34 +135,50 @@ pub fn command<'a, Y: Databases, S: Start + Begun, I: Read, O: Write, E: Write>(
 /// What is asked for goes to `output`. A failure, or what is wrong with the arguments, goes to `errors`. With status 3
 /// something failed: no clause says what went to `errors` then, and of `output` one does if files come back. `input` has the answers for `ack`, and for `collect` the
 /// upload if none is named, or their names if the list is `-`. `start` stands for what a database's files hold as they are
-/// opened, and those of sequences, and the files that come back are those. `folders` opens the notes of sequences.
-pub fn run_command<Y: Databases, S: Start + Begun, N: NoteFolders<S>, I: Read, O: Write, E: Write>(
+/// opened, and the files that come back are those. `folders` opens the notes of sequences, and `S` says what is in them.
+pub fn run_command<
+    Y: Databases,
+    F: OpenFromFiles,
+    S: Begun,
+    N: NoteFolders<S>,
+    I: Read,
+    O: Write,
+    E: Write,
+>(
     rt: &mut Y,
     folders: N,
-    start: S,
+    start: F::Start,
     words: Vec<String>,
     input: &mut I,
     output: &mut O,
     errors: &mut E,
-) -> Ended<S, N::Notes>
+) -> Ended<F::Files, N::Notes>
     ensures status { result.status ≤ 3 }
-    ensures success { result.status ≡ 0 → Ends (begins_with (image_at S.Start) S.windows S.past S.came)
-        (devices ⟦<FileFrom<S> as Disk>⟧ ⟦<N::Notes as Ledger>⟧) (leaves result.files result.ledger) (map string_bytes words.items) (I.remaining input.old)
+    ensures success { result.status ≡ 0 → Ends (begins_with F.first S.windows S.past S.came)
+        (devices F.in_files ⟦<N::Notes as Ledger>⟧) (leaves result.files result.ledger) (map string_bytes words.items) (I.remaining input.old)
         (O.contents output.old) (O.contents output.new) (E.contents errors.old) (E.contents errors.new) Status.Success }
-    ensures refused { result.status ≡ 1 → Ends (begins_with (image_at S.Start) S.windows S.past S.came)
-        (devices ⟦<FileFrom<S> as Disk>⟧ ⟦<N::Notes as Ledger>⟧) (leaves result.files result.ledger) (map string_bytes words.items) (I.remaining input.old)
+    ensures refused { result.status ≡ 1 → Ends (begins_with F.first S.windows S.past S.came)
+        (devices F.in_files ⟦<N::Notes as Ledger>⟧) (leaves result.files result.ledger) (map string_bytes words.items) (I.remaining input.old)
         (O.contents output.old) (O.contents output.new) (E.contents errors.old) (E.contents errors.new) Status.Refused }
-    ensures misused { result.status ≡ 2 → Ends (begins_with (image_at S.Start) S.windows S.past S.came)
-        (devices ⟦<FileFrom<S> as Disk>⟧ ⟦<N::Notes as Ledger>⟧) (leaves result.files result.ledger) (map string_bytes words.items) (I.remaining input.old)
+    ensures misused { result.status ≡ 2 → Ends (begins_with F.first S.windows S.past S.came)
+        (devices F.in_files ⟦<N::Notes as Ledger>⟧) (leaves result.files result.ledger) (map string_bytes words.items) (I.remaining input.old)
         (O.contents output.old) (O.contents output.new) (E.contents errors.old) (E.contents errors.new) Status.Misused }
     // What was stored and printed before a failure of the answers' status is there too.
-    ensures failed { result.status ≡ 3 → IsSome result.files → Ends (begins_with (image_at S.Start) S.windows S.past S.came)
-        (devices ⟦<FileFrom<S> as Disk>⟧ ⟦<N::Notes as Ledger>⟧) (leaves result.files result.ledger) (map string_bytes words.items) (I.remaining input.old)
+    ensures failed { result.status ≡ 3 → IsSome result.files → Ends (begins_with F.first S.windows S.past S.came)
+        (devices F.in_files ⟦<N::Notes as Ledger>⟧) (leaves result.files result.ledger) (map string_bytes words.items) (I.remaining input.old)
         (O.contents output.old) (O.contents output.new) (E.contents errors.old) (E.contents errors.new) Status.Failed }
     // However it ends, this alone was done to files.
     ensures touched { DoesAsked (map string_bytes words.items) (Y.deeds rt.old) (Y.deeds rt.new) }
 {
-    match answered(rt, folders, start, words.as_slice(), input, output, errors) {
+    match answered::<_, F, S, _, _, _, _>(
+        rt,
+        folders,
+        start,
+        words.as_slice(),
+        input,
+        output,
+        errors,
+    ) {
         Ok(done) => Ended {
             status: done.status.number(),
             files: done.files,
@@ -180,40 +193,60 @@ pub fn run_command<Y: Databases, S: Start + Begun, N: NoteFolders<S>, I: Read, O
 }
 
 /// Does what the arguments ask for, up to a failure.
-fn answered<'w, Y: Databases, S: Start + Begun, N: NoteFolders<S>, I: Read, O: Write, E: Write>(
+fn answered<
+    'w,
+    Y: Databases,
+    F: OpenFromFiles,
+    S: Begun,
+    N: NoteFolders<S>,
+    I: Read,
+    O: Write,
+    E: Write,
+>(
     rt: &mut Y,
     folders: N,
-    start: S,
+    start: F::Start,
     words: &'w [String],
     input: &mut I,
     output: &mut O,
     errors: &mut E,
-) -> Result<Done<S, N::Notes>, Failure<'w>>
-    ensures ended { IfOk result (λ done. Ends (begins_with (image_at S.Start) S.windows S.past S.came)
-        (devices ⟦<FileFrom<S> as Disk>⟧ ⟦<N::Notes as Ledger>⟧) (leaves done.files done.ledger) (map string_bytes words.entry.now) (I.remaining input.old)
+) -> Result<Done<F::Files, N::Notes>, Failure<'w>>
+    ensures ended { IfOk result (λ done. Ends (begins_with F.first S.windows S.past S.came)
+        (devices F.in_files ⟦<N::Notes as Ledger>⟧) (leaves done.files done.ledger) (map string_bytes words.entry.now) (I.remaining input.old)
         (O.contents output.old) (O.contents output.new) (E.contents errors.old) (E.contents errors.new) done.status) }
     ensures stopped { IfErr result (Stops (map string_bytes words.entry.now) (I.remaining input.old) (O.contents output.old)
         (O.contents output.new)) }
     ensures touched { DoesAsked (map string_bytes words.entry.now) (Y.deeds rt.old) (Y.deeds rt.new) }
 {
     match parse(rt.alloc(), words) {
-        Ok(request) => perform(rt, folders, start, request, input, output, errors),
+        Ok(request) => perform::<_, F, S, _, _, _, _>(
+            rt, folders, start, request, input, output, errors,
+        ),
         Err(answer) => Ok(Done::without(answer_words(&answer, output, errors)?)),
     }
 }
 
 #[tactic(auto, using(crate::proofs::Runs::unless_failed, jc_command_shared::specs::DeedLaws::does_nothing))]
-fn perform<'w, Y: Databases, S: Start + Begun, N: NoteFolders<S>, I: Read, O: Write, E: Write>(
+fn perform<
+    'w,
+    Y: Databases,
+    F: OpenFromFiles,
+    S: Begun,
+    N: NoteFolders<S>,
+    I: Read,
+    O: Write,
+    E: Write,
+>(
     rt: &mut Y,
     folders: N,
-    start: S,
+    start: F::Start,
     request: Request<'w>,
     input: &mut I,
     output: &mut O,
     errors: &mut E,
-) -> Result<Done<S, N::Notes>, Failure<'w>>
-    ensures performed { IfOk result (λ done. Performs (begins_with (image_at S.Start) S.windows S.past S.came)
-        (devices ⟦<FileFrom<S> as Disk>⟧ ⟦<N::Notes as Ledger>⟧) (leaves done.files done.ledger) request.entry (I.remaining input.old)
+) -> Result<Done<F::Files, N::Notes>, Failure<'w>>
+    ensures performed { IfOk result (λ done. Performs (begins_with F.first S.windows S.past S.came)
+        (devices F.in_files ⟦<N::Notes as Ledger>⟧) (leaves done.files done.ledger) request.entry (I.remaining input.old)
         (O.contents output.old) (O.contents output.new) done.status) }
     ensures quiet { IfOk result (λ done. done.status ≡ Status.Success → Keeps (E.contents errors.old) (E.contents errors.new)) }
     ensures failed { IfErr result (FailsBy request.entry (I.remaining input.old)) }
@@ -256,7 +289,7 @@ fn perform<'w, Y: Databases, S: Start + Begun, N: NoteFolders<S>, I: Read, O: Wr
             then_export,
         } => {
             let uploads = uploads.as_slice();
-            let closed = collect(
+            let closed = collect::<_, F, _, _>(
                 rt,
                 start,
                 database,
@@ -274,7 +307,7 @@ fn perform<'w, Y: Databases, S: Start + Begun, N: NoteFolders<S>, I: Read, O: Wr
             list,
             then_export,
         } => {
-            let closed = collect_listed(
+            let closed = collect_listed::<_, F, _, _, _>(
                 rt,
                 start,
                 database,
@@ -295,7 +328,7 @@ fn perform<'w, Y: Databases, S: Start + Begun, N: NoteFolders<S>, I: Read, O: Wr
             then_export,
         } => {
             let ledger = folders.open(sequences)?;
-            let run = collect_into_union::<_, S, _, BegunBy<S>, _, _, _>(
+            let run = collect_into_union::<_, F, _, BegunBy<S>, _, _, _>(
                 rt,
                 start,
                 ledger,
@@ -310,7 +343,10 @@ fn perform<'w, Y: Databases, S: Start + Begun, N: NoteFolders<S>, I: Read, O: Wr
             N::show_steady(&run.ledger);
             Ok(Done::noted(run))
         }
-        Request::Export { database } => Ok(Done::listed(export(rt, start, database, output)?)),
+        Request::Export { database } => {
+            let closed = export::<_, F, _>(rt, start, database, output)?;
+            Ok(Done::listed(closed))
+        }
         Request::Show {
             database,
             field,
@@ -318,12 +354,15 @@ fn perform<'w, Y: Databases, S: Start + Begun, N: NoteFolders<S>, I: Read, O: Wr
             first,
             last,
         } => {
-            let closed = show(rt, start, database, field, id, first, last, output)?;
+            let closed = show::<_, F, _>(rt, start, database, field, id, first, last, output)?;
             Ok(Done::listed(closed))
         }
-        Request::Check { database } => Ok(Done::examined(check(rt, start, database, output)?)),
+        Request::Check { database } => {
+            let examined = check::<_, F, _>(rt, start, database, output)?;
+            Ok(Done::examined(examined))
+        }
         Request::Migrate { database, tables } => {
-            let examined = migrate(rt, start, database, tables, output)?;
+            let examined = migrate::<_, F, _>(rt, start, database, tables, output)?;
             Ok(Done::examined(examined))
         }
         Request::ListCodes => {

@@ -20,7 +20,7 @@ use Rattle.sqlite.specs.Effect.{Database, IsDatabase}
 use Rattle.sqlite.specs.State.{HasCleanDisk}
 use Rattle.sqlite.specs.Start.{FindsIn}
 use Rattle.sqlite.specs.Held.{Held}
-use Rattle.sqlite.specs.Files.{HoldsDatabase, IsNothing, IsEmpty, IsOpened, AreFoundIn, file_state}
+use Rattle.sqlite.specs.Files.{HoldsDatabase, IsNothing, IsEmpty, IsOpened, AreFoundIn, file_state, over_files}
 use Rattle.jc_store.specs.Schema.{no_schema}
 use Rattle.jc_database.specs.Files.{HoldsNone, IsFound}
 use Rattle.jc_database.proofs.Blank.{never_blank}
@@ -66,7 +66,7 @@ module _ {D : Type 0} {g : disk.Ghosts D} (image : Image) (c : Held (FileStore D
     unlisted (inr empty),
   )
 
-  pub is_found : HasCleanDisk (file_state c) → IsFound image c
+  pub is_found : HasCleanDisk (file_state c) → IsFound over_files image c
   is_found clean = record {
     sound = record { clean = clean; is_open = opened.0.is_open };
     live = (opened.1 opened.0.is_open).0;

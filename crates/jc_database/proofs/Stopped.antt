@@ -2,60 +2,33 @@
 use Rattle.std.proofs.Common.{◌≡◌, ◌⊎◌, IsTrue, inl, inr, sym, ap, subst, ◌∙◌}
 use Rattle.std.proofs.Math.Logic.{∥∥₁_map}
 use Rattle.std.specs.FinMap.{empty}
-use Rattle.sqlite_disk.specs.declared.Disk as disk
-use Rattle.sqlite_disk.specs.declared.Files.{Files}
-use Rattle.sqlite_wal.proofs.LogLemmas.{SeenMayStay}
-use Rattle.sqlite_pool.proofs.StateLemmas.{clean_if_left}
-use Rattle.sqlite_trees.proofs.Doubt.{no_doubt}
-use Rattle.sqlite_store.specs.Laws.{settled_at, stays_at}
-use Rattle.sqlite_store.specs.declared.store.FileStore.{FileStore}
-use Rattle.sqlite.specs.FileStore.{state, view, recovers}
+use Rattle.sqlite.specs.Store.{Ghosts}
 use Rattle.sqlite.specs.Recovery.{Image}
-use Rattle.sqlite.specs.WalFiles.{outcomes}
+use Rattle.sqlite.specs.View.{IsClean}
 use Rattle.sqlite.specs.Tree.{Trees}
 use Rattle.sqlite.specs.State.{HasCleanDisk}
 use Rattle.sqlite.specs.Effect.{Database}
-use Rattle.sqlite.specs.Held.{AreDatabases, Held}
-use Rattle.sqlite.specs.Closing.{IsCopied}
-use Rattle.sqlite.specs.Files.{HoldsDatabase, IsEmpty, file_state, over_files}
-use Rattle.sqlite.proofs.Theorems.{opens_again}
+use Rattle.sqlite.specs.Held.{Held, state}
+use Rattle.sqlite.specs.Files.{HoldsDatabase, IsEmpty}
 use Rattle.jc_store.specs.Crash.{LeavesNoMore, LeavesOr}
 use Rattle.jc_store.specs.Meaning.{Meaning}
 use Rattle.jc_store.specs.Statements.{IsBlank}
 use Rattle.jc_database.specs.Files.{AreLawful, HoldsJournal, IsFound}
 use Rattle.jc_database.specs.FilesLaws.{one_database}
-use Rattle.jc_database.specs.Left.{HaveNoTables, IsFrom, StaysAs, StaysOrIsMade}
+use Rattle.jc_database.specs.Left.{HaveLeft, HaveNoTables, IsFrom, StaysAs, StaysOrIsMade}
 
-module _ {D : Type 0} {g : disk.Ghosts D} where
-  -- The files have a database that might have been left of the connection.
-  abbrev pub HaveLeft : (conn : Held (FileStore D g)) → Image → Type 0
-  HaveLeft conn image = ∥ ((found : Trees) × (file_state conn).may_leave found × HoldsDatabase image found) ∥₁
+module _ {S : Type 0} {g : Ghosts S} (settled : (s : S) (db : Trees) → IsTrue (g.view s).is_open → g.recovers s db → db ≡ (g.view s).committed)
+    (clean_if_left : (s : S) (db : Trees) → g.recovers s db → IsClean (g.view s)) (before : Image) (first : Held S) (from : IsFrom g before first)
+  where
+    was_found : (found : Trees) → (state g first).may_leave found → IsFound g before first
+    was_found found may = from (clean_if_left first.store found may)
 
-  pub stopped : (conn : Held (FileStore D g)) (last : FileStore D g) → IsTrue (view last).is_numbered → AreDatabases (recovers last)
-      → ((db : Trees) → recovers last db → (file_state conn).may_leave db) → (left : Image) → (state last).may_leave left → HaveLeft conn left
-  stopped conn last numbered sound no_more left may =
-      ∥∥₁_map (opens_again last numbered sound left may) (λ it.
-      let r : (found : Trees) × (file_state conn).may_leave found × HoldsDatabase left found = (it.0, no_more it.0 it.1, it.2) in r)
-
-module _ {D : Type 0} {g : disk.Ghosts D} (stays : SeenMayStay g) where
-  pub closed : (conn : Held (FileStore D g)) (files : Files D) → IsCopied conn files → (image : Image) → outcomes g files.log files.db image
-      → HaveLeft conn image
-  closed conn files copied image may =
-      ∥∥₁_map (copied.left image may).both (λ (held : HoldsDatabase image (file_state conn).committed.trees).
-      let r : (found : Trees) × (file_state conn).may_leave found × HoldsDatabase image found =
-      ((file_state conn).committed.trees, stays_at conn.store stays copied.was_open, held) in r)
-
-  module _ (before : Image) (first : Held (FileStore D g)) (from : IsFrom before first) where
-    -- nothing is left of a disk that isn't clean
-    was_found : (found : Trees) → (file_state first).may_leave found → IsFound before first
-    was_found found may = from (no_doubt _ (clean_if_left first.store.pool may.0 may.2))
-
-    is_now : (found : Trees) → (file_state first).may_leave found → found ≡ (file_state first).now.trees
+    is_now : (found : Trees) → (state g first).may_leave found → found ≡ (state g first).now.trees
     is_now found may =
         let it = was_found found may in
-        settled_at first.store stays found it.sound.is_open may ∙ ap (λ (d : Database). d.trees) it.settled
+        settled first.store found it.sound.is_open may ∙ ap (λ (d : Database). d.trees) it.settled
 
-    stays_as : (image : Image) → HaveLeft first image → StaysAs before image
+    stays_as : (image : Image) → ∥ ((found : Trees) × (state g first).may_leave found × HoldsDatabase image found) ∥₁ → StaysAs before image
     stays_as image has = record {
       kept = λ db held. ∥∥₁_map has (λ it. subst (HoldsDatabase image) (is_now it.0 it.1 ∙ (was_found it.0 it.1).whole db held) it.2);
       none = λ none. inr (∥∥₁_map has (λ it.
@@ -63,23 +36,23 @@ module _ {D : Type 0} {g : disk.Ghosts D} (stays : SeenMayStay g) where
           (it.0, it.2, subst IsEmpty (sym (is_now it.0 it.1)) ((was_found it.0 it.1).no_rows none)) in r));
     }
 
-    module _ (conn : Held (FileStore D g)) (clean : HasCleanDisk (file_state conn)) (image : Image) (has : HaveLeft conn image) where
-      pub no_more_stays : LeavesNoMore (file_state first) (file_state conn) → StaysAs before image
-      no_more_stays no_more = stays_as image (∥∥₁_map has (λ it.
-          let r : (found : Trees) × (file_state first).may_leave found × HoldsDatabase image found = (it.0, no_more clean it.0 it.1, it.2) in r))
+    module _ (conn : Held S) (image : Image) (have : HaveLeft g conn image) where
+      pub no_more_stays : LeavesNoMore (state g first) (state g conn) → StaysAs before image
+      no_more_stays no_more = stays_as image (∥∥₁_map have.has (λ it.
+          let r : (found : Trees) × (state g first).may_leave found × HoldsDatabase image found = (it.0, no_more have.clean it.0 it.1, it.2) in r))
 
-      module _ (m : Meaning) (lawful : AreLawful m) (blank : IsBlank (file_state first).now)
-          (early : HasCleanDisk (file_state conn) → HasCleanDisk (file_state first))
+      module _ (m : Meaning) (lawful : AreLawful m) (blank : IsBlank (state g first).now)
+          (early : HasCleanDisk (state g conn) → HasCleanDisk (state g first))
         where
           no_tables : HaveNoTables before
           no_tables db sound held =
-              let it = from (early clean) in
-              let same = one_database (file_state first).now db it.live sound (it.whole db.trees held) in
+              let it = from (early have.clean) in
+              let same = one_database (state g first).now db it.live sound (it.whole db.trees held) in
               ap (λ (d : Database). d.schema) (sym same) ∙ blank
 
-          pub stays_or_made : LeavesOr m over_files first conn (λ found. found ≡ empty) → StaysOrIsMade m before image
-          stays_or_made leaves = ∥∥₁_map has (λ it.
-              let r : StaysAs before image ⊎ (HaveNoTables before × HoldsJournal m image empty) = elim (leaves clean it.0 it.1) [
+          pub stays_or_made : LeavesOr m g first conn (λ found. found ≡ empty) → StaysOrIsMade m before image
+          stays_or_made leaves = ∥∥₁_map have.has (λ it.
+              let r : StaysAs before image ⊎ (HaveNoTables before × HoldsJournal m image empty) = elim (leaves have.clean it.0 it.1) [
                 | inl was ↦ inl (stays_as image ∣ (it.0, was, it.2) ∣₁)
                 | inr made ↦ inr (
                   no_tables,

@@ -26,6 +26,7 @@ use Rattle.sqlite.proofs.ListingLemmas.{empty_is_sound}
 use Rattle.sqlite.specs.declared.file.Leftover.{Leftover}
 use Rattle.sqlite.specs.declared.file.Leftover.TheVariants as leftover
 use Rattle.jc_database.specs.Left.{HaveNoSums, LeavesAsBefore, StaysAs}
+use Rattle.jc_database.specs.OverDisk.{over_disk}
 use Rattle.jc_database.proofs.Blank.{never_blank}
 use Rattle.jc_database.proofs.Stores.{found_in, no_database}
 
@@ -160,7 +161,7 @@ module _ {D : Type 0} (g : disk.Ghosts D) (before : Image) (files : Files D) (sa
                 ∥∥₁_elim ours squash₁ (λ file. absurd (never_blank size before pages adopts file.file.sound nothing))
             found_empty nothing found (inr none) holds = ∣ (found, holds _ (empty_is_sound found none.1.1), none.1) ∣₁
 
-    pub leaves_as_before : (left : Leftover D g) → (IsCleanLeft left → LeavesFiles files left) → LeavesAsBefore before left
+    pub leaves_as_before : (left : Leftover D g) → (IsCleanLeft left → LeavesFiles files left) → LeavesAsBefore (over_disk g) before left
     leaves_as_before (leftover.Files now) leaves clean usual image may = itself before image (only image (leaves clean image may))
     leaves_as_before (leftover.Unopened now) leaves clean usual image may = unopened now (leaves clean) usual image may
     leaves_as_before (leftover.Store now) leaves clean usual image may = stored now (leaves clean) usual image may

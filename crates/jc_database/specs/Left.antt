@@ -1,30 +1,24 @@
--- What a crash leaves of the two files of a database while it is opened, made or closed. (own)
-use Rattle.std.specs.Prelude.{◌≡◌, ◌⊎◌, ℕ, false, IsTrue, ⊤}
+-- What a crash leaves of a database's files while it is opened, made or closed. (own)
+use Rattle.std.specs.Prelude.{◌≡◌, ◌⊎◌, ℕ, false}
 use Rattle.std.specs.FinMap.{empty}
-use Rattle.sqlite_disk.specs.declared.Disk as disk
 use Rattle.sqlite_pool.specs.Stored.{is_summed}
-use Rattle.sqlite_store.specs.Unopened.{state_of}
-use Rattle.sqlite_store.specs.declared.store.FileStore.{FileStore}
-use Rattle.sqlite.specs.FileStore.{state, view}
+use Rattle.sqlite.specs.Store.{Ghosts}
 use Rattle.sqlite.specs.Recovery.{Image}
 use Rattle.sqlite.specs.View.{IsClean}
-use Rattle.sqlite.specs.WalFiles.{outcomes}
 use Rattle.sqlite.specs.Tree.{Trees}
 use Rattle.sqlite.specs.State.{HasCleanDisk}
 use Rattle.sqlite.specs.Effect.{Database, IsDatabase}
-use Rattle.sqlite.specs.Held.{Held}
+use Rattle.sqlite.specs.Held.{Held, state}
 use Rattle.sqlite.specs.Opening.{HoldsIn}
-use Rattle.sqlite.specs.Files.{HoldsDatabase, IsCleanLeft, file_state, over_files}
+use Rattle.sqlite.specs.Files.{HoldsDatabase}
 use Rattle.sqlite.specs.declared.error.Error.{Error}
 use Rattle.sqlite.specs.declared.error.Error.TheVariants.{SqliteFailure}
 use Rattle.sqlite.specs.declared.error.ErrorCode.TheVariants.{CannotOpen, DatabaseBusy, OutOfMemory}
-use Rattle.sqlite.specs.declared.file.Leftover.{Leftover}
-use Rattle.sqlite.specs.declared.file.Leftover.TheVariants as leftover
 use Rattle.jc_base.specs.Journal.{Journal}
 use Rattle.jc_store.specs.Crash.{LeavesJournals, LeavesNoMore, LeavesOr, MayLeave}
 use Rattle.jc_store.specs.Meaning.{AreMade, IsSound, Meaning, journal_of}
 use Rattle.jc_store.specs.Statements.{IsBlank}
-use Rattle.jc_database.specs.Files.{AreLawful, HoldsJournal, HoldsNone, IsFound}
+use Rattle.jc_database.specs.Files.{AreLawful, HoldsJournal, HoldsNone, InFiles, IsFound}
 
 -- ---- files
 
@@ -57,63 +51,55 @@ abbrev pub IsEarly : Error → Type 0
 IsEarly error =
     (error ≡ SqliteFailure CannotOpen) ⊎ ((error ≡ SqliteFailure OutOfMemory) ⊎ (error ≡ SqliteFailure DatabaseBusy))
 
-module _ {D : Type 0} {g : disk.Ghosts D} where
-  -- A crash may leave this of them.
-  abbrev pub MayBeLeft : Leftover D g → Image → Type 0
-  MayBeLeft (leftover.Files files) image = outcomes g files.log files.db image
-  MayBeLeft (leftover.Unopened files) image = (state_of files).may_leave image
-  MayBeLeft (leftover.Store store) image = (state store).may_leave image
-
-  -- Pages were taken for ones without sums only if they have none, and a store has tree t in row t + 1 of sqlite_schema.
-  -- So it is in the toolchain's code, but none of its clauses says it of an open or a close that failed.
-  abbrev pub IsUsual : (before : Image) → Leftover D g → Type 0
-  IsUsual before (leftover.Files files) = ⊤
-  IsUsual before (leftover.Unopened files) = is_summed (state_of files).page_size ≡ false → HaveNoSums before
-  IsUsual before (leftover.Store store) = IsTrue (view store).is_numbered
-
-  -- Whatever a crash leaves of them is such an image, if the disks returned what was written.
-  abbrev pub LeavesOnly : (Image → Type 0) → (before : Image) → Leftover D g → Type 0
-  LeavesOnly Is before left = IsCleanLeft left → IsUsual before left → (image : Image) → MayBeLeft left image → Is image
+module _ {S C L : Type 0} (o : InFiles S C L) where
+  -- Whatever a crash leaves of what is handed back is such an image, if the disks returned what was written.
+  abbrev pub LeavesOnly : (Image → Type 0) → (before : Image) → L → Type 0
+  LeavesOnly Is before left = o.is_clean_left left → o.is_usual before left → (image : Image) → o.may_be_left left image → Is image
 
   -- Whatever a crash leaves of the files, they are as they were.
-  abbrev pub LeavesAsBefore : (before : Image) → Leftover D g → Type 0
+  abbrev pub LeavesAsBefore : (before : Image) → L → Type 0
   LeavesAsBefore before left = LeavesOnly (StaysAs before) before left
 
   -- Whatever a crash leaves of the files, they are as they were, or an empty journal was made in them.
-  abbrev pub LeavesAsBeforeOr : Meaning → (before : Image) → Leftover D g → Type 0
+  abbrev pub LeavesAsBeforeOr : Meaning → (before : Image) → L → Type 0
   LeavesAsBeforeOr m before left = LeavesOnly (StaysOrIsMade m before) before left
 
-  -- ---- a connection
+-- ---- a connection
+
+module _ {S : Type 0} (g : Ghosts S) where
+  -- Its disk has returned what was written so far, and the files have a database that might have been left of it.
+  pub record HaveLeft (conn : Held S) (image : Image) : Type 0 where
+    pub clean : HasCleanDisk (state g conn)
+    pub has : ∥ ((found : Trees) × (state g conn).may_leave found × HoldsDatabase image found) ∥₁
 
   -- It was opened from files that had this.
-  abbrev pub IsFrom : Image → (first : Held (FileStore D g)) → Type 0
-  IsFrom image first = HasCleanDisk (file_state first) → IsFound image first
+  abbrev pub IsFrom : Image → (first : Held S) → Type 0
+  IsFrom image first = HasCleanDisk (state g first) → IsFound g image first
 
   -- This holds of what the files had as the connection was opened, if no call since then left more of them.
-  abbrev pub IfNoMore : (conn : Held (FileStore D g)) → (Image → Type 0) → Type 0
+  abbrev pub IfNoMore : (conn : Held S) → (Image → Type 0) → Type 0
   IfNoMore conn Holds =
-      (before : Image) (first : Held (FileStore D g)) → IsFrom before first
-      → LeavesNoMore (file_state first) (file_state conn) → Holds before
+      (before : Image) (first : Held S) → IsFrom before first → LeavesNoMore (state g first) (state g conn) → Holds before
 
   -- The same, if it had no tables then, and what the calls left besides is an empty journal, in tables of this meaning.
-  abbrev pub IfMade : Meaning → (conn : Held (FileStore D g)) → (Image → Type 0) → Type 0
+  abbrev pub IfMade : Meaning → (conn : Held S) → (Image → Type 0) → Type 0
   IfMade m conn Holds =
-      AreLawful m → (before : Image) (first : Held (FileStore D g)) → IsFrom before first
-      → IsBlank (file_state first).now → (HasCleanDisk (file_state conn) → HasCleanDisk (file_state first))
-      → LeavesOr m over_files first conn (λ found. found ≡ empty) → Holds before
+      AreLawful m → (before : Image) (first : Held S) → IsFrom before first
+      → IsBlank (state g first).now → (HasCleanDisk (state g conn) → HasCleanDisk (state g first))
+      → LeavesOr m g first conn (λ found. found ≡ empty) → Holds before
 
-  -- Whatever a crash leaves of a store is such an image, if its disk returned what was written.
-  abbrev pub StopsOnly : (last : FileStore D g) → (Image → Type 0) → Type 0
-  StopsOnly last Is = IsClean (view last) → (left : Image) → (state last).may_leave left → Is left
+  module _ {C L : Type 0} (o : InFiles S C L) where
+    -- Whatever a crash leaves of a store is such an image, if its disk returned what was written.
+    abbrev pub StopsOnly : (last : S) → (Image → Type 0) → Type 0
+    StopsOnly last Is = IsClean (g.view last) → (left : Image) → o.may_leave last left → Is left
 
-  module _ (m : Meaning) (conn : Held (FileStore D g)) where
-    -- The files have a journal that a crash might have left of the connection.
-    abbrev pub IsLeftOf : Image → Type 0
-    IsLeftOf left = ∥ ((found : Journal) × MayLeave m over_files conn found × HoldsJournal m left found) ∥₁
+module _ (m : Meaning) {S : Type 0} (g : Ghosts S) where
+  -- The files have a journal that a crash might have left of the connection.
+  abbrev pub IsLeftOf : (conn : Held S) → Image → Type 0
+  IsLeftOf conn left = ∥ ((found : Journal) × MayLeave m g conn found × HoldsJournal m left found) ∥₁
 
-    -- A crash leaves such a journal of a store, if all that it might have left of the connection are journals. If the
-    -- connection is sound, it leaves what that has.
-    pub record StopsIn (last : FileStore D g) : Type 0 where
-      pub left : AreLawful m → LeavesJournals m over_files conn → StopsOnly last IsLeftOf
-      pub durable : IsSound over_files conn → AreMade m over_files conn
-          → StopsOnly last (λ left. HoldsJournal m left (journal_of m over_files conn))
+  -- A crash leaves such a journal of a store, if all that it might have left of the connection are journals. If the
+  -- connection is sound, it leaves what that has.
+  pub record StopsIn {C L : Type 0} (o : InFiles S C L) (conn : Held S) (last : S) : Type 0 where
+    pub left : AreLawful m → LeavesJournals m g conn → StopsOnly g o last (IsLeftOf conn)
+    pub durable : IsSound g conn → AreMade m g conn → StopsOnly g o last (λ left. HoldsJournal m left (journal_of m g conn))

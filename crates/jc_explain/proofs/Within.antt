@@ -4,7 +4,7 @@ use Rattle.clap.specs.Words.{Text}
 use Rattle.jc_command_shared.specs.declared.status.Status.{Status}
 use Rattle.jc_command.specs.Run.{Begins, Devices, EndsWithin}
 
-pub within_as : {D L : Type 0} (begun : Begins) (g : Devices D L) (words : List Text) (given output wrote shown errors told : Option (List ℕ)) (status : Status)
+pub within_as : {S C L N : Type 0} (begun : Begins) (g : Devices S C L N) (words : List Text) (given output wrote shown errors told : Option (List ℕ)) (status : Status)
     → shown ≡ wrote → EndsWithin begun g words given output wrote errors told status → EndsWithin begun g words given output shown errors told status
 within_as begun g words given output wrote shown errors told status same ends =
     subst (λ (o : Option (List ℕ)). EndsWithin begun g words given output o errors told status) (sym same) ends

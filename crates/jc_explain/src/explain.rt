@@ -1,7 +1,6 @@
 //! Runs of which what is refused or fails is explained.
 
 ghost use Rattle.std.specs.Prelude.{◌≡◌, ◌≤◌, ℕ, List, Option as Maybe, map, string_bytes};
-ghost use Rattle.sqlite.specs.WalFiles.{image_at};
 ghost use Rattle.jc_command_shared.specs.declared.status.Status.{Status};
 ghost use Rattle.jc_command.specs.Run.{EndsWithin, begins_with, devices};
 ghost use Rattle.jc_explain.specs.Explanations.{TellsOn};
@@ -11,17 +10,16 @@ use crate::telling::tell;
 use jc_command::{Begun, Sequences, command};
 use jc_command_args::CODES;
 use jc_command_shared::Host;
+use jc_database::OpenFromFiles;
 use jc_ledger::Ledger;
 use jc_sequences::Folders;
-use sqlite::{FileFrom, Start};
-use sqlite_disk::Disk;
 use std::io::{Read, Write};
 
 /// Does what the arguments ask for, as `command` does. Then each line that refuses something or reports a failure is
 /// explained on `errors`.
-pub fn explained<'a, S: Start + Begun, I: Read, O: Write + Drop, E: Write + Drop>(
+pub fn explained<'a, F: OpenFromFiles, S: Begun, I: Read, O: Write + Drop, E: Write + Drop>(
     rt: &'a HostRuntime,
-    start: S,
+    start: F::Start,
     words: Vec<String>,
     input: &mut I,
     output: &mut Watched<O>,
@@ -29,22 +27,22 @@ pub fn explained<'a, S: Start + Begun, I: Read, O: Write + Drop, E: Write + Drop
 ) -> u8
     ensures status { result ≤ 3 }
     // `told` is what `errors` had before the explanations, and what came then goes on from there.
-    ensures success { result ≡ 0 → (told : Maybe (List ℕ)) × EndsWithin (begins_with (image_at S.Start) S.windows S.past S.came)
-        (devices ⟦<FileFrom<S> as Disk>⟧ ⟦<Sequences<'a, S> as Ledger>⟧) (map string_bytes words.items)
+    ensures success { result ≡ 0 → (told : Maybe (List ℕ)) × EndsWithin (begins_with F.first S.windows S.past S.came)
+        (devices F.in_files ⟦<Sequences<'a, S> as Ledger>⟧) (map string_bytes words.items)
         (I.remaining input.old) (O.contents output.old.inner) (O.contents output.new.inner) (E.contents errors.old.inner) told Status.Success
         × TellsOn (map string_bytes words.items) CODES.now told (E.contents errors.new.inner) }
-    ensures refused { result ≡ 1 → (told : Maybe (List ℕ)) × EndsWithin (begins_with (image_at S.Start) S.windows S.past S.came)
-        (devices ⟦<FileFrom<S> as Disk>⟧ ⟦<Sequences<'a, S> as Ledger>⟧) (map string_bytes words.items)
+    ensures refused { result ≡ 1 → (told : Maybe (List ℕ)) × EndsWithin (begins_with F.first S.windows S.past S.came)
+        (devices F.in_files ⟦<Sequences<'a, S> as Ledger>⟧) (map string_bytes words.items)
         (I.remaining input.old) (O.contents output.old.inner) (O.contents output.new.inner) (E.contents errors.old.inner) told Status.Refused
         × TellsOn (map string_bytes words.items) CODES.now told (E.contents errors.new.inner) }
-    ensures misused { result ≡ 2 → (told : Maybe (List ℕ)) × EndsWithin (begins_with (image_at S.Start) S.windows S.past S.came)
-        (devices ⟦<FileFrom<S> as Disk>⟧ ⟦<Sequences<'a, S> as Ledger>⟧) (map string_bytes words.items)
+    ensures misused { result ≡ 2 → (told : Maybe (List ℕ)) × EndsWithin (begins_with F.first S.windows S.past S.came)
+        (devices F.in_files ⟦<Sequences<'a, S> as Ledger>⟧) (map string_bytes words.items)
         (I.remaining input.old) (O.contents output.old.inner) (O.contents output.new.inner) (E.contents errors.old.inner) told Status.Misused
         × TellsOn (map string_bytes words.items) CODES.now told (E.contents errors.new.inner) }
 {
     let asked: Result<_, _> = words.clone();
     let mut host = Host::new(rt);
-    let status = command(
+    let status = command::<_, F, S, _, _, _>(
         &mut host,
         Folders::new(rt),
         start,

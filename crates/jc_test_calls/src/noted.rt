@@ -5,6 +5,7 @@ use crate::output::write_line;
 use crate::tables::journal;
 use jc_base::SliceStream;
 use jc_collect::Delivery;
+use jc_database::StoreInFiles;
 use jc_file::SliceSpace;
 use jc_ledger::{Ledger, Past};
 use jc_schema_three::SchemaThree;
@@ -23,30 +24,30 @@ pub fn collect<D: Disk + Drop, L: Ledger + Drop, P: Past>(
     ledger: L,
     uploads: &[Vec<u8>],
     output: &mut Vec<u8>,
-) -> io::Result<Option<NotedRun<D, L>>> {
+) -> io::Result<Option<NotedRun<Files<D>, L>>> {
     let Ok(conn) = open(alloc, files) else {
         write_line(output, "not opened", &[])?;
         return Ok(None);
     };
     match journal::<FileStore<D>, SchemaThree>(alloc, conn, true, output)? {
-        Ok(keeper) => run::<D, L, P>(alloc, keeper, ledger, uploads, output),
+        Ok(keeper) => run::<FileStore<D>, L, P>(alloc, keeper, ledger, uploads, output),
         Err(_conn) => Ok(None),
     }
 }
 
-fn run<D: Disk + Drop, L: Ledger + Drop, P: Past>(
+fn run<F: StoreInFiles, L: Ledger + Drop, P: Past>(
     alloc: Global,
-    keeper: TableKeeper<FileStore<D>, SchemaThree>,
+    keeper: TableKeeper<F, SchemaThree>,
     ledger: L,
     uploads: &[Vec<u8>],
     output: &mut Vec<u8>,
-) -> io::Result<Option<NotedRun<D, L>>> {
+) -> io::Result<Option<NotedRun<F::Files, L>>> {
     let mut deliveries: Vec<Delivery<SliceStream<'_>, _>> = Vec::new(alloc);
     for upload in uploads {
         deliveries.push(Delivery::Space(SliceSpace { bytes: upload }))?;
     }
     let mut deliveries = deliveries.as_mut_slice();
-    match collect_noted::<D, SchemaThree, L, P, _, _, _>(
+    match collect_noted::<F, SchemaThree, L, P, _, _, _>(
         alloc,
         keeper,
         ledger,

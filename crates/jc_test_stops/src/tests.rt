@@ -5,6 +5,7 @@ use jc_collect::Delivery;
 use jc_collector::{Opened, OpenedFiles, Unopened};
 use jc_command_args::Tables;
 use jc_command_shared::{Failure, Host, Status};
+use jc_database::{OpenDisk, OpenFromFiles};
 use jc_file::SliceSpace;
 use jc_ledger::MapLedger;
 use jc_test_samples::{add_pieces, answer_lines};
@@ -12,17 +13,14 @@ use jc_theorem_stops::{
     Stopped, StoppedUnion, collect_and_stop, collect_into_union_and_stop, collect_lines_and_stop,
     open_after_lines, open_after_stop,
 };
-use sqlite::{FileFrom, Start, Unknown};
+use sqlite::{Alter, FileFrom, FileStore, Start, Unknown};
 use std::alloc::Global;
 use std::marker::Brand;
 use std::test::Fail;
 use std::{env, fs, io, process};
 
 /// A run that was stopped, and the journal that the next one opened.
-type Runs<'a, S, T> = (
-    Stopped<'a, FileFrom<S>>,
-    Result<OpenedFiles<T>, Unopened<'a, FileFrom<T>>>,
-);
+type Runs<'a, F, L> = (Stopped<'a, F>, Result<OpenedFiles<F>, Unopened<'a, L>>);
 
 type Upload<'a> = Delivery<FromRead<&'a [u8]>, SliceSpace<'static>>;
 
@@ -39,42 +37,86 @@ struct Uploads {
 fn what_the_next_run_has(rt: HostRuntime) -> Result<(), Fail> {
     let folder = new_folder(&rt)?;
     let uploads = make_uploads(&rt, folder.as_str())?;
-    stops(&rt, folder.as_str(), "key", Tables::ByKey, &uploads)?;
-    stops(&rt, folder.as_str(), "number", Tables::ByNumber, &uploads)?;
+    // Over each kind of tables seven runs open the database.
+    let mut starts = Vec::new(rt.alloc());
+    for _ in 0..2 * 7 {
+        starts.push(Unknown)?;
+    }
+    over_start(&rt, folder.as_str(), &uploads, starts)?;
     fs::remove_dir_all(&rt, folder.as_str())?;
     Ok(())
 }
 
+/// Over SQLite's store on the disk that `S` stands for. `over_disk` names the store where the disk is a parameter: where both
+/// are named at once the proof is dear.
+fn over_start<S: Start>(
+    rt: &HostRuntime,
+    folder: &str,
+    uploads: &Uploads,
+    starts: Vec<S>,
+) -> Result<(), Fail> {
+    over_disk::<FileFrom<S>>(rt, folder, uploads, starts)
+}
+
+fn over_disk<D: OpenDisk>(
+    rt: &HostRuntime,
+    folder: &str,
+    uploads: &Uploads,
+    starts: Vec<D::Start>,
+) -> Result<(), Fail> {
+    over_kinds::<FileStore<D>>(rt, folder, uploads, starts)
+}
+
+fn over_kinds<F: OpenFromFiles>(
+    rt: &HostRuntime,
+    folder: &str,
+    uploads: &Uploads,
+    mut starts: Vec<F::Start>,
+) -> Result<(), Fail> {
+    stops::<F>(rt, folder, "key", Tables::ByKey, uploads, &mut starts)?;
+    stops::<F>(rt, folder, "number", Tables::ByNumber, uploads, &mut starts)
+}
+
+/// What the files hold as they are opened once more.
+fn next_start<S>(starts: &mut Vec<S>) -> Result<S, Fail> {
+    match starts.pop() {
+        Some(start) => Ok(start),
+        None => Err(Fail::from("more runs than starts")),
+    }
+}
+
 /// Each run goes on from what the one before it acknowledged, although that one didn't close the database.
-fn stops(
+fn stops<F: OpenFromFiles>(
     rt: &HostRuntime,
     folder: &str,
     name: &str,
     tables: Tables,
     uploads: &Uploads,
+    starts: &mut Vec<F::Start>,
 ) -> Result<(), Fail> {
     let database = format!(in rt.alloc(); "{folder}{name}.db")?;
     let path = database.as_str();
-    deliveries_stop(rt, path, tables, uploads)?;
-    lines_stop(rt, path, tables, uploads)?;
-    deliveries_stop_and_open(rt, path, tables, uploads)?;
-    lines_stop_and_open(rt, path, tables, uploads)?;
+    deliveries_stop::<F>(rt, path, tables, uploads, starts)?;
+    lines_stop::<F>(rt, path, tables, uploads, starts)?;
+    deliveries_stop_and_open::<F>(rt, path, tables, uploads, starts)?;
+    lines_stop_and_open::<F>(rt, path, tables, uploads, starts)?;
     let present = format!(in rt.alloc(); "{folder}{name}-union.db")?;
-    union_stops(rt, present.as_str(), tables, uploads)
+    union_stops::<F>(rt, present.as_str(), tables, uploads, starts)
 }
 
-fn deliveries_stop(
+fn deliveries_stop<F: OpenFromFiles>(
     rt: &HostRuntime,
     path: &str,
     tables: Tables,
     uploads: &Uploads,
+    starts: &mut Vec<F::Start>,
 ) -> Result<(), Fail> {
     let mut output = Vec::new(rt.alloc());
     let mut one = [stream(&uploads.first)];
     let mut host = Host::new(rt);
-    let run = opened(collect_and_stop(
+    let run = opened(collect_and_stop::<_, F, _, _, _>(
         &mut host,
-        Unknown,
+        next_start(starts)?,
         path,
         tables,
         None,
@@ -84,14 +126,20 @@ fn deliveries_stop(
     answered(rt.alloc(), run.answered, &output, &["ack S 0 1 1 0"])
 }
 
-fn lines_stop(rt: &HostRuntime, path: &str, tables: Tables, uploads: &Uploads) -> Result<(), Fail> {
+fn lines_stop<F: OpenFromFiles>(
+    rt: &HostRuntime,
+    path: &str,
+    tables: Tables,
+    uploads: &Uploads,
+    starts: &mut Vec<F::Start>,
+) -> Result<(), Fail> {
     let mut output = Vec::new(rt.alloc());
     let mut errors = Vec::new(rt.alloc());
     let mut names = uploads.names.as_bytes();
     let mut host = Host::new(rt);
-    let run = opened(collect_lines_and_stop(
+    let run = opened(collect_lines_and_stop::<_, F, _, _, _>(
         &mut host,
-        Unknown,
+        next_start(starts)?,
         path,
         tables,
         None,
@@ -103,61 +151,91 @@ fn lines_stop(rt: &HostRuntime, path: &str, tables: Tables, uploads: &Uploads) -
     answered(rt.alloc(), run.answered, &output, &answers)
 }
 
-fn deliveries_stop_and_open(
+fn deliveries_stop_and_open<F: OpenFromFiles>(
     rt: &HostRuntime,
     path: &str,
     tables: Tables,
     uploads: &Uploads,
+    starts: &mut Vec<F::Start>,
 ) -> Result<(), Fail> {
     let mut output = Vec::new(rt.alloc());
     let mut two = [stream(&uploads.second), stream(&uploads.third)];
-    let runs = next_after_stop(rt, path, tables, &mut two, &mut output);
+    let runs = next_after_stop::<F>(
+        rt,
+        next_start(starts)?,
+        next_start(starts)?,
+        path,
+        tables,
+        &mut two,
+        &mut output,
+    );
     let answers = ["ack S 0 1 0 0", "ack S 0 1 1 0"];
     went_on(rt.alloc(), runs, &output, &answers)
 }
 
-fn lines_stop_and_open(
+fn lines_stop_and_open<F: OpenFromFiles>(
     rt: &HostRuntime,
     path: &str,
     tables: Tables,
     uploads: &Uploads,
+    starts: &mut Vec<F::Start>,
 ) -> Result<(), Fail> {
     let mut output = Vec::new(rt.alloc());
     let mut errors = Vec::new(rt.alloc());
     let mut names = uploads.names.as_bytes();
-    let runs = next_after_lines(rt, path, tables, &mut names, &mut output, &mut errors);
+    let runs = next_after_lines::<F>(
+        rt,
+        next_start(starts)?,
+        next_start(starts)?,
+        path,
+        tables,
+        &mut names,
+        &mut output,
+        &mut errors,
+    );
     let answers = ["ack S 0 1 0 0", "ack S 0 1 0 0"];
     went_on(rt.alloc(), runs, &output, &answers)
 }
 
 /// A run over a union of which no database is finished, with notes in memory.
-fn union_stops(
+fn union_stops<F: OpenFromFiles>(
     rt: &HostRuntime,
     path: &str,
     tables: Tables,
     uploads: &Uploads,
+    starts: &mut Vec<F::Start>,
 ) -> Result<(), Fail> {
     let mut output = Vec::new(rt.alloc());
     let mut errors = Vec::new(rt.alloc());
     let mut names = uploads.names.as_bytes();
-    let run = opened(union_after_lines(rt, path, tables, &mut names, &mut output, &mut errors))?;
+    let run = opened(union_after_lines::<F>(
+        rt,
+        next_start(starts)?,
+        path,
+        tables,
+        &mut names,
+        &mut output,
+        &mut errors,
+    ))?;
     let answers = ["ack S 0 1 1 0", "ack S 0 1 1 0"];
     answered(rt.alloc(), run.answered, &output, &answers)
 }
 
 // The calls stand alone, so that no more than one function has their contracts to bear.
 
-fn next_after_stop<'a>(
+fn next_after_stop<'a, F: OpenFromFiles>(
     rt: &HostRuntime,
+    start: F::Start,
+    next: F::Start,
     path: &'a str,
     tables: Tables,
     uploads: &mut [Upload<'_>],
     output: &mut Vec<u8>,
-) -> Result<Runs<'a, Unknown, Unknown>, Failure<'a>> {
-    open_after_stop(
+) -> Result<Runs<'a, F, F::Left>, Failure<'a>> {
+    open_after_stop::<_, F, F, _, _, _>(
         &mut Host::new(rt),
-        Unknown,
-        Unknown,
+        start,
+        next,
         path,
         tables,
         None,
@@ -166,18 +244,20 @@ fn next_after_stop<'a>(
     )
 }
 
-fn next_after_lines<'a>(
+fn next_after_lines<'a, F: OpenFromFiles>(
     rt: &HostRuntime,
+    start: F::Start,
+    next: F::Start,
     path: &'a str,
     tables: Tables,
     names: &mut &[u8],
     output: &mut Vec<u8>,
     errors: &mut Vec<u8>,
-) -> Result<Runs<'a, Unknown, Unknown>, Failure<'a>> {
-    open_after_lines(
+) -> Result<Runs<'a, F, F::Left>, Failure<'a>> {
+    open_after_lines::<_, F, F, _, _, _>(
         &mut Host::new(rt),
-        Unknown,
-        Unknown,
+        start,
+        next,
         path,
         tables,
         None,
@@ -187,18 +267,19 @@ fn next_after_lines<'a>(
     )
 }
 
-fn union_after_lines<'a>(
+fn union_after_lines<'a, F: OpenFromFiles>(
     rt: &HostRuntime,
+    start: F::Start,
     path: &'a str,
     tables: Tables,
     names: &mut &[u8],
     output: &mut Vec<u8>,
     errors: &mut Vec<u8>,
-) -> Result<StoppedUnion<'a, FileFrom<Unknown>, MapLedger>, Failure<'a>> {
+) -> Result<StoppedUnion<'a, F, MapLedger>, Failure<'a>> {
     let notes = MapLedger::new(rt.alloc());
-    collect_into_union_and_stop::<_, Unknown, MapLedger, Brand, _, _, _>(
+    collect_into_union_and_stop::<_, F, MapLedger, Brand, _, _, _>(
         &mut Host::new(rt),
-        Unknown,
+        start,
         notes,
         path,
         tables,
@@ -217,9 +298,9 @@ fn opened<T: Drop>(run: Result<T, Failure<'_>>) -> Result<T, Fail> {
 }
 
 /// Whether a run printed these answers, and the next one opened a journal with all three entries.
-fn went_on<S: Start, T: Start>(
+fn went_on<F: Alter + Drop, L: Drop>(
     alloc: Global,
-    runs: Result<Runs<'_, S, T>, Failure<'_>>,
+    runs: Result<Runs<'_, F, L>, Failure<'_>>,
     output: &[u8],
     answers: &[&str],
 ) -> Result<(), Fail> {
@@ -248,7 +329,9 @@ fn answered(
 }
 
 /// How many entries the next run has found, if it has opened a journal.
-fn entries_of<T: Start>(next: Result<OpenedFiles<T>, Unopened<'_, FileFrom<T>>>) -> Option<u64> {
+fn entries_of<F: Alter + Drop, L: Drop>(
+    next: Result<OpenedFiles<F>, Unopened<'_, L>>,
+) -> Option<u64> {
     match next {
         Ok(Opened::ByKey(mut keeper)) => keeper.count().ok(),
         Ok(Opened::ByNumber(mut keeper)) => keeper.count().ok(),

@@ -1,30 +1,28 @@
 -- What a run that is stopped leaves of a database's files, and what the next one finds. (own)
 use Rattle.std.specs.Prelude.{◌≡◌, ℕ, List, Option, Some, map}
-use Rattle.sqlite_disk.specs.declared.Disk as disk
-use Rattle.sqlite.specs.declared.FileStore.{FileStore}
+use Rattle.sqlite.specs.Store.{Ghosts}
 use Rattle.sqlite.specs.Recovery.{Image}
-use Rattle.sqlite.specs.FileStore.{state, view}
 use Rattle.sqlite.specs.View.{IsClean}
 use Rattle.sqlite.specs.State.{HasCleanDisk}
-use Rattle.sqlite.specs.Files.{file_state}
+use Rattle.sqlite.specs.Held.{state}
 use Rattle.jc_base.specs.Journal.{Journal}
 use Rattle.jc_collect.specs.Each.{KeepsEach}
 use Rattle.jc_collector_answers.specs.Answered.{KeepsFirst, KeepsPrinted}
 use Rattle.jc_upload.specs.declared.answer.Answer.{Answer}
 use Rattle.jc_command_args.specs.declared.request.Tables.{Tables}
-use Rattle.jc_database.specs.Files.{HoldsJournal}
-use Rattle.jc_collector.specs.Kinds.{BeginsIn, OpenedFiles, conn_of, journal_in, meaning_of}
+use Rattle.jc_database.specs.Files.{HoldsJournal, InFiles}
+use Rattle.jc_collector.specs.Kinds.{BeginsIn, OpenedOver, conn_of, journal_in, meaning_of}
 
 -- What is said of a run that is stopped: if its disks returned what was written, and the files had this journal when it
 -- began, in tables of this kind, or none, then this holds of that journal.
-abbrev pub WhenBegun : (made : Tables) → {D : Type 0} {g : disk.Ghosts D} → (first : Image) → (stopped : FileStore D g)
+abbrev pub WhenBegun : {S : Type 0} → Ghosts S → (made : Tables) → (first : Image) → (stopped : S)
     → ((kind : Tables) → Journal → Type 0) → Type 0
-WhenBegun made first stopped Says =
-    IsClean (view stopped) → (kind : Tables) (before : Journal) → BeginsIn made kind first before → Says kind before
+WhenBegun g made first stopped Says =
+    IsClean (g.view stopped) → (kind : Tables) (before : Journal) → BeginsIn made kind first before → Says kind before
 
 -- Whatever a crash leaves of its files is such an image.
-abbrev pub AnyLeft : {D : Type 0} {g : disk.Ghosts D} → (stopped : FileStore D g) → (Image → Type 0) → Type 0
-AnyLeft stopped Is = (left : Image) → (state stopped).may_leave left → ∥ Is left ∥₁
+abbrev pub AnyLeft : {S C L : Type 0} → InFiles S C L → (stopped : S) → (Image → Type 0) → Type 0
+AnyLeft o stopped Is = (left : Image) → o.may_leave stopped left → ∥ Is left ∥₁
 
 -- What a crash left of the files has a journal, in tables of this kind: what these answers acknowledge, over what was stored,
 -- and all of one more upload at most, which was answered 62 or 63.
@@ -35,18 +33,18 @@ pub record LeavesEach (kind : Tables) (before : Journal) (answers : List Answer)
 
 -- What the next run finds, if its disks returned what was written: a journal with what these answers acknowledge, over what
 -- was stored, and all of one more upload at most. `opened` is its keeper.
-abbrev pub FindsEach : {D : Type 0} {g : disk.Ghosts D} → (before : Journal) → List Answer → (opened : OpenedFiles D g) → Type 0
-FindsEach before answers opened =
-    HasCleanDisk (file_state (conn_of opened)) → ∥ KeepsEach before answers (journal_in opened) ∥₁
+abbrev pub FindsEach : {S : Type 0} → Ghosts S → (before : Journal) → List Answer → (opened : OpenedOver S) → Type 0
+FindsEach g before answers opened =
+    HasCleanDisk (state g (conn_of opened)) → ∥ KeepsEach before answers (journal_in g opened) ∥₁
 
 -- What is said of a run over uploads that is stopped: if its disks returned what was written, the files had this journal when
 -- it began, or none, and the uploads have these bytes, then this holds of whatever a crash leaves of the files.
-abbrev pub WhenStopped : (made : Tables) → {D : Type 0} {g : disk.Ghosts D} → (first : Image) → (known : List (Option (List ℕ)))
-    → (stopped : FileStore D g) → ((kind : Tables) → (uploads : List (List ℕ)) → (before : Journal) → (left : Image) → Type 0) → Type 0
-WhenStopped made first known stopped Leaves =
-    IsClean (view stopped) → (kind : Tables) (before : Journal) → BeginsIn made kind first before
+abbrev pub WhenStopped : {S C L : Type 0} → Ghosts S → InFiles S C L → (made : Tables) → (first : Image)
+    → (known : List (Option (List ℕ))) → (stopped : S) → ((kind : Tables) → (uploads : List (List ℕ)) → (before : Journal) → (left : Image) → Type 0) → Type 0
+WhenStopped g o made first known stopped Leaves =
+    IsClean (g.view stopped) → (kind : Tables) (before : Journal) → BeginsIn made kind first before
     → (uploads : List (List ℕ)) → known ≡ map (λ u. Some u) uploads
-    → (left : Image) → (state stopped).may_leave left → Leaves kind uploads before left
+    → (left : Image) → o.may_leave stopped left → Leaves kind uploads before left
 
 -- What a crash left of the files has a journal: what was stored, each upload whose acknowledgement was printed, and all of
 -- one more at most.

@@ -1,7 +1,6 @@
 -- What a run over a union of databases that is stopped leaves of its files and its notes. (own)
 use Rattle.std.specs.Prelude.{List}
-use Rattle.sqlite_disk.specs.declared.Disk as disk
-use Rattle.sqlite.specs.declared.FileStore.{FileStore}
+use Rattle.sqlite.specs.Store.{Ghosts}
 use Rattle.sqlite.specs.Recovery.{Image}
 use Rattle.jc_base.specs.Journal.{Journal}
 use Rattle.jc_base.specs.LogEntry.{LogEntry}
@@ -18,9 +17,9 @@ use Rattle.jc_theorem_stops.specs.Stopped.{WhenBegun}
 -- What is said of a run over a union that is stopped: if its disks returned what was written, the files of its present
 -- database had this journal when it began, in tables of this kind, or none, and this is so of the notes beside it, then that
 -- holds of this journal.
-abbrev pub WhenNoted : (made : Tables) → {D : Type 0} {g : disk.Ghosts D} → (first : Image) → (stopped : FileStore D g)
+abbrev pub WhenNoted : {S : Type 0} → Ghosts S → (made : Tables) → (first : Image) → (stopped : S)
     → (Noted : Journal → Type 0) → ((kind : Tables) → Journal → Type 0) → Type 0
-WhenNoted made first stopped Noted Says = WhenBegun made first stopped (λ kind before. Noted before → Says kind before)
+WhenNoted g made first stopped Noted Says = WhenBegun g made first stopped (λ kind before. Noted before → Says kind before)
 
 -- What a crash left of the present database's files has a journal, in tables of this meaning. Its union with the finished
 -- databases has what these answers acknowledge, over what was stored, and all of one more upload at most, which was answered

@@ -2,15 +2,11 @@
 
 ghost use Rattle.std.specs.Prelude.{◌≡◌, Err, IfOk, IfErr, OnOk, length, map, option_map};
 ghost use Rattle.sqlite.specs.State.{HasCleanDisk};
-ghost use Rattle.sqlite.specs.WalFiles.{image_at};
-ghost use Rattle.sqlite.specs.Recovery.{Image};
-ghost use Rattle.sqlite.specs.FileStore.{state, view};
+ghost use Rattle.sqlite.specs.Held.{state};
 ghost use Rattle.sqlite.specs.View.{IsClean};
-ghost use Rattle.sqlite.specs.Files.{file_state, over_files};
 ghost use Rattle.jc_collect.specs.Delivered.{of_delivery};
-ghost use Rattle.jc_base.specs.Journal.{Journal};
-ghost use Rattle.jc_store.specs.Crash.{LeavesJournals, MayLeave};
-ghost use Rattle.jc_database.specs.Files.{HoldsJournal};
+ghost use Rattle.jc_store.specs.Crash.{LeavesJournals};
+ghost use Rattle.jc_database.specs.Left.{IsLeftOf, StopsOnly};
 ghost use Rattle.jc_collector_answers.specs.Answered.{KeepsPrinted};
 ghost use Rattle.jc_collector_answers.specs.Tied.{NamedWith, PrintsFront, PrintsWith};
 ghost use Rattle.jc_command_shared.specs.Deeds.{IsReplacedIf, OpensAndChanges};
@@ -24,45 +20,43 @@ use jc_collector::{
 };
 use jc_command_args::Tables;
 use jc_command_shared::{Failure, Status};
-use jc_database::{Databases, stop_keeper};
+use jc_database::{Databases, OpenFromFiles, StoreInFiles, stop_keeper};
 use jc_file::ByteSpace;
-use sqlite::{FileFrom, FileStore, Start};
-use sqlite_disk::Disk;
 use std::io::{BufRead, Write};
 use std::snapshot::Snapshot;
 
 /// What a run had answered when it was stopped, and what it left of its database's files, which proofs alone see.
 #[derive(Drop)]
-pub struct Stopped<'a, D: Disk> {
+pub struct Stopped<'a, S> {
     pub answered: Result<Status, Failure<'a>>,
-    pub files: Snapshot<FileStore<D>>,
+    pub files: Snapshot<S>,
 }
 
 /// Does what `collect` does of deliveries up to where it closes its database, and then is stopped: what a crash may leave
 /// of the files is what it may leave at this moment. It is a journal with what was stored, all that was acknowledged, and
 /// all of one more upload at most.
-pub fn collect_and_stop<'a, Y: Databases, S: Start, R: ByteStream, B: ByteSpace, O: Write>(
+pub fn collect_and_stop<'a, Y: Databases, F: OpenFromFiles, R: ByteStream, B: ByteSpace, O: Write>(
     rt: &mut Y,
-    start: S,
+    start: F::Start,
     database: &'a str,
     tables: Tables,
     then_export: Option<&'a str>,
     deliveries: &mut [Delivery<R, B>],
     output: &mut O,
-) -> Result<Stopped<'a, FileFrom<S>>, Failure<'a>>
-    ensures each { IfOk result (λ run. WhenBegun tables (image_at S.Start) run.files.value (λ kind before. IfOk run.answered (λ status.
-        PrintsWith (λ answers. AnyLeft run.files.value (LeavesEach kind before answers)) (length deliveries.old) status
+) -> Result<Stopped<'a, F>, Failure<'a>>
+    ensures each { IfOk result (λ run. WhenBegun F.Store tables F.first run.files.value (λ kind before. IfOk run.answered (λ status.
+        PrintsWith (λ answers. AnyLeft F.in_files run.files.value (LeavesEach kind before answers)) (length deliveries.old) status
         (O.contents output.old) (O.contents output.new)))) }
-    ensures each_failed { IfOk result (λ run. WhenBegun tables (image_at S.Start) run.files.value (λ kind before. IfErr run.answered (λ _.
-        PrintsFront (λ answers. AnyLeft run.files.value (LeavesEach kind before answers))
+    ensures each_failed { IfOk result (λ run. WhenBegun F.Store tables F.first run.files.value (λ kind before. IfErr run.answered (λ _.
+        PrintsFront (λ answers. AnyLeft F.in_files run.files.value (LeavesEach kind before answers))
         (O.contents output.old) (O.contents output.new)))) }
     // If the deliveries' bytes are known, these are the uploads that it says.
     ensures printed { IfOk result (λ run.
-        WhenStopped tables (image_at S.Start) (map (of_delivery R.remaining B.bytes) deliveries.old) run.files.value
+        WhenStopped F.Store F.in_files tables F.first (map (of_delivery R.remaining B.bytes) deliveries.old) run.files.value
         (λ kind uploads before left. OnOk run.answered
         (∥ LeavesPrinted kind uploads before (O.contents output.old) (O.contents output.new) left ∥₁))) }
     ensures unprinted { IfOk result (λ run.
-        WhenStopped tables (image_at S.Start) (map (of_delivery R.remaining B.bytes) deliveries.old) run.files.value
+        WhenStopped F.Store F.in_files tables F.first (map (of_delivery R.remaining B.bytes) deliveries.old) run.files.value
         (λ kind uploads before left. run.answered ≡ Err Failure.WriteFailed
         → ∥ LeavesFirst kind uploads before (O.contents output.old) (O.contents output.new) left ∥₁)) }
     ensures touched { OpensAndChanges database.now (IsReplacedIf (option_map (λ name. name.now) then_export.entry))
@@ -85,21 +79,21 @@ pub fn collect_and_stop<'a, Y: Databases, S: Start, R: ByteStream, B: ByteSpace,
 }
 
 /// The same of the uploads that lines name.
-pub fn collect_lines_and_stop<'a, Y: Databases, S: Start, L: BufRead, O: Write, E: Write>(
+pub fn collect_lines_and_stop<'a, Y: Databases, F: OpenFromFiles, L: BufRead, O: Write, E: Write>(
     rt: &mut Y,
-    start: S,
+    start: F::Start,
     database: &'a str,
     tables: Tables,
     then_export: Option<&'a str>,
     names: &mut L,
     output: &mut O,
     errors: &mut E,
-) -> Result<Stopped<'a, FileFrom<S>>, Failure<'a>>
-    ensures each { IfOk result (λ run. WhenBegun tables (image_at S.Start) run.files.value (λ kind before. IfOk run.answered (λ status.
-        NamedWith (λ answers. AnyLeft run.files.value (LeavesEach kind before answers)) (L.remaining names.old) status
+) -> Result<Stopped<'a, F>, Failure<'a>>
+    ensures each { IfOk result (λ run. WhenBegun F.Store tables F.first run.files.value (λ kind before. IfOk run.answered (λ status.
+        NamedWith (λ answers. AnyLeft F.in_files run.files.value (LeavesEach kind before answers)) (L.remaining names.old) status
         (O.contents output.old) (O.contents output.new)))) }
-    ensures each_failed { IfOk result (λ run. WhenBegun tables (image_at S.Start) run.files.value (λ kind before. IfErr run.answered (λ _.
-        PrintsFront (λ answers. AnyLeft run.files.value (LeavesEach kind before answers))
+    ensures each_failed { IfOk result (λ run. WhenBegun F.Store tables F.first run.files.value (λ kind before. IfErr run.answered (λ _.
+        PrintsFront (λ answers. AnyLeft F.in_files run.files.value (LeavesEach kind before answers))
         (O.contents output.old) (O.contents output.new)))) }
     ensures touched { OpensAndChanges database.now (IsReplacedIf (option_map (λ name. name.now) then_export.entry))
         (Y.deeds rt.old) (Y.deeds rt.new) }
@@ -123,10 +117,18 @@ pub fn collect_lines_and_stop<'a, Y: Databases, S: Start, L: BufRead, O: Write, 
 
 /// A run over deliveries that is stopped, and then the next run opens the database: if its files hold what the crash left,
 /// it has that journal.
-pub fn open_after_stop<'a, Y: Databases, S: Start, T: Start, R: ByteStream, B: ByteSpace, O: Write>(
+pub fn open_after_stop<
+    'a,
+    Y: Databases,
+    F: OpenFromFiles,
+    G: OpenFromFiles,
+    R: ByteStream,
+    B: ByteSpace,
+    O: Write,
+>(
     rt: &mut Y,
-    start: S,
-    next: T,
+    start: F::Start,
+    next: G::Start,
     database: &'a str,
     tables: Tables,
     then_export: Option<&'a str>,
@@ -134,28 +136,36 @@ pub fn open_after_stop<'a, Y: Databases, S: Start, T: Start, R: ByteStream, B: B
     output: &mut O,
 ) -> Result<
     (
-        Stopped<'a, FileFrom<S>>,
-        Result<OpenedFiles<T>, Unopened<'a, FileFrom<T>>>,
+        Stopped<'a, F>,
+        Result<OpenedFiles<G>, Unopened<'a, G::Left>>,
     ),
     Failure<'a>,
 >
-    ensures each { IfOk result (λ runs. WhenBegun tables (image_at S.Start) runs.0.files.value (λ kind before. IfOk runs.0.answered (λ status.
-        PrintsWith (λ answers. AnyLeft runs.0.files.value (λ left. left ≡ image_at T.Start → IfOk runs.1 (FindsEach before answers)))
+    ensures each { IfOk result (λ runs. WhenBegun F.Store tables F.first runs.0.files.value (λ kind before. IfOk runs.0.answered (λ status.
+        PrintsWith (λ answers. AnyLeft F.in_files runs.0.files.value (λ left. left ≡ G.first → IfOk runs.1 (FindsEach G.Store before answers)))
         (length deliveries.old) status (O.contents output.old) (O.contents output.new)))) }
-    ensures found { IfOk result (λ runs. WhenStopped tables (image_at S.Start) (map (of_delivery R.remaining B.bytes) deliveries.old) runs.0.files.value
-        (λ kind uploads before left. left ≡ image_at T.Start → OnOk runs.0.answered
-        (IfOk runs.1 (λ opened. HasCleanDisk (file_state (conn_of opened))
-        → ∥ KeepsPrinted uploads before (O.contents output.old) (O.contents output.new) (journal_in opened) ∥₁)))) }
+    ensures found { IfOk result (λ runs. WhenStopped F.Store F.in_files tables F.first (map (of_delivery R.remaining B.bytes) deliveries.old) runs.0.files.value
+        (λ kind uploads before left. left ≡ G.first → OnOk runs.0.answered
+        (IfOk runs.1 (λ opened. HasCleanDisk (state G.Store (conn_of opened))
+        → ∥ KeepsPrinted uploads before (O.contents output.old) (O.contents output.new) (journal_in G.Store opened) ∥₁)))) }
 {
     let stopped = collect_and_stop(rt, start, database, tables, then_export, deliveries, output)?;
-    Ok((stopped, open_or_make(rt, database, next, tables)))
+    Ok((stopped, open_or_make::<_, G>(rt, database, next, tables)))
 }
 
 /// A run over the uploads that lines name, which is stopped, and the next one.
-pub fn open_after_lines<'a, Y: Databases, S: Start, T: Start, L: BufRead, O: Write, E: Write>(
+pub fn open_after_lines<
+    'a,
+    Y: Databases,
+    F: OpenFromFiles,
+    G: OpenFromFiles,
+    L: BufRead,
+    O: Write,
+    E: Write,
+>(
     rt: &mut Y,
-    start: S,
-    next: T,
+    start: F::Start,
+    next: G::Start,
     database: &'a str,
     tables: Tables,
     then_export: Option<&'a str>,
@@ -164,13 +174,13 @@ pub fn open_after_lines<'a, Y: Databases, S: Start, T: Start, L: BufRead, O: Wri
     errors: &mut E,
 ) -> Result<
     (
-        Stopped<'a, FileFrom<S>>,
-        Result<OpenedFiles<T>, Unopened<'a, FileFrom<T>>>,
+        Stopped<'a, F>,
+        Result<OpenedFiles<G>, Unopened<'a, G::Left>>,
     ),
     Failure<'a>,
 >
-    ensures { IfOk result (λ runs. WhenBegun tables (image_at S.Start) runs.0.files.value (λ kind before. IfOk runs.0.answered (λ status.
-        NamedWith (λ answers. AnyLeft runs.0.files.value (λ left. left ≡ image_at T.Start → IfOk runs.1 (FindsEach before answers)))
+    ensures { IfOk result (λ runs. WhenBegun F.Store tables F.first runs.0.files.value (λ kind before. IfOk runs.0.answered (λ status.
+        NamedWith (λ answers. AnyLeft F.in_files runs.0.files.value (λ left. left ≡ G.first → IfOk runs.1 (FindsEach G.Store before answers)))
         (L.remaining names.old) status (O.contents output.old) (O.contents output.new)))) }
 {
     let stopped = collect_lines_and_stop(
@@ -183,17 +193,15 @@ pub fn open_after_lines<'a, Y: Databases, S: Start, T: Start, L: BufRead, O: Wri
         output,
         errors,
     )?;
-    Ok((stopped, open_or_make(rt, database, next, tables)))
+    Ok((stopped, open_or_make::<_, G>(rt, database, next, tables)))
 }
 
 /// What is left of the database of a keeper whose run is stopped. The files are let go as they are: while they are held, no
 /// other run can open them.
-fn stop_opened<S: Start>(opened: OpenedFiles<S>) -> Snapshot<FileStore<FileFrom<S>>>
-    ensures left { IsClean (view result.value) → LeavesJournals (meaning_of (kind_of opened)) over_files (conn_of opened)
-        → (left : Image) → (state result.value).may_leave left
-        → ∥ ((found : Journal) × MayLeave (meaning_of (kind_of opened)) over_files (conn_of opened) found
-        × HoldsJournal (meaning_of (kind_of opened)) left found) ∥₁ }
-    ensures clean { IsClean (view result.value) → HasCleanDisk (file_state (conn_of opened)) }
+fn stop_opened<F: StoreInFiles>(opened: OpenedFiles<F>) -> Snapshot<F>
+    ensures left { LeavesJournals (meaning_of (kind_of opened)) F.Store (conn_of opened)
+        → StopsOnly F.Store F.in_files result.value (IsLeftOf (meaning_of (kind_of opened)) F.Store (conn_of opened)) }
+    ensures clean { IsClean (F.Store.view result.value) → HasCleanDisk (state F.Store (conn_of opened)) }
 {
     match opened {
         Opened::ByKey(keeper) => let_go(stop_keeper(keeper)),

@@ -2,10 +2,8 @@
 
 ghost use Rattle.std.specs.Prelude.{IfOk, IfErr, option_map};
 ghost use Rattle.sqlite.specs.State.{HasCleanDisk};
-ghost use Rattle.sqlite.specs.WalFiles.{image_at};
-ghost use Rattle.sqlite.specs.FileStore.{view};
+ghost use Rattle.sqlite.specs.Held.{state};
 ghost use Rattle.sqlite.specs.View.{IsClean};
-ghost use Rattle.sqlite.specs.Files.{file_state, over_files};
 ghost use Rattle.jc_collector_answers.specs.Tied.{NamedWith, PrintsFront};
 ghost use Rattle.jc_command_shared.specs.Deeds.{ChangesOnly, IsReplacedIf, OpensAndChanges};
 ghost use Rattle.jc_database.specs.Files.{AreLawful};
@@ -18,26 +16,24 @@ ghost use Rattle.jc_theorem_stops.specs.Stopped.{AnyLeft};
 ghost use Rattle.jc_theorem_stops.specs.StoppedUnion.{LeavesNoted, WhenNoted};
 
 use crate::stopping::let_go;
-use jc_collector::{FileKeeper, Opened, join_open, open_or_make};
+use jc_collector::{Opened, join_open, open_or_make};
 use jc_command_args::Tables;
 use jc_command_shared::{Failure, Status, System};
-use jc_database::{Databases, stop_keeper};
+use jc_database::{Databases, OpenFromFiles, StoreInFiles, stop_keeper};
 use jc_ledger::{Ledger, Past, UnionKeeper};
 use jc_schema_three::SchemaThree;
 use jc_schema_two::SchemaTwo;
-use jc_store::Listed;
+use jc_store::{Listed, TableKeeper};
 use jc_union::AnsweredUnion;
-use sqlite::{FileFrom, FileStore, Start};
-use sqlite_disk::Disk;
 use std::io::{BufRead, Write};
 use std::snapshot::Snapshot;
 
 /// What a run over a union had answered when it was stopped, and what it left of the files of its present database and of
 /// the notes, which proofs alone see.
 #[derive(Drop)]
-pub struct StoppedUnion<'a, D: Disk, L: Ledger> {
+pub struct StoppedUnion<'a, S, L: Ledger> {
     pub answered: Result<Status, Failure<'a>>,
-    pub files: Snapshot<FileStore<D>>,
+    pub files: Snapshot<S>,
     pub ledger: Snapshot<L>,
 }
 
@@ -47,7 +43,7 @@ pub struct StoppedUnion<'a, D: Disk, L: Ledger> {
 pub fn collect_into_union_and_stop<
     'a,
     Y: Databases,
-    S: Start,
+    F: OpenFromFiles,
     L: Ledger + Drop,
     P: Past,
     N: BufRead,
@@ -55,7 +51,7 @@ pub fn collect_into_union_and_stop<
     E: Write,
 >(
     rt: &mut Y,
-    start: S,
+    start: F::Start,
     ledger: L,
     database: &'a str,
     tables: Tables,
@@ -63,25 +59,25 @@ pub fn collect_into_union_and_stop<
     names: &mut N,
     output: &mut O,
     errors: &mut E,
-) -> Result<StoppedUnion<'a, FileFrom<S>, L>, Failure<'a>>
+) -> Result<StoppedUnion<'a, F, L>, Failure<'a>>
     // If what was noted is what the finished databases have, and some of what the present one had: what the printed lines
     // acknowledge is stored in the union, whatever a crash leaves, and it may be caught up again.
-    ensures each { IfOk result (λ run. WhenNoted tables (image_at S.Start) run.files.value
+    ensures each { IfOk result (λ run. WhenNoted F.Store tables F.first run.files.value
         (λ before. MayCatchUp (L.known ledger) P.journal before (L.came ledger) × L.sound ledger × L.clean run.ledger.value × NoneCollide (L.came run.ledger.value))
-        (λ kind before. IfOk run.answered (λ status. NamedWith (λ answers. AnyLeft run.files.value
+        (λ kind before. IfOk run.answered (λ status. NamedWith (λ answers. AnyLeft F.in_files run.files.value
         (LeavesNoted (meaning_of kind) P.journal before (L.came run.ledger.value) (L.may_leave run.ledger.value) answers))
         (N.remaining names.old) status (O.contents output.old) (O.contents output.new)))) }
     // ... what those acknowledge that were printed before a failure, too.
-    ensures each_failed { IfOk result (λ run. WhenNoted tables (image_at S.Start) run.files.value
+    ensures each_failed { IfOk result (λ run. WhenNoted F.Store tables F.first run.files.value
         (λ before. MayCatchUp (L.known ledger) P.journal before (L.came ledger) × L.sound ledger × L.clean run.ledger.value × NoneCollide (L.came run.ledger.value))
-        (λ kind before. IfErr run.answered (λ _. PrintsFront (λ answers. AnyLeft run.files.value
+        (λ kind before. IfErr run.answered (λ _. PrintsFront (λ answers. AnyLeft F.in_files run.files.value
         (LeavesNoted (meaning_of kind) P.journal before (L.came run.ledger.value) (L.may_leave run.ledger.value) answers))
         (O.contents output.old) (O.contents output.new)))) }
     ensures touched { OpensAndChanges database.now (IsReplacedIf (option_map (λ name. name.now) then_export.entry))
         (Y.deeds rt.old) (Y.deeds rt.new) }
 {
     match open_or_make(rt, database, start, tables)? {
-        Opened::ByKey(keeper) => Ok(stop_over::<_, S, SchemaTwo, L, P, _, _, _>(
+        Opened::ByKey(keeper) => Ok(stop_over::<_, F, SchemaTwo, L, P, _, _, _>(
             rt,
             keeper,
             ledger,
@@ -90,7 +86,7 @@ pub fn collect_into_union_and_stop<
             output,
             errors,
         )),
-        Opened::ByNumber(keeper) => Ok(stop_over::<_, S, SchemaThree, L, P, _, _, _>(
+        Opened::ByNumber(keeper) => Ok(stop_over::<_, F, SchemaThree, L, P, _, _, _>(
             rt,
             keeper,
             ledger,
@@ -106,7 +102,7 @@ pub fn collect_into_union_and_stop<
 fn stop_over<
     'a,
     Y: System,
-    S: Start,
+    F: StoreInFiles,
     T: Listed + Drop,
     L: Ledger + Drop,
     P: Past,
@@ -115,37 +111,36 @@ fn stop_over<
     E: Write,
 >(
     rt: &mut Y,
-    present: FileKeeper<S, T>,
+    present: TableKeeper<F, T>,
     ledger: L,
     then_export: Option<&'a str>,
     names: &mut N,
     output: &mut O,
     errors: &mut E,
-) -> StoppedUnion<'a, FileFrom<S>, L>
-    ensures each { AreLawful T.meaning → IsClean (view result.files.value) → L.clean result.ledger.value → NoneCollide (L.came result.ledger.value)
-        → MayOpen T.meaning over_files present.conn (L.known ledger) P.journal (L.came ledger) → L.sound ledger
-        → IfOk result.answered (λ status. NamedWith (λ answers. AnyLeft result.files.value
-        (LeavesNoted T.meaning P.journal (journal_of T.meaning over_files present.conn) (L.came result.ledger.value) (L.may_leave result.ledger.value) answers))
+) -> StoppedUnion<'a, F, L>
+    ensures each { AreLawful T.meaning → IsClean (F.Store.view result.files.value) → L.clean result.ledger.value → NoneCollide (L.came result.ledger.value)
+        → MayOpen T.meaning F.Store present.conn (L.known ledger) P.journal (L.came ledger) → L.sound ledger
+        → IfOk result.answered (λ status. NamedWith (λ answers. AnyLeft F.in_files result.files.value
+        (LeavesNoted T.meaning P.journal (journal_of T.meaning F.Store present.conn) (L.came result.ledger.value) (L.may_leave result.ledger.value) answers))
         (N.remaining names.old) status (O.contents output.old) (O.contents output.new)) }
-    ensures each_failed { AreLawful T.meaning → IsClean (view result.files.value) → L.clean result.ledger.value → NoneCollide (L.came result.ledger.value)
-        → MayOpen T.meaning over_files present.conn (L.known ledger) P.journal (L.came ledger) → L.sound ledger
-        → IfErr result.answered (λ _. PrintsFront (λ answers. AnyLeft result.files.value
-        (LeavesNoted T.meaning P.journal (journal_of T.meaning over_files present.conn) (L.came result.ledger.value) (L.may_leave result.ledger.value) answers))
+    ensures each_failed { AreLawful T.meaning → IsClean (F.Store.view result.files.value) → L.clean result.ledger.value → NoneCollide (L.came result.ledger.value)
+        → MayOpen T.meaning F.Store present.conn (L.known ledger) P.journal (L.came ledger) → L.sound ledger
+        → IfErr result.answered (λ _. PrintsFront (λ answers. AnyLeft F.in_files result.files.value
+        (LeavesNoted T.meaning P.journal (journal_of T.meaning F.Store present.conn) (L.came result.ledger.value) (L.may_leave result.ledger.value) answers))
         (O.contents output.old) (O.contents output.new)) }
-    ensures clean { IsClean (view result.files.value) → L.clean result.ledger.value → NoneCollide (L.came result.ledger.value)
-        → HasCleanDisk (file_state present.conn) }
+    ensures clean { IsClean (F.Store.view result.files.value) → L.clean result.ledger.value → NoneCollide (L.came result.ledger.value)
+        → HasCleanDisk (state F.Store present.conn) }
     ensures touched { ChangesOnly (IsReplacedIf (option_map (λ name. name.now) then_export.entry)) (Y.deeds rt.old) (Y.deeds rt.new) }
 {
-    let AnsweredUnion { answered, union } = join_open::<
-        _,
-        FileStore<FileFrom<S>>,
-        T,
-        L,
-        P,
-        _,
-        _,
-        _,
-    >(rt, present, ledger, then_export, names, output, errors);
+    let AnsweredUnion { answered, union } = join_open::<_, F, T, L, P, _, _, _>(
+        rt,
+        present,
+        ledger,
+        then_export,
+        names,
+        output,
+        errors,
+    );
     let UnionKeeper {
         present,
         ledger,

@@ -26,11 +26,13 @@
 //! Of what isn't said, nothing may be printed and the status has to be 0. `pieces.rt` has the form of `PIECES`. `@`
 //! stands for the script's folder and a `/`, as in `@db`, and `SOURCE` for the id of a source.
 
+ghost use Rattle.std.specs.Prelude.{◌≤◌};
+
 use super::pieces::{add, add_pieces, bad_line};
 use super::room::Room;
 use jc_command::command;
 use jc_command_shared::Host;
-use jc_database::open_files;
+use jc_database::{OpenFromFiles, OverFiles, open_files, over_files};
 use jc_sequences::Folders;
 use jc_test_samples::SOURCE;
 use sqlite::Unknown;
@@ -199,17 +201,14 @@ impl Session {
         let words = given_words(alloc, arguments)?;
         let (mut output, mut errors) = (Room::new(alloc, self.room, self.flushes), Vec::new(alloc));
         let mut input = self.input.as_slice();
-        let mut host = Host::new(rt);
-        let folders = Folders::new(rt);
-        let status = command(
-            &mut host,
-            folders,
-            Unknown,
+        let asked = Asked {
+            rt,
             words,
-            &mut input,
-            &mut output,
-            &mut errors,
-        );
+            input: &mut input,
+            output: &mut output,
+            errors: &mut errors,
+        };
+        let status = over_files(asked, Unknown);
         self.ran = Ran {
             output: output.kept,
             errors,
@@ -386,6 +385,34 @@ fn write_file<R: Files + AllocGlobal>(rt: &R, path: &str, pieces: &str) -> io::R
     let mut bytes = Vec::new(rt.alloc());
     add_pieces(rt, pieces, &mut bytes)?;
     fs::write(rt, path, &bytes)
+}
+
+/// What a run is asked for, and its streams.
+struct Asked<'a, 'i> {
+    rt: &'a HostRuntime,
+    words: Vec<String>,
+    input: &'a mut &'i [u8],
+    output: &'a mut Room,
+    errors: &'a mut Vec<u8>,
+}
+
+impl<'a, 'i> OverFiles for Asked<'a, 'i> {
+    type Outcome = u8;
+
+    ghost ends = { λ _ status. status ≤ 3 };
+
+    fn over<F: OpenFromFiles>(self, start: F::Start) -> u8 {
+        let Asked {
+            rt,
+            words,
+            input,
+            output,
+            errors,
+        } = self;
+        let mut host = Host::new(rt);
+        let folders = Folders::new(rt);
+        command::<_, F, Unknown, _, _, _>(&mut host, folders, start, words, input, output, errors)
+    }
 }
 
 /// Runs a statement on a database.

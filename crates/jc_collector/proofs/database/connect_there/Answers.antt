@@ -1,6 +1,5 @@
 -- The file isn't a database, or it has tables.
 use Rattle.std.proofs.Common.{true≢false, sym, ◌∙◌}
-use Rattle.sqlite.specs.WalFiles.{image_at}
 use Rattle.jc_collector.proofs.database.connect_there.Goals as goal
 
 pub returns-then-not-begins_as_database-clause-failed : goal.returns-then-not-begins_as_database-clause-failed
@@ -18,4 +17,4 @@ returns-clause-autocommit g c = c.in_ok-conn.ensures.autocommit
 
 pub returns-then-is_empty-clause-crash : goal.returns-then-is_empty-clause-crash
 returns-then-is_empty-clause-crash g c =
-    c.close_refused-left.ensures.left (image_at g.S.Start) c.in_ok-conn.conn c.in_ok-conn.ensures.found (λ clean left may. may)
+    c.close_refused-left.ensures.left g.F.OpenFromFiles.first c.in_ok-conn.conn c.in_ok-conn.ensures.found (λ clean left may. may)

@@ -1,6 +1,5 @@
 -- The keeper has the journal that the files had in tables of the older version.
 use Rattle.std.proofs.Common.{inl}
-use Rattle.sqlite.specs.WalFiles.{image_at}
 use Rattle.jc_schema_one.specs.Tables.{one}
 use Rattle.jc_collector.proofs.Causes.{no_tables}
 use Rattle.jc_collector.proofs.OverFiles.{adopted}
@@ -10,7 +9,7 @@ use Rattle.jc_collector.proofs.database.open_old.Goals as goal
 pub returns-clause-begins : goal.returns-clause-begins
 returns-clause-begins g c =
     IfOk-both c.adopt_tables.result _ _ _
-    (λ kept back keeps. adopted (image_at g.S.Start) c.in_ok-conn.conn kept.conn c.in_ok-conn.ensures.found back one c.in_ok-conn.ensures.tables keeps)
+    (λ kept back keeps. adopted g.F.OpenFromFiles.first c.in_ok-conn.conn kept.conn c.in_ok-conn.ensures.found back one c.in_ok-conn.ensures.tables keeps)
     c.adopt_tables.ensures.before c.adopt_tables.ensures.keeps
 
 pub returns-clause-failed : goal.returns-clause-failed
@@ -19,7 +18,7 @@ returns-clause-failed g c = IfErr-each c.adopt_tables.result _ _ (λ unopened. n
 pub returns-clause-crash : goal.returns-clause-crash
 returns-clause-crash g c =
     IfErr-each c.adopt_tables.result _ _
-    (λ unopened. if_some_each unopened.left _ _ (λ left leaves. leaves (image_at g.S.Start) c.in_ok-conn.ensures.found))
+    (λ unopened. if_some_each unopened.left _ _ (λ left leaves. leaves g.F.OpenFromFiles.first c.in_ok-conn.ensures.found))
     c.adopt_tables.ensures.crash
 
 pub returns-clause-handed : goal.returns-clause-handed

@@ -1,6 +1,5 @@
 -- The keeper has the journal that the files had.
 use Rattle.std.proofs.Common.{inl}
-use Rattle.sqlite.specs.WalFiles.{image_at}
 use Rattle.jc_collector.proofs.Causes.{no_tables}
 use Rattle.jc_collector.proofs.Found.{found_adopted, one_adopted, shown_adopted}
 use Rattle.jc_collector.proofs.Results.{IfErr-each, IfOk-each, if_some_each}
@@ -9,7 +8,7 @@ use Rattle.jc_collector.proofs.database.open_there.Goals as goal
 pub returns-clause-found : goal.returns-clause-found
 returns-clause-found g c =
     IfOk-each c.adopt.result _ _
-    (λ opened adopted. found_adopted (image_at g.S.Start) c.in_ok-conn.conn c.in_ok-conn.ensures.found opened c.in_ok-conn.ensures.tables adopted)
+    (λ opened adopted. found_adopted g.F.OpenFromFiles.first c.in_ok-conn.conn c.in_ok-conn.ensures.found opened c.in_ok-conn.ensures.tables adopted)
     c.adopt.ensures.adopted
 
 pub returns-clause-failed : goal.returns-clause-failed
@@ -17,17 +16,17 @@ returns-clause-failed g c = IfErr-each c.adopt.result _ _ (λ unopened. no_table
 
 pub returns-clause-one : goal.returns-clause-one
 returns-clause-one g c =
-    IfOk-each c.adopt.result _ _ (λ opened adopted. one_adopted (image_at g.S.Start) c.in_ok-conn.conn c.in_ok-conn.ensures.found opened adopted) c.adopt.ensures.adopted
+    IfOk-each c.adopt.result _ _ (λ opened adopted. one_adopted g.F.OpenFromFiles.first c.in_ok-conn.conn c.in_ok-conn.ensures.found opened adopted) c.adopt.ensures.adopted
 
 pub returns-clause-shown : goal.returns-clause-shown
 returns-clause-shown g c =
     IfOk-each c.adopt.result _ _
-    (λ opened adopted. shown_adopted (image_at g.S.Start) c.in_ok-conn.conn c.in_ok-conn.ensures.found opened adopted) c.adopt.ensures.adopted
+    (λ opened adopted. shown_adopted g.F.OpenFromFiles.first c.in_ok-conn.conn c.in_ok-conn.ensures.found opened adopted) c.adopt.ensures.adopted
 
 pub returns-clause-crash : goal.returns-clause-crash
 returns-clause-crash g c =
     IfErr-each c.adopt.result _ _
-    (λ unopened. if_some_each unopened.left _ _ (λ left leaves. leaves (image_at g.S.Start) c.in_ok-conn.ensures.found))
+    (λ unopened. if_some_each unopened.left _ _ (λ left leaves. leaves g.F.OpenFromFiles.first c.in_ok-conn.ensures.found))
     c.adopt.ensures.crash
 
 pub returns-clause-handed : goal.returns-clause-handed

@@ -1,7 +1,6 @@
 -- The list is standard input, or a file.
 use Rattle.std.proofs.Common.{◌≡◌, refl, rules, [], ◌∷◌}
 use Rattle.std.specs.Prelude.{codes}
-use Rattle.sqlite.specs.WalFiles.{image_at}
 use Rattle.jc_collector.proofs.IntoUnion.{by_union, leads_weaker, listed_named}
 use Rattle.jc_collector.proofs.Results.{IfErr-each, IfOk-each}
 use Rattle.jc_collector.proofs.into_union.collect_into_union.Goals as goal
@@ -13,7 +12,7 @@ returns-then-eq-clause-each g c =
     let given = g.I.Read.remaining c.args.input.now in
     let past = g.P.Past.journal in
     IfOk-each c.join_lines.result _ _
-    (λ run leads. leads_weaker c.args.tables (image_at g.S.Start) run.files _ _ _
+    (λ run leads. leads_weaker c.args.tables g.F.OpenFromFiles.first run.files _ _ _
     (listed_named past (g.L.Ledger.known run.ledger) (g.L.Ledger.came run.ledger) run.status old new c.args.list.now given given (λ _. refl)) leads)
     c.join_lines.ensures.each
 
@@ -29,7 +28,7 @@ returns-clause-each g c =
     let past = g.P.Past.journal in
     let other : c.args.list.now ≡ codes "-" → ⊥ = search rules in
     IfOk-each c.join_lines-2.result _ _
-    (λ run leads. leads_weaker c.args.tables (image_at g.S.Start) run.files _ _ _
+    (λ run leads. leads_weaker c.args.tables g.F.OpenFromFiles.first run.files _ _ _
     (listed_named past (g.L.Ledger.known run.ledger) (g.L.Ledger.came run.ledger) run.status old new c.args.list.now given _ (λ is. absurd (other is))) leads)
     c.join_lines-2.ensures.each
 

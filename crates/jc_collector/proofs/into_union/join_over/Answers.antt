@@ -1,7 +1,7 @@
 -- What was answered stands in the union, and the present database is closed.
 use Rattle.std.proofs.Common.{inl, inr, subst, sym}
 use Rattle.std.specs.Prelude.{⊤}
-use Rattle.sqlite.specs.Files.{file_state, over_files}
+use Rattle.sqlite.specs.Held.{state}
 use Rattle.sqlite.specs.State.{HasCleanDisk}
 use Rattle.jc_base.specs.Journal.{Journal}
 use Rattle.jc_collect.specs.Each.{StoresEach}
@@ -28,16 +28,16 @@ returns-clause-each g c =
     let k_now = sound clean in
     let l_now = subst g.L.Ledger.sound ledger l_sound in
     let none = subst (λ (l : g.row.L.Denot). NoneCollide (g.L.Ledger.came l)) ledger apart in
-    let now : IsSound over_files it.present.conn × (g.L.Ledger.sound it.ledger × (⊤ × NoneCollide (g.L.Ledger.came it.ledger))) = (k_now, (l_now, (tt, none))) in
-    let now_clean : HasCleanDisk (file_state it.present.conn) × (g.L.Ledger.clean it.ledger × (⊤ × NoneCollide (g.L.Ledger.came it.ledger))) =
+    let now : IsSound g.F.Store it.present.conn × (g.L.Ledger.sound it.ledger × (⊤ × NoneCollide (g.L.Ledger.came it.ledger))) = (k_now, (l_now, (tt, none))) in
+    let now_clean : HasCleanDisk (state g.F.Store it.present.conn) × (g.L.Ledger.clean it.ledger × (⊤ × NoneCollide (g.L.Ledger.came it.ledger))) =
     (k_now.clean, (g.met.L.Ledger.clean_if_sound _ l_now, (tt, none))) in
     let was = ran.before now in
     let lag = subst (λ (m : Journal). MayCatchUp (g.L.Ledger.known c.args.ledger) past m (g.L.Ledger.came c.args.ledger)) (sym has.is) lags in
-    let may : MayOpen g.T.Layout.meaning over_files c.args.present.conn (g.L.Ledger.known c.args.ledger) past (g.L.Ledger.came c.args.ledger) =
+    let may : MayOpen g.T.Layout.meaning g.F.Store c.args.present.conn (g.L.Ledger.known c.args.ledger) past (g.L.Ledger.came c.args.ledger) =
     record { sound = was.0; made = has.made; lags = lag } in
     let made = on_ok answered run.status _ done (ran.made now_clean may) in
     let printed = at_ok answered run.status _ done (ran.each now_clean may was.1) in
-    let after = journal_of g.T.Layout.meaning over_files it.present.conn in record {
+    let after = journal_of g.T.Layout.meaning g.F.Store it.present.conn in record {
       found = after;
       is = record {
         kept = subst (λ (l : g.row.L.Denot). IsKept (g.L.Ledger.known l) past after (g.L.Ledger.came l)) (sym ledger) (made.1.1 (k_now, (l_now, tt)));

@@ -1,7 +1,6 @@
 -- The list is standard input, or a file.
 use Rattle.std.proofs.Common.{◌≡◌, refl, rules}
 use Rattle.std.specs.Prelude.{codes}
-use Rattle.sqlite.specs.WalFiles.{image_at}
 use Rattle.jc_collector.specs.OverFiles.{StoresListed, StoresNamed}
 use Rattle.jc_collector.proofs.OverFiles.{leads_weaker, listed_named}
 use Rattle.jc_collector.proofs.Results.{IfOk-each}
@@ -13,7 +12,7 @@ returns-then-eq-clause-each g c =
     let new = g.O.Write.contents c.collect_lines.new.output in
     let given = g.I.Read.remaining c.args.input.now in
     IfOk-each c.collect_lines.result _ _
-    (λ closed leads. leads_weaker c.args.tables (image_at g.S.Start) closed.files (StoresNamed given closed.value old new)
+    (λ closed leads. leads_weaker c.args.tables g.F.OpenFromFiles.first closed.files (StoresNamed given closed.value old new)
     (StoresListed c.args.list.now given closed.value old new)
     (listed_named c.args.list.now given given closed.value old new (λ _. refl)) leads)
     c.collect_lines.ensures.each
@@ -25,7 +24,7 @@ returns-clause-each g c =
     let given = g.I.Read.remaining c.args.input.now in
     let other : c.args.list.now ≡ codes "-" → ⊥ = search rules in
     IfOk-each c.collect_lines-2.result _ _
-    (λ closed leads. leads_weaker c.args.tables (image_at g.S.Start) closed.files (StoresNamed _ closed.value old new)
+    (λ closed leads. leads_weaker c.args.tables g.F.OpenFromFiles.first closed.files (StoresNamed _ closed.value old new)
     (StoresListed c.args.list.now given closed.value old new)
     (listed_named c.args.list.now given _ closed.value old new (λ is. absurd (other is))) leads)
     c.collect_lines-2.ensures.each

@@ -1,6 +1,5 @@
 -- The files have what the run made of the journal that it found, once its database is closed.
 use Rattle.std.proofs.Common.{inl, inr}
-use Rattle.sqlite.specs.WalFiles.{image_at}
 use Rattle.jc_collector.specs.Database.{MayEndNames}
 use Rattle.jc_collector.specs.OverFiles.{KeepsStored}
 use Rattle.jc_collector.proofs.Causes.{by_names, names_failed}
@@ -12,7 +11,7 @@ use Rattle.jc_collector.proofs.listed.collect_names.Goals as goal
 pub returns-clause-kept : goal.returns-clause-kept
 returns-clause-kept g c =
     IfOk-both c.close_opened.result _ _ _
-    (λ closed sound always. leads_on c.args.tables (image_at g.S.Start) c.in_ok-done.field-0.keeper closed.files sound always c.in_ok-done.ensures.kind KeepsStored
+    (λ closed sound always. leads_on c.args.tables g.F.OpenFromFiles.first c.in_ok-done.field-0.keeper closed.files sound always c.in_ok-done.ensures.kind KeepsStored
     c.in_ok-done.ensures.kept)
     c.close_opened.ensures.sound c.close_opened.ensures.keeps
 
@@ -24,7 +23,7 @@ returns-clause-each g c =
     let run = c.in_ok-done.ensures in
     let it = c.in_ok-done.field-0 in
     IfOk-three c.close_opened.result _ _ _ _
-    (λ closed done sound always. leads_named c.args.tables (image_at g.S.Start) it.keeper closed.files sound always run.kind run.recovers closed.value old new
+    (λ closed done sound always. leads_named c.args.tables g.F.OpenFromFiles.first it.keeper closed.files sound always run.kind run.recovers closed.value old new
     it.done done text run.each)
     c.close_opened.ensures.done c.close_opened.ensures.sound c.close_opened.ensures.keeps
 

@@ -2,9 +2,7 @@
 use Rattle.std.proofs.Common.{◌≡◌, Err, IfErr, IfOk, OnOk, length}
 use Rattle.std.proofs.lemmas.Result.{IfErr-weaker, IfOk-weaker}
 use Rattle.std.proofs.Math.Logic.{∥∥₁_map}
-use Rattle.sqlite.specs.FileStore.{state}
 use Rattle.sqlite.specs.Recovery.{Image}
-use Rattle.sqlite.specs.WalFiles.{image_at}
 use Rattle.jc_command_shared.specs.declared.failure.Failure.TheVariants.{WriteFailed}
 use Rattle.jc_collector_answers.specs.Tied.{PrintsWith, PrintsFront}
 use Rattle.jc_collector.specs.Open.{HoldsIn}
@@ -23,13 +21,13 @@ returns-clause-each g c = λ clean.
     let run = c.in_ok-done.ensures in
     let it = c.in_ok-done.field-0 in
     let files = c.stop_opened-files.result.value in
-    at_kind c.args.tables (image_at g.S.Start) it.keeper run.kind
-    (λ kind before. IfOk it.done (λ status. PrintsWith (λ answers. AnyLeft files (LeavesEach kind before answers)) (length c.args.deliveries.now) status old new))
+    at_kind g.F.Store c.args.tables g.F.OpenFromFiles.first it.keeper run.kind
+    (λ kind before. IfOk it.done (λ status. PrintsWith (λ answers. AnyLeft g.F.StoreInFiles.in_files files (LeavesEach kind before answers)) (length c.args.deliveries.now) status old new))
     (c.stop_opened-files.ensures.clean clean)
     (λ before begin.
-    IfOk-weaker it.done _ (λ status. PrintsWith (λ answers. AnyLeft files (LeavesEach (kind_of it.keeper) before answers)) (length c.args.deliveries.now) status old new)
-    (λ status p. with_other (HoldsIn it.keeper before) (λ answers. AnyLeft files (LeavesEach (kind_of it.keeper) before answers))
-    (left_each c.args.tables (image_at g.S.Start) it.keeper files c.stop_opened-files.ensures.clean
+    IfOk-weaker it.done _ (λ status. PrintsWith (λ answers. AnyLeft g.F.StoreInFiles.in_files files (LeavesEach (kind_of it.keeper) before answers)) (length c.args.deliveries.now) status old new)
+    (λ status p. with_other (HoldsIn g.F.Store it.keeper before) (λ answers. AnyLeft g.F.StoreInFiles.in_files files (LeavesEach (kind_of it.keeper) before answers))
+    (left_each g.F.StoreInFiles.in_files c.args.tables g.F.OpenFromFiles.first it.keeper files c.stop_opened-files.ensures.clean
     c.stop_opened-files.ensures.left run.recovers clean before begin)
     (length c.args.deliveries.now) status old new p)
     (run.each (c.stop_opened-files.ensures.clean clean) before begin))
@@ -41,13 +39,13 @@ returns-clause-each_failed g c = λ clean.
     let run = c.in_ok-done.ensures in
     let it = c.in_ok-done.field-0 in
     let files = c.stop_opened-files.result.value in
-    at_kind c.args.tables (image_at g.S.Start) it.keeper run.kind
-    (λ kind before. IfErr it.done (λ _. PrintsFront (λ answers. AnyLeft files (LeavesEach kind before answers)) old new))
+    at_kind g.F.Store c.args.tables g.F.OpenFromFiles.first it.keeper run.kind
+    (λ kind before. IfErr it.done (λ _. PrintsFront (λ answers. AnyLeft g.F.StoreInFiles.in_files files (LeavesEach kind before answers)) old new))
     (c.stop_opened-files.ensures.clean clean)
     (λ before begin.
-    IfErr-weaker it.done _ (λ _. PrintsFront (λ answers. AnyLeft files (LeavesEach (kind_of it.keeper) before answers)) old new)
-    (λ failure p. front_other (HoldsIn it.keeper before) (λ answers. AnyLeft files (LeavesEach (kind_of it.keeper) before answers))
-    (left_each c.args.tables (image_at g.S.Start) it.keeper files c.stop_opened-files.ensures.clean
+    IfErr-weaker it.done _ (λ _. PrintsFront (λ answers. AnyLeft g.F.StoreInFiles.in_files files (LeavesEach (kind_of it.keeper) before answers)) old new)
+    (λ failure p. front_other (HoldsIn g.F.Store it.keeper before) (λ answers. AnyLeft g.F.StoreInFiles.in_files files (LeavesEach (kind_of it.keeper) before answers))
+    (left_each g.F.StoreInFiles.in_files c.args.tables g.F.OpenFromFiles.first it.keeper files c.stop_opened-files.ensures.clean
     c.stop_opened-files.ensures.left run.recovers clean before begin)
     old new p)
     (run.each_failed (c.stop_opened-files.ensures.clean clean) before begin))
@@ -59,12 +57,12 @@ returns-clause-printed g c = λ clean kind before begin uploads are.
     let run = c.in_ok-done.ensures in
     let it = c.in_ok-done.field-0 in
     let early = c.stop_opened-files.ensures.clean clean in
-    at_kind c.args.tables (image_at g.S.Start) it.keeper run.kind
-    (λ kind before. (left : Image) → (state c.stop_opened-files.result.value).may_leave left → OnOk it.done (∥ LeavesPrinted kind uploads before old new left ∥₁))
+    at_kind g.F.Store c.args.tables g.F.OpenFromFiles.first it.keeper run.kind
+    (λ kind before. (left : Image) → g.F.StoreInFiles.in_files.may_leave c.stop_opened-files.result.value left → OnOk it.done (∥ LeavesPrinted kind uploads before old new left ∥₁))
     early
     (λ before begin left may. on_ok_if it.done _
     (λ status is. ∥∥₁_map
-    (c.stop_opened-files.ensures.left clean (run.recovers early before begin).journals left may)
+    (c.stop_opened-files.ensures.left (run.recovers early before begin).journals clean left may)
     (λ found. record {
       found = found.0;
       keeps = is _ (run.crash uploads are early before begin found.0 found.1);
@@ -79,12 +77,12 @@ returns-clause-unprinted g c = λ clean kind before begin uploads are.
     let run = c.in_ok-done.ensures in
     let it = c.in_ok-done.field-0 in
     let early = c.stop_opened-files.ensures.clean clean in
-    at_kind c.args.tables (image_at g.S.Start) it.keeper run.kind
-    (λ kind before. (left : Image) → (state c.stop_opened-files.result.value).may_leave left → it.done ≡ Err WriteFailed
+    at_kind g.F.Store c.args.tables g.F.OpenFromFiles.first it.keeper run.kind
+    (λ kind before. (left : Image) → g.F.StoreInFiles.in_files.may_leave c.stop_opened-files.result.value left → it.done ≡ Err WriteFailed
     → ∥ LeavesFirst kind uploads before old new left ∥₁)
     early
     (λ before begin left may failed. ∥∥₁_map
-    (c.stop_opened-files.ensures.left clean (run.recovers early before begin).journals left may)
+    (c.stop_opened-files.ensures.left (run.recovers early before begin).journals clean left may)
     (λ found. record {
       found = found.0;
       keeps = run.crash_unprinted uploads are early before begin found.0 found.1 failed;

@@ -1,7 +1,6 @@
 -- Whatever a crash leaves is a journal, which keeps what was printed.
 use Rattle.std.proofs.Common.{IfErr, IfOk}
 use Rattle.std.proofs.lemmas.Result.{IfErr-weaker, IfOk-weaker}
-use Rattle.sqlite.specs.WalFiles.{image_at}
 use Rattle.jc_collector_answers.specs.Tied.{NamedWith, PrintsFront}
 use Rattle.jc_collector.specs.Open.{HoldsIn}
 use Rattle.jc_collector.specs.Kinds.{kind_of}
@@ -18,13 +17,13 @@ returns-clause-each g c = λ clean.
     let run = c.in_ok-done.ensures in
     let it = c.in_ok-done.field-0 in
     let files = c.stop_opened-files.result.value in
-    at_kind c.args.tables (image_at g.S.Start) it.keeper run.kind
-    (λ kind before. IfOk it.done (λ status. NamedWith (λ answers. AnyLeft files (LeavesEach kind before answers)) (g.L.Read.remaining c.args.names.now) status old new))
+    at_kind g.F.Store c.args.tables g.F.OpenFromFiles.first it.keeper run.kind
+    (λ kind before. IfOk it.done (λ status. NamedWith (λ answers. AnyLeft g.F.StoreInFiles.in_files files (LeavesEach kind before answers)) (g.L.Read.remaining c.args.names.now) status old new))
     (c.stop_opened-files.ensures.clean clean)
     (λ before begin.
-    IfOk-weaker it.done _ (λ status. NamedWith (λ answers. AnyLeft files (LeavesEach (kind_of it.keeper) before answers)) (g.L.Read.remaining c.args.names.now) status old new)
-    (λ status p. named_other (HoldsIn it.keeper before) (λ answers. AnyLeft files (LeavesEach (kind_of it.keeper) before answers))
-    (left_each c.args.tables (image_at g.S.Start) it.keeper files c.stop_opened-files.ensures.clean
+    IfOk-weaker it.done _ (λ status. NamedWith (λ answers. AnyLeft g.F.StoreInFiles.in_files files (LeavesEach (kind_of it.keeper) before answers)) (g.L.Read.remaining c.args.names.now) status old new)
+    (λ status p. named_other (HoldsIn g.F.Store it.keeper before) (λ answers. AnyLeft g.F.StoreInFiles.in_files files (LeavesEach (kind_of it.keeper) before answers))
+    (left_each g.F.StoreInFiles.in_files c.args.tables g.F.OpenFromFiles.first it.keeper files c.stop_opened-files.ensures.clean
     c.stop_opened-files.ensures.left run.recovers clean before begin)
     (g.L.Read.remaining c.args.names.now) status old new p)
     (run.each (c.stop_opened-files.ensures.clean clean) before begin))
@@ -36,13 +35,13 @@ returns-clause-each_failed g c = λ clean.
     let run = c.in_ok-done.ensures in
     let it = c.in_ok-done.field-0 in
     let files = c.stop_opened-files.result.value in
-    at_kind c.args.tables (image_at g.S.Start) it.keeper run.kind
-    (λ kind before. IfErr it.done (λ _. PrintsFront (λ answers. AnyLeft files (LeavesEach kind before answers)) old new))
+    at_kind g.F.Store c.args.tables g.F.OpenFromFiles.first it.keeper run.kind
+    (λ kind before. IfErr it.done (λ _. PrintsFront (λ answers. AnyLeft g.F.StoreInFiles.in_files files (LeavesEach kind before answers)) old new))
     (c.stop_opened-files.ensures.clean clean)
     (λ before begin.
-    IfErr-weaker it.done _ (λ _. PrintsFront (λ answers. AnyLeft files (LeavesEach (kind_of it.keeper) before answers)) old new)
-    (λ failure p. front_other (HoldsIn it.keeper before) (λ answers. AnyLeft files (LeavesEach (kind_of it.keeper) before answers))
-    (left_each c.args.tables (image_at g.S.Start) it.keeper files c.stop_opened-files.ensures.clean
+    IfErr-weaker it.done _ (λ _. PrintsFront (λ answers. AnyLeft g.F.StoreInFiles.in_files files (LeavesEach (kind_of it.keeper) before answers)) old new)
+    (λ failure p. front_other (HoldsIn g.F.Store it.keeper before) (λ answers. AnyLeft g.F.StoreInFiles.in_files files (LeavesEach (kind_of it.keeper) before answers))
+    (left_each g.F.StoreInFiles.in_files c.args.tables g.F.OpenFromFiles.first it.keeper files c.stop_opened-files.ensures.clean
     c.stop_opened-files.ensures.left run.recovers clean before begin)
     old new p)
     (run.each_failed (c.stop_opened-files.ensures.clean clean) before begin))

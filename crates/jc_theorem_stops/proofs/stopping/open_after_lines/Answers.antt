@@ -2,7 +2,6 @@
 use Rattle.std.proofs.Common.{◌≡◌, IfOk, List, subst}
 use Rattle.std.proofs.lemmas.Result.{IfOk-weaker}
 use Rattle.std.proofs.Math.Logic.{∥∥₁_map}
-use Rattle.sqlite.specs.WalFiles.{image_at}
 use Rattle.sqlite.specs.Recovery.{Image}
 use Rattle.jc_upload.specs.declared.answer.Answer.{Answer}
 use Rattle.jc_collector_answers.specs.Tied.{NamedWith}
@@ -17,11 +16,11 @@ returns g c = λ clean kind before begin.
     let new = g.O.Write.contents c.collect_lines_and_stop.new.output in
     let stopped = c.in_ok-stopped.stopped in
     let Finds : List Answer → Type 0
-    = λ answers. AnyLeft stopped.files.value (λ left. left ≡ image_at g.T.Start → IfOk c.open_or_make.result (FindsEach before answers)) in
+    = λ answers. AnyLeft g.F.StoreInFiles.in_files stopped.files.value (λ left. left ≡ g.G.OpenFromFiles.first → IfOk c.open_or_make.result (FindsEach g.G.Store before answers)) in
     IfOk-weaker stopped.answered _ (λ status. NamedWith Finds (g.L.Read.remaining c.args.names.now) status old new)
-    (λ status p. named_other (λ answers. AnyLeft stopped.files.value (LeavesEach kind before answers)) Finds
+    (λ status p. named_other (λ answers. AnyLeft g.F.StoreInFiles.in_files stopped.files.value (LeavesEach kind before answers)) Finds
     (λ answers any left may. ∥∥₁_map (any left may) (λ it same. IfOk-weaker c.open_or_make.result _ _
-    (λ opened found late. found_each c.args.tables (image_at g.T.Start) opened found late kind before answers
+    (λ opened found late. found_each c.args.tables g.G.OpenFromFiles.first opened found late kind before answers
     (subst (λ (image : Image). LeavesEach kind before answers image) same it))
     c.open_or_make.ensures.found))
     (g.L.Read.remaining c.args.names.now) status old new p)

@@ -1,6 +1,5 @@
 -- The keeper is that of one kind, and has the journal that the files had in tables of this kind.
 use Rattle.std.specs.Prelude.{IfErr, IfOk}
-use Rattle.sqlite.specs.WalFiles.{image_at}
 use Rattle.jc_collector_answers.specs.Tied.{NamedWith, PrintsFront}
 use Rattle.jc_command_args.specs.declared.request.Tables.TheVariants.{ByKey, ByNumber}
 use Rattle.jc_collector.specs.Kinds.{meaning_of}
@@ -16,10 +15,10 @@ returns-in-ByKey-clause-each g c = λ clean kind before begin noted.
     let past = g.P.Past.journal in
     let run = c.stop_over.result in
     let found = rw c.in-ByKey.is at c.in_ok-keeper.ensures.found in
-    at_found c.args.tables ByKey (image_at g.S.Start) c.in-ByKey.keeper.conn found (c.stop_over.ensures.clean clean noted.2 noted.3)
+    at_found c.args.tables ByKey g.F.OpenFromFiles.first c.in-ByKey.keeper.conn found (c.stop_over.ensures.clean clean noted.2 noted.3)
     past (g.L.Ledger.known c.args.ledger) (g.L.Ledger.came c.args.ledger)
     (λ kind before. IfOk run.answered (λ status. NamedWith
-    (λ answers. AnyLeft run.files.value (LeavesNoted (meaning_of kind) past before (g.L.Ledger.came run.ledger.value) (g.L.Ledger.may_leave run.ledger.value) answers))
+    (λ answers. AnyLeft g.F.StoreInFiles.in_files run.files.value (LeavesNoted (meaning_of kind) past before (g.L.Ledger.came run.ledger.value) (g.L.Ledger.may_leave run.ledger.value) answers))
     (g.N.Read.remaining c.args.names.now) status old new))
     (λ may. c.stop_over.ensures.each (λ db journal. journal.spells.sound) clean noted.2 noted.3 may noted.1)
     kind before begin noted.0
@@ -31,10 +30,10 @@ returns-in-ByKey-clause-each_failed g c = λ clean kind before begin noted.
     let past = g.P.Past.journal in
     let run = c.stop_over.result in
     let found = rw c.in-ByKey.is at c.in_ok-keeper.ensures.found in
-    at_found c.args.tables ByKey (image_at g.S.Start) c.in-ByKey.keeper.conn found (c.stop_over.ensures.clean clean noted.2 noted.3)
+    at_found c.args.tables ByKey g.F.OpenFromFiles.first c.in-ByKey.keeper.conn found (c.stop_over.ensures.clean clean noted.2 noted.3)
     past (g.L.Ledger.known c.args.ledger) (g.L.Ledger.came c.args.ledger)
     (λ kind before. IfErr run.answered (λ _. PrintsFront
-    (λ answers. AnyLeft run.files.value (LeavesNoted (meaning_of kind) past before (g.L.Ledger.came run.ledger.value) (g.L.Ledger.may_leave run.ledger.value) answers))
+    (λ answers. AnyLeft g.F.StoreInFiles.in_files run.files.value (LeavesNoted (meaning_of kind) past before (g.L.Ledger.came run.ledger.value) (g.L.Ledger.may_leave run.ledger.value) answers))
     old new))
     (λ may. c.stop_over.ensures.each_failed (λ db journal. journal.spells.sound) clean noted.2 noted.3 may noted.1)
     kind before begin noted.0
@@ -46,10 +45,10 @@ returns-in-ByNumber-clause-each g c = λ clean kind before begin noted.
     let past = g.P.Past.journal in
     let run = c.stop_over-in-ByNumber.result in
     let found = rw c.in-ByNumber.is at c.in_ok-keeper.ensures.found in
-    at_found c.args.tables ByNumber (image_at g.S.Start) c.in-ByNumber.keeper.conn found (c.stop_over-in-ByNumber.ensures.clean clean noted.2 noted.3)
+    at_found c.args.tables ByNumber g.F.OpenFromFiles.first c.in-ByNumber.keeper.conn found (c.stop_over-in-ByNumber.ensures.clean clean noted.2 noted.3)
     past (g.L.Ledger.known c.args.ledger) (g.L.Ledger.came c.args.ledger)
     (λ kind before. IfOk run.answered (λ status. NamedWith
-    (λ answers. AnyLeft run.files.value (LeavesNoted (meaning_of kind) past before (g.L.Ledger.came run.ledger.value) (g.L.Ledger.may_leave run.ledger.value) answers))
+    (λ answers. AnyLeft g.F.StoreInFiles.in_files run.files.value (LeavesNoted (meaning_of kind) past before (g.L.Ledger.came run.ledger.value) (g.L.Ledger.may_leave run.ledger.value) answers))
     (g.N.Read.remaining c.args.names.now) status old new))
     (λ may. c.stop_over-in-ByNumber.ensures.each (λ db journal. journal.spells.sound) clean noted.2 noted.3 may noted.1)
     kind before begin noted.0
@@ -61,10 +60,10 @@ returns-in-ByNumber-clause-each_failed g c = λ clean kind before begin noted.
     let past = g.P.Past.journal in
     let run = c.stop_over-in-ByNumber.result in
     let found = rw c.in-ByNumber.is at c.in_ok-keeper.ensures.found in
-    at_found c.args.tables ByNumber (image_at g.S.Start) c.in-ByNumber.keeper.conn found (c.stop_over-in-ByNumber.ensures.clean clean noted.2 noted.3)
+    at_found c.args.tables ByNumber g.F.OpenFromFiles.first c.in-ByNumber.keeper.conn found (c.stop_over-in-ByNumber.ensures.clean clean noted.2 noted.3)
     past (g.L.Ledger.known c.args.ledger) (g.L.Ledger.came c.args.ledger)
     (λ kind before. IfErr run.answered (λ _. PrintsFront
-    (λ answers. AnyLeft run.files.value (LeavesNoted (meaning_of kind) past before (g.L.Ledger.came run.ledger.value) (g.L.Ledger.may_leave run.ledger.value) answers))
+    (λ answers. AnyLeft g.F.StoreInFiles.in_files run.files.value (LeavesNoted (meaning_of kind) past before (g.L.Ledger.came run.ledger.value) (g.L.Ledger.may_leave run.ledger.value) answers))
     old new))
     (λ may. c.stop_over-in-ByNumber.ensures.each_failed (λ db journal. journal.spells.sound) clean noted.2 noted.3 may noted.1)
     kind before begin noted.0

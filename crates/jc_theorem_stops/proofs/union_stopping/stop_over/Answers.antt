@@ -9,7 +9,7 @@ returns-clause-each g c = rw (c.let_go.ensures, c.let_go-2.ensures) (λ lawful c
     let ran = c.join_open-union.ensures in
     let files = c.stop_keeper.ensures in
     IfOk-weaker c.join_open-union.result.answered _ _
-    (λ status p. named_other _ _ (left_noted c.stop_keeper.result (files.left lawful clean (ran.recovers (files.clean clean, (l_clean, (tt, none))) may l_sound).0)) _ status _ _ p)
+    (λ status p. named_other _ _ (left_noted g.F.StoreInFiles.in_files c.stop_keeper.result (files.left lawful (ran.recovers (files.clean clean, (l_clean, (tt, none))) may l_sound).0 clean)) _ status _ _ p)
     (ran.each (files.clean clean, (l_clean, (tt, none))) may l_sound))
 
 pub returns-clause-each_failed : goal.returns-clause-each_failed
@@ -17,7 +17,7 @@ returns-clause-each_failed g c = rw (c.let_go.ensures, c.let_go-2.ensures) (λ l
     let ran = c.join_open-union.ensures in
     let files = c.stop_keeper.ensures in
     IfErr-weaker c.join_open-union.result.answered _ _
-    (λ _ p. front_other _ _ (left_noted c.stop_keeper.result (files.left lawful clean (ran.recovers (files.clean clean, (l_clean, (tt, none))) may l_sound).0)) _ _ p)
+    (λ _ p. front_other _ _ (left_noted g.F.StoreInFiles.in_files c.stop_keeper.result (files.left lawful (ran.recovers (files.clean clean, (l_clean, (tt, none))) may l_sound).0 clean)) _ _ p)
     (ran.each_failed (files.clean clean, (l_clean, (tt, none))) may l_sound))
 
 pub returns-clause-clean : goal.returns-clause-clean

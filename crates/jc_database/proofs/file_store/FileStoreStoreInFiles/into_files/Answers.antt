@@ -1,0 +1,45 @@
+-- The last commit is in the files. If the close fails, a crash leaves what it might have left before.
+use Rattle.std.proofs.Common.{◌≡◌, IsTrue, sym, ap, subst, ◌∙◌, arith}
+use Rattle.sqlite_wal.proofs.StateLemmas.{open_from}
+use Rattle.sqlite_trees.specs.View.{View, IsClean}
+use Rattle.sqlite_trees.proofs.Doubt.{clean_of as sure, no_doubt}
+use Rattle.sqlite_rules.proofs.ViewLemmas.{still_quiet}
+use Rattle.sqlite_store.specs.FileStore.{state, view}
+use Rattle.sqlite.specs.Recovery.{Image}
+use Rattle.sqlite.specs.WalFiles.{outcomes}
+use Rattle.sqlite.specs.WalReads.{AreClean}
+use Rattle.sqlite.specs.Closing.{HoldsAlone}
+use Rattle.sqlite_pool.proofs.StateLemmas.{clean_is, may_leave_is}
+use Rattle.sqlite.proofs.Theorems.{copied}
+use Rattle.jc_database.proofs.file_store.FileStoreStoreInFiles.into_files.Goals as goal
+
+pub returns-in-Ok-clause-written : goal.returns-in-Ok-clause-written
+returns-in-Ok-clause-written g c was honest =
+    let before = c.rollback.new.self in
+    let last = c.checkpoint.new.self in
+    let q = c.checkpoint.ensures.quiet in
+    let stays = g.met.D.Disk.seen_may_stay in
+    let sure_now = subst (λ p. AreClean g.D.Disk p.0 p.1) c.close.ensures honest in
+    let none : IsClean (view last) = no_doubt _ (clean_is last.pool ∙ sure_now) in
+    let clean : IsClean (view before) = omega (arith, q.clean) in
+    let early : IsClean (view c.args.self) = omega (arith, c.rollback.ensures.quiet.clean) in
+    let h = open_from (state before) c.in-Ok.ensures.ready (sure (view before).is_clean clean) in
+    let second = c.rollback.ensures.undone.kept clean in
+    let on = c.in-Ok.ensures.open none in
+    let same = c.checkpoint.ensures.same on in
+    let numbered : IsTrue (view last).is_numbered = ap (λ (v : View). v.is_numbered) same ∙ second.numbered ∙ was.numbered early in
+    let committed : (view last).committed ≡ (view c.args.self).committed = ap (λ (v : View). v.committed) same ∙ second.committed h in
+    let each = λ (image : Image) (may : outcomes g.D.Disk c.close.result.log c.close.result.db image).
+    subst (HoldsAlone image) committed (copied last stays on numbered
+    (λ db found. was.sound early db (c.rollback.ensures.quiet.outcomes db (q.outcomes db found)))
+    (c.in-Ok.ensures.moved (c.rollback.ensures.logged (second.was_open h))) image
+    (may_leave_is last.pool image sure_now (subst (λ p. outcomes g.D.Disk p.0 p.1 image) c.close.ensures may))) in
+    record {
+      was_clean = early;
+      was_open = second.was_open h;
+      seen = each _ (stays _, stays _);
+      left = each;
+    }
+
+pub returns-in-Err-clause-quiet : goal.returns-in-Err-clause-quiet
+returns-in-Err-clause-quiet g c = still_quiet c.rollback.ensures.quiet c.checkpoint.ensures.quiet
