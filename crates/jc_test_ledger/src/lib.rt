@@ -1,10 +1,5 @@
-//! Ledgers over files in memory.
+//! Worked ledgers over files in memory.
 #![tactic(auto)]
 
-mod memory_folder;
-mod opening;
 #[cfg(test)]
 mod tests;
-
-pub use memory_folder::MemoryFolder;
-pub use opening::new_windows;

@@ -1,13 +1,9 @@
 //! What stands in a window's file.
 
-use super::ledgers::{
-    NEVER, bytes_of, folder_of, folder_with, note, noted, noted_of_three, opened,
-};
-use crate::{MemoryFolder, new_windows};
-use jc_keeper::KeepStop;
-use jc_ledger::Ledger;
-use jc_ledger_files::{FileLedger, NoneBefore, RecordedEntries, Windows, Witness};
-use jc_test_samples::{ENTRY, ENTRY_2, ENTRY_3, numbered_entry};
+use super::reopened::{follow, follow_case};
+use super::samples::Sample::{self, Number};
+use super::steps::FileStep::{Bytes, Length, Put, Untouched};
+use super::steps::Step::{self, Files, Note, Noted, TablesAtMost};
 use std::process::Abort;
 use std::test::Fail;
 
@@ -21,102 +17,74 @@ const TORN: &[u8] = b"\x01\x02\0\0\0\0\0\0\0\
     \xb9\xea\x36\x12\x4d\x80\xec\x1c\xd3\x2c\x98\x40\x8c\x49\x41\x57\
     \x16\x85\xc1\x52\x58\x3c\xea\xa8\x95\xd6\x08\x03\x38\xed\xf6";
 
-pub(super) fn same_bytes(rt: &impl Abort, got: &[u8], wanted: &[u8]) {
-    assert!(rt;
-        got == wanted,
-        "got {}\nwanted {}",
-        got.escape_ascii(),
-        wanted.escape_ascii()
-    );
-}
-
-fn same_number(rt: &impl Abort, got: u64, wanted: u64) {
-    assert!(rt; got == wanted, "got {got}, wanted {wanted}");
-}
-
 #[test]
 fn a_note_is_a_block(rt: HostRuntime) -> Result<(), Fail> {
-    let alloc = rt.alloc();
-    let mut ledger = opened(alloc, MemoryFolder::unclaimed(alloc, NEVER));
-    assert!(rt; note(alloc, &mut ledger, &[ENTRY])?.is_ok());
-    same_number(&rt, noted(alloc, &mut ledger, &[ENTRY, ENTRY_2])?, 1);
-    let bytes = bytes_of(alloc, &folder_of(ledger), 0)?;
-    same_bytes(&rt, &bytes, &[BLOCK, b"\0".as_slice()].concat(alloc)?);
-    Ok(())
+    const STEPS: &[Step] = &[
+        Note(&[Number(1)]),
+        Noted(&[Number(1), Number(2)], 1),
+        Files(Bytes(0, &[BLOCK, b"\0"])),
+    ];
+    follow(&rt, STEPS)
 }
 
-/// With these bytes behind the first entry's block, a ledger goes on behind that block.
-fn goes_on(rt: &(impl Abort + AllocGlobal), behind: &[u8]) -> Result<(), Fail> {
-    let alloc = rt.alloc();
-    let mut ledger = opened(alloc, folder_with(alloc, &[BLOCK, behind].concat(alloc)?)?);
-    same_number(rt, noted_of_three(alloc, &mut ledger)?, 1);
-    assert!(rt; note(alloc, &mut ledger, &[ENTRY_3])?.is_ok());
-    let mut again = opened(alloc, folder_of(ledger));
-    same_number(rt, noted_of_three(alloc, &mut again)?, 2);
-    Ok(())
+/// Over a file of these bytes, which begins with the first entry's block, a ledger goes on behind that block.
+fn goes_on(rt: &(impl Abort + AllocGlobal), case: u64, file: &[&[u8]]) -> Result<(), Fail> {
+    const STEPS: &[Step] = &[
+        Noted(&[Number(1), Number(2), Number(3)], 1),
+        Note(&[Number(3)]),
+        Files(Untouched),
+        Noted(&[Number(1), Number(2), Number(3)], 2),
+    ];
+    follow_case(rt, case, Put(file), STEPS)
 }
 
 /// Whatever stands behind the last whole block, the ledger goes on behind that one.
 #[test]
 fn a_torn_note_is_none(rt: HostRuntime) -> Result<(), Fail> {
-    goes_on(&rt, b"")?;
-    goes_on(&rt, b"\0")?;
-    goes_on(&rt, TORN)?;
-    goes_on(&rt, b"\0\x01\x01\x01")?;
-    goes_on(&rt, b"\xff")
+    goes_on(&rt, 0, &[BLOCK])?;
+    goes_on(&rt, 1, &[BLOCK, b"\0"])?;
+    goes_on(&rt, 2, &[BLOCK, TORN])?;
+    goes_on(&rt, 3, &[BLOCK, b"\0\x01\x01\x01"])?;
+    goes_on(&rt, 4, &[BLOCK, b"\xff"])
 }
 
 /// Numbers of two windows are noted at once, and each stands in the file of its own.
 #[test]
 fn two_windows_have_two_files(rt: HostRuntime) -> Result<(), Fail> {
-    let alloc = rt.alloc();
-    let last = numbered_entry(alloc, 4095)?;
-    let first = numbered_entry(alloc, 4096)?;
-    let texts = [ENTRY, last.as_bytes(), first.as_bytes()];
-    let mut ledger = opened(alloc, MemoryFolder::unclaimed(alloc, NEVER));
-    same_number(&rt, noted(alloc, &mut ledger, &texts)?, 0);
-    assert!(rt; note(alloc, &mut ledger, &texts)?.is_ok());
-    same_number(&rt, noted(alloc, &mut ledger, &texts)?, 3);
-    let folder = folder_of(ledger);
-    same_number(&rt, bytes_of(alloc, &folder, 0)?.len() as u64, 83);
-    same_number(&rt, bytes_of(alloc, &folder, 1)?.len() as u64, 42);
-    let mut again = opened(alloc, folder);
-    same_number(&rt, noted(alloc, &mut again, &texts)?, 3);
-    Ok(())
+    const STEPS: &[Step] = &[
+        Noted(&[Number(1), Number(4095), Number(4096)], 0),
+        Note(&[Number(1), Number(4095), Number(4096)]),
+        Noted(&[Number(1), Number(4095), Number(4096)], 3),
+        Files(Length(0, 83)),
+        Files(Length(1, 42)),
+        Noted(&[Number(1), Number(4095), Number(4096)], 3),
+    ];
+    follow(&rt, STEPS)
 }
+
+/// An entry of each of six windows.
+const SIX: &[Sample] = &[
+    Number(7),
+    Number(4103),
+    Number(8199),
+    Number(12295),
+    Number(16391),
+    Number(20487),
+];
 
 /// The tables of more windows than are kept in memory.
 #[test]
 fn six_windows_are_looked_into(rt: HostRuntime) -> Result<(), Fail> {
-    let alloc = rt.alloc();
-    let mut ledger = opened(alloc, MemoryFolder::unclaimed(alloc, NEVER));
-    for window in 0..6u64 {
-        let text = numbered_entry(alloc, window.saturating_mul(4096).saturating_add(7))?;
-        assert!(rt; note(alloc, &mut ledger, &[text.as_bytes()])?.is_ok());
-    }
-    for window in 0..12u64 {
-        let number = (window % 6).saturating_mul(4096).saturating_add(7);
-        let text = numbered_entry(alloc, number)?;
-        same_number(&rt, noted(alloc, &mut ledger, &[text.as_bytes()])?, 1);
-    }
-    assert!(rt; ledger.loaded.len() <= 4);
-    Ok(())
-}
-
-/// A ledger whose windows are shut begins nothing any more.
-fn fails_once_shut<W: Windows, T: Witness>(rt: &impl Abort, ledger: &mut FileLedger<W, T>) {
-    assert!(rt; ledger.begin().is_ok());
-    ledger.windows.shut();
-    assert!(rt; matches!(ledger.begin(), Err(KeepStop::StoreFailed)));
-}
-
-/// A ledger that keeps entries for proofs alone, over a new folder. Once it is shut it fails, and counts that.
-#[test]
-fn a_shut_ledger_fails(rt: HostRuntime) -> Result<(), Fail> {
-    let alloc = rt.alloc();
-    let entries = RecordedEntries::<NoneBefore>::new();
-    let mut ledger = FileLedger::new(alloc, new_windows(alloc), new_windows(alloc), entries);
-    fails_once_shut(&rt, &mut ledger);
-    assert!(rt; ledger.windows.failures == 1);
-    Ok(())
+    const STEPS: &[Step] = &[
+        Note(&[Number(7)]),
+        Note(&[Number(4103)]),
+        Note(&[Number(8199)]),
+        Note(&[Number(12295)]),
+        Note(&[Number(16391)]),
+        Note(&[Number(20487)]),
+        Noted(SIX, 6),
+        Noted(SIX, 6),
+        TablesAtMost(4),
+    ];
+    follow(&rt, STEPS)
 }

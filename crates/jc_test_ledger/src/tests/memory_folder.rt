@@ -1,6 +1,6 @@
-//! A folder whose files are in memory.
+//! Folders whose files are in memory.
 
-ghost use Rattle.std.specs.Prelude.{◌≡◌, false, true, List, [], ℕ, IsTrue};
+ghost use Rattle.std.specs.Prelude.{◌≡◌, false, List, [], ℕ, IsTrue};
 ghost use Rattle.jc_ledger_files.specs.declared.window_name.WindowName.{WindowName};
 ghost use Rattle.jc_ledger_files.specs.Files.{IsAsFound, files_leave, files_seen};
 
@@ -11,7 +11,7 @@ use std::alloc::Global;
 
 /// Files in memory, each of which fails from a call on.
 #[derive(Drop)]
-pub struct MemoryFolder {
+pub(super) struct MemoryFolder {
     pub kept: KeptFiles<Fuse<Memory>, NewFiles>,
     /// How many calls a new file passes on.
     pub calls: u64,
@@ -23,7 +23,7 @@ pub struct MemoryFolder {
 
 impl MemoryFolder {
     /// A folder without files. Takes no memory.
-    pub fn new(alloc: Global, calls: u64) -> MemoryFolder
+    pub(super) fn new(alloc: Global, calls: u64) -> MemoryFolder
         ensures files { (w : WindowName) → IsAsFound [] (files_seen ⟦<NewFiles as Found>⟧.found ⟦<Fuse<Memory> as Disk>⟧.seen result.kept.files w)
             (files_leave ⟦<NewFiles as Found>⟧.found ⟦<Fuse<Memory> as Disk>⟧.may_leave result.kept.files w) }
         ensures whole { result.is_worn ≡ false }
@@ -34,16 +34,6 @@ impl MemoryFolder {
             alloc,
             is_worn: false,
             failures: 0,
-        }
-    }
-
-    /// A folder of which nothing is claimed.
-    pub fn unclaimed(alloc: Global, calls: u64) -> MemoryFolder
-        ensures { result.is_worn ≡ true }
-    {
-        MemoryFolder {
-            is_worn: true,
-            ..MemoryFolder::new(alloc, calls)
         }
     }
 }
@@ -93,5 +83,31 @@ impl Folder<Fuse<Memory>> for MemoryFolder {
         if self.kept.put(name, file).is_err() {
             self.is_worn = true;
         }
+    }
+}
+
+/// A folder of whose files nothing is claimed.
+#[derive(Drop)]
+pub(super) struct Unclaimed(pub MemoryFolder);
+
+impl Folder<Fuse<Memory>> for Unclaimed {
+    ghost use Rattle.std.specs.Prelude.{[], ⊤};
+
+    ghost seen = { λ _ _. [] };
+
+    ghost may_leave = { λ _ _ _. ⊤ };
+
+    ghost clean = { λ _. ⊥ };
+
+    ghost failures = { λ f. f.0.failures };
+
+    ghost seen_may_stay = { λ _ _. tt };
+
+    fn lend(&mut self, name: WindowName) -> Result<Fuse<Memory>, KeepStop> {
+        self.0.lend(name)
+    }
+
+    fn give_back(&mut self, name: WindowName, file: Fuse<Memory>) {
+        self.0.give_back(name, file);
     }
 }
