@@ -1,4 +1,4 @@
-//! Runs of every command, as scripts.
+//! Commands over devices that fail, and runs that are stopped.
 #![tactic(auto)]
 
 #[cfg(test)]

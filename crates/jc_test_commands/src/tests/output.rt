@@ -1,0 +1,37 @@
+//! A standard output that fails when it is flushed.
+
+use std::alloc::Global;
+use std::io;
+use std::io::Write;
+
+/// Keeps all that is written, and is flushed only so often: a disk that fails.
+#[derive(Drop)]
+pub(super) struct Output {
+    pub kept: Vec<u8>,
+    flushes: u64,
+}
+
+impl Output {
+    /// A writer that can be flushed so often.
+    pub(super) fn new(alloc: Global, flushes: u64) -> Output {
+        Output {
+            kept: Vec::new(alloc),
+            flushes,
+        }
+    }
+}
+
+impl Write for Output {
+    fn write(&mut self, buf: &[u8]) -> io::Result<usize> {
+        self.kept.extend_from_slice(buf)?;
+        Ok(buf.len())
+    }
+
+    fn flush(&mut self) -> io::Result<()> {
+        if self.flushes < 1 {
+            return Err(io::Error::from(io::ErrorKind::Other));
+        }
+        self.flushes -= 1;
+        Ok(())
+    }
+}
