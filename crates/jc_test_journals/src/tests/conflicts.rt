@@ -1,15 +1,23 @@
 //! Readings that conflict: a keeper takes nothing of them up, and asks for no entry behind the conflict.
 
-use super::journals::{Journals, Maps, NumberTables, Tables, Unions, keeps};
-use super::readings::source;
-use super::same::{same_absorbed, same_bytes};
-use jc_base::{EntrySource, ListSource, OutOfMemory, Step};
+use super::journals::{Journals, Maps, NumberTables, Tables, Unions, absorb, begun, check_stored};
+use super::readings::{bytes_of, source};
+use super::same::{same_at, same_numbers};
+use jc_base::{EntrySource, OutOfMemory, Step};
 use jc_export::canonical;
-use jc_keeper::{Absorbed, KeepStop, Keeper};
-use jc_test_samples::{CHANGED_ENTRY, ENTRY, ENTRY_2, ENTRY_3};
+use jc_keeper::{Absorbed, Keeper};
 use std::alloc::Global;
 use std::process::Abort;
 use std::test::Fail;
+
+/// The entries that are stored, those of a reading whose second one conflicts, and the next one that it gives then, which
+/// is its third.
+const ROWS: [(&str, &str, &str); 2] = [
+    // with the first one of the reading
+    ("", "ENTRY CHANGED_ENTRY ENTRY_2", "ENTRY_2"),
+    // with the one that is stored
+    ("ENTRY", "ENTRY_2 CHANGED_ENTRY ENTRY_3", "ENTRY_3"),
+];
 
 /// The canonical text of the next entry, and no bytes if there is none.
 fn next_text<S: EntrySource>(alloc: Global, source: &mut S) -> Result<Vec<u8>, OutOfMemory> {
@@ -19,31 +27,31 @@ fn next_text<S: EntrySource>(alloc: Global, source: &mut S) -> Result<Vec<u8>, O
     }
 }
 
-fn absorb<K: Keeper>(keeper: &mut K, reading: &mut ListSource) -> Result<Absorbed, KeepStop> {
-    keeper.absorb(reading)
-}
-
 /// A reading whose second entry conflicts, with itself or with what is stored: its third is the next that it gives.
-fn stops_at_a_conflict<J: Journals>(
+fn stops_at_a_conflict<K: Keeper>(
     rt: &(impl Abort + AllocGlobal),
-    journals: &mut J,
-    stored: &[&[u8]],
-    texts: [&[u8]; 3],
+    keeper: &mut K,
+    row: u64,
+    texts: &str,
+    next: &str,
 ) -> Result<(), Fail> {
-    let alloc = rt.alloc();
-    let mut keeper = journals.empty()?;
-    absorb(&mut keeper, &mut source(alloc, stored)?)?;
-    let mut reading = source(alloc, &texts)?;
-    let absorbed = absorb(&mut keeper, &mut reading);
-    same_absorbed(rt, absorbed, Absorbed::Conflict { index: 1 });
-    same_bytes(rt, &next_text(alloc, &mut reading)?, texts[2]);
-    assert!(rt; keeps(alloc, &mut keeper, stored)?);
+    let mut reading = source(rt.alloc(), texts)?;
+    match absorb(keeper, &mut reading) {
+        Ok(Absorbed::Conflict { index }) => same_numbers(rt, row, &[index], &[1])?,
+        _ => return Err(Fail::new("no conflict")),
+    }
+    let found = next_text(rt.alloc(), &mut reading)?;
+    same_at(rt, row, &found, &bytes_of(rt.alloc(), next)?);
     Ok(())
 }
 
 fn conflicts<J: Journals>(rt: &(impl Abort + AllocGlobal), journals: &mut J) -> Result<(), Fail> {
-    stops_at_a_conflict(rt, journals, &[], [ENTRY, CHANGED_ENTRY, ENTRY_2])?;
-    stops_at_a_conflict(rt, journals, &[ENTRY], [ENTRY_2, CHANGED_ENTRY, ENTRY_3])
+    for (row, (stored, texts, next)) in ROWS.iter().enumerate() {
+        let mut keeper = begun(rt.alloc(), journals, stored)?;
+        stops_at_a_conflict(rt, &mut keeper, row as u64, texts, next)?;
+        check_stored(rt, &mut keeper, stored)?;
+    }
+    Ok(())
 }
 
 #[test]

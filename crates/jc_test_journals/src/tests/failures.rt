@@ -1,87 +1,160 @@
 //! Devices that fail at every place: what is answered and stored then, and that the same delivery made anew is taken up.
 
-use super::answers::{NEVER, ack, collect, collect_all, no, space, stream, unread};
-use super::journals::{Journals, Maps, NumberTables, Tables, Unions, keeps};
-use super::same::{same_answer, same_bytes, same_end, same_number};
+use super::answers::{
+    NEVER, WHOLE, Way, check_answers, collect, collect_all, collect_delivery, delivered,
+};
+use super::journals::{Journals, Maps, NumberTables, Tables, Unions, check_stored};
+use super::readings::bytes_of;
+use super::same::{same_answer, same_at, same_numbers};
+use jc_base::Limits;
 use jc_collect::{Delivery, RunEnd};
+use jc_file::faulty::FailSpace;
 use jc_keeper::Keeper;
-use jc_test_samples::{CHANGED_ENTRY, ENTRY, ENTRY_2, EXPORT, FILE, JOURNAL_FILE, answer_lines};
-use jc_upload::Answer;
+use jc_test_samples::answer_lines;
+use std::alloc::Global;
 use std::process::Abort;
 use std::test::Fail;
 
-/// As many bytes as a read asks for.
-const WHOLE: usize = usize::MAX;
+/// An upload from a device that fails once: behind each number of reads from `first` to before `end` in turn.
+#[derive(Drop)]
+struct Failing {
+    upload: &'static str,
+    /// How many bytes it has.
+    length: u64,
+    way: Way,
+    /// How many reads it takes until the header is read.
+    head_reads: u64,
+    first: u64,
+    end: u64,
+    /// How many reads it takes in all.
+    reads: u64,
+    /// The line of the answer if none fails.
+    answer: &'static str,
+}
 
-/// Whether nothing is stored, and the upload is then taken up with its entries.
-fn goes_on<K: Keeper>(
+const FAILING: [Failing; 5] = [
+    // two entries, one byte at each read: each read fails in turn, also the one that shows the end
+    Failing {
+        upload: "head:1:0 ENTRY ENTRY_2",
+        length: 290,
+        way: Way::Pieces(1),
+        head_reads: 48,
+        first: 0,
+        end: 291,
+        reads: 291,
+        answer: "ack S 0 2 2 0",
+    },
+    // a journal file that comes as a stream: its first read, those about the end of the header, and the last two
+    Failing {
+        upload: "head:2:0 JOURNAL_FILE",
+        length: 448,
+        way: Way::Pieces(1),
+        head_reads: 48,
+        first: 0,
+        end: 1,
+        reads: 449,
+        answer: "ack S 0 1 1 0",
+    },
+    Failing {
+        upload: "head:2:0 JOURNAL_FILE",
+        length: 448,
+        way: Way::Pieces(1),
+        head_reads: 48,
+        first: 47,
+        end: 50,
+        reads: 449,
+        answer: "ack S 0 1 1 0",
+    },
+    Failing {
+        upload: "head:2:0 JOURNAL_FILE",
+        length: 448,
+        way: Way::Pieces(1),
+        head_reads: 48,
+        first: 447,
+        end: 449,
+        reads: 449,
+        answer: "ack S 0 1 1 0",
+    },
+    // an export stream in a space
+    Failing {
+        upload: "head:1:0 ENTRY",
+        length: 169,
+        way: Way::Spaces,
+        head_reads: 1,
+        first: 0,
+        end: 2,
+        reads: 2,
+        answer: "ack S 0 1 1 0",
+    },
+];
+
+/// An upload whose device fails behind so many reads: nothing is stored, and the upload is then taken up.
+fn a_read_fails<K: Keeper>(
     rt: &(impl Abort + AllocGlobal),
     keeper: &mut K,
     upload: &[u8],
-    entries: u64,
-) -> Result<(), Fail> {
-    assert!(rt; keeps(rt.alloc(), keeper, &[])?);
-    let again = collect(rt.alloc(), keeper, &mut stream(upload, WHOLE, NEVER));
-    same_answer(rt, 0, again, ack(entries, entries, 0));
-    Ok(())
-}
-
-/// The answer if this many reads pass and the next one fails, one byte being read at a time.
-fn answer_after(passes: u64) -> Answer {
-    if passes < 48 {
-        unread(61, 0)
-    } else {
-        no(61, 0)
-    }
-}
-
-/// An upload of so many entries from a stream that gives one byte at each read, whose reads fail after so many.
-fn a_read_fails<J: Journals>(
-    rt: &(impl Abort + AllocGlobal),
-    journals: &mut J,
-    upload: &[u8],
-    passes: u64,
-    entries: u64,
-) -> Result<(), Fail> {
-    let mut keeper = journals.empty()?;
-    let answer = collect(rt.alloc(), &mut keeper, &mut stream(upload, 1, passes));
-    same_answer(rt, passes, answer, answer_after(passes));
-    goes_on(rt, &mut keeper, upload, entries)
-}
-
-/// An upload of one entry from a space whose reads fail after so many; the first one reads the header.
-fn a_range_fails<J: Journals>(
-    rt: &(impl Abort + AllocGlobal),
-    journals: &mut J,
-    upload: &[u8],
+    failing: &Failing,
     passes: u64,
 ) -> Result<(), Fail> {
-    let mut keeper = journals.empty()?;
-    let answer = collect(rt.alloc(), &mut keeper, &mut space(upload, passes));
-    let wanted = if passes == 0 {
-        unread(61, 0)
+    let wanted = if passes < failing.head_reads {
+        "no - - 61 0"
     } else {
-        no(61, 0)
+        "no S 0 61 0"
     };
-    same_answer(rt, passes, answer, wanted);
-    goes_on(rt, &mut keeper, upload, 1)
+    let answer = collect(rt.alloc(), keeper, upload, failing.way, passes);
+    same_answer(rt, passes, answer, wanted)?;
+    check_stored(rt, keeper, "")?;
+    let again = collect(rt.alloc(), keeper, upload, WHOLE, NEVER);
+    same_answer(rt, passes, again, failing.answer)
 }
 
-/// Two entries, one byte at each read: each read fails in turn, also the one that shows the end.
-fn a_stream_fails<J: Journals>(
+fn reads_fail<J: Journals>(
+    rt: &(impl Abort + AllocGlobal),
+    journals: &mut J,
+    failing: &Failing,
+) -> Result<(), Fail> {
+    let upload = bytes_of(rt.alloc(), failing.upload)?;
+    same_numbers(rt, 0, &[upload.len() as u64], &[failing.length])?;
+    for passes in failing.first..failing.end {
+        a_read_fails(rt, &mut journals.empty()?, &upload, failing, passes)?;
+    }
+    let (way, reads) = (failing.way, failing.reads);
+    let answer = collect(rt.alloc(), &mut journals.empty()?, &upload, way, reads);
+    same_answer(rt, reads, answer, failing.answer)
+}
+
+/// How many reads of a space it takes to collect from it without a failure.
+fn reads_of<K: Keeper>(alloc: Global, keeper: &mut K, upload: &[u8]) -> Option<u64> {
+    let most: u64 = 1000;
+    let mut delivery = delivered(upload, Way::Spaces, most);
+    collect_delivery(alloc, keeper, &mut delivery, &Limits::default());
+    match delivery {
+        Delivery::Space(FailSpace { passes, .. }) => most.checked_sub(passes?),
+        Delivery::Stream(_) => None,
+    }
+}
+
+/// A journal file in a space.
+fn a_space_fails<J: Journals>(
     rt: &(impl Abort + AllocGlobal),
     journals: &mut J,
 ) -> Result<(), Fail> {
-    let alloc = rt.alloc();
-    let upload = [EXPORT.as_slice(), ENTRY, ENTRY_2].concat(alloc)?;
-    same_number(rt, upload.len() as u64, 290);
-    for passes in 0..291 {
-        a_read_fails(rt, journals, &upload, passes, 2)?;
-    }
-    let mut last = stream(&upload, 1, 291);
-    let answer = collect(alloc, &mut journals.empty()?, &mut last);
-    same_answer(rt, 291, answer, ack(2, 2, 0));
-    Ok(())
+    let upload = bytes_of(rt.alloc(), "head:2:0 JOURNAL_FILE")?;
+    let Some(reads) = reads_of(rt.alloc(), &mut journals.empty()?, &upload) else {
+        return Err(Fail::new("it failed"));
+    };
+    assert!(rt; 1 < reads && reads < 1000);
+    let failing = Failing {
+        upload: "head:2:0 JOURNAL_FILE",
+        length: 448,
+        way: Way::Spaces,
+        head_reads: 1,
+        first: 0,
+        end: reads,
+        reads,
+        answer: "ack S 0 1 1 0",
+    };
+    reads_fail(rt, journals, &failing)
 }
 
 /// A conflict in the first 65,536 bytes after the header is answered, though the stream fails behind them.
@@ -89,132 +162,118 @@ fn a_conflict_comes_before_the_next_read<J: Journals>(
     rt: &(impl Abort + AllocGlobal),
     journals: &mut J,
 ) -> Result<(), Fail> {
-    let alloc = rt.alloc();
-    let first = [EXPORT.as_slice(), ENTRY].concat(alloc)?;
     let mut keeper = journals.empty()?;
-    let new = collect(alloc, &mut keeper, &mut stream(&first, WHOLE, NEVER));
-    same_answer(rt, 0, new, ack(1, 1, 0));
-    let mut other = [EXPORT.as_slice(), CHANGED_ENTRY].concat(alloc)?;
-    other.extend_from_slice(&ENTRY.repeat(alloc, 1_000)?)?;
-    let conflict = collect(alloc, &mut keeper, &mut stream(&other, WHOLE, 2));
-    same_answer(rt, 2, conflict, no(60, 0));
-    Ok(())
+    check_answers(rt, &mut keeper, &[("head:1:0 ENTRY", "ack S 0 1 1 0")])?;
+    let upload = bytes_of(rt.alloc(), "head:1:0 CHANGED_ENTRY ENTRY again:121:999")?;
+    let conflict = collect(rt.alloc(), &mut keeper, &upload, WHOLE, 2);
+    same_answer(rt, 2, conflict, "no S 0 60 0")
 }
 
-/// How many reads of a space it takes to collect from it without a failure.
-fn reads_of<J: Journals>(
-    rt: &(impl Abort + AllocGlobal),
-    journals: &mut J,
-    upload: &[u8],
-) -> Result<u64, Fail> {
-    let most = 1000;
-    let mut delivery = space(upload, most);
-    let answer = collect(rt.alloc(), &mut journals.empty()?, &mut delivery);
-    same_answer(rt, most, answer, ack(1, 1, 0));
-    let left = match delivery {
-        Delivery::Space(space) => space.passes,
-        Delivery::Stream(_) => None,
-    };
-    match left {
-        Some(left) => Ok(most.saturating_sub(left)),
-        None => Err(Fail::new("it failed")),
-    }
-}
-
-/// A journal file, as a space whose reads fail in turn.
-fn a_space_fails<J: Journals>(
-    rt: &(impl Abort + AllocGlobal),
-    journals: &mut J,
-) -> Result<(), Fail> {
-    let upload = [FILE.as_slice(), &JOURNAL_FILE].concat(rt.alloc())?;
-    let reads = reads_of(rt, journals, &upload)?;
-    assert!(rt; 1 < reads && reads < 1000);
-    for passes in 0..reads {
-        a_range_fails(rt, journals, &upload, passes)?;
-    }
-    Ok(())
-}
-
-/// A journal file that comes as a stream.
-fn a_file_in_a_stream_fails<J: Journals>(
-    rt: &(impl Abort + AllocGlobal),
-    journals: &mut J,
-) -> Result<(), Fail> {
-    let file = [FILE.as_slice(), &JOURNAL_FILE].concat(rt.alloc())?;
-    for passes in [0, 47, 48, 49, 447, 448] {
-        a_read_fails(rt, journals, &file, passes, 1)?;
-    }
-    Ok(())
-}
-
-/// An export stream in a space.
-fn a_stream_in_a_space_fails<J: Journals>(
-    rt: &(impl Abort + AllocGlobal),
-    journals: &mut J,
-) -> Result<(), Fail> {
-    let export = [EXPORT.as_slice(), ENTRY].concat(rt.alloc())?;
-    for passes in [0, 1] {
-        a_range_fails(rt, journals, &export, passes)?;
-    }
-    let mut last = space(&export, 2);
-    let answer = collect(rt.alloc(), &mut journals.empty()?, &mut last);
-    same_answer(rt, 2, answer, ack(1, 1, 0));
-    Ok(())
-}
-
-/// The sink fails after so many calls: so many answers are written whole, and so many bytes of the next one. Behind each
-/// line there is a call that writes nothing.
-fn a_write_fails<J: Journals>(
-    rt: &(impl Abort + AllocGlobal),
-    journals: &mut J,
+/// A sink that takes one byte at each write and fails after so many calls: so many answers are written whole, and so many
+/// bytes of the next one, and these entries are stored.
+struct Stopping {
     passes: u64,
-    (done, bytes): (u64, u64),
-    stored: &[&[u8]],
+    done: u64,
+    written: u64,
+    stored: &'static str,
+}
+
+/// Behind each line, which has 45 bytes, there is a call that writes nothing.
+const STOPPING: [Stopping; 5] = [
+    Stopping {
+        passes: 10,
+        done: 0,
+        written: 10,
+        stored: "ENTRY",
+    },
+    Stopping {
+        passes: 44,
+        done: 0,
+        written: 44,
+        stored: "ENTRY",
+    },
+    Stopping {
+        passes: 45,
+        done: 0,
+        written: 45,
+        stored: "ENTRY",
+    },
+    Stopping {
+        passes: 46,
+        done: 1,
+        written: 0,
+        stored: "ENTRY ENTRY_2",
+    },
+    Stopping {
+        passes: 49,
+        done: 1,
+        written: 3,
+        stored: "ENTRY ENTRY_2",
+    },
+];
+
+/// How a run over two deliveries ends, and what the sink took.
+fn collect_two<K: Keeper>(
+    alloc: Global,
+    keeper: &mut K,
+    passes: u64,
+) -> Result<(RunEnd, Vec<u8>), Fail> {
+    let first = bytes_of(alloc, "head:1:0 ENTRY")?;
+    let second = bytes_of(alloc, "head:1:0 ENTRY_2")?;
+    let mut uploads = [
+        delivered(&first, Way::Spaces, NEVER),
+        delivered(&second, WHOLE, NEVER),
+    ];
+    Ok(collect_all(alloc, keeper, &mut uploads, passes))
+}
+
+/// Two deliveries, to a sink that fails once. The first one made anew isn't new.
+fn a_write_fails<K: Keeper>(
+    rt: &(impl Abort + AllocGlobal),
+    keeper: &mut K,
+    row: &Stopping,
 ) -> Result<(), Fail> {
-    let alloc = rt.alloc();
-    let first = [EXPORT.as_slice(), ENTRY].concat(alloc)?;
-    let second = [EXPORT.as_slice(), ENTRY_2].concat(alloc)?;
-    let mut keeper = journals.empty()?;
-    let mut uploads = [space(&first, NEVER), stream(&second, WHOLE, NEVER)];
-    let (end, out) = collect_all(alloc, &mut keeper, &mut uploads, passes);
-    let stopped = RunEnd::Stopped {
-        done,
-        written: bytes,
-    };
-    same_end(rt, end, stopped);
-    let both = answer_lines(alloc, &["ack S 0 1 1 0", "ack S 0 1 1 0"])?;
-    let front = both
-        .as_bytes()
-        .get(..45u64.saturating_mul(done).saturating_add(bytes) as usize)
-        .unwrap_or(b"");
-    same_bytes(rt, &out, front);
-    assert!(rt; keeps(alloc, &mut keeper, stored)?);
-    let again = collect(alloc, &mut keeper, &mut stream(&first, WHOLE, NEVER));
-    same_answer(rt, passes, again, ack(1, 0, 0));
+    let (end, out) = collect_two(rt.alloc(), keeper, row.passes)?;
+    check_stop(rt, row, end)?;
+    check_front(rt, row, &out)?;
+    check_stored(rt, keeper, row.stored)?;
+    check_answers(rt, keeper, &[("head:1:0 ENTRY", "ack S 0 1 0 0")])
+}
+
+fn check_stop(rt: &(impl Abort + AllocGlobal), row: &Stopping, end: RunEnd) -> Result<(), Fail> {
+    match end {
+        RunEnd::Stopped { done, written } => {
+            same_numbers(rt, row.passes, &[done, written], &[row.done, row.written])
+        }
+        RunEnd::Done => Err(Fail::new("the run didn't stop")),
+    }
+}
+
+/// What the sink took is a front of the two lines.
+fn check_front(rt: &(impl Abort + AllocGlobal), row: &Stopping, out: &[u8]) -> Result<(), Fail> {
+    let both = answer_lines(rt.alloc(), &["ack S 0 1 1 0", "ack S 0 1 1 0"])?;
+    let length = 45u64.saturating_mul(row.done).saturating_add(row.written);
+    let front = both.as_bytes().get(..length as usize).unwrap_or(b"");
+    same_at(rt, row.passes, out, front);
     Ok(())
 }
 
-/// Two deliveries, to a sink that takes one byte at each write and fails once.
-fn the_sink_fails<J: Journals>(
-    rt: &(impl Abort + AllocGlobal),
-    journals: &mut J,
-) -> Result<(), Fail> {
-    a_write_fails(rt, journals, 10, (0, 10), &[ENTRY])?;
-    a_write_fails(rt, journals, 44, (0, 44), &[ENTRY])?;
-    a_write_fails(rt, journals, 45, (0, 45), &[ENTRY])?;
-    a_write_fails(rt, journals, 46, (1, 0), &[ENTRY, ENTRY_2])?;
-    a_write_fails(rt, journals, 49, (1, 3), &[ENTRY, ENTRY_2])
+fn writes_fail<J: Journals>(rt: &(impl Abort + AllocGlobal), journals: &mut J) -> Result<(), Fail> {
+    for row in &STOPPING {
+        a_write_fails(rt, &mut journals.empty()?, row)?;
+    }
+    Ok(())
 }
 
 fn devices_fail<J: Journals>(
     rt: &(impl Abort + AllocGlobal),
     journals: &mut J,
 ) -> Result<(), Fail> {
-    a_stream_fails(rt, journals)?;
+    for failing in &FAILING {
+        reads_fail(rt, journals, failing)?;
+    }
     a_space_fails(rt, journals)?;
-    a_file_in_a_stream_fails(rt, journals)?;
-    a_stream_in_a_space_fails(rt, journals)?;
-    the_sink_fails(rt, journals)
+    writes_fail(rt, journals)
 }
 
 #[test]

@@ -1,8 +1,10 @@
 //! Empty journals, over each kind of keeper, and what is stored in one.
 
-use jc_base::{Id128, Key};
+use super::readings::{bytes_of, source};
+use super::same::same_bytes;
+use jc_base::{Id128, Key, ListSource};
 use jc_export::canonical;
-use jc_keeper::{Keeper, MapKeeper};
+use jc_keeper::{Absorbed, KeepStop, Keeper, MapKeeper};
 use jc_ledger::{EmptyShelf, MapLedger, UnionKeeper};
 use jc_schema_one::SqlKeeper1;
 use jc_schema_three::NumberKeeper;
@@ -11,6 +13,7 @@ use jc_test_samples::SEQNUM_ID;
 use jc_theorem_database::MemoryKeeper;
 use sqlite::{Connection, MemStore};
 use std::alloc::Global;
+use std::process::Abort;
 use std::test::Fail;
 
 /// Makes keepers of empty journals.
@@ -93,23 +96,61 @@ impl Journals for NumberTables {
     }
 }
 
+/// An empty journal that these entries were added to.
+pub(super) fn begun<J: Journals>(
+    alloc: Global,
+    journals: &mut J,
+    texts: &str,
+) -> Result<J::Kept, Fail> {
+    let mut keeper = journals.empty()?;
+    add(alloc, &mut keeper, texts)?;
+    Ok(keeper)
+}
+
+/// Adds entries to a journal.
+pub(super) fn add<K: Keeper>(alloc: Global, keeper: &mut K, texts: &str) -> Result<(), Fail> {
+    absorb(keeper, &mut source(alloc, texts)?)?;
+    Ok(())
+}
+
+/// What becomes of a reading. What calls this has nothing of `absorb`'s contract to prove with.
+pub(super) fn absorb<K: Keeper>(
+    keeper: &mut K,
+    reading: &mut ListSource,
+) -> Result<Absorbed, KeepStop> {
+    keeper.absorb(reading)
+}
+
 /// The canonical texts of the entries that are stored under the numbers 1 to 4, one after the other.
 pub(super) fn stored<K: Keeper>(alloc: Global, keeper: &mut K) -> Result<Vec<u8>, Fail> {
-    let seqnum_id = Id128(SEQNUM_ID);
     let mut text = Vec::new(alloc);
-    for seqnum in 1..=4u64 {
-        if let Some(entry) = keeper.get(&Key { seqnum_id, seqnum })? {
-            text.extend_from_slice(&canonical(alloc, &entry)?)?;
-        }
+    for seqnum in 1..=4 {
+        add_stored(alloc, keeper, seqnum, &mut text)?;
     }
     Ok(text)
 }
 
-/// Whether the entries with these canonical texts are stored under the numbers 1 to 4, and no others.
-pub(super) fn keeps<K: Keeper>(
+/// Adds the text of the entry with this number, if one is stored.
+fn add_stored<K: Keeper>(
     alloc: Global,
     keeper: &mut K,
-    texts: &[&[u8]],
-) -> Result<bool, Fail> {
-    Ok(stored(alloc, keeper)? == texts.concat(alloc)?)
+    seqnum: u64,
+    text: &mut Vec<u8>,
+) -> Result<(), Fail> {
+    let seqnum_id = Id128(SEQNUM_ID);
+    if let Some(entry) = keeper.get(&Key { seqnum_id, seqnum })? {
+        text.extend_from_slice(&canonical(alloc, &entry)?)?;
+    }
+    Ok(())
+}
+
+/// Ends the test unless the entries with these canonical texts are stored under the numbers 1 to 4, and no others.
+pub(super) fn check_stored<K: Keeper>(
+    rt: &(impl Abort + AllocGlobal),
+    keeper: &mut K,
+    texts: &str,
+) -> Result<(), Fail> {
+    let found = stored(rt.alloc(), keeper)?;
+    same_bytes(rt, &found, &bytes_of(rt.alloc(), texts)?);
+    Ok(())
 }

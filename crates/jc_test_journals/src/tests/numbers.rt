@@ -1,12 +1,9 @@
 //! Rows of schema 3 that no keeper makes: what adopting says of them.
 
-use super::journals::{Journals, NumberTables};
-use super::readings::source;
-use super::same::holds_at;
+use super::journals::{NumberTables, begun};
+use super::same::same_numbers;
 use jc_base::Code;
-use jc_keeper::Keeper;
 use jc_schema_three::NumberKeeper;
-use jc_test_samples::{ENTRY, ENTRY_2, LAST_ENTRY};
 use sqlite::{Connection, MemStore};
 use std::alloc::Global;
 use std::process::Abort;
@@ -113,8 +110,7 @@ const ROWS: [(&str, Option<(Code, u64)>); 26] = [
 
 /// The tables of three entries, after so much was done to them.
 fn tables_after(alloc: Global, sql: &str) -> Result<Connection<MemStore>, Fail> {
-    let mut keeper = NumberTables(alloc).empty()?;
-    keeper.absorb(&mut source(alloc, &[ENTRY, ENTRY_2, LAST_ENTRY])?)?;
+    let keeper = begun(alloc, &mut NumberTables(alloc), "ENTRY ENTRY_2 LAST_ENTRY")?;
     let mut conn = keeper.into_connection();
     conn.execute_batch(sql)?;
     Ok(conn)
@@ -128,20 +124,27 @@ fn adopted(alloc: Global, sql: &str) -> Result<(Option<(Code, u64)>, u64), Fail>
     }
 }
 
-fn check_row(rt: &(impl Abort + AllocGlobal), number: u64) -> Result<(), Fail> {
-    let Some((sql, wanted)) = ROWS.get(number as usize) else {
-        return Err(Fail::new("no such row"));
-    };
-    let (found, count) = adopted(rt.alloc(), sql)?;
-    holds_at(rt, number, found == *wanted);
-    holds_at(rt, number, wanted.is_some() || count == 3);
-    Ok(())
+/// Tables are refused by this code and row, or adopted with their three entries.
+fn check_row(
+    rt: &(impl Abort + AllocGlobal),
+    number: u64,
+    (sql, wanted): (&str, Option<(Code, u64)>),
+) -> Result<(), Fail> {
+    match (adopted(rt.alloc(), sql)?, wanted) {
+        ((None, count), None) => same_numbers(rt, number, &[count], &[3]),
+        ((Some((code, row)), _), Some((wanted, place))) => {
+            let got = [code.number() as u64, row];
+            same_numbers(rt, number, &got, &[wanted.number() as u64, place])
+        }
+        ((None, _), Some(_)) => Err(Fail::new("bad tables are adopted")),
+        ((Some(_), _), None) => Err(Fail::new("good tables are refused")),
+    }
 }
 
 #[test]
 fn adopting_says_which_rows_are_bad(rt: HostRuntime) -> Result<(), Fail> {
-    for number in 0..26 {
-        check_row(&rt, number)?;
+    for (number, row) in ROWS.iter().enumerate() {
+        check_row(&rt, number as u64, *row)?;
     }
     Ok(())
 }

@@ -9,7 +9,7 @@
 //!
 //! `add_pieces` has the form of `PIECES`.
 
-use super::answers::{NEVER, Upload, collect, collect_all, space, stream};
+use super::answers::{NEVER, Way, collect, collect_all, delivered};
 use super::journals::{Journals, Maps, NumberTables, OldTables, Tables, Unions, stored};
 use super::same::same_bytes;
 use jc_collect::RunEnd;
@@ -18,13 +18,6 @@ use jc_test_samples::{add_pieces, answer_lines, line};
 use std::alloc::Global;
 use std::process::Abort;
 use std::test::Fail;
-
-/// How uploads are delivered: as streams that give at most this many bytes at each read, or as spaces.
-#[derive(Clone, Copy)]
-enum Way {
-    Pieces(usize),
-    Spaces,
-}
 
 /// What a run leaves behind: the lines that it wrote, and the texts of the entries that are stored.
 #[derive(Drop)]
@@ -47,13 +40,6 @@ struct Rows {
     report: Vec<u8>,
 }
 
-fn delivered(upload: &[u8], way: Way) -> Upload<'_> {
-    match way {
-        Way::Pieces(most) => stream(upload, most, NEVER),
-        Way::Spaces => space(upload, NEVER),
-    }
-}
-
 /// Collects, and answers what was written.
 fn written<K: Keeper>(
     alloc: Global,
@@ -63,7 +49,7 @@ fn written<K: Keeper>(
 ) -> Result<Vec<u8>, Fail> {
     let mut deliveries = Vec::new(alloc);
     for upload in uploads {
-        deliveries.push(delivered(upload, way))?;
+        deliveries.push(delivered(upload, way, NEVER))?;
     }
     match collect_all(alloc, keeper, &mut deliveries, NEVER) {
         (RunEnd::Done, lines) => Ok(lines),
@@ -82,7 +68,7 @@ fn left_by<J: Journals>(
 ) -> Result<Left, Fail> {
     let mut keeper = journals.empty()?;
     if !first.is_empty() {
-        collect(alloc, &mut keeper, &mut space(first, NEVER));
+        collect(alloc, &mut keeper, first, Way::Spaces, NEVER);
     }
     let lines = written(alloc, &mut keeper, uploads, way)?;
     let texts = stored(alloc, &mut keeper)?;

@@ -1,49 +1,61 @@
 //! Comparisons that end a test and say what differs. A test that calls one is proved in much less time than one that
-//! compares by itself.
+//! compares by itself: what they say is put together in one place.
 
-use jc_collect::RunEnd;
-use jc_keeper::{Absorbed, KeepStop};
+use jc_test_samples::{answer_lines, line};
 use jc_upload::Answer;
-use std::fmt::Debug;
 use std::process::Abort;
+use std::test::Fail;
 
-/// Proved once for every type.
-fn same<T: Debug + PartialEq>(rt: &impl Abort, got: &T, wanted: &T) {
-    assert_eq!(rt; *got, *wanted);
-}
-
-pub(super) fn same_number(rt: &impl Abort, got: u64, wanted: u64) {
-    same(rt, &got, &wanted);
-}
-
-pub(super) fn same_bytes(rt: &impl Abort, got: &[u8], wanted: &[u8]) {
+/// Ends the test unless a row of a table got the bytes that are wanted. Rows have numbers, from 0.
+pub(super) fn same_at(rt: &impl Abort, row: u64, got: &[u8], wanted: &[u8]) {
     assert!(rt;
         got == wanted,
-        "got {}\nwanted {}",
+        "row {row}: got {}\nwanted {}",
         got.escape_ascii(),
         wanted.escape_ascii()
     );
 }
 
-/// The answer after so many reads or writes.
-pub(super) fn same_answer(rt: &impl Abort, after: u64, got: Answer, wanted: Answer) {
-    same(rt, &(after, got), &(after, wanted));
+/// Ends the test unless it got the bytes that are wanted.
+pub(super) fn same_bytes(rt: &impl Abort, got: &[u8], wanted: &[u8]) {
+    same_at(rt, 0, got, wanted);
 }
 
-pub(super) fn same_answers(rt: &impl Abort, got: &[Answer], wanted: &[Answer]) {
-    same(rt, &got, &wanted);
+/// Ends the test unless a row got the numbers that are wanted.
+pub(super) fn same_numbers(
+    rt: &(impl Abort + AllocGlobal),
+    row: u64,
+    got: &[u64],
+    wanted: &[u64],
+) -> Result<(), Fail> {
+    let wanted = line(rt.alloc(), "", wanted)?;
+    same_at(rt, row, &line(rt.alloc(), "", got)?, &wanted);
+    Ok(())
 }
 
-/// What became of a reading.
-pub(super) fn same_absorbed(rt: &impl Abort, got: Result<Absorbed, KeepStop>, wanted: Absorbed) {
-    same(rt, &got, &Ok(wanted));
+/// Ends the test unless a row got the answer whose line is wanted. That is given without its newline and with `S` for the
+/// id of the source.
+pub(super) fn same_answer(
+    rt: &(impl Abort + AllocGlobal),
+    row: u64,
+    got: Answer,
+    wanted: &str,
+) -> Result<(), Fail> {
+    let wanted = answer_lines(rt.alloc(), &[wanted])?;
+    same_at(rt, row, got.line().bytes(), wanted.as_bytes());
+    Ok(())
 }
 
-pub(super) fn same_end(rt: &impl Abort, got: RunEnd, wanted: RunEnd) {
-    same(rt, &got, &wanted);
-}
-
-/// Ends the test unless the row of this number holds, from 0.
-pub(super) fn holds_at(rt: &impl Abort, number: u64, holds: bool) {
-    assert!(rt; holds, "row {number}");
+/// Ends the test unless it got the answers whose lines are wanted.
+pub(super) fn same_answers(
+    rt: &(impl Abort + AllocGlobal),
+    got: &[Answer],
+    wanted: &[&str],
+) -> Result<(), Fail> {
+    let mut lines = Vec::new(rt.alloc());
+    for answer in got {
+        lines.extend_from_slice(answer.line().bytes())?;
+    }
+    same_bytes(rt, &lines, answer_lines(rt.alloc(), wanted)?.as_bytes());
+    Ok(())
 }

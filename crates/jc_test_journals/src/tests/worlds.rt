@@ -1,14 +1,11 @@
 //! Worked steps of two machines and their collector, over each keeper.
 
-use super::journals::{Journals, Maps, Tables, Unions, keeps};
-use super::readings::{entries, source};
-use super::same::{holds_at, same_answers, same_number};
+use super::journals::{Journals, Maps, Tables, Unions, begun, check_stored};
+use super::readings::{bytes_of, entries};
+use super::same::{same_answers, same_numbers};
 use jc_base::{Id128, Limits, OutOfMemory};
 use jc_keeper::Keeper;
-use jc_test_samples::{
-    BOOT_FIELD, CHANGED_ENTRY, ENTRY, ENTRY_2, ENTRY_3, HI, JOURNAL_FILE, METADATA, SOURCE_ID,
-};
-use jc_upload::Answer;
+use jc_test_samples::SOURCE_ID;
 use jc_world::{Event, World};
 use std::alloc::Global;
 use std::process::Abort;
@@ -17,33 +14,183 @@ use std::test::Fail;
 /// The source of the second machine.
 const OTHER_ID: [u8; 16] = *b"\xb0\xb1\xb2\xb3\xb4\xb5\xb6\xb7\xb8\xb9\xba\xbb\xbc\xbd\xbe\xbf";
 
-pub(super) const fn ack(start: u64, count: u64, new: u64, left: u64) -> Answer {
-    Answer::Ack {
-        source: Id128(SOURCE_ID),
-        start,
-        count,
-        new,
-        left,
-    }
+/// What happens in a world. Machines, uploads, answers and saved resume points have numbers, from 0.
+#[derive(Clone, Copy)]
+enum Step {
+    /// This machine has one more entry, whose text has these pieces.
+    Append(usize, &'static str),
+    /// This machine makes an upload of at most so many entries.
+    Make(usize, u64),
+    /// It makes one with a header of the second version, and whether that is to be whole.
+    Make2(usize, u64, bool),
+    /// It makes one of the journal file.
+    MakeFile(usize),
+    /// The first bytes of this upload, so many, reach the collector.
+    Deliver(usize, usize),
+    /// All bytes of this upload reach it, as if no machine had made them.
+    Alien(usize),
+    /// This answer reaches the machine that it names.
+    Hand(usize),
+    /// This machine goes back to one of its saved resume points.
+    Restart(usize, usize),
+    /// The collector turns to an empty journal.
+    Turn,
 }
 
-pub(super) const fn no(of: Option<(Id128, u64)>, code: u16, place: u64) -> Answer {
-    Answer::No { of, code, place }
+/// A step, whether it may happen, and afterwards the first machine's resume point and how many it saved.
+type Row = (Step, bool, u64, u64);
+
+/// What happens in a world, and what it is in the end.
+struct Script {
+    /// The entries that the journal has when the world begins.
+    begins: &'static str,
+    rows: &'static [Row],
+    /// How long each upload is.
+    lengths: &'static [u64],
+    /// The lines of the answers, in order, with `S` for the id of the first machine's source.
+    answers: &'static [&'static str],
+    /// The entries of the journal that the collector turned from, if it did.
+    past: Option<&'static str>,
+    /// Those of its present one.
+    present: &'static str,
 }
 
-/// The answers of the worked steps, in order.
-fn worked_answers() -> [Answer; 8] {
-    [
-        ack(0, 1, 1, 31),
-        ack(0, 3, 2, 0),
-        ack(1, 2, 0, 0),
-        ack(0, 2, 0, 0),
-        no(None, 1, 47),
-        no(Some((Id128(SOURCE_ID), 3)), 60, 0),
-        no(Some((Id128(OTHER_ID), 0)), 38, 96),
-        no(Some((Id128(OTHER_ID), 0)), 60, 0),
-    ]
-}
+const WORKED: Script = Script {
+    begins: "",
+    rows: &[
+        (Step::Append(0, "ENTRY"), true, 0, 1),
+        (Step::Append(0, "ENTRY_2"), true, 0, 1),
+        (Step::Append(0, "ENTRY_3"), true, 0, 1),
+        (Step::Make(0, 2), true, 0, 1),
+        (Step::Deliver(0, 200), true, 0, 1),
+        (Step::Make(0, 3), true, 0, 1),
+        (Step::Deliver(1, 411), true, 0, 1),
+        (Step::Hand(1), true, 3, 2),
+        (Step::Hand(0), true, 3, 2),
+        (Step::Restart(0, 0), true, 0, 2),
+        (Step::Hand(0), true, 1, 3),
+        (Step::Make(0, 9), true, 1, 3),
+        (Step::Deliver(2, 290), true, 1, 3),
+        (Step::Deliver(0, 290), true, 1, 3),
+        (Step::Hand(3), true, 2, 4),
+        (Step::Hand(2), true, 3, 5),
+        (Step::Restart(0, 9), false, 3, 5),
+        (Step::Deliver(2, 291), false, 3, 5),
+        (Step::Deliver(1, 47), true, 3, 5),
+        (Step::Hand(4), false, 3, 5),
+        // events that break their condition: an upload of a machine isn't alien, a machine sends no file whose entries
+        // it hasn't, and there is no third machine
+        (Step::Alien(0), false, 3, 5),
+        (Step::MakeFile(1), false, 3, 5),
+        (Step::Make(2, 1), false, 3, 5),
+        // an entry that differs from a stored one
+        (Step::Append(0, "CHANGED_ENTRY"), true, 3, 5),
+        (Step::Make(0, 1), true, 3, 5),
+        (Step::Deliver(3, 169), true, 3, 5),
+        (Step::Hand(5), true, 3, 5),
+        // the second machine sends a file of its entry, which differs, too
+        (
+            Step::Append(1, r#"METADATA BOOT_FIELD "MESSAGE=hi\n\n""#),
+            true,
+            3,
+            5,
+        ),
+        (Step::MakeFile(1), true, 3, 5),
+        (Step::Deliver(4, 447), true, 3, 5),
+        (Step::Deliver(4, 448), true, 3, 5),
+    ],
+    lengths: &[290, 411, 290, 169, 448],
+    answers: &[
+        "ack S 0 1 1 31",
+        "ack S 0 3 2 0",
+        "ack S 1 2 0 0",
+        "ack S 0 2 0 0",
+        "no - - 1 47",
+        "no S 3 60 0",
+        "no b0b1b2b3b4b5b6b7b8b9babbbcbdbebf 0 38 96",
+        "no b0b1b2b3b4b5b6b7b8b9babbbcbdbebf 0 60 0",
+    ],
+    past: None,
+    present: "ENTRY ENTRY_2 ENTRY_3",
+};
+
+/// An upload that is to be whole, delivered in part and whole, between others that needn't be.
+const WHOLE: Script = Script {
+    begins: "",
+    rows: &[
+        (Step::Append(0, "ENTRY"), true, 0, 1),
+        (Step::Append(0, "ENTRY_2"), true, 0, 1),
+        (Step::Append(0, "ENTRY_3"), true, 0, 1),
+        (Step::Make2(0, 2, true), true, 0, 1),
+        (Step::Deliver(0, 289), true, 0, 1),
+        (Step::Hand(0), true, 0, 1),
+        (Step::Make2(0, 2, false), true, 0, 1),
+        (Step::Deliver(1, 289), true, 0, 1),
+        (Step::Hand(1), true, 1, 2),
+        (Step::Deliver(0, 290), true, 1, 2),
+        (Step::Hand(2), true, 2, 3),
+        (Step::Make(0, 9), true, 2, 3),
+        (Step::Deliver(2, 169), true, 2, 3),
+        (Step::Hand(3), true, 3, 4),
+        (Step::Make2(2, 1, true), false, 3, 4),
+    ],
+    lengths: &[290, 290, 169],
+    answers: &[
+        "no S 0 5 1",
+        "ack S 0 1 1 120",
+        "ack S 0 2 1 0",
+        "ack S 2 1 1 0",
+    ],
+    past: None,
+    present: "ENTRY ENTRY_2 ENTRY_3",
+};
+
+/// A journal that has entries when the world begins: one that a machine has too isn't new, and one that differs is
+/// refused.
+const BEGUN: Script = Script {
+    begins: "ENTRY ENTRY_2",
+    rows: &[
+        (Step::Append(0, "ENTRY_2"), true, 0, 1),
+        (Step::Append(0, "ENTRY_3"), true, 0, 1),
+        (Step::Append(1, "CHANGED_ENTRY"), true, 0, 1),
+        (Step::Append(1, "ENTRY_3"), true, 0, 1),
+        (Step::Make(0, 9), true, 0, 1),
+        (Step::Deliver(0, 290), true, 0, 1),
+        (Step::Hand(0), true, 2, 2),
+        (Step::Make2(1, 9, true), true, 2, 2),
+        (Step::Deliver(1, 290), true, 2, 2),
+        (Step::Hand(1), true, 2, 2),
+    ],
+    lengths: &[290, 290],
+    answers: &[
+        "ack S 0 2 1 0",
+        "no b0b1b2b3b4b5b6b7b8b9babbbcbdbebf 0 60 0",
+    ],
+    past: None,
+    present: "ENTRY ENTRY_2 ENTRY_3",
+};
+
+/// A collector that turns to another journal: a machine's entries lie in both, and an answer that was given over the first
+/// one moves its resume point on.
+const TURNED: Script = Script {
+    begins: "",
+    rows: &[
+        (Step::Append(0, "ENTRY"), true, 0, 1),
+        (Step::Append(0, "ENTRY_2"), true, 0, 1),
+        (Step::Append(0, "ENTRY_3"), true, 0, 1),
+        (Step::Make(0, 2), true, 0, 1),
+        (Step::Deliver(0, 290), true, 0, 1),
+        (Step::Turn, true, 0, 1),
+        (Step::Hand(0), true, 2, 2),
+        (Step::Make(0, 9), true, 2, 2),
+        (Step::Deliver(1, 169), true, 2, 2),
+        (Step::Hand(1), true, 3, 3),
+    ],
+    lengths: &[290, 169],
+    answers: &["ack S 0 2 2 0", "ack S 2 1 1 0"],
+    past: Some("ENTRY ENTRY_2"),
+    present: "ENTRY_3",
+};
 
 /// Two machines without entries, and a journal.
 fn two_machines<K: Keeper + Drop>(alloc: Global, keeper: K) -> Result<World<K>, Fail> {
@@ -54,261 +201,133 @@ fn two_machines<K: Keeper + Drop>(alloc: Global, keeper: K) -> Result<World<K>, 
     }
 }
 
+/// The event of a step that isn't a turn, where these uploads were made.
+fn event_of(alloc: Global, step: Step, uploads: &[Vec<u8>]) -> Result<Option<Event>, Fail> {
+    let event = match step {
+        Step::Append(machine, text) => match entries(alloc, text)?.pop() {
+            Some(entry) => Event::Append(machine, entry),
+            None => return Ok(None),
+        },
+        Step::Make(machine, most) => Event::Make(machine, most),
+        Step::Make2(machine, most, whole) => Event::Make2(machine, most, whole),
+        Step::MakeFile(machine) => Event::MakeFile(machine, bytes_of(alloc, "JOURNAL_FILE")?),
+        Step::Deliver(upload, cut) => Event::Deliver(upload, cut),
+        Step::Alien(upload) => match uploads.get(upload) {
+            Some(bytes) => Event::Alien(Vec::from_slice(alloc, bytes)?),
+            None => return Ok(None),
+        },
+        Step::Hand(answer) => Event::Hand(answer),
+        Step::Restart(machine, point) => Event::Restart(machine, point),
+        Step::Turn => return Ok(None),
+    };
+    Ok(Some(event))
+}
+
 /// Whether an event may happen, and does.
-fn step<K: Keeper + Drop>(world: &mut World<K>, event: &Event) -> Result<bool, OutOfMemory> {
+fn happens<K: Keeper + Drop>(world: &mut World<K>, event: &Event) -> Result<bool, OutOfMemory> {
     world.step(event)
 }
 
-/// Appends the entries with these texts to a machine's.
-fn append<K: Keeper + Drop>(
-    rt: &(impl Abort + AllocGlobal),
-    world: &mut World<K>,
-    machine: usize,
-    texts: &[&[u8]],
-) -> Result<(), Fail> {
-    for entry in entries(rt.alloc(), texts)? {
-        assert!(rt; step(world, &Event::Append(machine, entry))?);
+fn turn<K: Keeper + Drop>(world: &mut World<K>, keeper: K) -> Result<bool, Fail> {
+    match world.turn(keeper) {
+        Ok(()) => Ok(true),
+        Err(_) => Err(Fail::new("no memory")),
     }
-    Ok(())
 }
 
-/// An event, whether it may happen, and afterwards the first machine's resume point and how many it saved.
-type Row = (Event, bool, u64, usize);
+/// Whether a step may be taken, and is.
+fn take<J: Journals>(
+    alloc: Global,
+    journals: &mut J,
+    world: &mut World<J::Kept>,
+    step: Step,
+) -> Result<bool, Fail> {
+    if let Step::Turn = step {
+        return turn(world, journals.empty()?);
+    }
+    match event_of(alloc, step, world.uploads())? {
+        Some(event) => Ok(happens(world, &event)?),
+        None => Err(Fail::new("no such event")),
+    }
+}
 
 /// The first machine's resume point, and how many it saved.
-fn first_of<K: Keeper + Drop>(world: &World<K>) -> (u64, usize) {
+fn first_of<K: Keeper + Drop>(world: &World<K>) -> (u64, u64) {
     match (world.resume(0), world.saved(0)) {
-        (Some(point), Some(points)) => (point.position(), points.len()),
+        (Some(point), Some(points)) => (point.position(), points.len() as u64),
         _ => (0, 0),
     }
 }
 
-fn check<K: Keeper + Drop>(
+fn check_rows<J: Journals>(
     rt: &(impl Abort + AllocGlobal),
-    world: &mut World<K>,
+    journals: &mut J,
+    world: &mut World<J::Kept>,
     rows: &[Row],
 ) -> Result<(), Fail> {
-    for (number, (event, taken, position, saved)) in rows.iter().enumerate() {
-        let has_taken = step(world, event)?;
+    for (number, (step, taken, position, saved)) in rows.iter().enumerate() {
+        let has_taken = take(rt.alloc(), journals, world, *step)?;
         let (found, points) = first_of(world);
-        let holds = has_taken == *taken && found == *position && points == *saved;
-        holds_at(rt, number as u64, holds);
+        let got = [has_taken as u64, found, points];
+        same_numbers(rt, number as u64, &got, &[*taken as u64, *position, *saved])?;
     }
     Ok(())
 }
 
-fn first_machine<K: Keeper + Drop>(
+fn check_lengths(
     rt: &(impl Abort + AllocGlobal),
-    world: &mut World<K>,
+    uploads: &[Vec<u8>],
+    wanted: &[u64],
 ) -> Result<(), Fail> {
-    append(rt, world, 0, &[ENTRY, ENTRY_2, ENTRY_3])?;
-    check(
-        rt,
-        world,
-        &[
-            (Event::Make(0, 2), true, 0, 1),
-            (Event::Deliver(0, 200), true, 0, 1),
-            (Event::Make(0, 3), true, 0, 1),
-            (Event::Deliver(1, 411), true, 0, 1),
-            (Event::Hand(1), true, 3, 2),
-            (Event::Hand(0), true, 3, 2),
-            (Event::Restart(0, 0), true, 0, 2),
-            (Event::Hand(0), true, 1, 3),
-            (Event::Make(0, 9), true, 1, 3),
-            (Event::Deliver(2, 290), true, 1, 3),
-            (Event::Deliver(0, 290), true, 1, 3),
-            (Event::Hand(3), true, 2, 4),
-            (Event::Hand(2), true, 3, 5),
-            (Event::Restart(0, 9), false, 3, 5),
-            (Event::Deliver(2, 291), false, 3, 5),
-            (Event::Deliver(1, 47), true, 3, 5),
-            (Event::Hand(4), false, 3, 5),
-        ],
-    )
-}
-
-/// Events that break their condition: an upload of a machine isn't alien, and a machine sends no file whose entries it
-/// hasn't.
-fn refused<K: Keeper + Drop>(
-    rt: &(impl Abort + AllocGlobal),
-    world: &mut World<K>,
-) -> Result<(), Fail> {
-    let alloc = rt.alloc();
-    let Some(upload) = world.uploads().first() else {
-        return Err(Fail::new("no upload"));
-    };
-    let upload = Vec::from_slice(alloc, upload)?;
-    let file = Vec::from_slice(alloc, &JOURNAL_FILE)?;
-    check(
-        rt,
-        world,
-        &[
-            (Event::Alien(upload), false, 3, 5),
-            (Event::MakeFile(1, file), false, 3, 5),
-            (Event::Make(2, 1), false, 3, 5),
-        ],
-    )
-}
-
-fn second_machine<K: Keeper + Drop>(
-    rt: &(impl Abort + AllocGlobal),
-    world: &mut World<K>,
-) -> Result<(), Fail> {
-    let alloc = rt.alloc();
-    let file = Vec::from_slice(alloc, &JOURNAL_FILE)?;
-    append(rt, world, 1, &[METADATA, BOOT_FIELD, HI])?;
-    check(
-        rt,
-        world,
-        &[
-            (Event::MakeFile(1, file), true, 3, 5),
-            (Event::Deliver(4, 447), true, 3, 5),
-            (Event::Deliver(4, 448), true, 3, 5),
-        ],
-    )
-}
-
-fn check_lengths(rt: &impl Abort, uploads: &[Vec<u8>]) {
-    same_number(rt, uploads.len() as u64, 5);
-    for (upload, len) in uploads.iter().zip([290, 411, 290, 169, 448]) {
-        same_number(rt, upload.len() as u64, len);
+    let mut lengths = Vec::new(rt.alloc());
+    for upload in uploads {
+        lengths.push(upload.len() as u64)?;
     }
+    same_numbers(rt, 0, &lengths, wanted)
 }
 
-fn worked_steps<J: Journals>(
+/// What the collector's journals have, and the one that it turned from.
+fn check_journals<K: Keeper + Drop>(
     rt: &(impl Abort + AllocGlobal),
-    journals: &mut J,
+    world: World<K>,
+    script: &Script,
 ) -> Result<(), Fail> {
-    let mut world = two_machines(rt.alloc(), journals.empty()?)?;
-    first_machine(rt, &mut world)?;
-    refused(rt, &mut world)?;
-    append(rt, &mut world, 0, &[CHANGED_ENTRY])?;
-    check(
-        rt,
-        &mut world,
-        &[
-            (Event::Make(0, 1), true, 3, 5),
-            (Event::Deliver(3, 169), true, 3, 5),
-            (Event::Hand(5), true, 3, 5),
-        ],
-    )?;
-    second_machine(rt, &mut world)?;
-    check_lengths(rt, world.uploads());
-    same_answers(rt, world.answers(), &worked_answers());
-    Ok(())
-}
-
-/// An upload that is to be whole, delivered in part and whole, between others that needn't be.
-fn whole_steps<J: Journals>(rt: &(impl Abort + AllocGlobal), journals: &mut J) -> Result<(), Fail> {
-    let mut world = two_machines(rt.alloc(), journals.empty()?)?;
-    append(rt, &mut world, 0, &[ENTRY, ENTRY_2, ENTRY_3])?;
-    check(
-        rt,
-        &mut world,
-        &[
-            (Event::Make2(0, 2, true), true, 0, 1),
-            (Event::Deliver(0, 289), true, 0, 1),
-            (Event::Hand(0), true, 0, 1),
-            (Event::Make2(0, 2, false), true, 0, 1),
-            (Event::Deliver(1, 289), true, 0, 1),
-            (Event::Hand(1), true, 1, 2),
-            (Event::Deliver(0, 290), true, 1, 2),
-            (Event::Hand(2), true, 2, 3),
-            (Event::Make(0, 9), true, 2, 3),
-            (Event::Deliver(2, 169), true, 2, 3),
-            (Event::Hand(3), true, 3, 4),
-            (Event::Make2(2, 1, true), false, 3, 4),
-        ],
-    )?;
-    let answers = [
-        no(Some((Id128(SOURCE_ID), 0)), 5, 1),
-        ack(0, 1, 1, 120),
-        ack(0, 2, 1, 0),
-        ack(2, 1, 1, 0),
-    ];
-    same_answers(rt, world.answers(), &answers);
-    Ok(())
-}
-
-/// A keeper of a journal that has two entries.
-fn begun<J: Journals>(alloc: Global, journals: &mut J) -> Result<J::Kept, Fail> {
-    let mut keeper = journals.empty()?;
-    keeper.absorb(&mut source(alloc, &[ENTRY, ENTRY_2])?)?;
-    Ok(keeper)
-}
-
-/// A journal that has entries when the world begins: one that a machine has too isn't new, and one that differs is
-/// refused.
-fn begun_steps<J: Journals>(rt: &(impl Abort + AllocGlobal), journals: &mut J) -> Result<(), Fail> {
-    let alloc = rt.alloc();
-    let mut world = two_machines(alloc, begun(alloc, journals)?)?;
-    append(rt, &mut world, 0, &[ENTRY_2, ENTRY_3])?;
-    append(rt, &mut world, 1, &[CHANGED_ENTRY, ENTRY_3])?;
-    check(
-        rt,
-        &mut world,
-        &[
-            (Event::Make(0, 9), true, 0, 1),
-            (Event::Deliver(0, 290), true, 0, 1),
-            (Event::Hand(0), true, 2, 2),
-            (Event::Make2(1, 9, true), true, 2, 2),
-            (Event::Deliver(1, 290), true, 2, 2),
-            (Event::Hand(1), true, 2, 2),
-        ],
-    )?;
-    let answers = [ack(0, 2, 1, 0), no(Some((Id128(OTHER_ID), 0)), 60, 0)];
-    same_answers(rt, world.answers(), &answers);
-    let texts = [ENTRY, ENTRY_2, ENTRY_3];
-    assert!(rt; keeps(alloc, &mut world.into_keeper(), &texts)?);
-    Ok(())
-}
-
-/// A collector that turns to another journal: a machine's entries lie in both, and an answer that was given over the first
-/// one moves its resume point on.
-fn turned_steps<J: Journals>(
-    rt: &(impl Abort + AllocGlobal),
-    journals: &mut J,
-) -> Result<(), Fail> {
-    let alloc = rt.alloc();
-    let mut world = two_machines(alloc, journals.empty()?)?;
-    append(rt, &mut world, 0, &[ENTRY, ENTRY_2, ENTRY_3])?;
-    check(
-        rt,
-        &mut world,
-        &[
-            (Event::Make(0, 2), true, 0, 1),
-            (Event::Deliver(0, 290), true, 0, 1),
-        ],
-    )?;
-    if world.turn(journals.empty()?).is_err() {
-        return Err(Fail::new("no memory"));
-    }
-    check(
-        rt,
-        &mut world,
-        &[
-            (Event::Hand(0), true, 2, 2),
-            (Event::Make(0, 9), true, 2, 2),
-            (Event::Deliver(1, 169), true, 2, 2),
-            (Event::Hand(1), true, 3, 3),
-        ],
-    )?;
-    same_answers(rt, world.answers(), &[ack(0, 2, 2, 0), ack(2, 1, 1, 0)]);
-    same_number(rt, world.past().len() as u64, 1);
     let (mut past, mut present) = world.into_keepers();
-    for keeper in &mut past {
-        assert!(rt; keeps(alloc, keeper, &[ENTRY, ENTRY_2])?);
+    check_stored(rt, &mut present, script.present)?;
+    match (past.as_mut_slice(), script.past) {
+        ([], None) => Ok(()),
+        ([keeper], Some(texts)) => check_stored(rt, keeper, texts),
+        _ => Err(Fail::new("another number of journals")),
     }
-    assert!(rt; keeps(alloc, &mut present, &[ENTRY_3])?);
-    Ok(())
+}
+
+/// What became of a world.
+fn check_end<K: Keeper + Drop>(
+    rt: &(impl Abort + AllocGlobal),
+    world: &World<K>,
+    script: &Script,
+) -> Result<(), Fail> {
+    check_lengths(rt, world.uploads(), script.lengths)?;
+    same_answers(rt, world.answers(), script.answers)
+}
+
+fn check_script<J: Journals>(
+    rt: &(impl Abort + AllocGlobal),
+    journals: &mut J,
+    script: &Script,
+) -> Result<(), Fail> {
+    let mut world = two_machines(rt.alloc(), begun(rt.alloc(), journals, script.begins)?)?;
+    check_rows(rt, journals, &mut world, script.rows)?;
+    check_end(rt, &world, script)?;
+    check_journals(rt, world, script)
 }
 
 /// Worlds over empty journals, over one that has entries, and over two in turn.
 fn worlds<J: Journals>(rt: &(impl Abort + AllocGlobal), journals: &mut J) -> Result<(), Fail> {
-    worked_steps(rt, journals)?;
-    whole_steps(rt, journals)?;
-    begun_steps(rt, journals)?;
-    turned_steps(rt, journals)
+    check_script(rt, journals, &WORKED)?;
+    check_script(rt, journals, &WHOLE)?;
+    check_script(rt, journals, &BEGUN)?;
+    check_script(rt, journals, &TURNED)
 }
 
 #[test]

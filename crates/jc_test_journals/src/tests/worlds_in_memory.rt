@@ -1,7 +1,7 @@
 //! Machines and a collector over a database in memory.
 
+use super::readings::bytes_of;
 use super::same::same_answers;
-use super::worlds::{ack, no};
 use jc_base::{Id128, Limits};
 use jc_schema_three::SchemaThree;
 use jc_schema_two::SchemaTwo;
@@ -10,6 +10,7 @@ use jc_test_samples::SOURCE_ID;
 use jc_theorem_database::{MemoryKeeper, world_after};
 use jc_world::{Event, Progress, World};
 use std::alloc::Global;
+use std::process::Abort;
 use std::test::Fail;
 
 /// A world of one machine that took events, and how many it took.
@@ -24,23 +25,22 @@ fn world_of<L: Layout>(
     }
 }
 
-/// A run takes every event, also one that names no machine.
-#[test]
-fn a_world_in_memory(rt: HostRuntime) -> Result<(), Fail> {
-    let alloc = rt.alloc();
-    let bytes = Vec::from_slice(alloc, b"JCUPLD01")?;
+fn check_world<L: Layout>(rt: &(impl Abort + AllocGlobal)) -> Result<(), Fail> {
     let events = [
         Event::Make(0, 1),
         Event::Deliver(0, 48),
         Event::Hand(0),
         Event::Make(1, 1),
-        Event::Alien(bytes),
+        Event::Alien(bytes_of(rt.alloc(), r#""JCUPLD01""#)?),
     ];
-    let (progress, world) = world_of::<SchemaTwo>(alloc, &events)?;
+    let (progress, world) = world_of::<L>(rt.alloc(), &events)?;
     assert!(rt; progress.taken == 5 && progress.refusal.is_none());
-    same_answers(&rt, world.answers(), &[ack(0, 0, 0, 0), no(None, 1, 8)]);
-    let (progress, world) = world_of::<SchemaThree>(alloc, &events)?;
-    assert!(rt; progress.taken == 5 && progress.refusal.is_none());
-    same_answers(&rt, world.answers(), &[ack(0, 0, 0, 0), no(None, 1, 8)]);
-    Ok(())
+    same_answers(rt, world.answers(), &["ack S 0 0 0 0", "no - - 1 8"])
+}
+
+/// A run takes every event, also one that names no machine.
+#[test]
+fn a_world_in_memory(rt: HostRuntime) -> Result<(), Fail> {
+    check_world::<SchemaTwo>(&rt)?;
+    check_world::<SchemaThree>(&rt)
 }
