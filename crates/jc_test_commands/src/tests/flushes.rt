@@ -1,5 +1,5 @@
-//! A standard output that takes all that is written and then can't be flushed. The program's own is never flushed in vain,
-//! so these runs are made here.
+//! A standard output that takes all that is written and then can't be flushed. A flush of the program's own always
+//! succeeds, so these runs are made here.
 
 ghost use Rattle.std.specs.Prelude.{◌≤◌};
 

@@ -1,5 +1,5 @@
-//! Runs that are stopped before they close their database, over tables of either kind: what they acknowledge, and what the
-//! next run finds.
+//! Runs that are stopped before they close their database, over tables of either kind: what they acknowledge, and what
+//! the next run finds.
 
 ghost use Rattle.std.specs.Prelude.{⊤};
 
