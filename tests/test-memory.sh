@@ -9,5 +9,5 @@ set -uo pipefail
 
 # The store takes 8 MB as it opens a database; in large pages that takes the system half of the time.
 export GLIBC_TUNABLES=glibc.malloc.hugetlb=1
-trials memory sweeps calls unions worlds
+trials memory sweeps calls worlds
 finish

@@ -1,12 +1,12 @@
 #!/usr/bin/env bash
 # The program stopped at each of its writes, over devices that fail, and after power was lost, also as the service runs
-# it; and a journal over disks in memory, of the library that the database stands on, that do the same or have a byte
-# that can't be read. The library that stops it is preloaded, and compiled here by the compiler of the toolchain.
+# it; and over a database or a log with a byte that can't be read. The library that stops it is preloaded, and compiled
+# here by the compiler of the toolchain.
 set -uo pipefail
 # shellcheck source=tests/trials.sh
 . "$(dirname "$0")/trials.sh"
 
 # The store takes 8 MB as it opens a database; in large pages that takes the system half of the time.
 export GLIBC_TUNABLES=glibc.malloc.hugetlb=1
-trials stops stops losses noted disks
+trials stops stops losses noted noted_failures rotten
 finish

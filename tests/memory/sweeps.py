@@ -241,6 +241,7 @@ def collecting(trial: Trial, base: str) -> Iterator[Sweep]:
     yield Collect(trial, "collect into a new database", [row])
     yield Collect(trial, "collect into a journal", [samples.stream(two, three)], base, [row])
     yield Collect(trial, "collect of a conflict", [conflict], base, [row])
+    yield Collect(trial, "collect of a conflict in tables by number", [conflict], begun(trial, "--tables", "3"), [row])
     yield Collect(trial, "collect of a journal file", [file])
     yield Collect(trial, "collect of a journal file on standard input", [file], by_input=True)
     yield Collect(trial, "collect of several uploads", several)
@@ -276,13 +277,18 @@ def reading(trial: Trial, base: str) -> Iterator[Sweep]:
         yield Sweep(trial, " ".join(words), words, run(*words))
 
 
+def begun(trial: Trial, *options: str) -> str:
+    """A database of one entry, with which others begin."""
+    base = trial.database()
+    told = run("collect", *options, base, *trial.put([samples.stream(samples.E1)]))
+    trial.expect("the journal that others begin with", told, (f"ack {samples.SOURCE.hex()} 0 1 1 0\n".encode(), "", 0))
+    return base
+
+
 def main() -> None:
     with Trial("memory") as trial, ThreadPoolExecutor(os.cpu_count()) as pool:
         trial.library = refusal.built(trial.base)
-        base = trial.database()
-        trial.expect("the journal that others begin with",
-                     run("collect", base, *trial.put([samples.stream(samples.E1)])),
-                     (f"ack {samples.SOURCE.hex()} 0 1 1 0\n".encode(), "", 0))
+        base = begun(trial)
         sweeps = [*collecting(trial, base), *reading(trial, base), *noted_sweeps(trial)]
         wanted = sys.argv[1:]
         tried = sum(sweep.sweep(pool) for sweep in sweeps if not wanted or sweep.name in wanted)

@@ -10,13 +10,18 @@ import device
 from model import Journal
 from trial import PROGRAM, Trial, as_output, run, status_of
 
+WORDS = ("collect",)
+
 
 class Collecting:
-    """Uploads, and a database that has some entries already or isn't there."""
+    """Uploads, the words that collect them, and a database that has some entries already or isn't there."""
 
-    def __init__(self, trial: Trial, name: str, uploads: list[bytes], before: Sequence[bytes] = ()) -> None:
+    def __init__(
+        self, trial: Trial, name: str, uploads: list[bytes], before: Sequence[bytes] = (), words: Sequence[str] = WORDS
+    ) -> None:
         self.trial = trial
         self.name = name
+        self.words = words
         self.uploads = uploads
         self.names = trial.put(uploads)
         self.base = None
@@ -24,7 +29,7 @@ class Collecting:
         if before:
             self.base = trial.database()
             told = answers(journal, before)
-            trial.expect(f"{name}: before", run("collect", self.base, *trial.put(before)), told)
+            trial.expect(f"{name}: before", run(*words, self.base, *trial.put(before)), told)
         # the journals after none of the uploads, after the first, and so on
         self.journals = [journal.copy()]
         for upload in uploads:
@@ -44,7 +49,7 @@ class Collecting:
     ) -> tuple[str, tuple[bytes, str, int], list[device.Call]]:
         """The database, what the run printed, and the calls."""
         database = self.prepare()
-        words = [PROGRAM, "collect", database, *self.names]
+        words = [PROGRAM, *self.words, database, *self.names]
         return database, *device.run(self.trial.library, mode, first, last, words, **how)
 
     def left(self, what: str, database: str, answered: int) -> None:
@@ -54,6 +59,10 @@ class Collecting:
 
     def failed(self, what: str, database: str, told: tuple[bytes, str, int]) -> None:
         """What a run prints and leaves whose device failed."""
+        self.holds_one_of(what, database, self.told(what, database, told))
+
+    def told(self, what: str, database: str, told: tuple[bytes, str, int]) -> list[Journal]:
+        """What a run prints whose device failed, and the journals that it may leave."""
         output, errors, status = told
         lines = output.decode().splitlines()
         if lines:
@@ -64,7 +73,7 @@ class Collecting:
             may_be = {f"cannot open {name}\n" for name in (database, *self.names)} | {"store failed\n", "read failed\n"}
             self.trial.expect(f"{what}: {errors!r}", errors in may_be, True)
             self.trial.expect(f"{what}: status", status, 3)
-        self.holds_one_of(what, database, self.after_failures(what, lines))
+        return self.after_failures(what, lines)
 
     def after_failures(self, what: str, lines: list[str]) -> list[Journal]:
         """The journals that a run with these answers may leave: all that is acknowledged, and with it perhaps the first
@@ -93,7 +102,7 @@ class Collecting:
         if trial.expect(f"{what}: {told} is one of the journals that may be there", bool(found), True):
             journal = found[0].copy()
             again = answers(journal, self.uploads)
-            trial.expect(f"{what}: again", run("collect", database, *self.names), again)
+            trial.expect(f"{what}: again", run(*self.words, database, *self.names), again)
             trial.expect(f"{what}: complete", run("export", database), (journal.text(), "", 0))
         shutil.rmtree(os.path.dirname(database))
 

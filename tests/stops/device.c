@@ -5,11 +5,14 @@
  *   f  the call fails with EIO, and does nothing
  *   n  each that changes a file is noted, and the program is killed before the one that comes after DEVICE_LAST, if
  *      that isn't 0
+ *   e  as f, and each call on any file that changes it is noted as in mode n, but one that fails as the operation x
+ *   b  each read that has the byte at the place DEVICE_FIRST fails with EIO; nothing is counted
  * Reads are counted in mode f if DEVICE_READS is 1, and not in the other modes. If DEVICE_ONLY names a file, calls on
- * others are left alone and not counted. Each call that was interfered with, and in mode n each change, is written to
- * the descriptor DEVICE_NOTE: an operation and a file as two bytes, an offset, the length of the path and that of what
- * is written as eight bytes each, then the path, and then what is written. The files are d, a path that ends in "/db",
- * l, one that ends in "/db-wal", and o, any other; 1 is standard output. Standard output and standard error never fail.
+ * others are left alone and not counted. Each call that was interfered with, and in modes n and e each change, is
+ * written to the descriptor DEVICE_NOTE: an operation and a file as two bytes, an offset, the length of the path and
+ * that of what is written as eight bytes each, then the path, and then what is written. The files are d, a path that
+ * ends in "/db", l, one that ends in "/db-wal", and o, any other; 1 is standard output. Standard output and standard
+ * error never fail.
  * It is compiled without headers, so what it needs of the C library is declared here. */
 typedef __SIZE_TYPE__ size_t;
 typedef __PTRDIFF_TYPE__ ssize_t;
@@ -92,29 +95,40 @@ static void tell(char operation, char kind, const char *path, off_t offset, size
     put(note, bytes, head.size);
 }
 
+/* Whether a call is one of those that the mode is about. It is counted if it may be. */
+static int is_meant(char operation, char kind, off_t offset, size_t size)
+{
+    int is_read = operation == 'r', may_fail = mode == 'f' || mode == 'e';
+    if (mode == '-' || (only && kind != only))
+        return 0;
+    if (mode == 'b')
+        return is_read && first - (unsigned long)offset < size;
+    if ((is_read && !(mode == 'f' && reads)) || (may_fail && kind == '1'))
+        return 0;
+    made++;
+    return mode == 'n' || (made >= first && made <= last);
+}
+
 /* Whether a call has to fail. If the program is to be killed within it, this returns in mode h alone, with `half`
  * set. */
 static int interferes(char operation, const char *path, off_t offset, size_t size, const void *bytes, int *half)
 {
     char kind = kind_at(path);
-    int is_read = operation == 'r';
-    if (mode == '-' || (is_read && !(mode == 'f' && reads)) || (mode == 'f' && kind == '1') || (only && kind != only))
-        return 0;
-    made++;
-    if (mode == 'n') {
-        if (last && made > last)
-            raise(KILL);
+    int is_one = is_meant(operation, kind, offset, size);
+    if (mode == 'n' && is_one && last && made > last)
+        raise(KILL);
+    if (is_one ? mode == 'n' : mode == 'e' && operation != 'r') {
         tell(operation, kind, path, offset, size, bytes);
         return 0;
     }
-    if (made < first || made > last)
+    if (!is_one)
         return 0;
-    tell(operation, kind, path, offset, 0, 0);
+    tell(mode == 'e' ? 'x' : operation, kind, path, offset, 0, 0);
     if (mode == 'h' && half && size > 1) {
         *half = 1;
         return 0;
     }
-    if (mode != 'f')
+    if (mode == 'k' || mode == 'h')
         raise(KILL);
     *__errno_location() = IO_ERROR;
     return 1;

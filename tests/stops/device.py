@@ -12,6 +12,8 @@ import preload
 
 HEAD = struct.Struct("<ccqQQ")
 SECTOR = 512
+# The two files of a database, as device.c calls them.
+FILES = {"database": "d", "log": "l"}
 
 
 class Call(NamedTuple):

@@ -6,10 +6,14 @@ anything past it. Every upload that was acknowledged before the loss has its ent
 there are none or all of the next one, and the same uploads complete it. A journal that goes over to tables of the
 present version is whole, in the old tables or in the new ones. All this rests on a device that keeps what it said is
 synced, finishes each sector that it begins, and changes none that it wasn't asked to.
+
+The same is asked where a device first fails each call on one of the two files, from one call on, and the run ends by
+itself: then all is gone that wasn't synced.
 """
 from __future__ import annotations
 
 import os
+import shutil
 from collections.abc import Iterable, Iterator
 from concurrent.futures import Executor, ThreadPoolExecutor
 from random import Random
@@ -17,22 +21,30 @@ from random import Random
 import device
 from collecting import Collecting
 from migrating import Migrating
-from scenarios import scenarios
+from scenarios import scenarios, step_of
 from trial import Trial
+from upwards import NEVER, upwards
 
 # How often power is lost at one place, each time with other changes kept.
 LOSSES = 6
+# The files of a database, as device.c calls them, and what their paths end in.
+ENDS = {b"d": "", b"l": "-wal"}
+
+
+def begun(scenario: Collecting | Migrating) -> dict[bytes, device.Disk]:
+    """The disks as a run begins."""
+    disks = {kind: device.Disk() for kind in ENDS}
+    for kind, end in ENDS.items():
+        if scenario.base and os.path.exists(scenario.base + end):
+            disks[kind].hold(scenario.base + end)
+    return disks
 
 
 def states(
     scenario: Collecting | Migrating, calls: Iterable[device.Call]
 ) -> Iterator[tuple[dict[bytes, device.Disk], int]]:
     """The disks after none of the calls, after the first, and so on, with the number of lines printed so far."""
-    disks = {kind: device.Disk() for kind in (b"d", b"l")}
-    if scenario.base:
-        for kind, end in ((b"d", ""), (b"l", "-wal")):
-            if os.path.exists(scenario.base + end):
-                disks[kind].hold(scenario.base + end)
+    disks = begun(scenario)
     answered = 0
     yield disks, answered
     for call in calls:
@@ -47,19 +59,39 @@ def lost(
 ) -> Iterator[tuple[str, int, list[bool], list[bytes]]]:
     """The files that losses of power leave, each with a name and with the number of lines that were printed."""
     for number, (disks, answered) in enumerate(states(scenario, calls)):
-        there = [disks[kind].is_there for kind in (b"d", b"l")]
+        there = [disk.is_there for disk in disks.values()]
         for time in range(LOSSES if any(disk.changes for disk in disks.values()) else 1):
-            files = [disks[kind].after_loss(dice) for kind in (b"d", b"l")]
+            files = [disk.after_loss(dice) for disk in disks.values()]
             yield f"{scenario.name}, power lost after {number} calls, {time}", answered, there, files
 
 
 def judge(scenario: Collecting | Migrating, what: str, answered: int, there: list[bool], files: list[bytes]) -> None:
     database = scenario.trial.database()
-    for end, is_there, data in zip(("", "-wal"), there, files):
+    write(database, there, files)
+    scenario.left(what, database, answered)
+
+
+def write(database: str, there: Iterable[bool], files: Iterable[bytes]) -> None:
+    """Makes the files of a database that are there."""
+    for end, is_there, data in zip(ENDS.values(), there, files):
         if is_there:
             with open(database + end, "wb") as file:
                 file.write(data)
-    scenario.left(what, database, answered)
+
+
+def failed(scenario: Collecting | Migrating, only: str, number: int) -> bool:
+    """One of the files fails from a call on, and then all is lost that wasn't synced; answers whether it failed."""
+    database, told, calls = scenario.run("e", number, NEVER, only=only)
+    disks = begun(scenario)
+    for call in calls:
+        if call.kind in disks:
+            disks[call.kind].take(call)
+    shutil.rmtree(os.path.dirname(database))
+    os.mkdir(os.path.dirname(database))
+    write(database, [disk.is_there for disk in disks.values()], [disk.synced for disk in disks.values()])
+    what = f"{scenario.name}, calls from {number} fail on file {only}, and power is lost"
+    scenario.failed(what, database, told)
+    return any(call.operation == b"x" for call in calls)
 
 
 def sweep(scenario: Collecting | Migrating, pool: Executor) -> int:
@@ -67,8 +99,13 @@ def sweep(scenario: Collecting | Migrating, pool: Executor) -> int:
     scenario.trial.expect(f"{scenario.name}: undisturbed", told, scenario.usual)
     cases = list(lost(scenario, scenario.trial.dice, calls))
     list(pool.map(lambda case: judge(scenario, *case), cases))
-    print(f"losses: {scenario.name}: {len(cases)} losses of power at {len(calls) + 1} places")
-    return len(cases)
+    fuses = {name: upwards(pool, lambda number: failed(scenario, only, number), step_of(scenario))
+             for name, only in device.FILES.items()}
+    behind = " and ".join(f"{count} of the {name}" for name, count in fuses.items())
+    print(f"losses: {scenario.name}: {len(cases)} losses of power at {len(calls) + 1} places, and behind failures of "
+          f"calls {behind}")
+    scenario.trial.expect(f"{scenario.name}: each file failed", all(fuses.values()), True)
+    return len(cases) + sum(fuses.values())
 
 
 def main() -> None:

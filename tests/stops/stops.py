@@ -19,14 +19,12 @@ import samples
 from collecting import Collecting
 from exporting import Exporting
 from migrating import Migrating
-from scenarios import MANY, scenarios
+from scenarios import scenarios, step_of
 from trial import PROGRAM, Trial, run
 from upwards import NEVER, stops_and_failures, upwards
 
 KILLED = ("", -signal.SIGKILL)
 RESUME = ("--source", samples.SOURCE.hex(), "--resume")
-# The two files of a database, as device.c calls them.
-FILES = {"database": "d", "log": "l"}
 
 
 def stopped(scenario: Collecting | Migrating, mode: str, number: int) -> bool:
@@ -52,7 +50,7 @@ def failing(scenario: Collecting | Migrating, number: int, last: int, reads: boo
 
 
 def sweep(trial: Trial, pool: Executor, scenario: Collecting | Migrating) -> int:
-    step = 3 if scenario.name == MANY else 1
+    step = step_of(scenario)
     told, calls = scenario.run("n", 0, 0)[1:]
     trial.expect(f"{scenario.name}: undisturbed", told, scenario.usual)
     stops = sum(upwards(pool, lambda number: stopped(scenario, mode, number), step) for mode in "kh")
@@ -62,7 +60,7 @@ def sweep(trial: Trial, pool: Executor, scenario: Collecting | Migrating) -> int
         later = upwards(pool, lambda number: failing(scenario, number, NEVER, reads), step)
         counts.append(alone + later)
     fuses = {name: upwards(pool, lambda number: failing(scenario, number, NEVER, True, only), step)
-             for name, only in FILES.items()}
+             for name, only in device.FILES.items()}
     alone = " and ".join(f"{count} of the {name} alone" for name, count in fuses.items())
     print(f"stops: {scenario.name}: {len(calls)} calls that change a file; {stops} stops, {counts[0]} failures of "
           f"these calls, {counts[1]} of reads too, {alone}")

@@ -1,0 +1,117 @@
+"""A run of `collect --sequences` for named machines that may end early, or fail at some uploads: what it may leave."""
+from __future__ import annotations
+
+import os
+import shutil
+from collections.abc import Sequence
+
+import samples
+from model import named, read_stream
+from owned import Brought, OwnedJournal, as_lines, notes_of, stranger
+from sequences import NOTE
+from trial import Trial, as_output, run, status_of
+
+LISTED = ["--tables", "3", "--files-from", "-"]
+
+
+class MayBe:
+    """The journals that a run may leave, by its lines so far: those with what was acknowledged, and those with one of
+    the uploads that failed since then, too. One that failed may have claimed its sequences. One that can't be read
+    leaves all as it is."""
+
+    def __init__(self, journal: OwnedJournal) -> None:
+        self.journals = [journal.copy()]
+        self.with_failed: list[OwnedJournal] = []
+
+    def take(self, line: str, brought: Brought) -> None:
+        whose = named(brought.upload)
+        if line in (f"no {whose} 62 0", f"no {whose} 63 0"):
+            self.fail(brought)
+        elif line not in (f"no {whose} 61 0", "no - - 61 0"):
+            self.journals = [journal for journal in self.journals if journal.take(brought) == line]
+            # a refusal needs no store
+            failed = [] if line.startswith("ack ") else self.with_failed
+            self.with_failed = [journal for journal in failed if journal.take(brought) == line]
+
+    def fail(self, brought: Brought) -> None:
+        stored = [journal.copy() for journal in self.journals]
+        claimed = [journal.copy() for journal in self.journals]
+        for with_upload, with_claim in zip(stored, claimed):
+            with_upload.take(brought)
+            with_claim.owners = with_upload.owners
+        self.with_failed += stored
+        self.journals += claimed
+
+    def all(self) -> list[OwnedJournal]:
+        return self.journals + self.with_failed
+
+
+class NotedRun:
+    """Uploads, and a database and a folder of notes, which have some others already or aren't there. The last `unnoted`
+    entries of the first sequence may be stored, but not noted."""
+
+    def __init__(
+        self, trial: Trial, name: str, uploads: Sequence[Brought], before: Sequence[Brought] = (), unnoted: int = 0
+    ) -> None:
+        self.trial = trial
+        self.uploads = uploads
+        self.start = OwnedJournal()
+        self.base = trial.folder()
+        lines = self.start.take_all(before)
+        told = run(*words_in(self.base), stdin=listed(trial, before))
+        trial.expect(f"{name}: before", told, (as_output(lines), "", status_of(lines)))
+        if unnoted:
+            path = os.path.join(self.base, "sequences", samples.SEQNUM_ID.hex(), "0")
+            os.truncate(path, os.path.getsize(path) // NOTE.size * NOTE.size - unnoted * NOTE.size)
+        elif not before:
+            shutil.rmtree(self.base)
+            os.mkdir(self.base)
+        complete = self.start.copy()
+        lines = complete.take_all(uploads)
+        self.strangers = {sequence: stranger(sequence) for sequence in complete.owners}
+        self.usual = as_output(lines), "", status_of(lines)
+        self.stdin = listed(trial, uploads)
+
+    def prepare(self, folder: str) -> list[str]:
+        """Puts the database and the notes into a folder, and answers the words of a run over them."""
+        shutil.copytree(self.base, folder, dirs_exist_ok=True)
+        return words_in(folder)
+
+    def may_be(self, what: str, lines: Sequence[str]) -> MayBe | None:
+        """What a run with these lines may leave; None if they are none that it may print."""
+        may_be = MayBe(self.start)
+        for line, brought in zip(lines, self.uploads):
+            may_be.take(line, brought)
+            if not self.trial.expect(f"{what}: {lines}, up to {line}", bool(may_be.journals), True):
+                return None
+        if len(lines) < len(self.uploads):
+            may_be.fail(self.uploads[len(lines)])
+        return may_be
+
+    def left(self, what: str, folder: str, may_be: MayBe) -> None:
+        """What was acknowledged is there, an upload that failed may be if none behind it was acknowledged, and a next
+        run takes all uploads. A machine whose upload failed may find that its sequence was another's meanwhile."""
+        journals = may_be.all()
+        first = set.intersection(*(set(journal.owners) for journal in journals))
+        uploads = [*(self.strangers[sequence] for sequence in sorted(first)), *self.uploads, *self.strangers.values()]
+        told = run(*words_in(folder), stdin=listed(self.trial, uploads))
+        for journal in journals:
+            lines = journal.take_all(uploads)
+            if told == (as_output(lines), "", status_of(lines)):
+                self.hold(what, folder, journal)
+                return
+        self.trial.expect(f"{what}: {told}, all sent again", False, True)
+
+    def hold(self, what: str, folder: str, journal: OwnedJournal) -> None:
+        output, *end = run("export", os.path.join(folder, "db"))
+        self.trial.expect(f"{what}: export", (end, list(read_stream(output))), (["", 0], journal.stored.in_order()))
+        noted = notes_of(os.path.join(folder, "sequences"))
+        self.trial.expect(f"{what}: what is noted", noted, journal.noted())
+
+
+def words_in(folder: str) -> list[str]:
+    return ["collect", "--sequences", os.path.join(folder, "sequences"), *LISTED, os.path.join(folder, "db")]
+
+
+def listed(trial: Trial, uploads: Sequence[Brought]) -> bytes:
+    return as_lines(trial.put([brought.upload for brought in uploads]), uploads)

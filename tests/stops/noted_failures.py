@@ -1,0 +1,56 @@
+"""A device fails while `collect --sequences` runs, at each of its calls, alone and with all later ones; reads, which
+are of lists and uploads too, are counted.
+
+What was acknowledged is stored once and noted, and the sequence is its machine's. An upload that failed may be stored,
+too, if none behind it was acknowledged. A next run over a sound device takes all uploads.
+"""
+from __future__ import annotations
+
+import os
+import re
+import shutil
+from concurrent.futures import ThreadPoolExecutor
+
+import device
+import samples
+from noted_run import NotedRun
+from owned import Brought
+from trial import PROGRAM, Trial, status_of
+from upwards import NEVER, upwards
+
+# What a run says that couldn't go on, and of uploads, a database or notes that it couldn't open.
+WHY = re.compile(r"(cannot open .*\n)*((read|store) failed\n)?")
+
+
+def failing(noted: NotedRun, number: int, last: int) -> bool:
+    """The calls from one to another fail; answers whether there are such calls."""
+    trial, what = noted.trial, f"calls {number} to {last} fail"
+    folder = trial.folder()
+    words = [PROGRAM, *noted.prepare(folder)]
+    (output, errors, status), calls = device.run(trial.library, "f", number, last, words, noted.stdin, reads=True)
+    lines = output.decode().splitlines()
+    trial.expect(f"{what}: {errors!r}", WHY.fullmatch(errors) is not None, True)
+    trial.expect(f"{what}: status", status, 3 if errors else status_of(lines))
+    trial.expect(f"{what}: all are answered", bool(errors) or len(lines) == len(noted.uploads), True)
+    if not calls:
+        trial.expect(f"{what}: undisturbed", (output, errors, status), noted.usual)
+    may_be = noted.may_be(what, lines)
+    if may_be:
+        noted.left(what, folder, may_be)
+    shutil.rmtree(folder)
+    return bool(calls)
+
+
+def main() -> None:
+    one, rest = samples.stream(samples.E1), samples.stream(samples.E2, samples.E3)
+    uploads = [Brought("web", one), Brought("mail", samples.stream(samples.entry_text(4))), Brought("web", rest)]
+    with Trial("noted failures") as trial, ThreadPoolExecutor(os.cpu_count()) as pool:
+        trial.library = device.built(trial.base)
+        noted = NotedRun(trial, "collect --sequences", uploads)
+        alone = upwards(pool, lambda number: failing(noted, number, number))
+        later = upwards(pool, lambda number: failing(noted, number, NEVER))
+        trial.finish(f"{alone} calls failed alone, {later} with all later ones")
+
+
+if __name__ == "__main__":
+    main()
