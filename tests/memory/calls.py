@@ -25,8 +25,6 @@ CALLS = os.path.abspath(os.environ["CALLS"])
 # How the program ends if it is refused memory itself.
 ITSELF = ("Error: Kind(OutOfMemory)\n", 1)
 ASKED = rb"asked \d+ \d+\n"
-# Words whose operand is no file.
-NAMED = ("get", "stored", "stored-numbers", "export", "export-numbers")
 
 
 class Told(NamedTuple):
@@ -53,27 +51,16 @@ def collected(word: str, upload: bytes, journal: Journal) -> Iterator[Told]:
     asked = ASKED if word == "space" else b""
     yield Told(re.escape(line) + asked, after, False)
     yield Told(re.escape(b"no %s 63 0\n" % whose) + asked, journal, True)
-    if word in ("run", "collect"):
+    if word == "run":
         yield Told(b"stopped 0 0\n", after, True)
 
 
-def collected_in_tables(upload: bytes, journal: Journal) -> Iterator[Told]:
-    """An upload in a run over a database, which may not be opened, or not be taken up. If it isn't closed, what was
-    written stays in its log."""
-    usual, *others = collected("collect", upload, journal)
-    yield Told(usual.pattern + b"not closed\n", usual.journal, True)
-    yield from (usual, *others)
-    yield Told(b"not opened\n|bad 63 0\n", journal, True)
-
-
-def stored(word: str, key: str, journal: Journal) -> Iterator[Told]:
-    """The entry under a key. Of a journal in tables, the database may not be opened, or not be taken up."""
+def stored(key: str, journal: Journal) -> Iterator[Told]:
+    """The entry under a key."""
     number, digits = key.split(":")[::-1]
     entry = journal.entries.get((bytes.fromhex(digits), int(number)))
     yield Told(text(b"entry", entry.text()) if entry else b"entry none\n", journal, False)
     yield Told(refused(b"entry"), journal, True)
-    if word in ("stored", "stored-numbers"):
-        yield Told(b"not opened\n|bad 63 0\n", journal, True)
 
 
 def read(word: str, data: bytes, journal: Journal) -> Iterator[Told]:
@@ -105,12 +92,8 @@ def told_by(word: str, operand: Any, journal: Journal) -> Iterable[Iterator[Told
     """What each call of a word may print."""
     if word in ("space", "stream", "run"):
         return [collected(word, operand, journal)]
-    if word in ("collect", "collect-numbers"):
-        return [collected_in_tables(operand, journal)]
-    if word in ("export", "export-numbers"):
-        return [made(b"entries", journal.text(), journal)]
-    if word in ("get", "stored", "stored-numbers"):
-        return [stored(word, operand, journal)]
+    if word == "get":
+        return [stored(operand, journal)]
     if word in ("read", "entries", "scan", "scan-7", "file", "pages"):
         return [read(word, operand, journal)]
     if word == "copies":
@@ -120,35 +103,15 @@ def told_by(word: str, operand: Any, journal: Journal) -> Iterable[Iterator[Told
 
 
 class Case:
-    """Calls of one run: pairs of a word and of the bytes that it is about, or of a key or the like. The first ones are
-    refused nothing."""
+    """Calls of one run: pairs of a word and of the bytes that it is about, or of a key."""
 
-    def __init__(self, trial: Trial, name: str, calls: Sequence[tuple[str, Any]], spared: int = 0) -> None:
+    def __init__(self, trial: Trial, name: str, calls: Sequence[tuple[str, Any]]) -> None:
         self.trial = trial
         self.name = name
         self.calls = calls
         self.words = [CALLS]
         for word, operand in calls:
-            self.words += [word, operand if word in NAMED else trial.put([operand])[0]]
-        self.spared = spared
-
-    def requests_of(self, count: int) -> int:
-        """How many requests the first calls make."""
-        # as many words, the last of which do nothing
-        words = self.words[:1 + 2 * count] + ["rot", "log:0"] * (len(self.calls) - count)
-        return len(refusal.run(self.trial.library, 0, 0, words)[1])
-
-    def places(self, sizes: list[int]) -> list[int]:
-        """The numbers of the requests to refuse: each one, but for long rows of like ones as a database is opened, and
-        for those of calls that open it anew as the first one does."""
-        spared = self.requests_of(self.spared)
-        numbers = [number for number in refusal.places(sizes) if number > spared]
-        if self.spared == 0:
-            return numbers
-        opened = self.requests_of(self.spared + 1)
-        first = [number for number in numbers if number <= opened]
-        earlier = {refusal.around(sizes, number) for number in first}
-        return first + refusal.unlike(sizes, [number for number in numbers if number > opened], earlier)
+            self.words += [word, operand if word == "get" else trial.put([operand])[0]]
 
     def refusals_in(self, what: str, output: bytes) -> int:
         """How many refusals the output tells. All of it has to be what the calls may print."""
@@ -181,18 +144,11 @@ class Case:
         told, sizes = refusal.run(self.trial.library, 0, 0, self.words)
         self.trial.expect(f"{self.name}, undisturbed", told[1:], ("", 0))
         self.trial.expect(f"{self.name}, undisturbed: refusals", self.refusals_in(self.name, told[0]), 0)
-        ends = list(pool.map(self.one, self.places(sizes)))
+        ends = list(pool.map(self.one, refusal.places(sizes)))
         self.trial.expect(f"{self.name}: a call was refused memory", ends.count(True) > 0, True)
         print(f"memory of calls: {self.name}: {len(ends)} requests; {ends.count(True)} refusals were told by a call, "
               f"{ends.count(None)} hit the program itself, {ends.count(False)} did no harm")
         return ends
-
-
-class OneCall(Case):
-    """Calls of which only the first one after those that are refused nothing is refused memory, at each request."""
-
-    def places(self, sizes: list[int]) -> list[int]:
-        return list(range(self.requests_of(self.spared) + 1, self.requests_of(self.spared + 1) + 1))
 
 
 KEYS = [("get", f"{samples.SEQNUM_ID.hex()}:{number}") for number in (1, 2, 3)]
@@ -213,12 +169,6 @@ def cases(trial: Trial) -> Iterator[Case]:
                        ("upload", samples.E1 + samples.E2), ("send", samples.FILE),
                        ("resume", f"resume 2 {samples.SEQNUM_ID.hex()} 2\n".encode())):
         yield Case(trial, word, [(word, data), (word, data)])
-    for tables, name in (("", "tables"), ("-numbers", "tables by number")):
-        collect, listed = "collect" + tables, ("export" + tables, "all")
-        stored = [("stored" + tables, key) for _, key in KEYS[:2]]
-        yield Case(trial, f"entries in {name}", [(collect, row), *stored, *stored], spared=1)
-        yield OneCall(trial, f"a conflict in {name}",
-                      [(collect, row), (collect, conflict), listed, (collect, rest), listed], spared=1)
 
 
 def main() -> None:

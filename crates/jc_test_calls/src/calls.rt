@@ -18,31 +18,13 @@
 //! | `send PATH` | makes an upload of the journal file |
 //! | `resume PATH` | writes the resume point that the file has |
 //!
-//! Others have a journal in a database on two disks in memory, `log` and `db`:
-//!
-//! | Word and operand | |
-//! |---|---|
-//! | `stop DISK:N` | of the next word's calls the disk does N and fails the others; `harmed` is said if it came to that |
-//! | `lose DISK:N` | the same, and afterwards both disks lose what wasn't synced |
-//! | `rot DISK:N` | during the next word the byte at N can't be read; `harmed` is said if the disk has it |
-//! | `collect PATH,PATH..` | collects the uploads by one run into the journal, which is made if there is none |
-//! | `collect-old PATH,PATH..` | the same, in the tables of schema 1 |
-//! | `collect-numbers PATH,PATH..` | the same, in the tables of schema 3 |
-//! | `collect-noted PATH,PATH..` | the same, as `jc_union` does it: what is noted goes on from one database to the next |
-//! | `turn all` | another database takes the place of this one: the disks are empty |
-//! | `migrate all` | the journal goes over from the tables of schema 1 |
-//! | `export all` | the journal's entries; so does `export-numbers`, of the tables of schema 3 |
-//! | `stored ID:NUMBER` | the entry under the key; so does `stored-numbers`, of the tables of schema 3 |
-//!
 //! `schedules PATH,PATH,PATH..` takes schedules of events, each in worlds of its own; `schedules.rt` says what the files
 //! are.
 //!
 //! Where a call answers that memory was refused, `refused` is printed in the place of what it makes.
 
-use crate::disks::{Disks, Harm};
 use crate::operands::number_in;
 use crate::output::no_meaning;
-use crate::tables::Task;
 use crate::{collecting, entries, readings, schedules};
 use jc_base::Limits;
 use jc_keeper::MapKeeper;
@@ -54,7 +36,6 @@ pub struct Calls {
     alloc: Global,
     limits: Limits,
     keeper: MapKeeper,
-    disks: Disks,
     output: Vec<u8>,
 }
 
@@ -64,7 +45,6 @@ impl Calls {
             alloc,
             limits: Limits::default(),
             keeper: MapKeeper::new(alloc),
-            disks: Disks::new(alloc),
             output: Vec::new(alloc),
         }
     }
@@ -79,37 +59,6 @@ impl Calls {
         match word {
             "limits" => self.limit(operand),
             "get" => collecting::get(self.alloc, &mut self.keeper, operand, &mut self.output),
-            "stop" | "lose" | "rot" => self.expect(word, operand),
-            "collect" => {
-                let uploads = read_files(rt, operand)?;
-                self.disks
-                    .perform(&Task::Collect(&uploads), &mut self.output)
-            }
-            "collect-old" => {
-                let uploads = read_files(rt, operand)?;
-                self.disks
-                    .perform(&Task::CollectOld(&uploads), &mut self.output)
-            }
-            "collect-numbers" => {
-                let uploads = read_files(rt, operand)?;
-                self.disks
-                    .perform(&Task::CollectNumbers(&uploads), &mut self.output)
-            }
-            "collect-noted" => {
-                let uploads = read_files(rt, operand)?;
-                self.disks.collect_noted(&uploads, &mut self.output)
-            }
-            "turn" => {
-                self.disks.turn();
-                Ok(())
-            }
-            "migrate" => self.disks.perform(&Task::Migrate, &mut self.output),
-            "export" => self.disks.perform(&Task::Export, &mut self.output),
-            "export-numbers" => self.disks.perform(&Task::ExportNumbers, &mut self.output),
-            "stored" => self.disks.perform(&Task::Get(operand), &mut self.output),
-            "stored-numbers" => self
-                .disks
-                .perform(&Task::GetNumbers(operand), &mut self.output),
             "schedules" => {
                 let files = read_files(rt, operand)?;
                 schedules::take_all(self.alloc, &files, &mut self.output)
@@ -126,16 +75,6 @@ impl Calls {
             Some(limits) => {
                 self.limits = limits;
                 self.keeper = MapKeeper::new(self.alloc);
-                Ok(())
-            }
-            None => no_meaning(),
-        }
-    }
-
-    fn expect(&mut self, word: &str, operand: &str) -> io::Result<()> {
-        match Harm::of(word, operand) {
-            Some(harm) => {
-                self.disks.expect(harm);
                 Ok(())
             }
             None => no_meaning(),

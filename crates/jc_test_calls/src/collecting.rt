@@ -66,23 +66,6 @@ pub fn run_one<K: Keeper>(
     write_run(output, end, sink.bytes())
 }
 
-/// Collects uploads by one run, as spaces, and writes what the run wrote.
-pub fn run_all<K: Keeper>(
-    alloc: Global,
-    keeper: &mut K,
-    uploads: &[Vec<u8>],
-    limits: &Limits,
-    output: &mut Vec<u8>,
-) -> io::Result<()> {
-    let mut deliveries: Vec<Delivery<SliceStream<'_>, _>> = Vec::new(alloc);
-    for upload in uploads {
-        deliveries.push(Delivery::Space(SliceSpace { bytes: upload }))?;
-    }
-    let mut sink = VecSink::new(alloc);
-    let end = run(alloc, keeper, &mut deliveries, &mut sink, limits);
-    write_run(output, end, sink.bytes())
-}
-
 /// Writes the stored entry under a key, an id and a number with a colon between them.
 pub fn get<K: Keeper>(
     alloc: Global,

@@ -6,18 +6,14 @@
 
 mod calls;
 mod collecting;
-mod disks;
 mod entries;
-mod noted;
 mod operands;
 mod output;
 mod readings;
 mod recorded;
 mod schedules;
 mod stock;
-mod tables;
 mod worlds;
-mod worn;
 
 use calls::Calls;
 use std::io::Write;
