@@ -41,13 +41,23 @@ pub fn scan(
     size: usize,
     output: &mut Vec<u8>,
 ) -> io::Result<()> {
-    let mut scanner = Scanner::new(alloc, *limits);
     let most = limits.entry + limits.name + limits.value + 16;
+    scan_by(&mut Scanner::new(alloc, *limits), bytes, size, most, output)
+}
+
+/// Reads an export stream by a scanner, which may hold so many bytes at most.
+fn scan_by(
+    scanner: &mut Scanner,
+    bytes: &[u8],
+    size: usize,
+    most: u64,
+    output: &mut Vec<u8>,
+) -> io::Result<()> {
     let mut rest = bytes;
     let mut count: u64 = 0;
     for _ in 0..u64::MAX {
         let (piece, _) = rest.split_at(rest.len().min(size));
-        let Ok(used) = feed(&mut scanner, piece) else {
+        let Ok(used) = feed(scanner, piece) else {
             return write_end(output, count, Err(Stop::OutOfMemory));
         };
         if scanner.held() > most {
@@ -81,22 +91,34 @@ pub fn feed_whole(
     let mut scanner = Scanner::new(alloc, *limits);
     let mut rest = bytes;
     for _ in 0..u64::MAX {
-        let Ok(used) = feed(&mut scanner, rest) else {
-            return write_line(output, "refused", &[]);
-        };
-        rest = rest.split_at(used.min(rest.len())).1;
-        write_words(output, "feed", &[used as u64])?;
-        write_words(output, " held", &[scanner.held()])?;
-        write_held(output, &scanner)?;
-        match scanner.take() {
-            Ok(taken) => write_taken(output, taken)?,
-            Err(OutOfMemory) => return write_line(output, " refused", &[]),
-        }
+        let used = feed_once(&mut scanner, rest, output)?;
         if used == 0 {
             break;
         }
+        rest = rest.split_at(used.min(rest.len())).1;
     }
     Ok(())
+}
+
+/// Feeds bytes to a scanner, and writes what the calls answer. Answers how many it took: none once it was refused memory.
+fn feed_once(scanner: &mut Scanner, bytes: &[u8], output: &mut Vec<u8>) -> io::Result<usize> {
+    let Ok(used) = feed(scanner, bytes) else {
+        write_line(output, "refused", &[])?;
+        return Ok(0);
+    };
+    write_words(output, "feed", &[used as u64])?;
+    write_words(output, " held", &[scanner.held()])?;
+    write_held(output, scanner)?;
+    match scanner.take() {
+        Ok(taken) => {
+            write_taken(output, taken)?;
+            Ok(used)
+        }
+        Err(OutOfMemory) => {
+            write_line(output, " refused", &[])?;
+            Ok(0)
+        }
+    }
 }
 
 /// Writes the first field that a scanner holds, and how the stream would end here.

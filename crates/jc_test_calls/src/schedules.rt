@@ -38,26 +38,45 @@ pub fn take_all(alloc: Global, files: &[Vec<u8>], output: &mut Vec<u8>) -> io::R
 /// answered and what the worlds then are, of the second one only if it isn't the same, after `runs differ`. A call that is
 /// refused memory is made once more, and a `-` is written first.
 fn take_schedule(stock: &Stock, schedule: &str, output: &mut Vec<u8>) -> io::Result<()> {
-    let alloc = stock.alloc;
-    let mut events = Vec::new(alloc);
-    let mut stepped = two_machines(alloc, output)?;
-    for text in schedule.split(';') {
-        let event = stock.event(text)?;
-        step(&mut stepped, &event, output)?;
-        events.push(event)?;
-    }
-    let mut run = two_machines(alloc, output)?;
-    run_all(&mut run, &events, output)?;
+    let mut events = Vec::new(stock.alloc);
+    let of_steps = step_all(stock, schedule, &mut events, output)?;
+    let of_run = run_all(stock, &events, output)?;
     write_line(output, "", &[])?;
-    let (mut of_steps, mut of_run) = (Vec::new(alloc), Vec::new(alloc));
-    write_world(alloc, stepped, &stock.entries, &mut of_steps)?;
-    write_world(alloc, run, &stock.entries, &mut of_run)?;
     output.write_all(&of_steps)?;
     if of_run != of_steps {
         write_line(output, "runs differ", &[])?;
         output.write_all(&of_run)?;
     }
     Ok(())
+}
+
+/// Takes the events of a schedule in a new world, one by one, and keeps them. Answers what is written of that world then.
+fn step_all(
+    stock: &Stock,
+    schedule: &str,
+    events: &mut Vec<Event>,
+    output: &mut Vec<u8>,
+) -> io::Result<Vec<u8>> {
+    let mut world = two_machines(stock.alloc, output)?;
+    for text in schedule.split(';') {
+        let event = stock.event(text)?;
+        step(&mut world, &event, output)?;
+        events.push(event)?;
+    }
+    text_of(stock, world)
+}
+
+/// Takes events in a new world, all in one run. Answers what is written of that world then.
+fn run_all(stock: &Stock, events: &[Event], output: &mut Vec<u8>) -> io::Result<Vec<u8>> {
+    let mut world = two_machines(stock.alloc, output)?;
+    run(&mut world, events, output)?;
+    text_of(stock, world)
+}
+
+fn text_of(stock: &Stock, world: World<MapKeeper>) -> io::Result<Vec<u8>> {
+    let mut text = Vec::new(stock.alloc);
+    write_world(stock.alloc, world, &stock.entries, &mut text)?;
+    Ok(text)
 }
 
 fn two_machines(alloc: Global, output: &mut Vec<u8>) -> io::Result<World<MapKeeper>> {
@@ -83,7 +102,7 @@ fn step(world: &mut World<MapKeeper>, event: &Event, output: &mut Vec<u8>) -> io
     no_memory()
 }
 
-fn run_all(world: &mut World<MapKeeper>, events: &[Event], output: &mut Vec<u8>) -> io::Result<()> {
+fn run(world: &mut World<MapKeeper>, events: &[Event], output: &mut Vec<u8>) -> io::Result<()> {
     let progress = world.run(events);
     if progress.refusal.is_none() {
         return Ok(());
