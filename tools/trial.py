@@ -20,8 +20,9 @@ from collections.abc import Iterator
 
 import kit
 
-# How often it looks whether the program is there, in seconds: the linker writes it for longer than that.
-EVERY = 0.05
+# How often it looks whether the program is there, in seconds: from when the linker writes it until it has run takes
+# longer than that, of a small one too.
+EVERY = 0.01
 
 
 def main(name: str) -> int:
