@@ -7,23 +7,23 @@ there are none or all of the next one, and the same uploads complete it. A journ
 present version is whole, in the old tables or in the new ones. All this rests on a device that keeps what it said is
 synced, finishes each sector that it begins, and changes none that it wasn't asked to.
 
-The same is asked where a device first fails each call on one of the two files, from one call on, and the run ends by
-itself: then all is gone that wasn't synced.
+The same is asked where a device first fails a sync of one of the two files, and each later call on it, and the run
+ends by itself: then all is gone that wasn't synced.
 """
 from __future__ import annotations
 
 import os
 import shutil
-from collections.abc import Iterable, Iterator
+from collections.abc import Iterable, Iterator, Sequence
 from concurrent.futures import Executor, ThreadPoolExecutor
 from random import Random
 
 import device
 from collecting import Collecting
 from migrating import Migrating
-from scenarios import scenarios, step_of
+from scenarios import scenarios
 from trial import Trial
-from upwards import NEVER, upwards
+from upwards import NEVER
 
 # How often power is lost at one place, each time with other changes kept.
 LOSSES = 6
@@ -79,6 +79,13 @@ def write(database: str, there: Iterable[bool], files: Iterable[bytes]) -> None:
                 file.write(data)
 
 
+def syncs(calls: Sequence[device.Call]) -> Iterator[tuple[str, int]]:
+    """The syncs of the two files: each one's number among the calls that change its file."""
+    for only in device.FILES.values():
+        own = [call.operation for call in calls if call.kind == only.encode()]
+        yield from ((only, number) for number, operation in enumerate(own, 1) if operation == b"s")
+
+
 def failed(scenario: Collecting | Migrating, only: str, number: int) -> bool:
     """One of the files fails from a call on, and then all is lost that wasn't synced; answers whether it failed."""
     database, told, calls = scenario.run("e", number, NEVER, only=only)
@@ -99,13 +106,11 @@ def sweep(scenario: Collecting | Migrating, pool: Executor) -> int:
     scenario.trial.expect(f"{scenario.name}: undisturbed", told, scenario.usual)
     cases = list(lost(scenario, scenario.trial.dice, calls))
     list(pool.map(lambda case: judge(scenario, *case), cases))
-    fuses = {name: upwards(pool, lambda number: failed(scenario, only, number), step_of(scenario))
-             for name, only in device.FILES.items()}
-    behind = " and ".join(f"{count} of the {name}" for name, count in fuses.items())
-    print(f"losses: {scenario.name}: {len(cases)} losses of power at {len(calls) + 1} places, and behind failures of "
-          f"calls {behind}")
-    scenario.trial.expect(f"{scenario.name}: each file failed", all(fuses.values()), True)
-    return len(cases) + sum(fuses.values())
+    behind = list(pool.map(lambda sync: failed(scenario, *sync), syncs(calls)))
+    scenario.trial.expect(f"{scenario.name}: syncs failed", bool(behind) and all(behind), True)
+    print(f"losses: {scenario.name}: {len(cases)} losses of power at {len(calls) + 1} places, {len(behind)} behind "
+          "syncs that failed")
+    return len(cases) + len(behind)
 
 
 def main() -> None:
