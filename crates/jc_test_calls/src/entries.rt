@@ -19,14 +19,23 @@ pub fn copies(
     output: &mut Vec<u8>,
 ) -> io::Result<()> {
     for entry in &read_whole(alloc, bytes, limits)?.entries {
-        write_text(output, "canonical", canonical(alloc, entry))?;
-        write_text(output, "fields", fields_text(alloc, entry))?;
-        write_entry(alloc, output, "clone", entry.try_clone())?;
-        write_read_back(alloc, output, entry)?;
-        write_pairs(alloc, output, entry, limits)?;
-        write_field_copies(output, alloc, entry)?;
+        write_copies(alloc, output, entry, limits)?;
     }
     Ok(())
+}
+
+fn write_copies(
+    alloc: Global,
+    output: &mut Vec<u8>,
+    entry: &Entry,
+    limits: &Limits,
+) -> io::Result<()> {
+    write_text(output, "canonical", canonical(alloc, entry))?;
+    write_text(output, "fields", fields_text(alloc, entry))?;
+    write_entry(alloc, output, "clone", entry.try_clone())?;
+    write_read_back(alloc, output, entry)?;
+    write_pairs(alloc, output, entry, limits)?;
+    write_field_copies(output, alloc, entry)
 }
 
 /// The export stream's entries. That memory for them was refused is a failure of the program here.

@@ -126,7 +126,11 @@ fn write_held(output: &mut Vec<u8>, scanner: &Scanner) -> io::Result<()> {
     if let Some((name, value)) = scanner.field_at(0) {
         write_words(output, " field", &[name.len() as u64, value.len() as u64])?;
     }
-    match scanner.finish() {
+    write_finish(output, scanner.finish())
+}
+
+fn write_finish(output: &mut Vec<u8>, end: Option<Step>) -> io::Result<()> {
+    match end {
         Some(Step::End { left }) => write_words(output, " left", &[left]),
         Some(Step::Bad(fault)) => {
             write_words(output, " bad", &[fault.code.number() as u64, fault.place])
