@@ -7,17 +7,19 @@ use super::folder::{bytes_of, new_folder, path_in};
 use super::same::{same, same_bytes};
 use jc_base::FromRead;
 use jc_collect::Delivery;
-use jc_collector::{Opened, OpenedFiles, Unopened};
+use jc_collector::{Opened, OpenedFiles, Unopened, open_or_make};
 use jc_command_args::Tables;
 use jc_command_shared::{Failure, Host, Status};
-use jc_database::{OpenFromFiles, OverFiles, over_files};
+use jc_database::{OpenFromFiles, OverFiles, StoreInFiles, over_files};
 use jc_file::SliceSpace;
-use jc_ledger::MapLedger;
+use jc_ledger::{Ledger, MapLedger};
+use jc_store::{Listed, TableKeeper};
 use jc_test_samples::answer_lines;
 use jc_theorem_stops::{
     Stopped, collect_and_stop, collect_into_union_and_stop, collect_lines_and_stop,
     open_after_lines, open_after_stop,
 };
+use jc_union::{NotedRun, collect_noted};
 use sqlite::{Alter, Unknown};
 use std::alloc::Global;
 use std::marker::Brand;
@@ -35,6 +37,8 @@ enum Run {
     Lines,
     /// One over such uploads into a union, of which no database is finished, with notes in memory.
     Union,
+    /// One over deliveries into such a union, which isn't stopped.
+    Noted,
     /// The first of these. Then the next run opens the database.
     DeliveriesAndNext,
     /// The second one, and then the next run.
@@ -47,6 +51,8 @@ enum Came {
     Failed,
     /// It went up to where it was stopped.
     Stopped,
+    /// It came to its end.
+    Ended,
     /// And the next run found so many entries.
     Found(u64),
 }
@@ -62,7 +68,7 @@ struct Row {
 }
 
 /// Each run goes on from what the one before it acknowledged, although that one didn't close the database.
-const ROWS: [Row; 5] = [
+const ROWS: [Row; 6] = [
     Row {
         of: "deliveries",
         run: Run::Deliveries,
@@ -102,6 +108,14 @@ const ROWS: [Row; 5] = [
         uploads: &["head:1:0 ENTRY", "head:1:0 ENTRY_2"],
         comes: Came::Stopped,
         answers: &["ack S 0 1 1 0", "ack S 0 1 1 0"],
+    },
+    Row {
+        of: "deliveries into a union that has some",
+        run: Run::Noted,
+        database: "union.db",
+        uploads: &["head:1:0 ENTRY_2", "head:1:0 ENTRY_3"],
+        comes: Came::Ended,
+        answers: &["ack S 0 1 0 0", "ack S 0 1 1 0"],
     },
 ];
 
@@ -195,6 +209,7 @@ impl<'a> OverFiles for Stopping<'a> {
             Run::Deliveries => deliveries_stop::<F>(self, start),
             Run::Lines => lines_stop::<F>(self, start),
             Run::Union => union_stops::<F>(self, start),
+            Run::Noted => union_ends::<F>(self, start),
             Run::DeliveriesAndNext | Run::LinesAndNext => {
                 over_files(Next::<'a, F> { run: self, start }, Unknown)
             }
@@ -283,6 +298,45 @@ fn union_stops<F: OpenFromFiles>(run: Stopping<'_>, start: F::Start) -> Told {
     Told { came, output }
 }
 
+fn union_ends<F: OpenFromFiles>(run: Stopping<'_>, start: F::Start) -> Told {
+    let mut host = Host::new(run.rt);
+    noted_in(
+        run,
+        open_or_make::<_, F>(&mut host, run.path, start, run.tables),
+    )
+}
+
+/// What comes of a run over deliveries into the union of the journal that was opened alone, if one was.
+fn noted_in<F: StoreInFiles, L: Drop>(
+    run: Stopping<'_>,
+    opened: Result<OpenedFiles<F>, Unopened<'_, L>>,
+) -> Told {
+    match opened {
+        Ok(Opened::ByKey(keeper)) => noted(run, keeper),
+        Ok(Opened::ByNumber(keeper)) => noted(run, keeper),
+        Err(_) => Told {
+            came: Came::Failed,
+            output: Vec::new(run.rt.alloc()),
+        },
+    }
+}
+
+fn noted<F: StoreInFiles, T: Listed + Drop>(run: Stopping<'_>, keeper: TableKeeper<F, T>) -> Told {
+    let alloc = run.rt.alloc();
+    let mut output = Vec::new(alloc);
+    let came = match deliveries_of(alloc, run.uploads) {
+        Ok(mut deliveries) => ended_well(collect_noted::<F, T, MapLedger, Brand, _, _, _>(
+            alloc,
+            keeper,
+            MapLedger::new(alloc),
+            &mut deliveries,
+            &mut output,
+        )),
+        Err(_) => Came::Failed,
+    };
+    Told { came, output }
+}
+
 fn deliveries_and_next<F: OpenFromFiles, G: OpenFromFiles>(
     run: Stopping<'_>,
     start: F::Start,
@@ -349,6 +403,13 @@ fn ended<F: OpenFromFiles>(run: Result<Stopped<'_, F>, Failure<'_>>) -> Came {
 fn stopped_with(answered: Result<Status, Failure<'_>>) -> Came {
     match answered {
         Ok(Status::Success) => Came::Stopped,
+        _ => Came::Failed,
+    }
+}
+
+fn ended_well<C: Drop, L: Ledger + Drop>(run: Result<NotedRun<C, L>, Failure<'_>>) -> Came {
+    match run {
+        Ok(ended) if ended.status == Status::Success => Came::Ended,
         _ => Came::Failed,
     }
 }
