@@ -25,3 +25,6 @@ returns-in_err-count-clause-few g c =
     filled_few (remaining c.args.device.now) (remaining c.pieces.device) (remaining c.read.new.self) c.pieces.came (length c.args.bytes.now)
     c.pieces.bytes (grind (arith, common_steps)) had.within had.got c.in_err-count.ensures.bytes in
     search rules
+
+pub returns-then-count-eq0-clause-end : goal.returns-then-count-eq0-clause-end
+returns-then-count-eq0-clause-end g c = search rules

@@ -23,3 +23,6 @@ returns-in-None-clause-has g c =
     entry_passes c.args.bounds.now (remaining c.args.source.now) (remaining c.entries.source) (remaining c.next.new.self) c.entries.count
     c.entries.last c.entries.room c.in-Entry.entry c.in_ok-step.step c.entries.invariant.given c.in-Entry.is c.in_ok-step.ensures.gives
     c.in-None.ensures
+
+pub returns-in-End-clause-has : goal.returns-in-End-clause-has
+returns-in-End-clause-has g c = search rules

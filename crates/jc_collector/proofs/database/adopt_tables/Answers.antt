@@ -1,3 +1,4 @@
+use Rattle.std.proofs.Common.{rules}
 -- What `adopt` says of the keeper, or of why it refused.
 use Rattle.jc_collector.proofs.Refusals.{why_refused}
 use Rattle.jc_collector.proofs.database.adopt_tables.Goals as goal
@@ -23,3 +24,6 @@ returns-in-Err-clause-failed g c known =
 
 pub returns-in-Err-clause-crash : goal.returns-in-Err-clause-crash
 returns-in-Err-clause-crash g c before from = c.close_refused.ensures.left before c.args.conn from c.in-Err.ensures.crash_refused
+
+pub returns-in-Err-clause-kept : goal.returns-in-Err-clause-kept
+returns-in-Err-clause-kept g c = search rules

@@ -1,5 +1,5 @@
 -- What was counted is printed.
-use Rattle.std.proofs.Common.{◌∙◌}
+use Rattle.std.proofs.Common.{◌∙◌, rules}
 use Rattle.jc_collector.proofs.OverFiles.{match_each, prints_counted}
 use Rattle.jc_collector.proofs.migrating.migrate.Goals as goal
 
@@ -13,3 +13,6 @@ returns-clause-moved g c =
     (λ files leads kind becomes clean before begin.
     let it = leads kind becomes clean before begin in
     record { found = it.found; is = prints_counted health c.in_ok-value-2.value old new prints before it.found it.is; keeps = it.keeps })
+
+pub returns-clause-printed : goal.returns-clause-printed
+returns-clause-printed g c = search rules

@@ -1,3 +1,4 @@
+use Rattle.std.proofs.Common.{rules}
 -- What the answer to one name acknowledges.
 use Rattle.jc_collect.specs.Each.{HoldsEach, held}
 use Rattle.jc_collect.specs.EachLaws.{holds_none}
@@ -84,3 +85,6 @@ pub returns-in-Err-OutOfMemory-clause-owner_unprinted : goal.returns-in-Err-OutO
 returns-in-Err-OutOfMemory-clause-owner_unprinted g c =
     let owners = g.K.Keeper.has_owners in
     prints_none (OnlyIfOwned owners) (owned_none owners) (g.O.Write.contents c.args.output.now)
+
+pub returns-in_ok-push-in-Ok-open_upload-clause-each : goal.returns-in_ok-push-in-Ok-open_upload-clause-each
+returns-in_ok-push-in-Ok-open_upload-clause-each g c = search rules

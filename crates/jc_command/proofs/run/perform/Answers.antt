@@ -1,5 +1,5 @@
 -- What `collect` makes of the files that it gives back.
-use Rattle.std.proofs.Common.{refl}
+use Rattle.std.proofs.Common.{refl, rules}
 use Rattle.jc_command.proofs.Runs.{at_ok, leads_from, no_items, performs_as, same_start, some_each}
 use Rattle.jc_command.proofs.run.perform.Goals as goal
 
@@ -40,3 +40,6 @@ returns-in_ok-run-in-CollectIntoUnion-clause-performed g c =
         after = c.show_steady.ensures.stay_after;
       };
     })
+
+pub returns-in_ok-examined-in-Check-clause-performed : goal.returns-in_ok-examined-in-Check-clause-performed
+returns-in_ok-examined-in-Check-clause-performed g c = search rules

@@ -8,3 +8,6 @@ returns-clause-all c =
     let none : length c.loop-rest.rest.now ≡ 0 = search rules in
     all_lines c.args.text.now c.loop-rest.rest.now c.loop-rest.answers.items none c.loop-rest.invariant.lines
     c.loop-rest.invariant.each
+
+pub returns-in-None-clause-failed : goal.returns-in-None-clause-failed
+returns-in-None-clause-failed c = search rules

@@ -1,4 +1,4 @@
-use Rattle.std.proofs.Common.{◌∙◌}
+use Rattle.std.proofs.Common.{◌∙◌, rules}
 use Rattle.jc_command_shared.specs.DeedLaws.{replaces}
 use Rattle.jc_sender.proofs.resume_file.write_resume.Goals as goal
 
@@ -23,3 +23,6 @@ returns-clause-touched g c =
     (c.as_str-2.ensures.value ∙ c.in_ok-beside.ensures.name)
     c.create_file.ensures.touched
     c.put_in_place.ensures.touched
+
+pub returns-clause-whole : goal.returns-clause-whole
+returns-clause-whole g c = search rules

@@ -1,5 +1,5 @@
 -- The closed files have what the keeper had.
-use Rattle.std.proofs.Common.{◌≡◌, None, Some, Ok, Err, Option, Result, sym, subst}
+use Rattle.std.proofs.Common.{◌≡◌, None, Some, Ok, Err, Option, Result, sym, subst, rules}
 use Rattle.std.specs.Prelude.{IfOk, IfSome}
 use Rattle.std.specs.Result.{result_ok}
 use Rattle.jc_union.proofs.collecting.close_union.Goals as goal
@@ -11,3 +11,6 @@ of_some (Err e) x P is p = cc
 pub returns-in-Some-clause-keeps : goal.returns-in-Some-clause-keeps
 returns-in-Some-clause-keeps g c clean made =
     of_some c.close_keeper.result c.in-Some.files _ c.in-Some.ensures.value (c.close_keeper.ensures.keeps made) clean
+
+pub returns-in-Some-clause-answered : goal.returns-in-Some-clause-answered
+returns-in-Some-clause-answered g c = search rules

@@ -1,4 +1,4 @@
-use Rattle.std.proofs.Common.{sym, ◌∙◌}
+use Rattle.std.proofs.Common.{sym, ◌∙◌, rules}
 use Rattle.jc_sequences.proofs.file_folder.FileFolderFolderFoundFileFile.lend.Goals as goal
 
 pub returns-in-Ok-open_window-clause-clean : goal.returns-in-Ok-open_window-clause-clean
@@ -18,3 +18,6 @@ returns-in-Err-open_window-clause-clean g c = λ clean.
 pub returns-in-Ok-clause-clean : goal.returns-in-Ok-clause-clean
 returns-in-Ok-clause-clean g c = λ clean is.
     (sym c.take.ensures.worn ∙ clean.0, c.in-Some.ensures.clean clean.1 (rw c.in-Ok.ensures.stays.clean at is))
+
+pub returns-in-Ok-clause-file : goal.returns-in-Ok-clause-file
+returns-in-Ok-clause-file g c = search rules

@@ -1,0 +1,5 @@
+use Rattle.std.proofs.Common.{rules}
+use Rattle.jc_command_args.proofs.asked.requested.Goals as goal
+
+pub returns-in-migrate : goal.returns-in-migrate
+returns-in-migrate c = search rules
