@@ -29,8 +29,10 @@ ci() {
 }
 
 # What rt ci has to do goes first: the edits' checks run at a lower priority, and wait for a processor that it leaves.
+# They may all be judged before rt ci ends. So this part's status isn't that of what hands on the words of rt ci.
 edits() {
-    tail -n +1 -s 1 -f --pid="$ci" "$work/ci" | RT_JOBS=$at_once TMPDIR=$work nice python3 -ESB tests/refused --beside
+    RT_JOBS=$at_once TMPDIR=$work nice python3 -ESB tests/refused --beside \
+        < <(tail -n +1 -s 1 -f --pid="$ci" "$work/ci")
 } > "$work/edits" 2>&1
 
 # The scripts side by side, as many as there may be checks; what they say is printed in the order of their names.

@@ -1,7 +1,8 @@
 #!/usr/bin/env bash
 # tools/ and tests/refused say so if the toolchain isn't one that they know, before they load any part of it. `make
 # check` proves exactly what isn't proved as it is, lowest first: over a small repository, and an rt that only notes
-# where it checks. `make demo` takes the proved program, or keeps the one that `rt try` builds.
+# where it checks. `make demo` takes the proved program, or keeps the one that `rt try` builds. The gate counts its
+# edits also if they are all judged before rt ci ends.
 set -uo pipefail
 . "$(dirname "$0")/expect.sh"
 cd "$(dirname "$0")/.." || exit
@@ -30,6 +31,19 @@ expect 1 "" "~*'$folder/failing/rt version' says 'rattle-kit-*" \
     env PATH="$folder/failing:$PATH" "$python" -ESB tests/refused/parallel.py
 expect 1 "" "~there is no rt on the PATH: *" env PATH="$folder/none" "$python" -ESB tests/refused/parallel.py
 expect 1 "0 passed, 1 failed" "~*'rattle-kit-12a logic 0'*" env PATH="$folder/other:$PATH" tests/run.sh
+
+# a gate whose edits are all judged while rt ci still runs, with one script
+gate=$folder/gate
+mkdir -p "$gate/tests/refused" "$gate/crates/jc_cli/out" "$folder/slow"
+cp tests/run.sh "$gate/tests/"
+echo 'print(1)' > "$gate/tests/refused/parallel.py"
+echo 'print("2 passed, 0 failed")' > "$gate/tests/refused/__main__.py"
+printf '#!/bin/sh\necho begun\nsleep 2\necho goes on\nsleep 2\necho 3 passed, 0 failed\n' > "$folder/slow/rt"
+for program in "$gate/tests/test-nothing.sh" "$gate/crates/jc_cli/out/jc_cli"; do
+    echo '#!/bin/sh' > "$program"
+done
+chmod 755 "$folder/slow/rt" "$gate/tests/test-nothing.sh" "$gate/crates/jc_cli/out/jc_cli"
+expect 0 "~*6 passed, 0 failed" "" env PATH="$folder/slow:$PATH" "$gate/tests/run.sh"
 
 # which libraries are built at one time, with how many processors and at what priority: `a` is what the longest chain
 # waits for, `lone` is not; `large` takes the memory of two jobs; what stands on one that isn't built is left out
