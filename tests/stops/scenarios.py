@@ -22,8 +22,3 @@ def scenarios(trial: Trial) -> list[Collecting | Migrating]:
         Collecting(trial, MANY, [machine.stream(0, 40), machine.file(50), machine.stream(30, 60)]),
         *migrations(trial),
     ]
-
-
-def step_of(scenario: Collecting | Migrating) -> int:
-    """One call in so many is tried."""
-    return 3 if scenario.name == MANY else 1

@@ -19,7 +19,7 @@ import samples
 from collecting import Collecting
 from exporting import Exporting
 from migrating import Migrating
-from scenarios import scenarios, step_of
+from scenarios import MANY, scenarios
 from trial import PROGRAM, Trial, run
 from upwards import NEVER, stops_and_failures, upwards
 
@@ -50,7 +50,7 @@ def failing(scenario: Collecting | Migrating, number: int, last: int, reads: boo
 
 
 def sweep(trial: Trial, pool: Executor, scenario: Collecting | Migrating) -> int:
-    step = step_of(scenario)
+    step = 3 if scenario.name == MANY else 1
     told, calls = scenario.run("n", 0, 0)[1:]
     trial.expect(f"{scenario.name}: undisturbed", told, scenario.usual)
     stops = sum(upwards(pool, lambda number: stopped(scenario, mode, number), step) for mode in "kh")

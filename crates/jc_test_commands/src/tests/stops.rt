@@ -1,5 +1,5 @@
 //! Runs that are stopped before they close their database, over tables of either kind: what they acknowledge, and what
-//! the next run finds.
+//! the next run finds. And one into a union that comes to its end.
 
 ghost use Rattle.std.specs.Prelude.{⊤};
 
@@ -28,7 +28,7 @@ use std::{fs, io};
 
 type Upload<'a> = Delivery<FromRead<&'a [u8]>, SliceSpace<'static>>;
 
-/// Which run is stopped.
+/// Which run is made, and where it is stopped.
 #[derive(Clone, Copy)]
 enum Run {
     /// One over deliveries.
