@@ -127,12 +127,15 @@ def _leave_goals_open(room: str, edit: Edit, promises: list[str]) -> None:
 
 
 def _others(promises: list[str], about: tuple[str, ...], answered: set[str]) -> list[str]:
-    """The promises but these. What is promised at one exit can be answered clause by clause, or at once where it is
-    answered so already."""
+    """The promises but these, also at exits that only the edited body has. What is promised at one exit can be answered
+    clause by clause, or at once where it is answered so already."""
     exits = {_exit(it) for it in promises if it != _exit(it)}
     at_once = answered.intersection(exits)
     by_clause = [it for it in promises if it not in exits and _exit(it) not in at_once]
-    return [it for it in [*by_clause, *at_once] if it not in about and _exit(it) not in about]
+    clauses = dict.fromkeys(it.removeprefix(_exit(it)) for it in promises if it != _exit(it))
+    new_exits = dict.fromkeys(_exit(it) for it in about if it != _exit(it) and _exit(it) not in exits)
+    at_new = [exit + clause for exit in new_exits for clause in clauses]
+    return [it for it in [*by_clause, *at_once, *at_new] if it not in about and _exit(it) not in about]
 
 
 def _exit(goal: str) -> str:

@@ -1,5 +1,5 @@
 -- The program's commands and their arguments, in clap's own terms. (own)
-use Rattle.std.specs.Prelude.{◌≡◌, ◌^◌, ◌-◌, ◌∷◌, [], IfOk, IsOkAnd, List, Some, true, false, codes, map}
+use Rattle.std.specs.Prelude.{◌≡◌, ◌^◌, ◌-◌, ◌∷◌, [], IfOk, List, Some, true, false, codes, map}
 use Rattle.clap.specs.Lexer.{usize_max}
 use Rattle.clap.specs.Words.{App, Rule, Text, app_of, new_app, new_rule, rule_of, with_rule, with_subcommand}
 use Rattle.clap.specs.declared.builder.action.ArgAction.TheVariants.{SetTrue}
@@ -153,11 +153,7 @@ pub record IsCommand (command : Command) (app : App) : Type 0 where
 
 -- The command that is being made has this grammar, unless memory was refused.
 abbrev pub Makes : Making → App → Type 0
-Makes making app = IfOk making.command (λ command. IsCommand command app)
-
--- ... and memory was not refused.
-abbrev pub IsMade : Making → App → Type 0
-IsMade making app = IsOkAnd making.command (λ command. IsCommand command app)
+Makes making app = IfOk making.command (λ command. IsCommand command.value app)
 
 -- The argument has this rule, for its own command alone.
 pub record IsRule (arg : Arg) (rule : Rule) : Type 0 where

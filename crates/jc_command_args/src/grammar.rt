@@ -3,7 +3,7 @@
 ghost use Rattle.std.specs.Prelude.{IfOk, codes};
 ghost use Rattle.clap.specs.Words.{app_of, new_app};
 ghost use Rattle.clap.specs.declared.builder.value_parser.ValueParser.{ValueParser};
-ghost use Rattle.jc_command_args.specs.Grammar.{AreKinds, AreTables, IsGrammar, IsMade, Makes, ack_grammar, collect_grammar, collector_grammar, database_grammar, inspect_grammar, migrate_grammar, show_grammar, top_grammar, upload_grammar, verify_grammar};
+ghost use Rattle.jc_command_args.specs.Grammar.{AreKinds, AreTables, IsGrammar, Makes, ack_grammar, collect_grammar, collector_grammar, database_grammar, inspect_grammar, migrate_grammar, show_grammar, top_grammar, upload_grammar, verify_grammar};
 
 use crate::arguments::{
     flag_arg, kind_arg, list_arg, number_arg, option_arg, place_arg, sequences_arg, tables_arg,
@@ -16,8 +16,8 @@ use clap::Command;
 use std::alloc::{AllocError, Global};
 
 /// The whole program.
-pub(crate) fn program<'a>(alloc: Global) -> Result<Command<'a>, AllocError>
-    ensures { IfOk result (λ command. IsGrammar (app_of command)) }
+pub(crate) fn program<'a>(alloc: Global) -> Result<Box<Command<'a>>, AllocError>
+    ensures { IfOk result (λ command. IsGrammar (app_of command.value)) }
 {
     collector(alloc)
         .subcommand(verify_command(alloc))
@@ -53,7 +53,7 @@ fn top<'a>(alloc: Global) -> Making<'a>
         .arg_required_else_help(true)
         .subcommand_required(true)
         .bin_name(texts::NAME);
-    Making { command }
+    Making::new(alloc, command)
 }
 
 pub(crate) fn collect_command<'a>(alloc: Global) -> Making<'a>
@@ -134,7 +134,7 @@ fn ack_command<'a>(alloc: Global) -> Making<'a>
 }
 
 fn codes_command<'a>(alloc: Global) -> Making<'a>
-    ensures { IsMade result (new_app (codes "codes")) }
+    ensures { Makes result (new_app (codes "codes")) }
 {
     new_command(alloc, "codes", texts::CODES_ABOUT, CODES)
 }
@@ -148,10 +148,8 @@ fn database_command<'a>(alloc: Global, name: &'a str, about: &'a str, more: &'a 
 
 /// A command without arguments, with the texts at the top and at the end of its help.
 fn new_command<'a>(alloc: Global, name: &'a str, about: &'a str, more: &'a str) -> Making<'a>
-    ensures { IsMade result (new_app name.entry.now) }
+    ensures { Makes result (new_app name.entry.now) }
 {
     let command = Command::new(alloc, name).about(about).after_help(more);
-    Making {
-        command: Ok(command),
-    }
+    Making::new(alloc, Ok(command))
 }

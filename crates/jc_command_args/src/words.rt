@@ -33,7 +33,8 @@ fn found<'a>(alloc: Global, words: &'a [String]) -> Result<ArgMatches<'a>, Error
     ensures answer { IfErr result (λ e. (kind_of e ≡ ErrorKind.OutOfMemory)
         ⊎ AreAnswered (map string_bytes words.entry.now) (kind_of e)) }
 {
-    program(alloc)?.try_get_matches_from(words)
+    let program = Box::into_inner(program(alloc)?);
+    program.try_get_matches_from(words)
 }
 
 /// What is wrong with a `collect` that asks for nothing: its uploads are named in both ways, or not as its folder of
@@ -50,8 +51,7 @@ fn mistake_in(matches: &ArgMatches<'_>) -> &'static str {
 fn conflict(alloc: Global, text: &str) -> Result<Error, AllocError>
     ensures { IfOk result (λ e. kind_of e ≡ ErrorKind.ArgumentConflict) }
 {
-    let mut collect = collect_command(alloc)
-        .command?
-        .bin_name(texts::COLLECT_NAME)?;
+    let collect = Box::into_inner(collect_command(alloc).command?);
+    let mut collect = collect.bin_name(texts::COLLECT_NAME)?;
     collect.error(ErrorKind::ArgumentConflict, text)
 }

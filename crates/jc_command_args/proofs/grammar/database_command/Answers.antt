@@ -2,8 +2,7 @@
 use Rattle.std.proofs.Common.{codes}
 use Rattle.clap.specs.Words.{new_app}
 use Rattle.jc_command_args.specs.Grammar.{place_rule}
-use Rattle.jc_command_args.proofs.Commands.{made}
 use Rattle.jc_command_args.proofs.grammar.database_command.Goals as goal
 
 pub returns : goal.returns
-returns c = c.arg.ensures (new_app c.args.name.now) (place_rule (codes "DB")) (made c.new_command.result (new_app c.args.name.now) c.new_command.ensures) c.place_arg.ensures
+returns c = c.arg.ensures (new_app c.args.name.now) (place_rule (codes "DB")) c.new_command.ensures c.place_arg.ensures

@@ -2,7 +2,6 @@
 use Rattle.std.proofs.Common.{codes}
 use Rattle.clap.specs.Words.{new_app, with_rule}
 use Rattle.jc_command_args.specs.Grammar.{number_rule, place_rule}
-use Rattle.jc_command_args.proofs.Commands.{made}
 use Rattle.jc_command_args.proofs.grammar.inspect_command.Goals as goal
 
 pub returns : goal.returns
@@ -14,5 +13,5 @@ returns c =
     c.arg-4.ensures three (number_rule (codes "most-bytes"))
     (c.arg-3.ensures two (number_rule (codes "most-fields"))
     (c.arg-2.ensures one (number_rule (codes "most-entries"))
-    (c.arg.ensures none (place_rule (codes "FILE")) (made c.new_command.result none c.new_command.ensures) c.place_arg.ensures)
+    (c.arg.ensures none (place_rule (codes "FILE")) c.new_command.ensures c.place_arg.ensures)
     c.number_arg.ensures) c.number_arg-2.ensures) c.number_arg-3.ensures

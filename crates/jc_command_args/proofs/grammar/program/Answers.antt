@@ -3,7 +3,6 @@ use Rattle.std.proofs.Common.{codes}
 use Rattle.std.proofs.lemmas.Result.{IfOk-weaker}
 use Rattle.clap.specs.Words.{new_app, with_subcommand}
 use Rattle.jc_command_args.specs.Grammar.{ack_grammar, collector_grammar, inspect_grammar, upload_grammar, verify_grammar}
-use Rattle.jc_command_args.proofs.Commands.{made}
 use Rattle.jc_command_args.proofs.grammar.program.Goals as goal
 
 pub returns : goal.returns
@@ -35,4 +34,4 @@ returns c =
     (c.subcommand-2.ensures one inspect_grammar
     (c.subcommand.ensures base (verify_grammar verify.0) collector.4 verify.2) c.inspect_command.ensures)
     upload.2) ack.2)
-    (made c.codes_command.result (new_app (codes "codes")) c.codes_command.ensures))
+    c.codes_command.ensures)

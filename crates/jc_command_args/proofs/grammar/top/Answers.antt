@@ -2,6 +2,7 @@
 use Rattle.std.proofs.Common.{◌∙◌, ap, true}
 use Rattle.std.proofs.lemmas.Result.{IfOk-weaker}
 use Rattle.clap.specs.Simple.{Shape, app_of_fields, on_top}
+use Rattle.jc_command_args.specs.Grammar.{top_grammar}
 use Rattle.jc_command_args.proofs.grammar.top.Goals as goal
 
 pub returns : goal.returns
@@ -15,7 +16,7 @@ returns c =
     let local = ap (λ f. f.has_globals) c.subcommand_required.ensures ∙ (ap (λ f. f.has_globals) c.arg_required_else_help.ensures
     ∙ (ap (λ f. f.has_globals) c.after_help.ensures ∙ (ap (λ f. f.has_globals) c.override_usage.ensures
     ∙ (ap (λ f. f.has_globals) c.about.ensures ∙ (ap (λ f. f.has_globals) c.version.ensures ∙ c.new.ensures.local))))) in
-    IfOk-weaker c.bin_name-command.result _ _ (λ command named. record {
+    c.new-2.ensures top_grammar (IfOk-weaker c.bin_name-command.result _ _ (λ command named. record {
       shape = ap app_of_fields named.0 ∙ needed;
       local = ap (λ f. f.has_globals) named.0 ∙ local;
-    }) c.bin_name-command.ensures
+    }) c.bin_name-command.ensures)

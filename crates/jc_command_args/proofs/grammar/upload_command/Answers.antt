@@ -2,7 +2,6 @@
 use Rattle.std.proofs.Common.{codes}
 use Rattle.clap.specs.Words.{new_app, with_rule}
 use Rattle.jc_command_args.specs.Grammar.{flag_rule, number_rule, with_source}
-use Rattle.jc_command_args.proofs.Commands.{made}
 use Rattle.jc_command_args.proofs.grammar.upload_command.Goals as goal
 
 pub returns : goal.returns
@@ -15,6 +14,6 @@ returns c =
       c.with_source.ensures.1,
       c.arg-3.ensures (with_rule limited (number_rule (codes "bytes"))) (flag_rule (codes "whole"))
           (c.arg-2.ensures limited (number_rule (codes "bytes"))
-          (c.arg.ensures sourced (number_rule (codes "limit")) (c.with_source.ensures.2 none (made c.new_command-command.result none c.new_command-command.ensures))
+          (c.arg.ensures sourced (number_rule (codes "limit")) (c.with_source.ensures.2 none c.new_command-command.ensures)
           c.number_arg.ensures) c.number_arg-2.ensures) c.flag_arg.ensures,
     )

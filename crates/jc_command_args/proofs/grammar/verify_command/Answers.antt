@@ -2,7 +2,6 @@
 use Rattle.std.proofs.Common.{codes}
 use Rattle.clap.specs.Words.{new_app, with_rule}
 use Rattle.jc_command_args.specs.Grammar.{kind_rule, place_rule}
-use Rattle.jc_command_args.proofs.Commands.{made}
 use Rattle.jc_command_args.proofs.grammar.verify_command.Goals as goal
 
 pub returns : goal.returns
@@ -12,5 +11,5 @@ returns c =
       kinds,
       c.kind_arg.ensures.1,
       c.arg-2.ensures (with_rule none (kind_rule kinds)) (place_rule (codes "FILE"))
-          (c.arg.ensures none (kind_rule kinds) (made c.new_command.result none c.new_command.ensures) c.kind_arg.ensures.2) c.place_arg.ensures,
+          (c.arg.ensures none (kind_rule kinds) c.new_command.ensures c.kind_arg.ensures.2) c.place_arg.ensures,
     )

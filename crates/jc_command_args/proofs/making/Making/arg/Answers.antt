@@ -5,4 +5,4 @@ use Rattle.jc_command_args.proofs.making.Making.arg.Goals as goal
 
 pub returns : goal.returns
 returns c = λ app rule is has.
-    IfOk-weaker c.added.result _ _ (λ new adds. added c.args.self.command c.args.arg new app rule adds is has) c.added.ensures
+    IfOk-weaker c.added.result _ _ (λ new adds. added c.args.self.command c.args.arg new.value app rule adds is has) c.added.ensures
