@@ -1,8 +1,9 @@
 -- How a run ends, from what its parts promise.
 use Rattle.std.proofs.Common.{◌≡◌, ◌≢◌, ◌⊎◌, ◌∙◌, ap, arith, length, refl, sym, subst, inl, inr, Bool, true, false, List, [], ◌∷◌, ℕ, Option, Some, None}
-use Rattle.std.specs.Prelude.{IfOk, IfErr, IfSome, Result, Ok, Err, if◌then◌else◌}
+use Rattle.std.specs.Prelude.{IfOk, IfErr, IfSome, IsOkAnd, Result, Ok, Err, if◌then◌else◌}
 use Rattle.std.specs.List.{list_any}
 use Rattle.std.specs.Io.KnownBytes.{Keeps}
+use Rattle.std.proofs.KnownBytes.{Keeps-refl}
 use Rattle.clap.specs.Words.{Text}
 use Rattle.sqlite.specs.Recovery.{Image}
 use Rattle.jc_base.specs.declared.id.Key.{Key}
@@ -33,8 +34,9 @@ use Rattle.jc_collect.specs.declared.inspect.Inspected.{Inspected}
 use Rattle.jc_collect.specs.declared.inspect.Inspected.TheVariants as inspected
 use Rattle.jc_collector.specs.Checked.{health_status}
 use Rattle.jc_collector.specs.Inspected.{inspected_status}
+use Rattle.jc_command_shared.specs.Deeds.{Deed}
 use Rattle.jc_command_shared.specs.Failure.{status_of}
-use Rattle.jc_command.specs.Run.{Begins, Devices, Ends, FailsBy, Leaves, leaves, Performs, Stops, StopsAsked}
+use Rattle.jc_command.specs.Run.{Begins, Collects, Devices, DoesFor, Ends, FailsBy, Leaves, leaves, Performs, Stops, StopsAsked}
 use Rattle.jc_command_shared.specs.Status.{number_of}
 use Rattle.jc_sender.specs.Verdict.{verdict_status}
 use Rattle.jc_command_args.specs.Words.{AreAnswered, AreWrong, AskFor}
@@ -117,6 +119,41 @@ at_ok r x P is p = subst (λ d. IfOk d P) is p
 
 pub at_err : {T E : Type 0} (r : Result T E) (e : E) (P : E → Type 0) → r ≡ Err e → IfErr r P → P e
 at_err r e P is p = subst (λ d. IfErr d P) is p
+
+-- what is made of a value, from how it is made
+pub ok_of : {T U E : Type 0} (made : Result U E) (r : Result T E) (Is : U → T → Type 0) (Q : U → Type 0)
+    → IfOk made (λ u. IsOkAnd r (Is u)) → ((u : U) (x : T) → r ≡ Ok x → Is u x → Q u) → IfOk made Q
+ok_of (Ok u) (Ok x) Is Q is each = each u x refl is
+ok_of (Ok u) (Err e) Is Q is each = absurd is
+ok_of (Err d) r Is Q is each = tt
+
+-- what is made of an error is that error
+pub err_of : {T U E : Type 0} (made : Result U E) (r : Result T E) (Q : E → Type 0) → IfErr made (λ e. r ≡ Err e) → IfErr r Q
+    → IfErr made Q
+err_of (Ok u) r Q is p = tt
+err_of (Err e) r Q is p = at_err r e Q is p
+
+-- ... and the request fails by it
+pub fails_of : {T U : Type 0} (made : Result U Failure) (r : Result T Failure) (request asked : Request) (given : Option (List ℕ))
+    → asked ≡ request → IfErr made (λ e. r ≡ Err e) → IfErr r (FailsBy request given) → IfErr made (FailsBy asked given)
+fails_of made r request asked given same is p =
+    subst (λ (q : Request). IfErr made (FailsBy q given)) (sym same) (err_of made r (FailsBy request given) is p)
+
+-- what writes nothing there is quiet
+pub stays_quiet : {U E : Type 0} (made : Result U E) (Says : U → Type 0) (errors : Option (List ℕ))
+    → IfOk made (λ u. Says u → Keeps errors errors)
+stays_quiet (Ok u) Says errors = λ says. Keeps-refl errors
+stays_quiet (Err e) Says errors = tt
+
+-- where nothing but a write fails a device does
+pub write_fails : {T : Type 0} (r : Result T Failure) (output output' : Option (List ℕ)) → IfErr r (λ failure. failure ≡ failures.WriteFailed)
+    → IfErr r (λ failure. status_of failure ≢ Failed → Keeps output output')
+write_fails (Ok x) output output' fails = tt
+write_fails (Err failure) output output' fails = λ other. absurd (other (ap status_of fails))
+
+pub does_as : (request asked : Request) (old new : Option (List Deed)) → asked ≡ request → DoesFor request old new
+    → DoesFor asked old new
+does_as request asked old new same does = subst (λ (q : Request). DoesFor q old new) (sym same) does
 
 pub no_items : {X : Type 0} (xs : List X) → length xs ≡ 0 → xs ≡ []
 no_items [] none = refl
@@ -292,6 +329,12 @@ performs_as {S} {C} {L} {N} begun g files shown ledger noted request asked given
     (subst (λ (f : Option C). Performs begun g (leaves f noted) request given old new is) (sym same_files)
     (subst (λ (l : Option N). Performs begun g (leaves files l) request given old new is) (sym same_ledger)
     (subst (Performs begun g (leaves files ledger) request given old new) (sym same_status) does)))
+
+pub collects_as : {S C L N X : Type 0} (begun : Begins) (g : Devices S C L N) (left : Leaves C N) (made : Tables) (named uploads : List X)
+    (given old new : Option (List ℕ)) (status : Status) → named ≡ uploads → Collects begun g left made (length named) given old new status
+    → Collects begun g left made (length uploads) given old new status
+collects_as {S} {C} {L} {N} {X} begun g left made named uploads given old new status same does =
+    subst (λ (xs : List X). Collects begun g left made (length xs) given old new status) same does
 
 pub ends_as : {S C L N : Type 0} (begun : Begins) (g : Devices S C L N) (left : Leaves C N) (words : List Text) (given output output' errors errors' : Option (List ℕ))
     (status is : Status) → is ≡ status → Ends begun g left words given output output' errors errors' status

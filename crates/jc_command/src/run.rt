@@ -1,6 +1,6 @@
 //! One run of the program.
 
-ghost use Rattle.std.specs.Prelude.{◌≡◌, ◌≢◌, ◌≤◌, ⊤, None, Some, IsSome, Ok, Err, OnOk, IfOk, IfErr, map, string_bytes};
+ghost use Rattle.std.specs.Prelude.{◌≡◌, ◌≢◌, ◌≤◌, ⊤, None, Some, IsSome, Ok, Err, OnOk, IfOk, IfErr, IsOkAnd, map, string_bytes};
 ghost use Rattle.std.specs.Io.KnownBytes.{Appends, Keeps};
 ghost use Rattle.clap.specs.Words.{kind_of};
 ghost use Rattle.jc_command_args.specs.Answer.{IsAskedFor};
@@ -43,26 +43,50 @@ struct Done<C: Drop, L: Ledger + Drop> {
 
 impl<C: Drop, L: Ledger + Drop> Done<C, L> {
     /// By a command that works on no database.
-    fn without(status: Status) -> Done<C, L>
-        ensures status { result.status ≡ status }
-        ensures files { result.files ≡ None }
+    fn without<'w>(status: Result<Status, Failure<'w>>) -> Result<Done<C, L>, Failure<'w>>
+        ensures done { IfOk result (λ done. IsOkAnd status.entry (λ status.
+            (done.status ≡ status) × (done.files ≡ None))) }
+        ensures failed { IfErr result (λ failure. status.entry ≡ Err failure) }
     {
-        Done {
-            status,
-            files: None,
-            ledger: None,
+        match status {
+            Ok(status) => Ok(Done {
+                status,
+                files: None,
+                ledger: None,
+            }),
+            Err(failure) => Err(failure),
+        }
+    }
+
+    /// By a command that works on no database, and answers nothing.
+    fn succeeded<'w>(worked: Result<(), Failure<'w>>) -> Result<Done<C, L>, Failure<'w>>
+        ensures done { IfOk result (λ done. IsOkAnd worked.entry (λ it.
+            (done.status ≡ Status.Success) × (done.files ≡ None))) }
+        ensures failed { IfErr result (λ failure. worked.entry ≡ Err failure) }
+    {
+        match worked {
+            Ok(()) => Ok(Done {
+                status: Status::Success,
+                files: None,
+                ledger: None,
+            }),
+            Err(failure) => Err(failure),
         }
     }
 
     /// By a command that answers a status, and has closed its database.
-    fn closed(closed: Closed<Status, C>) -> Done<C, L>
-        ensures status { result.status ≡ closed.value }
-        ensures files { result.files ≡ Some closed.files }
+    fn closed<'w>(closed: Result<Closed<Status, C>, Failure<'w>>) -> Result<Done<C, L>, Failure<'w>>
+        ensures done { IfOk result (λ done. IsOkAnd closed.entry (λ closed.
+            (done.status ≡ closed.value) × (done.files ≡ Some closed.files))) }
+        ensures failed { IfErr result (λ failure. closed.entry ≡ Err failure) }
     {
-        Done {
-            status: closed.value,
-            files: Some(closed.files),
-            ledger: None,
+        match closed {
+            Ok(closed) => Ok(Done {
+                status: closed.value,
+                files: Some(closed.files),
+                ledger: None,
+            }),
+            Err(failure) => Err(failure),
         }
     }
 
@@ -80,26 +104,38 @@ impl<C: Drop, L: Ledger + Drop> Done<C, L> {
     }
 
     /// By a command that lists a journal, and has closed its database.
-    fn listed(closed: Closed<(), C>) -> Done<C, L>
-        ensures status { result.status ≡ Status.Success }
-        ensures files { result.files ≡ Some closed.files }
+    fn listed<'w>(closed: Result<Closed<(), C>, Failure<'w>>) -> Result<Done<C, L>, Failure<'w>>
+        ensures done { IfOk result (λ done. IsOkAnd closed.entry (λ closed.
+            (done.status ≡ Status.Success) × (done.files ≡ Some closed.files))) }
+        ensures failed { IfErr result (λ failure. closed.entry ≡ Err failure) }
     {
-        Done {
-            status: Status::Success,
-            files: Some(closed.files),
-            ledger: None,
+        match closed {
+            Ok(closed) => Ok(Done {
+                status: Status::Success,
+                files: Some(closed.files),
+                ledger: None,
+            }),
+            Err(failure) => Err(failure),
         }
     }
 
-    /// By a command that says what there is of a journal.
-    fn examined(examined: Examined<Status, C>) -> Done<C, L>
-        ensures status { result.status ≡ examined.value }
-        ensures files { result.files ≡ examined.files }
+    /// By a command that says what there is of a journal. It has no notes.
+    // They are handed in, since the checker has a fault here where no argument is an `Option`.
+    fn examined<'w>(
+        examined: Result<Examined<Status, C>, Failure<'w>>,
+        ledger: Option<L>,
+    ) -> Result<Done<C, L>, Failure<'w>>
+        ensures done { IfOk result (λ done. IsOkAnd examined.entry (λ examined.
+            (done.status ≡ examined.value) × (done.files ≡ examined.files))) }
+        ensures failed { IfErr result (λ failure. examined.entry ≡ Err failure) }
     {
-        Done {
-            status: examined.value,
-            files: examined.files,
-            ledger: None,
+        match examined {
+            Ok(examined) => Ok(Done {
+                status: examined.value,
+                files: examined.files,
+                ledger,
+            }),
+            Err(failure) => Err(failure),
         }
     }
 }
@@ -222,7 +258,7 @@ fn answered<
         Ok(request) => perform::<_, F, S, _, _, _, _>(
             rt, folders, start, request, input, output, errors,
         ),
-        Err(answer) => Ok(Done::without(answer_words(&answer, output, errors)?)),
+        Err(answer) => Done::without(answer_words(&answer, output, errors)),
     }
 }
 
@@ -255,7 +291,7 @@ fn perform<
     ensures touched { DoesFor request.entry (Y.deeds rt.old) (Y.deeds rt.new) }
 {
     match request {
-        Request::Verify { kind, file } => Ok(Done::without(verify(rt, kind, file, output)?)),
+        Request::Verify { kind, file } => Done::without(verify(rt, kind, file, output)),
         Request::Inspect {
             file,
             most_entries,
@@ -267,21 +303,15 @@ fn perform<
                 fields: most_fields,
                 bytes: most_bytes,
             };
-            Ok(Done::without(inspect(rt, file, &bounds, output)?))
+            Done::without(inspect(rt, file, &bounds, output))
         }
         Request::Upload {
             source,
             limit,
             most_bytes,
             whole,
-        } => {
-            upload(rt, source, limit, most_bytes, whole, output)?;
-            Ok(Done::without(Status::Success))
-        }
-        Request::Ack { source } => {
-            ack(rt, source, input, output)?;
-            Ok(Done::without(Status::Success))
-        }
+        } => Done::succeeded(upload(rt, source, limit, most_bytes, whole, output)),
+        Request::Ack { source } => Done::succeeded(ack(rt, source, input, output)),
         Request::Collect {
             database,
             tables,
@@ -298,8 +328,8 @@ fn perform<
                 then_export,
                 input,
                 output,
-            )?;
-            Ok(Done::closed(closed))
+            );
+            Done::closed(closed)
         }
         Request::CollectListed {
             database,
@@ -317,8 +347,8 @@ fn perform<
                 input,
                 output,
                 errors,
-            )?;
-            Ok(Done::closed(closed))
+            );
+            Done::closed(closed)
         }
         Request::CollectIntoUnion {
             database,
@@ -344,8 +374,8 @@ fn perform<
             Ok(Done::noted(run))
         }
         Request::Export { database } => {
-            let closed = export::<_, F, _>(rt, start, database, output)?;
-            Ok(Done::listed(closed))
+            let closed = export::<_, F, _>(rt, start, database, output);
+            Done::listed(closed)
         }
         Request::Show {
             database,
@@ -354,21 +384,18 @@ fn perform<
             first,
             last,
         } => {
-            let closed = show::<_, F, _>(rt, start, database, field, id, first, last, output)?;
-            Ok(Done::listed(closed))
+            let closed = show::<_, F, _>(rt, start, database, field, id, first, last, output);
+            Done::listed(closed)
         }
         Request::Check { database } => {
-            let examined = check::<_, F, _>(rt, start, database, output)?;
-            Ok(Done::examined(examined))
+            let examined = check::<_, F, _>(rt, start, database, output);
+            Done::examined(examined, None)
         }
         Request::Migrate { database, tables } => {
-            let examined = migrate::<_, F, _>(rt, start, database, tables, output)?;
-            Ok(Done::examined(examined))
+            let examined = migrate::<_, F, _>(rt, start, database, tables, output);
+            Done::examined(examined, None)
         }
-        Request::ListCodes => {
-            list_codes(output)?;
-            Ok(Done::without(Status::Success))
-        }
+        Request::ListCodes => Done::succeeded(list_codes(output)),
     }
 }
 

@@ -1,5 +1,5 @@
 -- What the open found is what the files had, and what it leaves if it fails is as before.
-use Rattle.std.proofs.Common.{ℕ, Bool, cond, List, ap, ap₂, ◌∙◌}
+use Rattle.std.proofs.Common.{ℕ, Bool, cond, List, ap, ap₂, ◌∙◌, rules}
 use Rattle.std.proofs.lemmas.Option.{IfSome_then}
 use Rattle.sqlite_disk.specs.Events.{Event, replay}
 use Rattle.sqlite.specs.Recovery.{Image}
@@ -29,3 +29,6 @@ returns-in-Err-clause-stays g c = IfSome_then c.in-Err.left c.in-Err.ensures.cau
     (settled_leaves start.is_mixing (held files.log.is_log) files.log.calls.log.events files.log.key log.1 it.log may.0 ∙ ap held log.0)
     (settled_leaves start.is_mixing (held files.db.is_log) files.db.calls.log.events files.db.key db.1 it.db may.1 ∙ ap held db.0))
     left (λ clean. (leaves clean).1))
+
+pub returns-in-Err-clause-early : goal.returns-in-Err-clause-early
+returns-in-Err-clause-early g c = search rules

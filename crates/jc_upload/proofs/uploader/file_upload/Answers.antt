@@ -8,3 +8,6 @@ returns-clause-front c =
     let text : c.extend_from_slice.new.self.items ≡ file_upload_of c.args.source c.args.file.now = search rules in
     subst (CutsOfFile c.args.file.now) (sym text)
     (c.fronts_of_uploads.ensures.file (file_head c.args.source) c.args.file.now c.write.ensures.lawful tt refl)
+
+pub returns-clause-upload : goal.returns-clause-upload
+returns-clause-upload c = search rules

@@ -8,3 +8,6 @@ pub returns-clause-front : goal.returns-clause-front
 returns-clause-front c =
     subst (λ (es : List LogEntry). CutsOfSecond c.args.whole es c.in_ok-upload.upload.items) c.in_ok-sent.ensures.sent
     (second_cuts c.args.whole _ c.in_ok-sent.sent.now c.in_ok-upload.upload.items (c.in_ok-upload.ensures.front refl) (search rules))
+
+pub returns-clause-upload : goal.returns-clause-upload
+returns-clause-upload c = search rules

@@ -1,4 +1,4 @@
-use Rattle.std.proofs.Common.{List, map, ap, subst, ◌∙◌}
+use Rattle.std.proofs.Common.{List, map, ap, subst, ◌∙◌, rules}
 use Rattle.jc_base.specs.declared.id.Id128.{Id128}
 use Rattle.jc_world.specs.State.{AreDistinct, new_machine}
 use Rattle.jc_world.proofs.Keeping.{begun_kept}
@@ -13,3 +13,6 @@ returns-clause-kept g c =
     (map_none (λ u. u.items) c.new.result.items c.new.ensures.items) c.new-2.ensures.items
     (map_none g.K.Keeper.journal c.new-3.result.items c.new-3.ensures.items)
     (c.events_keep.ensures.begun c.args.limits ids (g.K.Keeper.journal c.args.keeper) distinct)
+
+pub returns-clause-limits : goal.returns-clause-limits
+returns-clause-limits g c = search rules

@@ -1,3 +1,4 @@
+use Rattle.std.proofs.Common.{rules}
 use Rattle.jc_world.specs.Event.{Happens}
 use Rattle.jc_world.specs.Kept.{IsKept}
 use Rattle.jc_world.specs.Schedule.{Grows}
@@ -18,3 +19,6 @@ returns-clause-grows g c = λ sound made.
     by_steps (Happens (limits_of c.args.self.now) s c.args.event.now) (Grows s) s
     (state_of g.K.Keeper.journal c.take.new.self) c.take.result
     (λ u h. happens_grows (limits_of c.args.self.now) s u c.args.event.now h) (λ e stored. stored) (c.take.ensures.step sound made)
+
+pub returns-clause-step : goal.returns-clause-step
+returns-clause-step g c = search rules
