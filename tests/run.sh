@@ -24,8 +24,9 @@ clean_up() {
 
 # Each part keeps what it says in a file of its name.
 
+# One processor for each check: two processes of one check do some of its work twice.
 ci() {
-    rt ci 2>&1 | tee "$work/ci"
+    RT_JOBS=$at_once rt ci 2>&1 | tee "$work/ci"
 }
 
 # What rt ci has to do goes first: the edits' checks run at a lower priority, and wait for a processor that it leaves.
