@@ -72,6 +72,7 @@ class Trial:
         self.seed = first_seed() if seed is None else seed
         self.dice = random.Random(self.seed)
         self.mistakes = 0
+        self.marks: set[int] = set()
         self.base = tempfile.mkdtemp()
         if not IS_HERE:
             print(f"{name}: there is no stock sqlite3 of 3.37 or later, so what it reads isn't tried")
@@ -113,6 +114,15 @@ class Trial:
                 shutil.copyfile(database + end, name + end)
         return name
 
+    def is_new(self, folder: str, *more: object) -> bool:
+        """Whether no folder was asked about before that has the same files, to the byte, and whose run had the same of
+        whatever else counts."""
+        mark = hash((files_in(folder), *more))
+        if mark in self.marks:
+            return False
+        self.marks.add(mark)
+        return True
+
     def holds(self, what: str, database: str, journal: Journal) -> None:
         """The database is read by the program and by the stock sqlite3, and each finds just this journal."""
         self.expect(f"{what}: export", run("export", self.copy(database)), (journal.text(), "", 0))
@@ -146,6 +156,17 @@ class Trial:
     def finish(self, *counts: str) -> None:
         self.tell(*counts)
         sys.exit(self.mistakes > 0)
+
+
+def files_in(folder: str) -> frozenset[tuple[str, bytes | None]]:
+    """The files and folders below a folder, by their paths from there."""
+    found: set[tuple[str, bytes | None]] = set()
+    for at, folders, names in os.walk(folder):
+        found.update((os.path.relpath(os.path.join(at, name), folder), None) for name in folders)
+        for path in (os.path.join(at, name) for name in names):
+            with open(path, "rb") as file:
+                found.add((os.path.relpath(path, folder), file.read()))
+    return frozenset(found)
 
 
 def first_seed() -> int:

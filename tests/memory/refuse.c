@@ -1,6 +1,7 @@
 /* Preloaded into a program, this refuses some of its requests for memory: from the one numbered REFUSE_FIRST to the one
  * numbered REFUSE_LAST, counted from 1 as the program starts. Each refusal writes its size, 8 bytes, to the descriptor
- * REFUSE_NOTE. If REFUSE_FIRST is 0, none is refused, and the size of each request is written.
+ * REFUSE_NOTE. If REFUSE_FIRST is 0, none is refused, and the size of each request is written. What the program draws
+ * at random is the same in each run.
  * It is compiled without headers, so what it needs of the C library is declared here. */
 typedef __SIZE_TYPE__ size_t;
 
@@ -35,6 +36,14 @@ static int refused(size_t size)
     write(note, &size, sizeof size);
     *__errno_location() = NO_MEMORY;
     return first != 0;
+}
+
+int getentropy(void *bytes, size_t size)
+{
+    static unsigned char drawn;
+    for (size_t at = 0; at < size; at++)
+        ((unsigned char *)bytes)[at] = ++drawn;
+    return 0;
 }
 
 void *malloc(size_t size)

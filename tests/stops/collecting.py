@@ -93,7 +93,14 @@ class Collecting:
 
     def holds_one_of(self, what: str, database: str, journals: list[Journal]) -> None:
         """The database holds one of some journals, and the same uploads complete it. If there was none before the run,
-        and one may be empty, there may be none yet."""
+        and one may be empty, there may be none yet. One that an earlier run left so, to the byte, was looked at
+        then."""
+        folder = os.path.dirname(database)
+        if self.trial.is_new(folder, self.name, *(frozenset(journal.entries.values()) for journal in journals)):
+            self.look(what, database, journals)
+        shutil.rmtree(folder)
+
+    def look(self, what: str, database: str, journals: list[Journal]) -> None:
         trial = self.trial
         told = run("export", database)
         found = [journal for journal in journals if told == (journal.text(), "", 0)]
@@ -104,7 +111,6 @@ class Collecting:
             again = answers(journal, self.uploads)
             trial.expect(f"{what}: again", run(*self.words, database, *self.names), again)
             trial.expect(f"{what}: complete", run("export", database), (journal.text(), "", 0))
-        shutil.rmtree(os.path.dirname(database))
 
 
 def answers(journal: Journal, uploads: Sequence[bytes]) -> tuple[bytes, str, int]:

@@ -12,7 +12,7 @@
  * written to the descriptor DEVICE_NOTE: an operation and a file as two bytes, an offset, the length of the path and
  * that of what is written as eight bytes each, then the path, and then what is written. The files are d, a path that
  * ends in "/db", l, one that ends in "/db-wal", and o, any other; 1 is standard output. Standard output and standard
- * error never fail.
+ * error never fail. If DEVICE_STEADY is 1, what the program draws at random is the same in each run.
  * It is compiled without headers, so what it needs of the C library is declared here. */
 typedef __SIZE_TYPE__ size_t;
 typedef __PTRDIFF_TYPE__ ssize_t;
@@ -31,7 +31,7 @@ int strcmp(const char *left, const char *right);
 enum { IO_ERROR = 5, KILL = 9, CREATES = 0100, DESCRIPTORS = 1024, LONGEST = 1024 };
 
 static unsigned long first, last, made;
-static int note, reads;
+static int note, reads, steady;
 static char mode = '-', only, paths[DESCRIPTORS][LONGEST];
 static const char standard_output[] = "standard output";
 
@@ -71,6 +71,7 @@ __attribute__((constructor)) static void begin(void)
     first = number_in("DEVICE_FIRST");
     last = number_in("DEVICE_LAST");
     reads = (int)number_in("DEVICE_READS");
+    steady = (int)number_in("DEVICE_STEADY");
     note = (int)number_in("DEVICE_NOTE");
     only = file ? *file : 0;
     remember(1, standard_output);
@@ -181,6 +182,16 @@ ssize_t pwrite(int descriptor, const void *bytes, size_t size, off_t offset)
     if (half)
         raise(KILL);
     return written;
+}
+
+int getentropy(void *bytes, size_t size)
+{
+    static unsigned char drawn;
+    if (!steady)
+        return ((int (*)(void *, size_t))NEXT("getentropy"))(bytes, size);
+    for (size_t at = 0; at < size; at++)
+        ((unsigned char *)bytes)[at] = ++drawn;
+    return 0;
 }
 
 int ftruncate(int descriptor, off_t length)

@@ -39,11 +39,12 @@ def run(
     stdin: bytes = b"",
     reads: bool = False,
     only: str = "",
+    steady: bool = False,
 ) -> tuple[tuple[bytes, str, int], list[Call]]:
     """A run in which the calls from one number to another are interfered with, as device.c says of the mode; those on
     one kind of file, if one is given. What it prints, its status, and those calls; all of them, if the mode is to note
-    them."""
-    settings = {"MODE": mode, "FIRST": first, "LAST": last, "READS": int(reads), "ONLY": only}
+    them. A steady run draws nothing at random, so no other such run was over the same database before it."""
+    settings = {"MODE": mode, "FIRST": first, "LAST": last, "READS": int(reads), "ONLY": only, "STEADY": int(steady)}
     *told, noted = preload.run(library, "DEVICE", settings, words, stdin)
     return tuple(told), list(calls_in(noted))
 
@@ -84,7 +85,7 @@ class Disk:
     def seen(self) -> bytes:
         data = bytearray(self.synced)
         for call in self.changes:
-            change(data, call, range(len(call.data)), bytes)
+            change(data, call, [range(len(call.data))], bytes)
         return bytes(data)
 
     def after_loss(self, dice: Random) -> bytes:
@@ -96,23 +97,29 @@ class Disk:
             length = len(call.data)
             kept = dice.choice(("none", "all", "front", "sectors"))
             if kept == "all" or (kept != "none" and length == 0):
-                change(data, call, range(length), fill)
+                change(data, call, [range(length)], fill)
             elif kept == "front":
-                change(data, call, range(dice.randrange(length)), fill)
+                change(data, call, [range(dice.randrange(length))], fill)
             elif kept == "sectors":
-                first = call.place // SECTOR
-                lost = [dice.random() < 0.5 for _ in range(first, (call.place + length) // SECTOR + 1)]
-                change(data, call, [at for at in range(length) if not lost[(call.place + at) // SECTOR - first]], fill)
+                change(data, call, [part for part in sectors(call) if dice.random() >= 0.5], fill)
         return bytes(data)
 
 
-def change(data: bytearray, call: Call, part: Sequence[int], fill: Callable[[int], bytes]) -> None:
-    """Makes a part of a change."""
+def sectors(call: Call) -> Iterator[range]:
+    """The parts of a write that lie in one sector each; the last one may be empty."""
+    length = len(call.data)
+    first = -(call.place % SECTOR)
+    yield from (range(max(0, start), min(length, start + SECTOR)) for start in range(first, length + 1, SECTOR))
+
+
+def change(data: bytearray, call: Call, parts: Sequence[range], fill: Callable[[int], bytes]) -> None:
+    """Makes some parts of a change, in their order."""
+    parts = [part for part in parts if part]
     if call.operation == b"t":
         del data[call.place:]
         data.extend(bytes(call.place - len(data)))
-    elif part:
-        end = call.place + part[-1] + 1
+    elif parts:
+        end = call.place + parts[-1].stop
         data.extend(fill(max(0, end - len(data))))
-        for at in part:
-            data[call.place + at] = call.data[at]
+        for part in parts:
+            data[call.place + part.start:call.place + part.stop] = call.data[part.start:part.stop]

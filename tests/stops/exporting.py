@@ -40,14 +40,17 @@ class Exporting:
         with open(os.path.join(folder, "out"), "wb") as file:
             file.write(OLD)
         words = [PROGRAM, "collect", "--then-export", os.path.join(folder, "out"), database, self.upload]
-        return database, *device.run(self.trial.library, mode, first, last, words, reads=reads)
+        return database, *device.run(self.trial.library, mode, first, last, words, reads=reads, steady=True)
 
     def once(self, mode: str, number: int, last: int, reads: bool = False) -> bool:
         what = f"collect --then-export, calls {number} to {last}, mode {mode}"
         database, told, calls = self.run(mode, number, last, reads)
         self.told(what, database, mode, told)
-        self.left(what, database, told)
-        shutil.rmtree(os.path.dirname(database))
+        folder = os.path.dirname(database)
+        # what an earlier run left so, to the byte, was looked at then
+        if self.trial.is_new(folder, "exporting", told == USUAL, told[0] == ANSWER):
+            self.left(what, database, told)
+        shutil.rmtree(folder)
         return bool(calls)
 
     def told(self, what: str, database: str, mode: str, told: tuple[bytes, str, int]) -> None:

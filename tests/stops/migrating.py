@@ -36,7 +36,13 @@ class Migrating:
 
     def left(self, what: str, database: str, answered: int) -> None:
         """The journal is over once that was printed. If it isn't, the same words take it over. It is whole before and
-        after that."""
+        after that. A database that an earlier run left so, to the byte, was looked at then."""
+        folder = os.path.dirname(database)
+        if self.trial.is_new(folder, self.name, answered > 0):
+            self.look(what, database, answered)
+        shutil.rmtree(folder)
+
+    def look(self, what: str, database: str, answered: int) -> None:
         found = run("export", self.trial.copy(database))
         self.trial.expect(f"{what}: {found[1:]}", found in (self.whole, *(() if answered else (self.unread,))), True)
         again = run(*self.words, database)
@@ -47,7 +53,6 @@ class Migrating:
         self.trial.expect(f"{what}: {again}, once more", again in may_be, True)
         self.trial.expect(f"{what}: once more, then", run(*self.words, database), IS_OVER)
         self.trial.expect(f"{what}: export", run("export", database), self.whole)
-        shutil.rmtree(os.path.dirname(database))
 
     def failed(self, what: str, database: str, told: tuple[bytes, str, int]) -> None:
         """What a run prints and leaves whose device failed."""

@@ -27,15 +27,17 @@ def failing(noted: NotedRun, number: int, last: int) -> bool:
     trial, what = noted.trial, f"calls {number} to {last} fail"
     folder = trial.folder()
     words = [PROGRAM, *noted.prepare(folder)]
-    (output, errors, status), calls = device.run(trial.library, "f", number, last, words, noted.stdin, reads=True)
+    told, calls = device.run(trial.library, "f", number, last, words, noted.stdin, reads=True, steady=True)
+    output, errors, status = told
     lines = output.decode().splitlines()
     trial.expect(f"{what}: {errors!r}", WHY.fullmatch(errors) is not None, True)
     trial.expect(f"{what}: status", status, 3 if errors else status_of(lines))
     trial.expect(f"{what}: all are answered", bool(errors) or len(lines) == len(noted.uploads), True)
     if not calls:
-        trial.expect(f"{what}: undisturbed", (output, errors, status), noted.usual)
+        trial.expect(f"{what}: undisturbed", told, noted.usual)
     may_be = noted.may_be(what, lines)
-    if may_be:
+    # what an earlier run left so, to the byte, was looked at then
+    if may_be and trial.is_new(folder, *lines):
         noted.left(what, folder, may_be)
     shutil.rmtree(folder)
     return bool(calls)

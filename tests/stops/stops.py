@@ -30,7 +30,7 @@ RESUME = ("--source", samples.SOURCE.hex(), "--resume")
 def stopped(scenario: Collecting | Migrating, mode: str, number: int) -> bool:
     """The program ends at a call; answers whether it did."""
     what = f"{scenario.name}, stopped {'before' if mode == 'k' else 'within'} call {number}"
-    database, told, calls = scenario.run(mode, number, NEVER)
+    database, told, calls = scenario.run(mode, number, NEVER, steady=True)
     output = told[0]
     if calls:
         scenario.trial.expect(what, (scenario.usual[0].startswith(output), *told[1:]), (True, *KILLED))
@@ -44,7 +44,7 @@ def failing(scenario: Collecting | Migrating, number: int, last: int, reads: boo
     """A device, or one of the two files alone, fails from one call to another; answers whether it did."""
     also = f"{', reads too' if reads else ''}{only and ', on file ' + only}"
     what = f"{scenario.name}, calls {number} to {last} fail{also}"
-    database, told, calls = scenario.run("f", number, last, reads=reads, only=only)
+    database, told, calls = scenario.run("f", number, last, reads=reads, only=only, steady=True)
     scenario.failed(what, database, told)
     return bool(calls)
 
