@@ -62,6 +62,12 @@ files_in_memory() {
     rm -f "$probe"
 }
 
+# memory_in_large_pages: what programs take from now on. The store takes 8 MB as it opens a database; at once and in
+# large pages, such a run takes two thirds of the time.
+memory_in_large_pages() {
+    export GLIBC_TUNABLES=glibc.malloc.hugetlb=1:glibc.malloc.top_pad=8388608
+}
+
 # well_before_midnight: five minutes of this day (UTC) are left, or the next one is waited for.
 well_before_midnight() {
     local left=$((86400 - $(date +%s) % 86400))

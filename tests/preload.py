@@ -11,6 +11,10 @@ from collections.abc import Mapping, Sequence
 from typing import Any, NamedTuple
 
 
+# What programs that are run have around them.
+AROUND = dict(os.environ)
+
+
 class Told(NamedTuple):
     """What a run printed, its status, and what the library noted."""
     output: bytes
@@ -34,7 +38,7 @@ def run(
     """A run with the library, whose variables have a prefix; PREFIX_NOTE is the descriptor that it notes to."""
     with tempfile.TemporaryFile() as note:
         variables = {f"{prefix}_{name}": str(value) for name, value in {**settings, "NOTE": note.fileno()}.items()}
-        environment = dict(os.environ, LD_PRELOAD=library, **variables)
+        environment = {**AROUND, "LD_PRELOAD": library, **variables}
         told = subprocess.run(words, input=stdin, stdout=subprocess.PIPE, stderr=subprocess.PIPE, check=False,
                               timeout=600, env=environment, pass_fds=[note.fileno()], **options)
         note.seek(0)

@@ -6,6 +6,7 @@
 set -uo pipefail
 . "$(dirname "$0")/expect.sh"
 
+memory_in_large_pages
 new_folder
 chmod 755 "$folder"
 ack="ack $id 0 1 1 0"

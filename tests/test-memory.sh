@@ -7,7 +7,5 @@ set -uo pipefail
 # shellcheck source=tests/trials.sh
 . "$(dirname "$0")/trials.sh"
 
-# The store takes 8 MB as it opens a database; in large pages that takes the system half of the time.
-export GLIBC_TUNABLES=glibc.malloc.hugetlb=1
 trials memory sweeps calls worlds
 finish

@@ -4,6 +4,7 @@
 . "$(dirname "${BASH_SOURCE[0]}")/expect.sh"
 
 files_in_memory
+memory_in_large_pages
 export CALLS=${CALLS:-crates/jc_test_calls/out/jc_test_calls}
 export PROGRAM PYTHONPATH=tests:tests/collect:tests/hostile:tests/schedules PYTHONDONTWRITEBYTECODE=1
 

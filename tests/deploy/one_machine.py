@@ -22,7 +22,7 @@ ANALYZE = "\n".join([JOURNALCTL.splitlines()[0], *JOURNALCTL.splitlines()[2:]]) 
 # What ssh runs on the collector: uploads are kept as RECEIVED/1 and so on. The link carries so many bytes of one as
 # CARRIES says; then it is cut, or stands if STANDS is set. With OLD_COLLECTOR the collector knows no sessions.
 # UPLOAD_SAYS is what `receive` says of an upload.
-SSH = """#!/usr/bin/env python3
+SSH = """#!/usr/bin/env -S python3 -ISB
 import os, sys, time
 folder, word, status = os.environ["RECEIVED"], sys.argv[-1], int(os.environ.get("UPLOAD_STATUS", "0"))
 said = os.environ.get("UPLOAD_SAYS", "receive: no\\n" if status else "")

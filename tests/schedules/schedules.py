@@ -3,6 +3,7 @@ crates/jc_test_calls prints it, a program for tests, compared with a model of a 
 """
 from __future__ import annotations
 
+import itertools
 import os
 import random
 import subprocess
@@ -28,6 +29,7 @@ FILED = [Entry(bytes([3]) * 16, number, 7, 8, frozenset({(b"A", b"3"), (b"_BOOT_
 POOL += FILED
 # How often an event is drawn.
 EVENTS = {"append": 6, "make": 3, "whole": 3, "parts": 1, "file": 3, "deliver": 9, "alien": 1, "hand": 9, "restart": 2}
+NAMES, SUMS = list(EVENTS), list(itertools.accumulate(EVENTS.values()))
 
 
 def journal_file(entries: Sequence[Entry]) -> bytes:
@@ -57,8 +59,8 @@ def one_of(dice: random.Random, things: Sized) -> int:
 
 def drawn(dice: random.Random, world: World) -> tuple[str, int, int]:
     """An event that names what is there, as a rule."""
-    name = dice.choices(list(EVENTS), EVENTS.values())[0]
-    machine = dice.choices((0, 1, 2), (30, 20, 1))[0]
+    name = dice.choices(NAMES, cum_weights=SUMS)[0]
+    machine = dice.choices((0, 1, 2), cum_weights=(30, 50, 51))[0]
     if name == "append":
         entries = world.machines[min(machine, 1)].entries
         if len(entries) < 2 and dice.random() < 0.4:
