@@ -105,6 +105,11 @@ edits=$!
 count ci $ci
 
 export PROGRAM=$PWD/crates/jc_cli/out/jc_cli
+# Scripts begin Python hundreds of times: one that has the standard library alone, and is found at once. To choose one
+# each time, and to look at what is installed there, can take ten times as long.
+if python3 -ISm venv --without-pip "$work/python" > "$work/venv" 2>&1; then
+    PATH=$work/python/bin:$PATH
+fi
 echo "the scripts, and the edits that are left beside them; what they say follows when they end"
 start scripts
 scripts=$!
