@@ -9,7 +9,7 @@ ghost use Rattle.jc_base.specs.Turn.{TakesTurn, count_with};
 use crate::{ByteSink, ByteStream, ReadFailed, WriteFailed};
 
 /// A device that passes some calls on, fails the next one, and passes all later ones on.
-#[derive(Debug, Drop)]
+#[derive(Drop)]
 pub struct FailOnce<D> {
     /// The device that calls are passed on to.
     pub inner: D,

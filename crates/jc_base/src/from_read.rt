@@ -7,7 +7,7 @@ use crate::{ByteStream, ReadFailed};
 use std::io::Read;
 
 /// A stream over a reader. It fails if the reader does, whatever the reader's error, and after 2^64 - 1 bytes.
-#[derive(Debug, Drop)]
+#[derive(Drop)]
 pub struct FromRead<R> {
     reader: R,
     left: u64,

@@ -5,7 +5,7 @@ ghost use Rattle.std.specs.Prelude.{◌≡◌, ◌<◌, ◌^◌, Some, length};
 use crate::{ByteStream, ReadFailed};
 
 /// A stream over bytes in memory. It never fails.
-#[derive(Debug, Drop)]
+#[derive(Drop)]
 pub struct SliceStream<'a> {
     rest: &'a [u8],
     ghost small: { length rest.now < 2 ^ 64 },

@@ -7,7 +7,7 @@ use crate::{ByteSink, WriteFailed};
 use std::io::Write;
 
 /// A sink over a writer. It fails if the writer does, or if the writer takes nothing of a piece that isn't empty.
-#[derive(Debug, Drop)]
+#[derive(Drop)]
 pub struct ToWrite<W> {
     writer: W,
     failures: u64,

@@ -7,7 +7,7 @@ use crate::{ByteSink, WriteFailed};
 use std::alloc::Global;
 
 /// A sink that keeps the bytes. A refused growth is its failure.
-#[derive(Debug, Drop)]
+#[derive(Drop)]
 pub struct VecSink {
     bytes: Vec<u8>,
     failures: u64,

@@ -16,7 +16,7 @@ use jc_upload::{Answer, UploadHead, one_head};
 pub(crate) const HEAD_LENGTH: u64 = 48;
 
 /// Why there is no header.
-#[derive(Clone, Copy, Debug)]
+#[derive(Clone, Copy)]
 pub(crate) enum Unread {
     /// What is wrong with it.
     Fault(Fault),

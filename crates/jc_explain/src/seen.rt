@@ -9,7 +9,7 @@ use crate::Cause;
 pub const MAGIC: &[u8; 16] = b"SQLite format 3\0";
 
 /// What there is at a path.
-#[derive(Clone, Copy, Debug, PartialEq, Eq)]
+#[derive(Clone, Copy, PartialEq, Eq)]
 pub enum Place {
     Missing,
     /// The folder that it would be in is missing, or is no folder.
@@ -24,7 +24,7 @@ pub enum Place {
 }
 
 /// What there is of a log, named as the database is and `-wal`.
-#[derive(Clone, Copy, Debug, PartialEq, Eq)]
+#[derive(Clone, Copy, PartialEq, Eq)]
 pub enum Log {
     Missing,
     Closed,
@@ -32,7 +32,7 @@ pub enum Log {
 }
 
 /// What is seen of a regular file that was to be opened as a database.
-#[derive(Clone, Copy, Debug)]
+#[derive(Clone, Copy)]
 pub struct Seen {
     pub is_readable: bool,
     /// It has no byte, or a single one.

@@ -7,7 +7,7 @@ use jc_command_args::{Request, Source, parse};
 use std::alloc::{AllocError, Global};
 
 /// What a command works on, as far as an explanation asks for it.
-#[derive(Debug, Drop)]
+#[derive(Drop)]
 pub struct Subject<'a> {
     pub database: Option<&'a str>,
     /// Whether the database is made if it is missing.

@@ -68,7 +68,7 @@ fn object_of_fault(alloc: Global, rest: &str) -> Result<Option<String>, AllocErr
 }
 
 /// The words of a line of `inspect`.
-#[derive(Clone, Copy, Debug)]
+#[derive(Clone, Copy)]
 pub struct Upload<'a> {
     pub source: &'a str,
     pub start: &'a str,

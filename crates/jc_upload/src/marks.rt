@@ -17,7 +17,7 @@ use std::alloc::Global;
 use std::collections::BTreeMap;
 
 /// How many entries a source has given, and the points behind them at the positions that are asked for.
-#[derive(Debug, Drop)]
+#[derive(Drop)]
 pub struct Marks {
     count: u64,
     points: BTreeMap<u64, Resume>,

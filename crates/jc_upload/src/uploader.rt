@@ -60,7 +60,7 @@ impl From<OutOfMemory> for UploadFault {
 }
 
 /// One machine's source of entries, and how far it is with sending them.
-#[derive(Debug, Drop)]
+#[derive(Drop)]
 pub struct Uploader {
     source: Id128,
     resume: Resume,

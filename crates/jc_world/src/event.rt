@@ -4,7 +4,7 @@ use jc_base::Entry;
 
 /// What may happen in a world. Machines, uploads, answers and a machine's saved resume points are numbered from 0, in
 /// the order in which they came to be.
-#[derive(Debug, Drop)]
+#[derive(Drop)]
 pub enum Event {
     /// This machine has one more entry, at the end.
     Append(usize, Entry),

@@ -23,7 +23,7 @@ use std::mem::replace;
 
 /// Machines that send their entries, and the collector that they send them to, with everything that was ever made or
 /// answered: any order of events can be tried on it.
-#[derive(Debug, Drop)]
+#[derive(Drop)]
 pub struct World<K> {
     keeper: K,
     past: Vec<K>,
