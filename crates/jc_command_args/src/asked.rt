@@ -26,18 +26,29 @@ pub(crate) fn requested<'a>(
     let Some((name, given)) = matches.subcommand() else {
         return Ok(None);
     };
+    if name == "collect" {
+        collect_request(alloc, given)
+    } else {
+        Ok(other_request(name, given))
+    }
+}
+
+/// What a command other than `collect` is asked for.
+fn other_request<'a>(name: &str, given: &ArgMatches<'a>) -> Option<Request<'a>>
+    ensures { name.now ≢ codes "collect" → MatchOption result (AsksNothing (Some (name.now, given_rows given.now)))
+        (Asks (name.now, given_rows given.now)) }
+{
     match name {
-        "collect" => collect_request(alloc, given),
-        "export" => Ok(export_request(given)),
-        "show" => Ok(show_request(given)),
-        "check" => Ok(check_request(given)),
-        "migrate" => Ok(migrate_request(given)),
-        "verify" => Ok(verify_request(given)),
-        "inspect" => Ok(inspect_request(given)),
-        "upload" => Ok(upload_request(given)),
-        "ack" => Ok(ack_request(given)),
-        "codes" => Ok(Some(Request::ListCodes)),
-        _ => Ok(None),
+        "export" => export_request(given),
+        "show" => show_request(given),
+        "check" => check_request(given),
+        "migrate" => migrate_request(given),
+        "verify" => verify_request(given),
+        "inspect" => inspect_request(given),
+        "upload" => upload_request(given),
+        "ack" => ack_request(given),
+        "codes" => Some(Request::ListCodes),
+        _ => None,
     }
 }
 
@@ -65,31 +76,45 @@ fn collect_request<'a>(
         return Ok(None);
     };
     let uploads = texts_given(alloc, given, "UPLOAD")?;
+    Ok(collect_by(given, database, tables, uploads))
+}
+
+/// A `collect` of uploads that are named, or of those that a list names.
+fn collect_by<'a>(
+    given: &ArgMatches<'a>,
+    database: &'a str,
+    tables: Tables,
+    uploads: Vec<&'a str>,
+) -> Option<Request<'a>>
+    ensures { IsGiven (given_rows given.now) (codes "DB") database.entry.now
+        → AreTablesOr Tables.ByKey (first_of (codes "tables") (given_rows given.now)) tables
+        → map (λ text. text.now) uploads.entry.items ≡ all_given (given_rows given.now) (codes "UPLOAD")
+        → MatchOption result (AsksNone (given_rows given.now) (codes "collect"))
+        (λ request. (command_name request ≡ codes "collect") × AskBy (given_rows given.now) request) }
+{
     let then_export = text_given(given, "then-export");
     let sequences = text_given(given, "sequences");
     match (text_given(given, "files-from"), sequences) {
-        (None, None) => Ok(Some(Request::Collect {
+        (None, None) => Some(Request::Collect {
             database,
             tables,
             uploads,
             then_export,
-        })),
-        (Some(list), None) if uploads.is_empty() => Ok(Some(Request::CollectListed {
+        }),
+        (Some(list), None) if uploads.is_empty() => Some(Request::CollectListed {
             database,
             tables,
             list,
             then_export,
-        })),
-        (Some(list), Some(sequences)) if uploads.is_empty() => {
-            Ok(Some(Request::CollectIntoUnion {
-                database,
-                tables,
-                list,
-                sequences,
-                then_export,
-            }))
-        }
-        _ => Ok(None),
+        }),
+        (Some(list), Some(sequences)) if uploads.is_empty() => Some(Request::CollectIntoUnion {
+            database,
+            tables,
+            list,
+            sequences,
+            then_export,
+        }),
+        _ => None,
     }
 }
 

@@ -56,8 +56,10 @@ fn added<'a>(
 ) -> Result<Box<Command<'a>>, AllocError>
     ensures { IfOk result (λ new. IsOkAnd command.entry (λ old. AddsArg old.value arg.entry new.value)) }
 {
-    let command = Box::into_inner(command?);
-    boxed(alloc, command.arg(arg))
+    match command {
+        Ok(command) => boxed(alloc, Box::into_inner(command).arg(arg)),
+        Err(refused) => Err(refused),
+    }
 }
 
 fn joined<'a>(
@@ -68,16 +70,30 @@ fn joined<'a>(
     ensures { IfOk result (λ new. IsOkAnd command.entry (λ old.
         IsOkAnd sub.entry (λ sub. AddsSubcommand old.value sub.value new.value))) }
 {
-    let command = Box::into_inner(command?);
-    let sub = Box::into_inner(sub?);
-    boxed(alloc, command.subcommand(sub))
+    match (command, sub) {
+        (Ok(command), Ok(sub)) => boxed(
+            alloc,
+            Box::into_inner(command).subcommand(Box::into_inner(sub)),
+        ),
+        _ => Err(AllocError),
+    }
 }
 
-fn boxed<'a>(
+/// The command with this name in usage.
+pub(crate) fn named<'a>(
     alloc: Global,
-    command: Result<Command<'a>, AllocError>,
-) -> Result<Box<Command<'a>>, AllocError>
-    ensures { IfOk result (λ new. IsOkAnd command.entry (λ old. new.value ≡ old)) }
+    command: Result<Box<Command<'a>>, AllocError>,
+    name: &str,
+) -> Result<Box<Command<'a>>, AllocError> {
+    match command {
+        Ok(command) => boxed(alloc, Box::into_inner(command).bin_name(name)),
+        Err(refused) => Err(refused),
+    }
+}
+
+// Of any type, since the checker spells out the fields of a type that it knows.
+fn boxed<T: Drop>(alloc: Global, value: Result<T, AllocError>) -> Result<Box<T>, AllocError>
+    ensures { IfOk result (λ new. IsOkAnd value (λ old. new.value ≡ old)) }
 {
-    Ok(Box::new(alloc, command?)?)
+    Ok(Box::new(alloc, value?)?)
 }

@@ -1,7 +1,7 @@
 //! What a command line asks for.
 
 /// What the command line asks for. Texts are as they were given.
-#[derive(Debug, Drop)]
+#[derive(Drop)]
 pub enum Request<'a> {
     /// Uploads taken into the journal of a database, in this order; if none is named, the one on standard input. The
     /// database is made in these tables if there is none. Once all are answered, the journal goes to a file as an export
@@ -82,7 +82,7 @@ pub enum Request<'a> {
 }
 
 /// The tables of a database.
-#[derive(Clone, Copy, Debug)]
+#[derive(Clone, Copy)]
 pub enum Tables {
     /// Those of schema 2, where a field is found by the key of its entry.
     ByKey,
@@ -91,7 +91,7 @@ pub enum Tables {
 }
 
 /// A machine's journal as a source of uploads.
-#[derive(Clone, Copy, Debug)]
+#[derive(Clone, Copy)]
 pub struct Source<'a> {
     pub kind: InputKind,
     /// Its id, as it was given.
@@ -103,7 +103,7 @@ pub struct Source<'a> {
 }
 
 /// What a file holds.
-#[derive(Clone, Copy, Debug)]
+#[derive(Clone, Copy)]
 pub enum InputKind {
     /// An export stream.
     Export,

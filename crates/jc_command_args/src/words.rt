@@ -1,11 +1,12 @@
 //! The arguments of a command line, and what they ask for.
 
-ghost use Rattle.std.specs.Prelude.{◌≡◌, ◌⊎◌, IfOk, IfErr, map, string_bytes};
+ghost use Rattle.std.specs.Prelude.{◌≡◌, ◌⊎◌, IfOk, IfErr, IsSomeAnd, map, string_bytes};
 ghost use Rattle.clap.specs.Words.{kind_of, subcommand_rows_of};
-ghost use Rattle.jc_command_args.specs.Words.{AreAnswered, AreRight, AskFor};
+ghost use Rattle.jc_command_args.specs.Words.{AreAnswered, AreRight, AskFor, Asks, AsksNothing};
 
 use crate::asked::{lacks_list, requested};
 use crate::grammar::{collect_command, program};
+use crate::making::named;
 use crate::request::Request;
 use crate::texts;
 use clap::error::ErrorKind;
@@ -19,11 +20,22 @@ pub fn parse<'a>(alloc: Global, words: &'a [String]) -> Result<Request<'a>, Erro
     ensures answer { IfErr result (λ e. (kind_of e ≡ ErrorKind.OutOfMemory)
         ⊎ AreAnswered (map string_bytes words.entry.now) (kind_of e)) }
 {
-    let matches = found(alloc, words)?;
-    let asked = requested(alloc, &matches)?;
-    match asked {
-        Some(request) => Ok(request),
-        None => Err(conflict(alloc, mistake_in(&matches))?),
+    match found(alloc, words) {
+        Ok(matches) => meant(alloc, &matches),
+        Err(error) => Err(error),
+    }
+}
+
+/// What the matches mean, or why they mean nothing.
+fn meant<'a>(alloc: Global, matches: &ArgMatches<'a>) -> Result<Request<'a>, Error>
+    ensures request { IfOk result (λ request. IsSomeAnd (subcommand_rows_of matches.now) (λ found. Asks found request)) }
+    ensures answer { IfErr result (λ e. (kind_of e ≡ ErrorKind.OutOfMemory)
+        ⊎ ((kind_of e ≡ ErrorKind.ArgumentConflict) × AsksNothing (subcommand_rows_of matches.now))) }
+{
+    match requested(alloc, matches) {
+        Ok(Some(request)) => Ok(request),
+        Ok(None) => Err(mistake(alloc, matches)),
+        Err(refused) => Err(Error::from(refused)),
     }
 }
 
@@ -35,6 +47,16 @@ fn found<'a>(alloc: Global, words: &'a [String]) -> Result<ArgMatches<'a>, Error
 {
     let program = Box::into_inner(program(alloc)?);
     program.try_get_matches_from(words)
+}
+
+/// The mistake in words that mean nothing.
+fn mistake(alloc: Global, matches: &ArgMatches<'_>) -> Error
+    ensures { (kind_of result ≡ ErrorKind.OutOfMemory) ⊎ (kind_of result ≡ ErrorKind.ArgumentConflict) }
+{
+    match conflict(alloc, mistake_in(matches)) {
+        Ok(error) => error,
+        Err(refused) => Error::from(refused),
+    }
 }
 
 /// What is wrong with a `collect` that asks for nothing: its uploads are named in both ways, or not as its folder of
@@ -51,7 +73,7 @@ fn mistake_in(matches: &ArgMatches<'_>) -> &'static str {
 fn conflict(alloc: Global, text: &str) -> Result<Error, AllocError>
     ensures { IfOk result (λ e. kind_of e ≡ ErrorKind.ArgumentConflict) }
 {
-    let collect = Box::into_inner(collect_command(alloc).command?);
-    let mut collect = collect.bin_name(texts::COLLECT_NAME)?;
+    let collect = named(alloc, collect_command(alloc).command, texts::COLLECT_NAME);
+    let mut collect = Box::into_inner(collect?);
     collect.error(ErrorKind::ArgumentConflict, text)
 }
