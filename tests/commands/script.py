@@ -23,9 +23,9 @@ has to do:
 | `holds PATH PIECES` | the file has these bytes |
 | `missing PATH` | there is no such file |
 
-Of what isn't said, nothing may be printed and the status has to be 0. `pieces.py` has the form of `PIECES`. `@` stands
-for the case's folder and a `/`, as in `@db`, and `SOURCE` for the id of a source. Each case begins in an empty folder
-and with no input, and has a run.
+Of what isn't said, nothing may be printed and the status has to be 0. `tests/pieces.py` has the form of `PIECES`. `@`
+stands for the case's folder and a `/`, as in `@db`, and `SOURCE` for the id of a source. Each case begins in an empty
+folder and with no input, and has a run.
 """
 from __future__ import annotations
 

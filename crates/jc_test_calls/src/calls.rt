@@ -9,6 +9,7 @@
 //! | `get ID:NUMBER` | the stored entry under the key |
 //! | `read PATH` | reads the export stream at once |
 //! | `entries PATH` | reads it entry by entry, in small pieces |
+//! | `reader PATH` | reads it so from a reader |
 //! | `scan PATH` | reads it by a scanner, in one piece; so do `scan-1` and `scan-7`, in pieces of 1 and of 7 bytes |
 //! | `feed PATH` | feeds it to a scanner as long as that takes bytes, and says what each call answers |
 //! | `file PATH` | reads the journal file by ranges, and says what was asked of it |
@@ -16,16 +17,37 @@
 //! | `copies PATH` | copies and spells each entry of the export stream, in every way there is |
 //! | `upload PATH` | makes the first upload of the export stream's entries |
 //! | `send PATH` | makes an upload of the journal file |
+//! | `fields PATH` | how many fields the text has |
+//! | `head PATH` | the upload's header, and what it says |
+//! | `answer PATH` | writes the answer's line that the file has |
 //! | `resume PATH` | writes the resume point that the file has |
+//! | `line TEXT` | a line of this text is printed |
+//! | `numbers N,N..` | the numbers of the words that come next |
+//! | `texts yes` | the words `entries`, `reader` and `pages` print the entries' texts from here on; `no` ends that |
 //!
-//! `schedules PATH,PATH,PATH..` takes schedules of events, each in worlds of its own; `schedules.rt` says what the files
-//! are.
+//! Some words take numbers that stand before them:
+//!
+//! | Word and operand | Numbers | |
+//! |---|---|---|
+//! | `entries PATH` | most, reads | in pieces of so many bytes at most, and the read behind so many fails |
+//! | `long PATH` | length, place | as `file`, in a space of a length; of the bytes those from the place on count |
+//! | `parts PATH` | length, places | eight bytes of such a space at each of the places, which it reads by pages |
+//! | `payload PATH` | offset | the payload of the journal file's object at the offset |
+//! | `value PATH` | calls | whether the value is a text, and the texts of an entry with it |
+//!
+//! Others take files, with commas between their paths:
+//!
+//! | Word | Numbers | Files |
+//! |---|---|---|
+//! | `scanner` | | pieces of an export stream, or empty ones: a scanner is fed with these, and gives what it found |
+//! | `uploader` | limit | an export stream, a resume point and answers: an uploader makes its next upload and takes these |
+//! | `schedules` | | schedules of events, each in worlds of its own; `schedules.rt` says what the files are |
 //!
 //! Where a call answers that memory was refused, `refused` is printed in the place of what it makes.
 
 use crate::operands::number_in;
-use crate::output::no_meaning;
-use crate::{collecting, entries, readings, schedules};
+use crate::output::{no_meaning, write_line};
+use crate::{collecting, entries, readings, schedules, spaces, values};
 use jc_base::Limits;
 use jc_keeper::MapKeeper;
 use std::alloc::Global;
@@ -35,6 +57,8 @@ use std::{fs, io};
 pub struct Calls {
     alloc: Global,
     limits: Limits,
+    numbers: Vec<u64>,
+    spells: bool,
     keeper: MapKeeper,
     output: Vec<u8>,
 }
@@ -44,6 +68,8 @@ impl Calls {
         Calls {
             alloc,
             limits: Limits::default(),
+            numbers: Vec::new(alloc),
+            spells: false,
             keeper: MapKeeper::new(alloc),
             output: Vec::new(alloc),
         }
@@ -58,10 +84,13 @@ impl Calls {
     pub fn perform(&mut self, rt: &HostRuntime, word: &str, operand: &str) -> io::Result<()> {
         match word {
             "limits" => self.limit(operand),
+            "numbers" => self.number(operand),
+            "texts" => self.spell(operand),
+            "line" => write_line(&mut self.output, operand, &[]),
             "get" => collecting::get(self.alloc, &mut self.keeper, operand, &mut self.output),
-            "schedules" => {
+            "scanner" | "uploader" | "schedules" => {
                 let files = read_files(rt, operand)?;
-                schedules::take_all(self.alloc, &files, &mut self.output)
+                self.call_together(word, &files)
             }
             _ => {
                 let bytes = fs::read(rt, operand)?;
@@ -71,7 +100,7 @@ impl Calls {
     }
 
     fn limit(&mut self, operand: &str) -> io::Result<()> {
-        match limits_in(operand) {
+        match limits_in(&numbers_in(self.alloc, operand)?) {
             Some(limits) => {
                 self.limits = limits;
                 self.keeper = MapKeeper::new(self.alloc);
@@ -81,24 +110,59 @@ impl Calls {
         }
     }
 
-    fn call(&mut self, word: &str, bytes: &[u8]) -> io::Result<()> {
-        let (alloc, limits, output) = (self.alloc, self.limits, &mut self.output);
+    fn number(&mut self, operand: &str) -> io::Result<()> {
+        self.numbers = numbers_in(self.alloc, operand)?;
+        Ok(())
+    }
+
+    fn spell(&mut self, operand: &str) -> io::Result<()> {
+        self.spells = operand == "yes";
+        Ok(())
+    }
+
+    fn call_together(&mut self, word: &str, files: &[Vec<u8>]) -> io::Result<()> {
+        let (alloc, limits, output) = (self.alloc, &self.limits, &mut self.output);
         match word {
-            "space" => collecting::space(alloc, &mut self.keeper, bytes, &limits, output),
-            "stream" => collecting::stream(alloc, &mut self.keeper, bytes, &limits, output),
-            "run" => collecting::run_one(alloc, &mut self.keeper, bytes, &limits, output),
-            "read" => readings::read(alloc, bytes, &limits, output),
-            "entries" => readings::entries(alloc, bytes, limits, output),
-            "scan" => readings::scan(alloc, bytes, &limits, usize::MAX, output),
-            "scan-1" => readings::scan(alloc, bytes, &limits, 1, output),
-            "scan-7" => readings::scan(alloc, bytes, &limits, 7, output),
-            "feed" => readings::feed_whole(alloc, bytes, &limits, output),
-            "file" => readings::file(alloc, bytes, limits, output),
-            "pages" => readings::pages(alloc, bytes, limits, output),
-            "copies" => entries::copies(alloc, bytes, &limits, output),
-            "upload" => entries::upload(alloc, bytes, &limits, output),
+            "scanner" => readings::feed_each(alloc, files, limits, output),
+            "uploader" => entries::uploader(alloc, files, &self.numbers, limits, output),
+            _ => schedules::take_all(alloc, files, output),
+        }
+    }
+
+    fn call(&mut self, word: &str, bytes: &[u8]) -> io::Result<()> {
+        let (alloc, limits, output) = (self.alloc, &self.limits, &mut self.output);
+        match word {
+            "space" => collecting::space(alloc, &mut self.keeper, bytes, limits, output),
+            "stream" => collecting::stream(alloc, &mut self.keeper, bytes, limits, output),
+            "run" => collecting::run_one(alloc, &mut self.keeper, bytes, limits, output),
+            "read" => readings::read(alloc, bytes, limits, output),
+            "scan" => readings::scan(alloc, bytes, limits, usize::MAX, output),
+            "scan-1" => readings::scan(alloc, bytes, limits, 1, output),
+            "scan-7" => readings::scan(alloc, bytes, limits, 7, output),
+            "feed" => readings::feed_whole(alloc, bytes, limits, output),
+            "file" => spaces::file(alloc, bytes, *limits, output),
+            "copies" => entries::copies(alloc, bytes, limits, output),
+            "upload" => entries::upload(alloc, bytes, limits, output),
             "send" => entries::send(alloc, bytes, output),
             "resume" => entries::resume(alloc, bytes, output),
+            "fields" => values::fields(alloc, bytes, output),
+            "head" => values::head(bytes, output),
+            "answer" => values::answer(bytes, output),
+            _ => self.call_as_set(word, bytes),
+        }
+    }
+
+    fn call_as_set(&mut self, word: &str, bytes: &[u8]) -> io::Result<()> {
+        let (alloc, limits, output) = (self.alloc, self.limits, &mut self.output);
+        let (numbers, spells) = (self.numbers.as_slice(), self.spells);
+        match word {
+            "entries" => readings::entries(alloc, bytes, numbers, limits, spells, output),
+            "reader" => readings::reader(alloc, bytes, limits, spells, output),
+            "pages" => readings::pages(alloc, bytes, limits, spells, output),
+            "long" => spaces::long(alloc, bytes, numbers, limits, output),
+            "parts" => spaces::parts(alloc, bytes, numbers, output),
+            "payload" => spaces::object(alloc, bytes, numbers, output),
+            "value" => values::value(alloc, bytes, numbers, &limits, output),
             _ => no_meaning(),
         }
     }
@@ -113,13 +177,21 @@ fn read_files(rt: &HostRuntime, paths: &str) -> io::Result<Vec<Vec<u8>>> {
     Ok(files)
 }
 
-/// The limits that five numbers with commas between them are.
-fn limits_in(operand: &str) -> Option<Limits> {
-    let mut numbers = [0; 5];
-    let mut texts = operand.split(',');
-    for number in &mut numbers {
-        *number = number_in(texts.next()?)?;
+/// The numbers that have commas between them.
+fn numbers_in(alloc: Global, operand: &str) -> io::Result<Vec<u64>> {
+    let mut numbers = Vec::new(alloc);
+    for digits in operand.split(',') {
+        match number_in(digits) {
+            Some(number) => numbers.push(number)?,
+            None => return no_meaning(),
+        }
     }
-    let [name, value, fields, entry, file] = numbers;
-    Limits::new(name, value, fields, entry, file)
+    Ok(numbers)
+}
+
+fn limits_in(numbers: &[u64]) -> Option<Limits> {
+    let [name, value, fields, entry, file] = numbers else {
+        return None;
+    };
+    Limits::new(*name, *value, *fields, *entry, *file)
 }

@@ -24,10 +24,9 @@ pub fn space<K: Keeper>(
     limits: &Limits,
     output: &mut Vec<u8>,
 ) -> io::Result<()> {
-    let asked = Asked::nothing();
-    let mut delivery: Delivery<SliceStream<'_>, _> = Delivery::Space(RecordedSpace::new(
-        upload, &asked,
-    ));
+    let asked = Asked::from_place(0);
+    let recorded = RecordedSpace::new(upload, upload.len() as u64, &asked);
+    let mut delivery: Delivery<SliceStream<'_>, _> = Delivery::Space(recorded);
     let answer = collect_one(alloc, keeper, &mut delivery, limits);
     output.write_all(answer.line().bytes())?;
     asked.write_to(output)

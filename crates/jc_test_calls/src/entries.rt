@@ -4,7 +4,7 @@ use crate::output::{no_meaning, no_memory, write_code, write_line, write_refused
 use jc_base::{Entry, Field, Id128, Limits, OutOfMemory};
 use jc_export::{Reading, canonical, fields_text, read_all, read_fields};
 use jc_test_samples::SOURCE_ID;
-use jc_upload::{Resume, UploadFault, Uploader, file_upload};
+use jc_upload::{Answer, Resume, UploadFault, Uploader, file_upload};
 use std::alloc::Global;
 use std::io;
 
@@ -128,11 +128,85 @@ pub fn upload(
 ) -> io::Result<()> {
     let entries = read_whole(alloc, bytes, limits)?.entries;
     let uploader = Uploader::new(Id128(SOURCE_ID), Resume::default());
-    match uploader.next_upload(alloc, &entries, ALL) {
+    write_upload(output, uploader.next_upload(alloc, &entries, ALL))
+}
+
+fn write_upload(output: &mut Vec<u8>, made: Result<Vec<u8>, UploadFault>) -> io::Result<()> {
+    match made {
         Ok(upload) => write_text(output, "upload", Ok(upload)),
         Err(UploadFault::OutOfMemory) => write_text(output, "upload", Err(OutOfMemory)),
         Err(_) => write_line(output, "upload changed", &[]),
     }
+}
+
+/// An uploader at a point: the files are an export stream, the point's text, and lines of answers. Writes whether the
+/// stream's entries are its own, its next upload of at most so many entries in either version, and of each answer whether
+/// the point moves and where it is then.
+pub fn uploader(
+    alloc: Global,
+    files: &[Vec<u8>],
+    numbers: &[u64],
+    limits: &Limits,
+    output: &mut Vec<u8>,
+) -> io::Result<()> {
+    let [stream, point, answers @ ..] = files else {
+        return no_meaning();
+    };
+    let uploader = uploader_at(point)?;
+    let entries = read_whole(alloc, stream, limits)?.entries;
+    write_uploads(alloc, &uploader, &entries, numbers, output)?;
+    take_answers(alloc, uploader, &entries, answers, output)
+}
+
+fn write_uploads(
+    alloc: Global,
+    uploader: &Uploader,
+    entries: &[Entry],
+    numbers: &[u64],
+    output: &mut Vec<u8>,
+) -> io::Result<()> {
+    let [limit] = numbers else {
+        return no_meaning();
+    };
+    let agrees = uploader.agrees(entries);
+    write_line(output, if agrees { "yes" } else { "no" }, &[])?;
+    write_upload(output, uploader.next_upload(alloc, entries, *limit))?;
+    write_upload(output, uploader.next_upload2(alloc, entries, *limit, true))
+}
+
+fn take_answers(
+    alloc: Global,
+    mut uploader: Uploader,
+    entries: &[Entry],
+    answers: &[Vec<u8>],
+    output: &mut Vec<u8>,
+) -> io::Result<()> {
+    for answer in answers {
+        take_answer(alloc, &mut uploader, entries, answer, output)?;
+    }
+    Ok(())
+}
+
+fn uploader_at(point: &[u8]) -> io::Result<Uploader> {
+    match Resume::read(point) {
+        Some(resume) => Ok(Uploader::new(Id128(SOURCE_ID), resume)),
+        None => no_meaning(),
+    }
+}
+
+fn take_answer(
+    alloc: Global,
+    uploader: &mut Uploader,
+    entries: &[Entry],
+    line: &[u8],
+    output: &mut Vec<u8>,
+) -> io::Result<()> {
+    let Some(answer) = Answer::read(line) else {
+        return no_meaning();
+    };
+    let moves = uploader.on_answer(entries, &answer);
+    let name = if moves { "moves" } else { "stays" };
+    write_text(output, name, uploader.resume().text(alloc))
 }
 
 /// Makes an upload of a journal file.
@@ -148,6 +222,6 @@ pub fn send(alloc: Global, bytes: &[u8], output: &mut Vec<u8>) -> io::Result<()>
 pub fn resume(alloc: Global, bytes: &[u8], output: &mut Vec<u8>) -> io::Result<()> {
     match Resume::read(bytes) {
         Some(point) => write_text(output, "resume", point.text(alloc)),
-        None => no_meaning(),
+        None => write_line(output, "none", &[]),
     }
 }

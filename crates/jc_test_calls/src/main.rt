@@ -12,7 +12,9 @@ mod output;
 mod readings;
 mod recorded;
 mod schedules;
+mod spaces;
 mod stock;
+mod values;
 mod worlds;
 
 use calls::Calls;

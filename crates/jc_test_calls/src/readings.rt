@@ -1,15 +1,21 @@
 //! Readings of export streams and of journal files.
 
 use crate::collecting::PIECE;
-use crate::output::{write_end, write_line, write_words};
-use crate::recorded::{Asked, RecordedSpace};
-use jc_base::{Ending, EntrySource, Limits, OutOfMemory, SliceStream, Step, Stop};
-use jc_export::read_all;
+use crate::output::{no_meaning, write_end, write_line, write_text, write_words};
+use jc_base::faulty::FailStream;
+use jc_base::{
+    ByteStream, Ending, Entry, EntrySource, FromRead, Limits, OutOfMemory, SliceStream, Step, Stop,
+};
+use jc_export::{canonical, read_all};
 use jc_file::{FileEntries, PagedSpace, SliceSpace};
 use jc_stream::{Scanner, Stream};
 use jc_test_samples::Pieces;
 use std::alloc::Global;
 use std::io;
+use std::io::Write;
+
+/// So many fields of a scanner are written.
+const FIELDS: usize = 3;
 
 /// Reads an export stream at once.
 pub fn read(alloc: Global, bytes: &[u8], limits: &Limits, output: &mut Vec<u8>) -> io::Result<()> {
@@ -19,16 +25,53 @@ pub fn read(alloc: Global, bytes: &[u8], limits: &Limits, output: &mut Vec<u8>) 
     }
 }
 
-/// Reads an export stream entry by entry, in small pieces.
-pub fn entries(
+/// Reads an export stream from a reader.
+pub fn reader(
     alloc: Global,
     bytes: &[u8],
     limits: Limits,
+    spells: bool,
     output: &mut Vec<u8>,
 ) -> io::Result<()> {
-    let inner = SliceStream::new(bytes);
-    match Stream::new(alloc, Pieces { inner, most: PIECE }, limits) {
-        Ok(mut source) => write_reading(output, &mut source),
+    read_stream(alloc, FromRead::new(bytes), limits, spells, output)
+}
+
+/// Reads an export stream entry by entry, from a device that gives at most so many bytes at each read and fails once,
+/// after so many reads; or in small pieces.
+pub fn entries(
+    alloc: Global,
+    bytes: &[u8],
+    numbers: &[u64],
+    limits: Limits,
+    spells: bool,
+    output: &mut Vec<u8>,
+) -> io::Result<()> {
+    let (most, reads) = match numbers {
+        [most, reads] => (*most as usize, *reads),
+        _ => (PIECE, u64::MAX),
+    };
+    let pieces = Pieces {
+        inner: SliceStream::new(bytes),
+        most: most.max(1),
+    };
+    read_stream(
+        alloc,
+        FailStream::new(pieces, reads),
+        limits,
+        spells,
+        output,
+    )
+}
+
+fn read_stream<R: ByteStream + Drop>(
+    alloc: Global,
+    device: R,
+    limits: Limits,
+    spells: bool,
+    output: &mut Vec<u8>,
+) -> io::Result<()> {
+    match Stream::new(alloc, device, limits) {
+        Ok(mut source) => write_reading(alloc, &mut source, spells, output),
         Err(OutOfMemory) => write_end(output, 0, Err(Stop::OutOfMemory)),
     }
 }
@@ -147,6 +190,51 @@ fn write_taken(output: &mut Vec<u8>, taken: Option<Step>) -> io::Result<()> {
     }
 }
 
+/// Feeds pieces to a scanner, one after the other; an empty one has it give what it found. Writes what each call answers,
+/// and the place and the first fields of the scanner after each piece.
+pub fn feed_each(
+    alloc: Global,
+    pieces: &[Vec<u8>],
+    limits: &Limits,
+    output: &mut Vec<u8>,
+) -> io::Result<()> {
+    let mut scanner = Scanner::new(alloc, *limits);
+    for piece in pieces {
+        feed_one(&mut scanner, piece, output)?;
+    }
+    Ok(())
+}
+
+fn feed_one(scanner: &mut Scanner, piece: &[u8], output: &mut Vec<u8>) -> io::Result<()> {
+    if piece.is_empty() {
+        return match scanner.take() {
+            Ok(taken) => write_taken(output, taken),
+            Err(OutOfMemory) => write_line(output, " refused", &[]),
+        };
+    }
+    match feed(scanner, piece) {
+        Ok(used) => write_fed(output, scanner, used as u64),
+        Err(OutOfMemory) => write_line(output, " refused", &[]),
+    }
+}
+
+fn write_fed(output: &mut Vec<u8>, scanner: &Scanner, used: u64) -> io::Result<()> {
+    write_line(output, "takes", &[used, scanner.position()])?;
+    for place in 0..FIELDS {
+        write_field(output, scanner.field_at(place))?;
+    }
+    Ok(())
+}
+
+fn write_field(output: &mut Vec<u8>, field: Option<(&[u8], &[u8])>) -> io::Result<()> {
+    let Some((name, value)) = field else {
+        return Ok(());
+    };
+    write_line(output, "field", &[name.len() as u64, value.len() as u64])?;
+    output.write_all(name)?;
+    output.write_all(value)
+}
+
 /// Feeds a piece to a scanner, if the bytes can be counted.
 fn feed(scanner: &mut Scanner, piece: &[u8]) -> Result<usize, OutOfMemory> {
     if u64::MAX - scanner.position() < piece.len() as u64 {
@@ -155,39 +243,64 @@ fn feed(scanner: &mut Scanner, piece: &[u8]) -> Result<usize, OutOfMemory> {
     scanner.feed(piece)
 }
 
-/// Reads a journal file by ranges, and writes how many arrays were visited and what was asked of the space.
-pub fn file(alloc: Global, bytes: &[u8], limits: Limits, output: &mut Vec<u8>) -> io::Result<()> {
-    let asked = Asked::nothing();
-    let mut source = FileEntries::new(alloc, RecordedSpace::new(bytes, &asked), limits);
-    write_reading(output, &mut source)?;
-    write_line(output, "steps", &[source.steps()])?;
-    asked.write_to(output)
-}
-
 /// Reads a journal file by pages.
-pub fn pages(alloc: Global, bytes: &[u8], limits: Limits, output: &mut Vec<u8>) -> io::Result<()> {
+pub fn pages(
+    alloc: Global,
+    bytes: &[u8],
+    limits: Limits,
+    spells: bool,
+    output: &mut Vec<u8>,
+) -> io::Result<()> {
     let space = PagedSpace::new(alloc, SliceSpace { bytes });
-    write_reading(output, &mut FileEntries::new(alloc, space, limits))
+    write_reading(
+        alloc,
+        &mut FileEntries::new(alloc, space, limits),
+        spells,
+        output,
+    )
 }
 
-/// Reads a source to its end and once more, and writes how it ended; the second time that has to be the same.
-fn write_reading<S: EntrySource>(output: &mut Vec<u8>, source: &mut S) -> io::Result<()> {
-    let (count, end) = read_out(source);
-    let (more, again) = read_out(source);
+/// Reads a source to its end and once more, and writes how it ended; the second time that has to be the same. Before that
+/// it writes the texts of its entries, if it `spells`.
+pub fn write_reading<S: EntrySource>(
+    alloc: Global,
+    source: &mut S,
+    spells: bool,
+    output: &mut Vec<u8>,
+) -> io::Result<()> {
+    let (count, end) = read_out(alloc, source, spells, output)?;
+    let (more, again) = read_out(alloc, source, spells, output)?;
     if more > 0 || again != end {
         write_line(output, "another end", &[])?;
     }
     write_end(output, count, end)
 }
 
-fn read_out<S: EntrySource>(source: &mut S) -> (u64, Result<Ending, Stop>) {
+fn read_out<S: EntrySource>(
+    alloc: Global,
+    source: &mut S,
+    spells: bool,
+    output: &mut Vec<u8>,
+) -> io::Result<(u64, Result<Ending, Stop>)> {
     for count in 0..u64::MAX {
-        match source.next() {
-            Ok(Step::Entry(_)) => {}
-            Ok(Step::End { left }) => return (count, Ok(Ending::End { left })),
-            Ok(Step::Bad(fault)) => return (count, Ok(Ending::Bad(fault))),
-            Err(stop) => return (count, Err(stop)),
+        match entry_of(source.next()) {
+            Ok(entry) => {
+                if spells {
+                    write_text(output, "entry", canonical(alloc, &entry))?;
+                }
+            }
+            Err(end) => return Ok((count, end)),
         }
     }
-    (u64::MAX, Err(Stop::ReadFailed))
+    no_meaning()
+}
+
+/// The entry that a step gives, or how the source ended.
+fn entry_of(step: Result<Step, Stop>) -> Result<Entry, Result<Ending, Stop>> {
+    match step {
+        Ok(Step::Entry(entry)) => Ok(entry),
+        Ok(Step::End { left }) => Err(Ok(Ending::End { left })),
+        Ok(Step::Bad(fault)) => Err(Ok(Ending::Bad(fault))),
+        Err(stop) => Err(Err(stop)),
+    }
 }

@@ -1,0 +1,350 @@
+"""What is said of bytes, each under a word, by what the words of crates/jc_test_calls print, a program for tests:
+
+| Word | |
+|---|---|
+| `reads` | an export stream: `ok ENTRIES LEFT`, or `bad CODE PLACE`; the same by a scanner, in pieces of each length |
+| `cut` | the same in pieces of each length: the entries' canonical texts, and then `ok LEFT` or `bad CODE PLACE` |
+| `fails MOST,READS` | the same from a device that gives so many bytes at most and fails after so many reads: `stop` |
+| `fed` | pieces: how many bytes a scanner takes of each, how many it has then, its first fields; where one is empty, |
+| | whether it gives an `entry`, a `fault` or `none` |
+| `file` | a journal file: `ok ENTRIES`, or `bad ENTRIES CODE PLACE` |
+| `arrays` | the same, and then the number of its arrays |
+| `first` | a journal file: the canonical text of its first entry, or `none` |
+| `payload OFFSET` | the payload of its object at the offset, or `none` |
+| `ends LENGTH` | as `arrays` in a space of this length, and then where the last range ended that was asked for |
+| `asked LENGTH,PLACE` | as `file` in such a space, and then how many bytes were asked for from the place on |
+| `parts LENGTH,PLACE..` | by pages of such a space: after each place how often it was read by now, and eight bytes |
+| `fields` | a text of fields: `some NUMBER`, or `none` |
+| `text` | a value: whether it is a text, `yes` or `no` |
+| `value` | a value: the text of the field `MESSAGE` with it |
+| `writes` | a value: the canonical text of an entry with it, by a writer; by sinks that fail, as much as they took |
+| `head` | an upload's header: `first KIND START`, `second KIND START WHOLE ENTRIES`, or `bad CODE PLACE` |
+| `answer` | an answer's line: the line that is written for it, or `none` |
+| `resume` | a resume point's text: the text that is written for it, or `none` |
+| `agrees` | a stream and a resume point: whether its entries are those that are acknowledged, `yes` or `no` |
+| `next LIMIT` | a stream and a resume point: the next upload and its length, or `changed` |
+| `whole LIMIT` | the same of an upload that is to be whole |
+| `sends` | a journal file: its upload and that one's length |
+| `acks` | a stream, a resume point and answers: after each whether the point `moves` or `stays`, and its text |
+"""
+from __future__ import annotations
+
+import re
+from collections.abc import Callable, Sequence
+from typing import Any, NamedTuple
+
+from samples import HEAD, SOURCE
+
+MOST = 2**64 - 1
+# More bytes than the texts have that are written in part.
+LONGEST = 200
+
+
+class Told:
+    """What the program printed and wasn't looked at yet. What isn't of the form that it should have is a ValueError."""
+
+    def __init__(self, output: bytes) -> None:
+        self.rest = output
+
+    def take(self, size: int) -> bytes:
+        if size > len(self.rest):
+            raise ValueError("there is less")
+        taken, self.rest = self.rest[:size], self.rest[size:]
+        return taken
+
+    def line(self) -> str:
+        line, end, self.rest = self.rest.partition(b"\n")
+        if not end:
+            raise ValueError("there is no line")
+        return line.decode()
+
+    def begins(self, name: str) -> bool:
+        """Whether a line of this name and numbers comes next."""
+        return re.match(rb"%s [0-9 ]+\n" % name.encode(), self.rest) is not None
+
+    def numbers(self, name: str) -> list[int]:
+        """The numbers of a line of this name."""
+        if not self.begins(name):
+            raise ValueError(f"there is no {name}")
+        return [int(it) for it in self.line().removeprefix(name).split()]
+
+    def text(self, *names: str) -> bytes:
+        """What comes behind its length, on a line of one of the names; or the line itself."""
+        name = next(filter(self.begins, names), None)
+        if name is None:
+            return self.line().encode()
+        text = self.take(*self.numbers(name))
+        if self.take(1) != b"\n":
+            raise ValueError("there is more")
+        return text
+
+    def all(self) -> bytes:
+        return self.take(len(self.rest))
+
+
+class Word(NamedTuple):
+    """What the program is called with for a row, by the paths of files with its bytes and by its numbers; and what it
+    said then, by those bytes."""
+    calls: Callable[[Sequence[str], str], list[str]]
+    said: Callable[[Told, Sequence[bytes]], bytes]
+    has_numbers: bool = False
+    # how many things a row has at least
+    things: int = 1
+
+
+def numbered(numbers: str) -> list[str]:
+    """The words that give the next ones these numbers."""
+    return ["numbers", numbers] if numbers else []
+
+
+def each(*names: str) -> Callable[[Sequence[str], str], list[str]]:
+    """Words of the program, each with the one file."""
+    return lambda paths, numbers: [*numbered(numbers), *(it for name in names for it in (name, *paths))]
+
+
+def together(name: str) -> Callable[[Sequence[str], str], list[str]]:
+    """A word of the program with all files. It has a number, if not by the row."""
+    return lambda paths, numbers: [*numbered(numbers or "0"), name, ",".join(paths)]
+
+
+def one(ways: Sequence[Any]) -> Any:
+    """What is told in several ways, which has to be the same."""
+    if any(way != ways[0] for way in ways):
+        raise ValueError("another way it is something else")
+    return ways[0]
+
+
+# Export streams.
+
+def reads(told: Told, _: Sequence[bytes]) -> bytes:
+    return one(told.all().splitlines())
+
+
+def heard(told: Told) -> tuple[list[bytes], str]:
+    """The texts of a source's entries, and how it ended: `ok LEFT`, `bad CODE PLACE` or `stop`. Where it ends otherwise
+    if it is asked once more, another line comes before that."""
+    texts = []
+    while told.begins("entry"):
+        texts.append(told.text("entry"))
+    line = told.line()
+    if line.startswith(f"ok {len(texts)} "):
+        return texts, "ok " + line.split(" ")[2]
+    return texts, "stop" if line == "failed" else line
+
+
+def heard_text(told: Told) -> bytes:
+    texts, end = heard(told)
+    return b"".join(texts) + end.encode()
+
+
+def cut_calls(paths: Sequence[str], _: str) -> list[str]:
+    devices = [word for most in (1, 7, 65_536) for word in (*numbered(f"{most},{MOST}"), "entries", *paths)]
+    return ["reader", *paths, *devices]
+
+
+def cut(told: Told, _: Sequence[bytes]) -> bytes:
+    return one([heard_text(told) for _ in range(4)])
+
+
+def fails(told: Told, _: Sequence[bytes]) -> bytes:
+    return heard_text(told)
+
+
+def fed(told: Told, _: Sequence[bytes]) -> bytes:
+    said = []
+    while told.rest:
+        if told.begins("field"):
+            said.append(b"=".join(map(told.take, told.numbers("field"))))
+        else:
+            said.append(told.line().strip().encode())
+    return b", ".join(said)
+
+
+# Journal files.
+
+def file_end(count: int, end: str) -> bytes:
+    """How a file ended after so many entries."""
+    if end.startswith("bad "):
+        return end.replace("bad", f"bad {count}").encode()
+    return b"ok %d" % count if end == "ok 0" else b"stopped"
+
+
+def read_file(told: Told) -> tuple[list[bytes], bytes, int]:
+    """The texts of a file's entries, how it ended, and the number of its arrays, read by pages and by ranges."""
+    texts, end = heard(told)
+    by_ranges, (arrays,), _ = told.line(), told.numbers("steps"), told.numbers("asked")
+    one([end.replace("ok", f"ok {len(texts)}"), by_ranges])
+    return texts, file_end(len(texts), end), arrays
+
+
+def file(told: Told, _: Sequence[bytes]) -> bytes:
+    return read_file(told)[1]
+
+
+def arrays(told: Told, _: Sequence[bytes]) -> bytes:
+    _, end, count = read_file(told)
+    return end + b" %d" % count
+
+
+def first(told: Told, _: Sequence[bytes]) -> bytes:
+    return (read_file(told)[0] or [b"none"])[0]
+
+
+def payload(told: Told, _: Sequence[bytes]) -> bytes:
+    return told.text("payload")
+
+
+def long_file(told: Told) -> tuple[bytes, int, int, int]:
+    """How a file ends in a longer space, the number of its arrays, and what was asked of the space."""
+    line = told.line()
+    count = line.split(" ")[1] if line.startswith("ok ") else "0"
+    arrays, = told.numbers("steps")
+    return file_end(int(count), line.replace(f"ok {count}", "ok")), arrays, *told.numbers("asked")
+
+
+def end_calls(paths: Sequence[str], length: str) -> list[str]:
+    return [*numbered(f"{length},0"), "long", *paths]
+
+
+def ends(told: Told, _: Sequence[bytes]) -> bytes:
+    return b"%s %d %d" % long_file(told)[:3]
+
+
+def asked(told: Told, _: Sequence[bytes]) -> bytes:
+    end, _, _, size = long_file(told)
+    return end + b" %d" % size
+
+
+def parts(told: Told, _: Sequence[bytes]) -> bytes:
+    said = []
+    while told.rest:
+        said.append(b"%d %s" % (*told.numbers("reads"), told.take(8)))
+    return b", ".join(said)
+
+
+# Values and texts.
+
+def line(told: Told, _: Sequence[bytes]) -> bytes:
+    return told.line().encode()
+
+
+def value_calls(paths: Sequence[str], _: str) -> list[str]:
+    return [*numbered(str(MOST)), "value", *paths]
+
+
+def spelled(told: Told) -> tuple[bytes, bytes, bytes, bytes]:
+    """Whether a value is a text, the text of its field, that of an entry with it, and what a sink took of this: less
+    if it failed."""
+    is_text, field, whole = told.line().encode(), told.text("fields"), told.text("put")
+    has_failed = told.begins("front")
+    front = told.take(*told.numbers("front" if has_failed else "whole"))
+    if has_failed == (front == whole):
+        raise ValueError("a sink didn't fail as it said")
+    return is_text, field, whole, front
+
+
+def text(told: Told, _: Sequence[bytes]) -> bytes:
+    return spelled(told)[0]
+
+
+def value(told: Told, _: Sequence[bytes]) -> bytes:
+    return spelled(told)[1]
+
+
+def write_calls(paths: Sequence[str], _: str) -> list[str]:
+    return [word for calls in range(LONGEST) for word in (*numbered(str(calls)), "value", *paths)]
+
+
+def writes(told: Told, _: Sequence[bytes]) -> bytes:
+    """What a writer has, if each sink has as much of it as it was called."""
+    wholes = []
+    for calls in range(LONGEST):
+        _, _, whole, front = spelled(told)
+        wholes += [whole, front + whole[calls:]]
+        if len(front) != min(calls, len(whole)):
+            raise ValueError(f"after {calls} calls a sink has {len(front)} bytes")
+    return one(wholes)
+
+
+def head(told: Told, things: Sequence[bytes]) -> bytes:
+    """A header that is another one once it is written is no header here, nor is one of another source."""
+    if not told.begins("bad"):
+        one([told.take(len(SOURCE)), SOURCE])
+        one([told.take(HEAD), things[0]])
+    return told.line().encode()
+
+
+def answer(told: Told, _: Sequence[bytes]) -> bytes:
+    said = told.all()
+    return b"none" if said == b"none\n" else said
+
+
+def resume(told: Told, _: Sequence[bytes]) -> bytes:
+    return told.text("resume")
+
+
+# Uploads.
+
+def upload(told: Told) -> bytes:
+    """An upload and its length, or that there is none."""
+    if not told.begins("upload"):
+        return told.line().removeprefix("upload ").encode()
+    made = told.text("upload")
+    return made + b" %d" % len(made)
+
+
+def uploader(told: Told) -> tuple[bytes, bytes, bytes]:
+    """Whether a stream's entries are an uploader's, and its next upload of either version."""
+    return told.line().encode(), upload(told), upload(told)
+
+
+def agrees(told: Told, _: Sequence[bytes]) -> bytes:
+    return uploader(told)[0]
+
+
+def next_upload(told: Told, _: Sequence[bytes]) -> bytes:
+    return uploader(told)[1]
+
+
+def whole(told: Told, _: Sequence[bytes]) -> bytes:
+    return uploader(told)[2]
+
+
+def sends(told: Told, _: Sequence[bytes]) -> bytes:
+    return upload(told)
+
+
+def acks(told: Told, _: Sequence[bytes]) -> bytes:
+    uploader(told)
+    said = b""
+    while told.rest:
+        name = told.rest.partition(b" ")[0]
+        said += name + b" " + told.text("moves", "stays")
+    return said
+
+
+WORDS = {
+    "reads": Word(each("read", "scan", "scan-1", "scan-7"), reads),
+    "cut": Word(cut_calls, cut),
+    "fails": Word(each("entries"), fails, has_numbers=True),
+    "fed": Word(together("scanner"), fed),
+    "file": Word(each("pages", "file"), file),
+    "arrays": Word(each("pages", "file"), arrays),
+    "first": Word(each("pages", "file"), first),
+    "payload": Word(each("payload"), payload, has_numbers=True),
+    "ends": Word(end_calls, ends, has_numbers=True),
+    "asked": Word(each("long"), asked, has_numbers=True),
+    "parts": Word(each("parts"), parts, has_numbers=True),
+    "fields": Word(each("fields"), line),
+    "text": Word(value_calls, text),
+    "value": Word(value_calls, value),
+    "writes": Word(write_calls, writes),
+    "head": Word(each("head"), head),
+    "answer": Word(each("answer"), answer),
+    "resume": Word(each("resume"), resume),
+    "agrees": Word(together("uploader"), agrees, things=2),
+    "next": Word(together("uploader"), next_upload, has_numbers=True, things=2),
+    "whole": Word(together("uploader"), whole, has_numbers=True, things=2),
+    "sends": Word(each("send"), sends),
+    "acks": Word(together("uploader"), acks, things=3),
+}
