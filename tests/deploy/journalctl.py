@@ -22,7 +22,6 @@ import io
 import os
 import re
 import signal
-import subprocess
 import sys
 import time
 from collections.abc import Callable, Iterator, Sequence
@@ -135,6 +134,9 @@ def read_files() -> list[File]:
             if FILES:
                 refuse("Failed to open files: No such file or directory")
         if os.environ.get("GROWS") and len(files) == 1:
+            # which takes longer to load than all else that this does
+            import subprocess
+
             subprocess.run(["sh", "-c", os.environ["GROWS"]], check=True)
     return files
 
