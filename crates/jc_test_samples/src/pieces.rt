@@ -5,16 +5,15 @@
 //! - the name of a sample, as `ENTRY`
 //! - `head:KIND:START`: the header of an upload
 //! - `entries:FIRST:LAST`: the entries with these numbers
-//! - `byte:N`, `number:N`: one byte, and eight with the least first
+//! - `number:N`: eight bytes, the least first
 //! - `fill:N:COUNT`: so many bytes, each of them N
-//! - `tail:PLACE`: the journal file from this place on
 //! - `set:PLACE:N`, `put:PLACE:N`: one byte, or eight, in the place of what is there
 //! - `cut:N`: only the first N bytes of all that was named before
 //! - `again:COUNT:N`: the last COUNT bytes of all that was named before, N times more
 
 use super::entry::{
     BINARY_FRONT, BOOT_FIELD, CHANGED_ENTRY, ENTRY, ENTRY_2, ENTRY_3, LAST_ENTRY, METADATA,
-    METADATA_2, METADATA_3, METADATA_LINES, SHOWN, numbered_entry,
+    METADATA_2, SHOWN, numbered_entry,
 };
 use super::file::{JOURNAL_FILE, LONG_HEADER_FILE, put, put_number};
 use super::upload::head;
@@ -37,7 +36,7 @@ pub fn add_pieces(alloc: Global, pieces: &str, bytes: &mut Vec<u8>) -> io::Resul
 }
 
 /// Adds a text that has `\n` for a newline.
-pub fn add_text(alloc: Global, text: &str, bytes: &mut Vec<u8>) -> io::Result<()> {
+fn add_text(alloc: Global, text: &str, bytes: &mut Vec<u8>) -> io::Result<()> {
     add(bytes, text.replace(alloc, "\\n", "\n")?.as_bytes())
 }
 
@@ -49,7 +48,7 @@ fn add_words(alloc: Global, words: &str, bytes: &mut Vec<u8>) -> io::Result<()> 
 }
 
 /// Adds what one word names, or changes what is there.
-pub fn add_word(alloc: Global, word: &str, bytes: &mut Vec<u8>) -> io::Result<()> {
+fn add_word(alloc: Global, word: &str, bytes: &mut Vec<u8>) -> io::Result<()> {
     match word.split_once(':') {
         Some((name, numbers)) => add_made(alloc, name, numbers, bytes),
         None => add_sample(word, bytes),
@@ -74,11 +73,6 @@ fn add_sample(name: &str, bytes: &mut Vec<u8>) -> io::Result<()> {
         "LAST_ENTRY" => LAST_ENTRY,
         "METADATA" => METADATA,
         "METADATA_2" => METADATA_2,
-        "METADATA_3" => METADATA_3,
-        "REALTIME" => METADATA_LINES[0],
-        "MONOTONIC" => METADATA_LINES[1],
-        "SEQNUM" => METADATA_LINES[2],
-        "SEQNUM_ID" => METADATA_LINES[3],
         "BOOT_FIELD" => BOOT_FIELD,
         "BINARY_FRONT" => BINARY_FRONT,
         "SHOWN" => SHOWN.as_bytes(),
@@ -108,10 +102,8 @@ fn make(alloc: Global, name: &str, first: u64, second: u64, bytes: &mut Vec<u8>)
     match name {
         "head" => add(bytes, &head(low_byte(first), low_byte(second))),
         "entries" => add_entries(alloc, first, second, bytes),
-        "byte" => add(bytes, &[low_byte(first)]),
         "number" => add(bytes, &first.to_le_bytes()),
         "fill" => add_times(&[low_byte(first)], second, bytes),
-        "tail" => add(bytes, tail(&JOURNAL_FILE, first)),
         "again" => {
             let start = (bytes.len() as u64).saturating_sub(first);
             let last = Vec::from_slice(alloc, tail(bytes, start))?;

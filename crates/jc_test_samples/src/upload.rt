@@ -13,11 +13,6 @@ pub const EXPORT: [u8; 48] = *b"JCUPLD01\x01\0\0\0\0\0\0\0\
     \xa0\xa1\xa2\xa3\xa4\xa5\xa6\xa7\xa8\xa9\xaa\xab\xac\xad\xae\xaf\
     \0\0\0\0\0\0\0\0\0\0\0\0\0\0\0\0";
 
-/// The header of an upload of a journal file, before which no entries come.
-pub const FILE: [u8; 48] = *b"JCUPLD01\x02\0\0\0\0\0\0\0\
-    \xa0\xa1\xa2\xa3\xa4\xa5\xa6\xa7\xa8\xa9\xaa\xab\xac\xad\xae\xaf\
-    \0\0\0\0\0\0\0\0\0\0\0\0\0\0\0\0";
-
 /// The header of an upload of this kind, before which this many entries come.
 pub fn head(kind: u8, start: u8) -> [u8; 48]
     ensures kind { slice_index_or result 8 0 ≡ kind }
