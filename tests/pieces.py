@@ -1,4 +1,4 @@
-r"""Bytes, as a line of a script names them: as crates/jc_test_samples/src/pieces.rt has it, with more words, and by files.
+r"""Bytes, as a line of a script names them, by more words than crates/jc_test_samples/src/pieces.rt has, and by files.
 
 A text in quotation marks is itself, with `\n` for a newline. Each other word is one of these:
 
