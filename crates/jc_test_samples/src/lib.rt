@@ -5,14 +5,14 @@ mod answer;
 mod devices;
 mod entry;
 mod file;
-mod line;
 mod pieces;
+mod said;
 mod upload;
 
 pub use answer::answer_lines;
 pub use devices::{Pieces, Slow};
 pub use entry::{ENTRY, SEQNUM_ID};
 pub use file::JOURNAL_FILE;
-pub use line::line;
 pub use pieces::add_pieces;
+pub use said::line;
 pub use upload::{SOURCE, SOURCE_ID};
