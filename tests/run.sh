@@ -29,10 +29,13 @@ ci() {
     RT_JOBS=$at_once rt ci 2>&1 | tee "$work/ci"
 }
 
-# What rt ci has to do goes first: the edits' checks run at a lower priority, and wait for a processor that it leaves.
-# They may all be judged before rt ci ends. So this part's status isn't that of what hands on the words of rt ci.
+# What rt ci has to do goes first: the edits' checks run where it leaves a processor idle, or at a lower priority where
+# that can't be asked for. They may all be judged before rt ci ends. So this part's status isn't that of what hands on
+# the words of rt ci.
 edits() {
-    RT_JOBS=$at_once TMPDIR=$work nice python3 -ESB tests/refused --beside \
+    local last=(chrt --idle 0)
+    "${last[@]}" true 2> /dev/null || last=(nice)
+    RT_JOBS=$at_once TMPDIR=$work "${last[@]}" python3 -ESB tests/refused --beside \
         < <(tail -n +1 -s 1 -f --pid="$ci" "$work/ci")
 } > "$work/edits" 2>&1
 
