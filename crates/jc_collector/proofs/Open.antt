@@ -1,5 +1,5 @@
 -- The answers of a run over a database that it has open.
-use Rattle.std.proofs.Common.{◌≡◌, ℕ, zero, suc, ◌≤◌, ◌-◌, List, [], ◌∷◌, ◌++◌, Option, None, Some, Result, Ok, Err, inl, ⊎_elim, length, take, sym, subst, subst₂, ◌∙◌, append-nil, arith}
+use Rattle.std.proofs.Common.{◌≡◌, ℕ, zero, suc, ◌≤◌, ◌-◌, List, [], ◌∷◌, Option, None, Some, Result, Ok, Err, inl, ⊎_elim, length, take, sym, subst, subst₂, ◌∙◌, append-nil, arith}
 use Rattle.std.specs.Prelude.{IfOk, IfErr, OnOk, ⊤}
 use Rattle.std.specs.Io.KnownBytes.{Appends}
 use Rattle.std.proofs.lemmas.List.{length-append, take_all}

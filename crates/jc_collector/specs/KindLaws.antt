@@ -1,5 +1,4 @@
 -- What is said of the kind of tables that a run has, for each that it may have begun with. (own)
-use Rattle.std.specs.Prelude.{◌≡◌}
 use Rattle.std.proofs.Common.{subst, sym}
 use Rattle.sqlite.specs.Store.{Ghosts}
 use Rattle.sqlite.specs.Recovery.{Image}

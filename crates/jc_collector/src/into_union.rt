@@ -20,12 +20,12 @@ ghost use Rattle.jc_collector.specs.IntoUnion.{LeadsIf, StoresNotedListed, Store
 ghost use Rattle.jc_collector.specs.Listed.{PrintsListed};
 ghost use Rattle.jc_command_shared.specs.Deeds.{ChangesOnly, IsReplacedIf, OpensAndChanges};
 
-use crate::database::{Opened, check_name, open_or_make};
-use crate::listed::INPUT;
-use crate::then_export::{check_export, export_after};
+use crate::database::{Opened, open_or_make};
+use crate::listed::list_source;
+use crate::then_export::{check_names, export_after};
 use jc_collector_answers::{NameLines, answer_names};
 use jc_command_args::Tables;
-use jc_command_shared::{Failure, Status, System, open_file};
+use jc_command_shared::{Failure, Status, System};
 use jc_database::{Databases, OpenFromFiles, StoreInFiles};
 use jc_keeper::Keeper;
 use jc_ledger::{Ledger, Past};
@@ -78,22 +78,8 @@ pub fn collect_into_union<
     ensures touched { OpensAndChanges database.now (IsReplacedIf (option_map (λ name. name.now) then_export.entry))
         (Y.deeds rt.old) (Y.deeds rt.new) }
 {
-    check_name(database)?;
-    check_export(rt, database, then_export)?;
-    if list == INPUT {
-        return join_lines::<_, F, L, P, _, _, _>(
-            rt,
-            start,
-            ledger,
-            database,
-            tables,
-            then_export,
-            &mut *input,
-            output,
-            errors,
-        );
-    }
-    let names = open_file(rt, list)?;
+    check_names(rt, database, then_export)?;
+    let source = list_source(rt, list, &mut *input)?;
     join_lines::<_, F, L, P, _, _, _>(
         rt,
         start,
@@ -101,7 +87,7 @@ pub fn collect_into_union<
         database,
         tables,
         then_export,
-        names,
+        source,
         output,
         errors,
     )

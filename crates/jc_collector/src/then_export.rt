@@ -6,8 +6,9 @@ ghost use Rattle.sqlite.specs.View.{doubt};
 ghost use Rattle.jc_command_shared.specs.Deeds.{ChangesOnly, IsReplaced, IsReplacedIf};
 ghost use Rattle.jc_store.specs.Crash.{LeavesNoMore};
 ghost use Rattle.jc_store.specs.Meaning.{IsSound, KeepsJournal};
-ghost use Rattle.jc_collector.specs.Database.{IsOutFailure};
+ghost use Rattle.jc_collector.specs.Database.{IsBadName, IsOutFailure};
 
+use crate::database::check_name;
 use crate::listing::export_journal;
 use jc_command_shared::{
     Failure, Status, System, UNFINISHED, create_file, folder_and_name, name_beside, put_in_place,
@@ -20,9 +21,22 @@ use std::os::unix::fs::MetadataExt;
 /// The endings of the names of files that a database has beside its own.
 const BESIDE: [&str; 3] = ["-wal", "-shm", "-journal"];
 
-/// Refuses a path for an export whose file would take the place of the database or of a file beside it. A database that
-/// is a link has these beside the file that it leads to.
-pub fn check_export<'a, Y: System>(
+/// Refuses a database's name that SQLite takes for something else than a path, and a path for an export whose file would
+/// take the place of the database or of a file beside it.
+pub(crate) fn check_names<'a, Y: System>(
+    rt: &Y,
+    database: &str,
+    then_export: Option<&str>,
+) -> Result<(), Failure<'a>>
+    ensures { IfErr result (λ failure. ((failure ≡ Failure.BadDatabaseName) × IsBadName database.now)
+        ⊎ (failure ≡ Failure.BadExportName) ⊎ (failure ≡ Failure.OutOfMemory)) }
+{
+    check_name(database)?;
+    check_export(rt, database, then_export)
+}
+
+/// Refuses such a path for an export. A database that is a link has those files beside the one that it leads to.
+fn check_export<'a, Y: System>(
     rt: &Y,
     database: &str,
     path: Option<&str>,

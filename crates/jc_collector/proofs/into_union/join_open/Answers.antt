@@ -1,6 +1,6 @@
 -- What was answered stands in the union, and the export behind it changes nothing. The keeper that was answered over isn't
 -- named, so that another one doesn't fit.
-use Rattle.std.proofs.Common.{inl, inr, sym}
+use Rattle.std.proofs.Common.{inl, inr}
 use Rattle.std.specs.Prelude.{⊤}
 use Rattle.jc_ledger.specs.Kept.{NoneCollide}
 use Rattle.jc_store.specs.Crash.{MayLeave}
