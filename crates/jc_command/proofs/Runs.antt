@@ -245,27 +245,44 @@ by_number begun g left words texts given output output' errors errors' n status 
     subst (Ends begun g left words given output output' errors errors') (same_status status wanted (sym is ∙ wants))
     (subst (λ (t : List Text). Ends begun g left t given output output' errors errors' status) same ends)
 
--- a run that stops short ends with the failure's status
+-- no failure's status is that of success
+fails : (failure : Failure) → status_of failure ≢ Success
+fails (failures.Bad fault) same = cc
+fails failures.SourceChanged same = cc
+fails failures.BadResume same = cc
+fails (failures.BadAnswer line) same = cc
+fails failures.BadId same = cc
+fails failures.BadFieldName same = cc
+fails failures.BadDatabaseName same = cc
+fails failures.BadExportName same = cc
+fails (failures.CannotOpen path) same = cc
+fails failures.ReadFailed same = cc
+fails failures.WriteFailed same = cc
+fails failures.StoreFailed same = cc
+fails failures.OutOfMemory same = cc
+fails failures.WordsAreNoText same = cc
+
+-- a run that stops short gives no files back, and ends with the failure's status
 stops : {S C L N : Type 0} (begun : Begins) (g : Devices S C L N) (left : Leaves C N) (words : List Text) (given output output' errors errors' : Option (List ℕ)) (failure : Failure) (wanted : Status)
-    → status_of failure ≡ wanted → (wanted ≡ Refused) ⊎ (wanted ≡ Misused) → Stops words given output output' failure
+    → status_of failure ≡ wanted → wanted ≢ Failed → Stops words given output output' failure
     → Ends begun g left words given output output' errors errors' wanted
-stops begun g left words given output output' errors errors' failure Success same which stopped = elim which [ inl e ↦ cc | inr e ↦ cc ]
-stops begun g left words given output output' errors errors' failure Failed same which stopped = elim which [ inl e ↦ cc | inr e ↦ cc ]
-stops begun g left words given output output' errors errors' failure Refused same which stopped = elim stopped [
+stops begun g left words given output output' errors errors' failure Success same other stopped = absurd (fails failure same)
+stops begun g left words given output output' errors errors' failure Failed same other stopped = absurd (other refl)
+stops begun g left words given output output' errors errors' failure Refused same other stopped = elim stopped [
   | inl failed ↦ let both : Failed ≡ Refused = sym failed ∙ same in cc
   | inr asked ↦ inr (subst (StopsAsked words given output output') same asked)
 ]
-stops begun g left words given output output' errors errors' failure Misused same which stopped = elim stopped [
+stops begun g left words given output output' errors errors' failure Misused same other stopped = elim stopped [
   | inl failed ↦ let both : Failed ≡ Misused = sym failed ∙ same in cc
   | inr asked ↦ inr (subst (StopsAsked words given output output') same asked)
 ]
 
 pub stops_by_number : {S C L N : Type 0} (begun : Begins) (g : Devices S C L N) (left : Leaves C N) (words texts : List Text) (given output output' errors errors' : Option (List ℕ)) (n : ℕ)
     (failure : Failure) (wanted : Status) → texts ≡ words → n ≡ number_of (status_of failure) → n ≡ number_of wanted
-    → (wanted ≡ Refused) ⊎ (wanted ≡ Misused) → Stops texts given output output' failure
+    → wanted ≢ Failed → Stops texts given output output' failure
     → Ends begun g left words given output output' errors errors' wanted
-stops_by_number begun g left words texts given output output' errors errors' n failure wanted same is wants which stopped =
-    stops begun g left words given output output' errors errors' failure wanted (same_status (status_of failure) wanted (sym is ∙ wants)) which
+stops_by_number begun g left words texts given output output' errors errors' n failure wanted same is wants other stopped =
+    stops begun g left words given output output' errors errors' failure wanted (same_status (status_of failure) wanted (sym is ∙ wants)) other
     (subst (λ (t : List Text). Stops t given output output' failure) same stopped)
 
 -- ... and an answer in place of a request fails only where a device or memory does
@@ -287,17 +304,6 @@ stops_answered words k r given output output' errors errors' asked mistaken memo
     by_write : (r : Result Status Failure) → IfErr r (λ why. why ≡ failures.WriteFailed) → IfErr r (Stops words given output output')
     by_write (Ok status) fact = tt
     by_write (Err why) fact = inl (ap status_of fact)
-
--- ... whatever the files are
-pub misused_by_number : (words texts : List Text) (given output output' : Option (List ℕ)) (n : ℕ) (failure : Failure) → texts ≡ words
-    → n ≡ number_of (status_of failure) → n ≡ number_of Misused → Stops texts given output output' failure
-    → (AreWrong words × Keeps output output') ⊎ StopsAsked words given output output' Misused
-misused_by_number words texts given output output' n failure same is wants stopped =
-    let status : status_of failure ≡ Misused = same_status (status_of failure) Misused (sym is ∙ wants) in
-    elim (subst (λ (t : List Text). Stops t given output output' failure) same stopped) [
-      | inl failed ↦ let both : Failed ≡ Misused = sym failed ∙ status in cc
-      | inr asked ↦ inr (subst (StopsAsked words given output output') status asked)
-    ]
 
 -- ---- over a union of databases
 

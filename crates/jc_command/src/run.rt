@@ -5,6 +5,7 @@ ghost use Rattle.std.specs.Io.KnownBytes.{Appends, Keeps};
 ghost use Rattle.clap.specs.Words.{kind_of};
 ghost use Rattle.jc_command_args.specs.Answer.{IsAskedFor};
 ghost use Rattle.jc_command_shared.specs.Failure.{status_of};
+ghost use Rattle.jc_command_shared.specs.Status.{number_of};
 ghost use Rattle.jc_command.specs.Run.{DoesAsked, DoesFor, Ends, EndsWithin, FailsBy, Performs, Stops, begins_with, devices, leaves};
 
 use crate::begun::{Begun, BegunBy};
@@ -151,15 +152,10 @@ pub fn command<'a, Y: Databases, F: OpenFromFiles, S: Begun, I: Read, O: Write, 
     errors: &mut E,
 ) -> u8
     ensures status { result ≤ 3 }
-    ensures success { result ≡ 0 → EndsWithin (begins_with F.first S.windows S.past S.came)
+    ensures ended { (status : Status) → status ≢ Status.Failed → result ≡ number_of status
+        → EndsWithin (begins_with F.first S.windows S.past S.came)
         (devices F.in_files ⟦<Sequences<'a, S> as Ledger>⟧) (map string_bytes words.items) (I.remaining input.old)
-        (O.contents output.old) (O.contents output.new) (E.contents errors.old) (E.contents errors.new) Status.Success }
-    ensures refused { result ≡ 1 → EndsWithin (begins_with F.first S.windows S.past S.came)
-        (devices F.in_files ⟦<Sequences<'a, S> as Ledger>⟧) (map string_bytes words.items) (I.remaining input.old)
-        (O.contents output.old) (O.contents output.new) (E.contents errors.old) (E.contents errors.new) Status.Refused }
-    ensures misused { result ≡ 2 → EndsWithin (begins_with F.first S.windows S.past S.came)
-        (devices F.in_files ⟦<Sequences<'a, S> as Ledger>⟧) (map string_bytes words.items) (I.remaining input.old)
-        (O.contents output.old) (O.contents output.new) (E.contents errors.old) (E.contents errors.new) Status.Misused }
+        (O.contents output.old) (O.contents output.new) (E.contents errors.old) (E.contents errors.new) status }
     // However it ends, this alone was done to files.
     ensures touched { DoesAsked (map string_bytes words.items) (Y.deeds rt.old) (Y.deeds rt.new) }
 {
@@ -190,19 +186,11 @@ pub fn run_command<
     errors: &mut E,
 ) -> Ended<F::Files, N::Notes>
     ensures status { result.status ≤ 3 }
-    ensures success { result.status ≡ 0 → Ends (begins_with F.first S.windows S.past S.came)
+    // Where something failed, it says so only if files come back: what was stored and printed before is there too.
+    ensures ended { (status : Status) → (status ≡ Status.Failed → IsSome result.files) → result.status ≡ number_of status
+        → Ends (begins_with F.first S.windows S.past S.came)
         (devices F.in_files ⟦<N::Notes as Ledger>⟧) (leaves result.files result.ledger) (map string_bytes words.items) (I.remaining input.old)
-        (O.contents output.old) (O.contents output.new) (E.contents errors.old) (E.contents errors.new) Status.Success }
-    ensures refused { result.status ≡ 1 → Ends (begins_with F.first S.windows S.past S.came)
-        (devices F.in_files ⟦<N::Notes as Ledger>⟧) (leaves result.files result.ledger) (map string_bytes words.items) (I.remaining input.old)
-        (O.contents output.old) (O.contents output.new) (E.contents errors.old) (E.contents errors.new) Status.Refused }
-    ensures misused { result.status ≡ 2 → Ends (begins_with F.first S.windows S.past S.came)
-        (devices F.in_files ⟦<N::Notes as Ledger>⟧) (leaves result.files result.ledger) (map string_bytes words.items) (I.remaining input.old)
-        (O.contents output.old) (O.contents output.new) (E.contents errors.old) (E.contents errors.new) Status.Misused }
-    // What was stored and printed before a failure of the answers' status is there too.
-    ensures failed { result.status ≡ 3 → IsSome result.files → Ends (begins_with F.first S.windows S.past S.came)
-        (devices F.in_files ⟦<N::Notes as Ledger>⟧) (leaves result.files result.ledger) (map string_bytes words.items) (I.remaining input.old)
-        (O.contents output.old) (O.contents output.new) (E.contents errors.old) (E.contents errors.new) Status.Failed }
+        (O.contents output.old) (O.contents output.new) (E.contents errors.old) (E.contents errors.new) status }
     // However it ends, this alone was done to files.
     ensures touched { DoesAsked (map string_bytes words.items) (Y.deeds rt.old) (Y.deeds rt.new) }
 {
