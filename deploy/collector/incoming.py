@@ -34,9 +34,12 @@ def main(words: list[str]) -> int:
         are_right = len(named) == len(kinds) and all(RIGHT[kind](word) for kind, word in zip(kinds, named))
         if not are_right or len(words) > 1 or any(word.startswith("-") for word in words):
             raise Wrong(usage())
-        chosen = settings.read(os.path.abspath(words[0] if words else settings.DEFAULT_FILE))
+        path = os.path.abspath(words[0] if words else settings.DEFAULT_FILE)
+        chosen = settings.read(path)
         if option == "--check":
             return check(chosen)
+        if option in ("", "--once"):
+            tell_of_days(path, chosen)
         named = [os.path.abspath(word) if kind == "FOLDER" else word for kind, word in zip(kinds, named)]
         settings.enter(chosen)
         return alone(task, named) if task.is_alone else task.run(chosen, *named)
@@ -46,6 +49,13 @@ def main(words: list[str]) -> int:
     except (OSError, program.Failed) as error:
         tell(f"collect-incoming: {error}")
         return 3
+
+
+def tell_of_days(path: str, chosen: Settings) -> None:
+    """Says of days that are set that they count as more."""
+    said = settings.days_that_count_as_more(path, chosen)
+    if said:
+        tell(f"collect-incoming: {said}")
 
 
 def usage() -> str:

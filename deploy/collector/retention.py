@@ -3,7 +3,6 @@
 A database's days begin with the first look at it after it was closed. One of which nothing is noted was put there
 since, or isn't known any more: its days begin now.
 """
-import math
 import os
 
 from shared import files
@@ -101,13 +100,18 @@ def make_room(closed: dict[str, float], age: float, least: int) -> None:
         delete([name], closed, age, ", since the disk is full")
 
 
-def last_seen(path: str) -> float:
-    """The age at which something of a source was answered last. Of a damaged one that isn't known, so it stays."""
+def known_of(path: str) -> source.Source | None:
+    """What is known of a source; nothing of a damaged one, which stays."""
     try:
-        known = source.read(path)
+        return source.read(path)
     except source.Damaged:
-        return math.inf
-    return known.seen if known else math.inf
+        return None
+
+
+def is_old(known: source.Source, last_day: float) -> bool:
+    """Whether a source was answered last before a day. One stays as long as the database with its last new entries
+    does, which may have been finished long after the answer."""
+    return known.seen < last_day and not databases.is_own_file(known.database)
 
 
 def expire_sources(age: float, settings: Settings) -> None:
@@ -116,9 +120,10 @@ def expire_sources(age: float, settings: Settings) -> None:
     for machine in files.names("sources"):
         names = source.names(machine)
         idle = [os.path.join("sources", machine, name) for name in names if f"{machine}@{name}" not in waiting]
-        seen = {path: last_seen(path) for path in idle}
-        old = {path: days for path, days in seen.items() if days < age - settings.keep_answers_days}
-        left = sorted((days, path) for path, days in seen.items() if path not in old and days < math.inf)
+        known = {path: each for path in idle if (each := known_of(path))}
+        last_day = age - settings.keep_answers_days
+        old = {path: each.seen for path, each in known.items() if is_old(each, last_day)}
+        left = sorted((each.seen, path) for path, each in known.items() if path not in old)
         many = {path: days for days, path in left[:max(0, len(names) - len(old) - settings.sources)]}
         if many:
             report(1, f"{machine} has over {settings.sources} sources: the {len(many)} oldest are forgotten")
@@ -131,7 +136,8 @@ def forget_sources(machine: str, seen: dict[str, float]) -> None:
         return
     with source.locked(machine):
         for path, days in seen.items():
-            if last_seen(path) == days:
+            known = known_of(path)
+            if known and known.seen == days:
                 files.remove(path)
 
 
@@ -155,10 +161,9 @@ def expire_notes(shared: collector.Shared, age: float) -> None:
     """Once a day of the collector's age, and at each start: notes go in whose window nothing was noted for long."""
     if int(age) == shared.notes_day:
         return
-    days = max(shared.settings.keep_days, shared.settings.keep_answers_days)
     with shared.holding.by_itself(lambda: shared.stops) as is_alone:
         if is_alone:
-            notes.expire(age, days)
+            notes.expire(age, shared.settings.keep_answers_days)
             shared.notes_day = int(age)
 
 

@@ -62,7 +62,7 @@ def is_machine(name: str) -> bool:
 
 
 def read(path: str) -> Settings:
-    """The settings of a file; a Wrong if they can't be."""
+    """The settings of a file; a Wrong if they can't be. Answers are kept for no fewer days than databases are."""
     chosen = settings.read(path, Settings)
     for name, value in chosen._asdict().items():
         if not LEAST.get(name, value) <= value <= MOST.get(name, value):
@@ -73,7 +73,18 @@ def read(path: str) -> Settings:
         raise Wrong(f"{path}: FOLDER doesn't begin with a slash: {chosen.folder}")
     if not is_file_name(time.strftime(chosen.database_name, time.gmtime(0))):
         raise Wrong(f"{path}: DATABASE_NAME can't be a file's name: {chosen.database_name}")
-    return chosen
+    return chosen._replace(keep_answers_days=max(chosen.keep_answers_days, chosen.keep_days))
+
+
+def days_that_count_as_more(path: str, chosen: Settings) -> str | None:
+    """What is to be said of a KEEP_ANSWERS_DAYS that a file sets to less than KEEP_DAYS. It isn't refused, so that a
+    collector that had it goes on after an update."""
+    days = dict(settings.assignments(path)).get("KEEP_ANSWERS_DAYS")
+    if days in (None, str(chosen.keep_answers_days)):
+        return None
+    keep = chosen.keep_days
+    return (f"{path}: KEEP_ANSWERS_DAYS is {days}, less than KEEP_DAYS, which is {keep}: answers are kept for {keep} "
+            f"days; set it to {keep} or more, or take it out")
 
 
 def look_at_owner(folder: str) -> None:

@@ -90,6 +90,43 @@ def days_go_by(row: Row, case: Case) -> None:
 
 
 @ROWS.once
+def days_of_answers(row: Row, case: Case) -> None:
+    """What a source was told stays for KEEP_ANSWERS_DAYS, and for KEEP_DAYS if these are more. Each start says that a
+    number that is set counts as more, and of one that isn't set nothing."""
+    for keep, answers, days in ((2, 5, 5), (5, 2, 5), (5, 0, 5), (40, None, 40), (2, None, 30)):
+        told = {} if answers is None else {"KEEP_ANSWERS_DAYS": answers}
+        case.set(KEEP_DAYS=keep, **told)
+        said = "" if answers is None or answers >= keep else (
+            f"collect-incoming: {case.conf}: KEEP_ANSWERS_DAYS is {answers}, less than KEEP_DAYS, which is {keep}: "
+            f"answers are kept for {keep} days; set it to {keep} or more, or take it out\n")
+        what = f"{keep}, {answers}"
+        row.expect(f"{what}: a start", case.store(upload(entries(1, 5))), (0, said))
+        case.later(days=days - 0.1)
+        status, now_said = case.collect()
+        row.expect(f"{what}: not yet", (status, now_said.startswith(said), len(case.answers())), (0, True, 2))
+        row.expect(f"{what}: a check of the settings", case.collect("--check"), (0, ""))
+        case.later(days=0.2)
+        case.collect()
+        row.expect(f"{what}: they are over", case.answers(), [])
+
+
+@ROWS.once
+def answers_stay_with_their_database(row: Row, case: Case) -> None:
+    """A database is finished long after a source's last answer, as one that was left is: the answer stays until that
+    database goes."""
+    case.set(DATABASE_NAME="d", KEEP_DAYS=3, KEEP_ANSWERS_DAYS=3)
+    case.store(upload(entries(1, 5)))
+    os.unlink(case.path("databases", "d.db.sha256"))
+    case.later(days=2)
+    is_finished = case.collect() == (0, "") and os.path.exists(case.path("databases", "d.db.sha256"))
+    row.expect("it is finished", is_finished, True)
+    case.later(days=2.9)
+    row.expect("after 4.9 days", (case.collect(), case.names(), len(case.answers())), ((0, ""), ["d"], 2))
+    case.later(days=0.2)
+    row.expect("it goes", ("deleted" in case.collect()[1], case.names(), case.answers()), (True, [], []))
+
+
+@ROWS.once
 def no_room_for_files(row: Row, case: Case) -> None:
     """The disk has room for no more files from some step of a run on, in which a database goes whose days are over: it
     isn't missed, and what it had isn't stored again."""
