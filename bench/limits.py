@@ -11,7 +11,10 @@ import resource
 import struct
 import sys
 
-from measure import OUT, Run, forget, made, megabytes, output_of, say_machine
+from measure import HERE, OUT, Run, forget, made, megabytes, output_of, say_machine
+
+sys.path.insert(0, os.path.join(HERE, "..", "tests"))
+from samples import HEAD, STREAM, head  # noqa: E402
 
 SOURCE = "a0a1a2a3a4a5a6a7a8a9aaabacadaeaf"
 SEQUENCE = bytes(range(16)).hex().encode()
@@ -109,7 +112,7 @@ def measure_machines(program: str) -> None:
     for number, path in enumerate(paths):
         own = struct.pack(">QQ", number, 1)
         with open(path, "wb") as file:
-            file.write(upload[:16] + own + upload[32:].replace(SEQUENCE, own.hex().encode()))
+            file.write(head(STREAM, source=own) + upload[HEAD:].replace(SEQUENCE, own.hex().encode()))
     print("9,000 entries")
     say("of 900 machines, in 900 uploads", Run([program, "collect", DATABASE, *paths]))
     forget(DATABASE)
@@ -124,12 +127,10 @@ def measure_machines(program: str) -> None:
 def measure_greatest(program: str) -> None:
     """An entry at its limit, and a journal file of one byte over its limit."""
     path = os.path.join(OUT, "greatest.upload")
-    with open(made("1-10.upload", "make_upload.py", "export", 1, 10), "rb") as file:
-        head = file.read(48)
     meta = b"__REALTIME_TIMESTAMP=1\n__MONOTONIC_TIMESTAMP=1\n__SEQNUM=1\n__SEQNUM_ID=%s\n" % SEQUENCE
     for over in (0, 1):
         with open(path, "wb") as file:
-            file.write(head + meta)
+            file.write(head(STREAM) + meta)
             for name in (b"A", b"B"):
                 file.write(name + b"=" + b"x" * ((1 << 24) - 1 + (over if name == b"A" else 0)) + b"\n")
             file.write(b"\n")

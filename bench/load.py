@@ -34,6 +34,9 @@ from pathlib import Path
 from sshd import Sshd
 
 ROOT = Path(__file__).resolve().parent.parent
+sys.path.insert(0, str(ROOT / "tests"))
+from samples import second_head  # noqa: E402
+
 TICKS = os.sysconf("SC_CLK_TCK")
 FIELDS = b"".join(b"%s=%s\n" % pair for pair in (
     (b"_HOSTNAME", b"machine"), (b"_MACHINE_ID", b"4" * 32), (b"_BOOT_ID", b"5" * 32), (b"_TRANSPORT", b"journal"),
@@ -99,9 +102,9 @@ class Machine:
             b"publickey for alice from 192.0.2.%d port %d ssh2: ED25519 SHA256:%s\n\n" % (
                 now + each, now + each, self.sent + each + 1, self.source.encode(), FIELDS, each % 256, 1024 + each,
                 b"a" * 43) for each in range(entries))
-        head = b"JCUPLD02\1\1" + bytes(6) + bytes.fromhex(self.source) + self.sent.to_bytes(8, "little")
+        head = second_head(self.sent, True, entries, bytes.fromhex(self.source))
         self.sent += entries
-        return head + entries.to_bytes(8, "little") + body
+        return head + body
 
     def ssh(self, word: str, *options: str) -> Ssh:
         kept = ["-o", f"ControlPath={self.place.folder}/kept-{self.number}"] if self.place.way == "kept" else []

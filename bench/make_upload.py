@@ -7,17 +7,14 @@ alone. `busy FIRST LAST` and `busy-stream FIRST LAST` do the same with the entri
 """
 from __future__ import annotations
 
-import struct
+import os
 import sys
 
 from make_file import BOOT_ID, SEQNUM_ID, fields, file_of, numbers
 from make_stream import entry as busy, field
 
-SOURCE = bytes(range(160, 176))
-
-
-def head(kind: int, start: int) -> bytes:
-    return b"JCUPLD01" + bytes([kind]) + bytes(7) + SOURCE + struct.pack("<QQ", start, 0)
+sys.path.insert(0, os.path.join(os.path.dirname(os.path.abspath(__file__)), "..", "tests"))
+from samples import JOURNAL_FILE, STREAM, head  # noqa: E402
 
 
 def text(number: int) -> bytes:
@@ -37,12 +34,12 @@ def text(number: int) -> bytes:
 def main() -> None:
     kind, *bounds = sys.argv[1:]
     if kind == "file":
-        sys.stdout.buffer.write(head(2, 0))
+        sys.stdout.buffer.write(head(JOURNAL_FILE))
         sys.stdout.buffer.writelines(file_of(int(bounds[0])))
     else:
         first, last = map(int, bounds)
         if not kind.endswith("stream"):
-            sys.stdout.buffer.write(head(1, first - 1))
+            sys.stdout.buffer.write(head(STREAM, first - 1))
         sys.stdout.buffer.writelines(map(busy if kind.startswith("busy") else text, range(first, last + 1)))
 
 

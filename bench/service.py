@@ -14,11 +14,15 @@ import argparse
 import os
 import shutil
 import subprocess
+import sys
 import tempfile
 import time
 from pathlib import Path
 
 ROOT = Path(__file__).resolve().parent.parent
+sys.path.insert(0, str(ROOT / "tests"))
+from samples import second_head  # noqa: E402
+
 ENTRIES = 1000
 SETTING = '"--tables", "3"'
 
@@ -31,8 +35,7 @@ def upload(number: int) -> bytes:
              b"PRIORITY=6\n_PID=%d\n_CMDLINE=%s\nMESSAGE=session %d of user %d: %s\n\n" % (
                  1700000000000000 + each, each + 1, each + 1, source, b"5" * 32, others, each % 4000, b"c" * 200, each,
                  each % 97, b"m" * 160) for each in range(ENTRIES))
-    head = b"JCUPLD02\1\1" + bytes(6) + bytes.fromhex(source.decode()) + bytes(8) + ENTRIES.to_bytes(8, "little")
-    return head + b"".join(texts)
+    return second_head(0, True, ENTRIES, bytes.fromhex(source.decode())) + b"".join(texts)
 
 
 class Service:

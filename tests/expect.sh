@@ -40,13 +40,6 @@ new_folder() {
 # The id that the samples have as a source.
 # shellcheck disable=SC2034 # the scripts use it
 id=a0a1a2a3a4a5a6a7a8a9aaabacadaeaf
-# uploaded: an upload of this source, with the export stream that stands on standard input.
-uploaded() {
-    printf 'JCUPLD01\1\0\0\0\0\0\0\0'
-    printf '\240\241\242\243\244\245\246\247\250\251\252\253\254\255\256\257'
-    printf '\0\0\0\0\0\0\0\0\0\0\0\0\0\0\0\0'
-    cat
-}
 
 # samples NAME=EXPRESSION..: files of these names in the folder, each with what tests/samples.py makes of its words.
 samples() {

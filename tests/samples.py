@@ -4,9 +4,9 @@ samples.py FOLDER NAME=EXPRESSION..: files in a folder, each with the bytes that
 """
 from __future__ import annotations
 
+import os
 import struct
 import sys
-from pathlib import Path
 
 SOURCE = bytes(range(0xa0, 0xb0))
 SEQNUM_ID = bytes(range(16))
@@ -19,7 +19,8 @@ def entry_text(number: int, message: bytes = b"hi") -> bytes:
             % (number, SEQNUM_ID.hex().encode(), message))
 
 
-# The bytes of an upload's header.
+# The kinds of uploads, and the bytes of an upload's header.
+STREAM, JOURNAL_FILE = 1, 2
 HEAD = 48
 
 
@@ -30,12 +31,18 @@ def head(kind: int, start: int = 0, source: bytes = SOURCE) -> bytes:
 
 def second_head(start: int, whole: bool, count: int, source: bytes = SOURCE) -> bytes:
     """The header of its second version, of an upload of an export stream with so many entries."""
-    return b"JCUPLD02" + bytes([1, whole]) + bytes(6) + source + struct.pack("<QQ", start, count)
+    return b"JCUPLD02" + bytes([STREAM, whole]) + bytes(6) + source + struct.pack("<QQ", start, count)
 
 
 def stream(*texts: bytes, start: int = 0) -> bytes:
     """An upload of an export stream."""
-    return head(1, start) + b"".join(texts)
+    return head(STREAM, start) + b"".join(texts)
+
+
+def read(path: str) -> bytes:
+    """What a file has."""
+    with open(path, "rb") as file:
+        return file.read()
 
 
 def edited(data: bytes, edits: dict[int, bytes | int]) -> bytes:
@@ -65,7 +72,8 @@ FILE = edited(bytes(400), {
 
 def main(folder: str, *made: str) -> None:
     for name, _, expression in (it.partition("=") for it in made):
-        Path(folder, name).write_bytes(eval(expression))
+        with open(os.path.join(folder, name), "wb") as file:
+            file.write(eval(expression))
 
 
 if __name__ == "__main__":

@@ -115,13 +115,7 @@ expect 0 "a001 " "" kept mail
 
 # of a journal file no byte after its head is waited for, unless the settings allow such an upload
 begin
-python3 -B - "$folder/journal" "$id" << 'END'
-import sys
-sys.path.insert(0, "tests")
-import samples
-with open(sys.argv[1], "wb") as file:
-    file.write(b"JCUPLD01\x02" + bytes(7) + bytes.fromhex(sys.argv[2]) + bytes(16) + samples.FILE)
-END
+samples 'journal=head(JOURNAL_FILE) + FILE'
 mkfifo "$folder/head"
 exec 7<> "$folder/head"
 head -c 48 "$folder/journal" >&7

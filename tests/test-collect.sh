@@ -13,7 +13,7 @@ ack="ack $id 0 1 1 0"
 again="ack $id 0 1 0 0"
 up=$folder/upload
 db=$folder/db
-uploaded < examples/one-entry.export > "$up"
+samples 'upload=stream(read("examples/one-entry.export"))'
 sample=$(cat examples/one-entry.export)
 
 # a folder in place of an upload, of a database, and of the folder of a database

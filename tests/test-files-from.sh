@@ -9,7 +9,7 @@ new_folder
 up=$folder/upload
 db=$folder/db
 list=$folder/list
-uploaded < examples/one-entry.export > "$up"
+samples 'upload=stream(read("examples/one-entry.export"))'
 sed 's/__SEQNUM=1$/__SEQNUM=2/' "$up" > "$folder/second"
 first="ack $id 0 1 1 0"
 again="ack $id 0 1 0 0"

@@ -175,13 +175,7 @@ expect 0 "~ack $id 0 5 0 0*" "" answers web
 # a journal file that comes again; and one that is refused, for another source has its key with another content
 begin TAKE_JOURNAL_FILES=yes
 fixture=$folder/fixture
-python3 -B - "$fixture" "$id" << 'END'
-import sys
-sys.path.insert(0, "tests")
-import samples
-with open(sys.argv[1], "wb") as file:
-    file.write(b"JCUPLD01\x02" + bytes(7) + bytes.fromhex(sys.argv[2]) + bytes(16) + samples.FILE)
-END
+samples 'fixture=head(JOURNAL_FILE) + FILE'
 for part in 1 2; do
     expect 0 "" "" receive web "$fixture"
     expect 0 "" "" collect

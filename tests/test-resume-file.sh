@@ -11,7 +11,7 @@ resume=$folder/resume
 cp examples/one-entry.export "$in"
 printf 'ack %s 0 1 1 0\n' $id > "$folder/answers"
 printf 'ack %s\n' $id > "$folder/no-answers"
-uploaded < "$in" > "$folder/upload"
+samples 'upload=stream(read("examples/one-entry.export"))'
 
 upload() { "$PROGRAM" upload --source $id --resume "$resume" "$@"; }
 ack() { "$PROGRAM" ack --source $id --resume "$resume" "$@"; }

@@ -3,7 +3,6 @@ import collections
 import glob
 import os
 import shutil
-import struct
 import subprocess
 import sys
 import tempfile
@@ -13,13 +12,12 @@ HERE = os.path.dirname(os.path.abspath(__file__))
 sys.path.insert(0, os.path.join(HERE, ".."))
 import preload  # noqa: E402
 from collector_machines import PROGRAM, entries_of, entry_text  # noqa: E402
+from samples import JOURNAL_FILE, head, second_head  # noqa: E402
 from trial_rows import Rows  # noqa: E402
 
 DAY = 86400
 SEQUENCE = "20" * 16
 SOURCE = "a0" * 16
-STREAM, JOURNAL_FILE = 1, 2
-HEAD = 48
 Told = tuple[int, str, str]
 
 
@@ -30,13 +28,12 @@ def source(number: int) -> str:
 
 def upload(entries: Sequence[bytes], start: int = 0, name: str = SOURCE) -> bytes:
     """An upload of a stream, which is to be whole."""
-    head = b"JCUPLD02" + bytes([STREAM, 1]) + bytes(6) + bytes.fromhex(name) + struct.pack("<QQ", start, len(entries))
-    return head + b"".join(entries)
+    return second_head(start, True, len(entries), bytes.fromhex(name)) + b"".join(entries)
 
 
 def file_upload(data: bytes, name: str = SOURCE) -> bytes:
     """An upload of a journal file."""
-    return b"JCUPLD01" + bytes([JOURNAL_FILE]) + bytes(7) + bytes.fromhex(name) + bytes(16) + data
+    return head(JOURNAL_FILE, source=bytes.fromhex(name)) + data
 
 
 def entries(first: int, last: int, sequence: str = SEQUENCE, text: str = "text") -> list[bytes]:

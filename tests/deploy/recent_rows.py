@@ -13,7 +13,7 @@ sys.path.insert(0, os.path.join(HERE, "..", "reading"))
 from collector_machines import BASE  # noqa: E402
 from rows import Row, Rows  # noqa: E402
 from running import Collector, wait_for  # noqa: E402
-from collected import ROOT  # noqa: E402
+from samples import FILE, JOURNAL_FILE, STREAM, head  # noqa: E402
 
 LIBRARY = os.path.abspath(sys.argv[1])
 sys.path.insert(0, LIBRARY)
@@ -160,12 +160,14 @@ def killed(row: Row, library: str) -> None:
 def spellings(row: Row, library: str) -> None:
     """Times in the other spelling, ids in capitals, fields that look like times, an unfinished entry."""
     with Collector(library) as collector:
+        def store(source: bytes, texts: bytes) -> str:
+            return collector.store(head(STREAM, source=16 * source) + texts)
+
         collector.start()
-        head = b"JCUPLD01\1" + bytes(7) + bytes.fromhex("a" * 32) + bytes(16)
         time = b"__REALTIME_TIMESTAMP\n\1\0\0\0\0\0\0\0" + b"7\n"
         first = b"%s__MONOTONIC_TIMESTAMP=1\n__SEQNUM=1\n__SEQNUM_ID=%s\nA=1\n\n" % (time, b"ABCD" * 8)
         second = first.replace(b"__SEQNUM=1", b"__SEQNUM=2").replace(time, b"__REALTIME_TIMESTAMP=0099\n")
-        row.same("the answer", collector.store(head + first + second + b"A=unfini")[:3], "ack")
+        row.same("the answer", store(b"\xaa", first + second + b"A=unfini")[:3], "ack")
         uploads = recent.uploads(Path(collector.folder))
         row.same("times", [(upload.first, upload.last) for upload in uploads], [(0, 2**63 - 1)])
         entries = list(recent.entries(uploads[0]))
@@ -174,7 +176,7 @@ def spellings(row: Row, library: str) -> None:
         value = b"x\n__REALTIME_TIMESTAMP=5000\n"
         forged = second.replace(b"A=1\n", b"A\n" + len(value).to_bytes(8, "little") + value + b"\n")
         forged = forged.replace(b"__SEQNUM=2", b"__SEQNUM=3")
-        row.same("the second answer", collector.store(head.replace(b"\xaa" * 16, b"\xbb" * 16) + forged)[:3], "ack")
+        row.same("the second answer", store(b"\xbb", forged)[:3], "ack")
         row.same("wider", [(upload.first, upload.last) for upload in recent.uploads(Path(collector.folder))][1],
                  (99, 5000))
 
@@ -197,16 +199,14 @@ def in_tables(row: Row, library: str) -> None:
 @ROWS.row
 def a_journal_file(row: Row, library: str) -> None:
     """An upload that is a journal file."""
-    sys.path.insert(0, str(ROOT / "tests"))
-    import samples
     tools = tempfile.mkdtemp()
     os.symlink(os.environ["PROGRAM"], f"{tools}/journal-collect")
     os.environ["PATH"] = f"{tools}:{os.environ['PATH']}"
     is_known = "take_journal_files" in Path(library, "collector", "settings.py").read_text(encoding="utf-8")
     with Collector(library, **{"TAKE_JOURNAL_FILES": "yes"} if is_known else {}) as collector:
         collector.start()
-        head = b"JCUPLD01\2" + bytes(7) + bytes.fromhex("a" * 32) + bytes(16)
-        row.same("the answer", collector.store(head + samples.FILE)[:3], "ack")
+        upload = head(JOURNAL_FILE, source=b"\xaa" * 16) + FILE
+        row.same("the answer", collector.store(upload)[:3], "ack")
         row.same("how many entries", len(read(collector)), 1)
     shutil.rmtree(tools)
 
@@ -222,7 +222,7 @@ def what_is_no_upload(row: Row, library: str) -> None:
         for name in ("x.upload", "1-2-3.upload", f"{0:020d}-{1:020d}-x.upload"):
             Path(folder, name).write_bytes(b"?")
         Path(folder, f"{0:020d}-{9:020d}-7.upload").write_bytes(collector.upload(3, 1)[:-9])
-        Path(folder, f"{0:020d}-{9:020d}-8.upload").write_bytes(b"JCUPLD01\1" + bytes(39) + b"=\n\n")
+        Path(folder, f"{0:020d}-{9:020d}-8.upload").write_bytes(head(STREAM, source=bytes(16)) + b"=\n\n")
         Path(folder, f"{0:020d}-{9:020d}-9.upload").write_bytes(b"")
         row.same("entries", read(collector), [1, 2])
         os.unlink(before[0].path)

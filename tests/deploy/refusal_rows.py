@@ -11,11 +11,15 @@ import shutil
 import signal
 import struct
 import subprocess
+import sys
 
 from deployed import Deployed
 from exported import read
 from one_machine import PROGRAM
 from trial_rows import Row, Rows
+
+sys.path.insert(0, os.path.join(os.path.dirname(os.path.abspath(__file__)), ".."))
+from samples import STREAM, head  # noqa: E402
 
 ROWS: Rows[Deployed] = Rows()
 # The run that forks is killed before each step of so many; with 1 before each.
@@ -32,9 +36,9 @@ def entry(seqnum_id: str, number: int, realtime: int, message: str, field: str =
 
 def upload_by_hand(machine: Deployed, source: str, text: bytes, name: str = "") -> None:
     """Somebody else sends these entries, with the machine's key or with one of another name."""
-    head = b"JCUPLD01\1" + bytes(7) + bytes.fromhex(source) + bytes(16)
     words = machine.environment["FORCED_COMMAND"].split()
-    subprocess.run([words[0], name or words[1], words[2]], input=head + text, check=True, stderr=subprocess.DEVNULL,
+    given = head(STREAM, source=bytes.fromhex(source)) + text
+    subprocess.run([words[0], name or words[1], words[2]], input=given, check=True, stderr=subprocess.DEVNULL,
                    env={**machine.whole_environment(), "SSH_ORIGINAL_COMMAND": "upload"})
     machine.store()
 

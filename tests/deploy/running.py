@@ -11,8 +11,9 @@ import time
 from collections.abc import Callable
 
 HERE = os.path.dirname(os.path.abspath(__file__))
-sys.path.insert(0, os.path.join(HERE, "..", "collect"))
+sys.path[:0] = [os.path.join(HERE, ".."), os.path.join(HERE, "..", "collect")]
 from collector_machines import entries_of, entry_text  # noqa: E402
+from samples import second_head  # noqa: E402
 
 PROGRAM = os.environ["PROGRAM"]
 SEQUENCE = "2" * 32
@@ -73,8 +74,7 @@ class Collector:
         """An upload of so many entries, the first of which has this number."""
         body = b"".join(entry_text(sequence, number, b"%s %d" % (text, number))
                         for number in range(first, first + count))
-        return (b"JCUPLD02\1\1" + bytes(6) + bytes.fromhex(source) + start.to_bytes(8, "little")
-                + count.to_bytes(8, "little") + body)
+        return second_head(start, True, count, bytes.fromhex(source)) + body
 
     def receive(self, upload: bytes, machine: str = "web") -> int:
         told = subprocess.run([f"{self.library}/receive", machine, self.conf], input=upload, env=self.environment,

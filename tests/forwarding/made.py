@@ -10,8 +10,10 @@ from pathlib import Path
 
 from collected import finish
 
-sys.path.append(str(Path(__file__).resolve().parent.parent / "shared"))
+TESTS = Path(__file__).resolve().parent.parent
+sys.path += [str(TESTS), str(TESTS / "shared")]
 from export_streams import binary  # noqa: E402
+from samples import STREAM, head  # noqa: E402
 
 TABLES = """
 CREATE TABLE journal(one INTEGER PRIMARY KEY, version INTEGER NOT NULL) STRICT;
@@ -126,7 +128,7 @@ def database(path: Path, entries: list[Entry]) -> Path:
 def upload(path: Path, entries: list[Entry], end: bytes = b"") -> Path:
     """An upload of an export stream with these entries, and with bytes of an unfinished one."""
     path.parent.mkdir(parents=True, exist_ok=True)
-    path.write_bytes(b"JCUPLD01" + bytes([1]) + bytes(39) + b"".join(map(exported, entries)) + end)
+    path.write_bytes(head(STREAM, source=bytes(16)) + b"".join(map(exported, entries)) + end)
     return path
 
 
