@@ -38,7 +38,7 @@ def command(settings: Settings, socket: str, options: list[str], words: list[str
             settings.collector, *words]
 
 
-class Outcome(enum.Enum):
+class SendOutcome(enum.Enum):
     """What became of an upload."""
     TAKEN = 0
     TOO_LARGE = 1
@@ -51,15 +51,15 @@ class Outcome(enum.Enum):
     TOO_LONG = 5
 
 
-def outcome(status: int, said: str) -> Outcome:
+def outcome(status: int, said: str) -> SendOutcome:
     """What a status of ssh and what came on standard error mean."""
-    known = {0: Outcome.TAKEN, LOST: Outcome.LOST, -1: Outcome.TOO_LONG}
+    known = {0: SendOutcome.TAKEN, LOST: SendOutcome.LOST, -1: SendOutcome.TOO_LONG}
     if status == REFUSED:
-        return Outcome.TOO_LARGE if TOO_LARGE.search(said) else Outcome.REFUSED
-    return known.get(status, Outcome.NOT_NOW)
+        return SendOutcome.TOO_LARGE if TOO_LARGE.search(said) else SendOutcome.REFUSED
+    return known.get(status, SendOutcome.NOT_NOW)
 
 
-class Collector:
+class RemoteCollector:
     """A run has one connection, if the collector knows sessions, and otherwise one for each thing that it asks for.
 
     ssh closes what it inherits, so it is a `cat` that holds the lock until ssh has ended: what outlives a run that
@@ -167,7 +167,7 @@ class Collector:
             file.seek(0)
             return status, file.read().decode("ascii", "replace")
 
-    def upload(self, path: str) -> tuple[Outcome, float]:
+    def upload(self, path: str) -> tuple[SendOutcome, float]:
         """What became of an upload, and how many seconds it took."""
         begin = time.monotonic()
         if self.session:

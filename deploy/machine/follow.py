@@ -12,7 +12,7 @@ import select
 import signal
 import time
 
-from machine.collector import Collector
+from machine.collector import RemoteCollector
 from machine.journal import Journal, Listing
 from machine.report import FAILED, Report
 from machine.settings import Settings
@@ -112,7 +112,7 @@ class Following:
     def __init__(self, settings: Settings, report: Report, lock: int) -> None:
         self.settings, self.report = settings, FollowReport(report)
         self.journal = KeptJournal(settings.namespace, lock)
-        self.collector = Collector(settings, self.report, lock)
+        self.collector = RemoteCollector(settings, self.report, lock)
         self.stops = False
         self.woken, self.waker = os.pipe2(os.O_NONBLOCK | os.O_CLOEXEC)
         self.back_off = 0.0
@@ -125,7 +125,7 @@ class Following:
         signal.signal(signal.SIGTERM, stop)
         signal.signal(signal.SIGINT, stop)
 
-    def run(self, one: Callable[[Journal, Collector], None]) -> None:
+    def run(self, one: Callable[[Journal, RemoteCollector], None]) -> None:
         """Has `one` run again and again."""
         self.listen()
         while not self.stops:

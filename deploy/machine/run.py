@@ -3,7 +3,7 @@ import os
 import sys
 
 from machine import last, since
-from machine.collector import Collector
+from machine.collector import RemoteCollector
 from machine.done import Done
 from machine.gathering import Gathering
 from machine.journal import Journal
@@ -109,7 +109,7 @@ def report_backlog(settings: Settings, report: Report) -> None:
 
 def run(settings: Settings, report: Report, again: str) -> None:
     lock = enter_folder(settings, report)
-    collector = Collector(settings, report, lock)
+    collector = RemoteCollector(settings, report, lock)
     try:
         run_once(settings, report, lock, Journal(settings.namespace, lock), collector, again)
     finally:
@@ -119,7 +119,7 @@ def run(settings: Settings, report: Report, again: str) -> None:
 def check(settings: Settings, report: Report) -> None:
     """Says nothing if the collector answers to this machine's key. Nothing is made or gathered."""
     with open(os.devnull, "r+b") as nothing:
-        collector = Collector(settings, report, nothing.fileno())
+        collector = RemoteCollector(settings, report, nothing.fileno())
         if collector.ask("answers", nothing.fileno(), nothing.fileno()) != 0:
             report.say(FAILED, f"{settings.collector} doesn't answer to this machine's key")
 
@@ -145,7 +145,7 @@ def keep_connection(settings: Settings, report: Report, config: str) -> None:
     Keeper(config, settings).run()
 
 
-def run_once(settings: Settings, report: Report, lock: int, journal: Journal, collector: Collector,
+def run_once(settings: Settings, report: Report, lock: int, journal: Journal, collector: RemoteCollector,
              again: str = "") -> None:
     """Gathers what is new and sends it, and notes what it did."""
     clock, done = Clock(settings.boot_id_file), Done()

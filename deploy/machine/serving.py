@@ -6,7 +6,7 @@ import time
 
 from machine import answers, done, sent, streams, texts, upload
 from machine.answers import Told
-from machine.collector import Collector, Outcome
+from machine.collector import RemoteCollector, SendOutcome
 from machine.done import Done
 from machine.gathering import Gathering
 from machine.link import Link
@@ -39,7 +39,7 @@ class Unreached(Exception):
 
 class Serving:
     def __init__(self, settings: Settings, report: Report, gathering: Gathering, clock: Clock, lock: int,
-                 collector: Collector, did: Done) -> None:
+                 collector: RemoteCollector, did: Done) -> None:
         self.settings, self.report, self.gathering, self.clock = settings, report, gathering, clock
         self.collector, self.program, self.link = collector, Program(lock), Link(settings)
         self.refusals = Refusals(report, gathering, settings.folder_bytes)
@@ -303,31 +303,31 @@ class Serving:
         record.others = made.end if has_others else record.others
         record.save(stream.path("sent"))
         outcome, seconds = self.collector.upload(upload.PATH)
-        if outcome == Outcome.TAKEN:
+        if outcome == SendOutcome.TAKEN:
             self.link.carried(made.size, seconds)
             self.served.append(stream)
             self.done.send(made.count, has_others)
             record.take(made.end)
             self.note(stream, record)
-        elif outcome in (Outcome.TOO_LARGE, Outcome.REFUSED):
+        elif outcome in (SendOutcome.TOO_LARGE, SendOutcome.REFUSED):
             self.report.say(LOOK, f"{stream.folder}: the collector didn't take the upload")
-            if outcome == Outcome.TOO_LARGE and made.count == 1:
+            if outcome == SendOutcome.TOO_LARGE and made.count == 1:
                 self.refusals.take_entry(stream, made.start, OVER_A_LIMIT[0])
-            elif outcome == Outcome.TOO_LARGE:
+            elif outcome == SendOutcome.TOO_LARGE:
                 self.link.refused(made.size)
             else:
                 self.note(stream, record)
-        elif outcome == Outcome.NOT_NOW:
+        elif outcome == SendOutcome.NOT_NOW:
             self.report.say(FAILED, f"{stream.folder}: the collector takes no upload now")
             raise Unreached
         else:
             self.lose(stream, record, made, outcome)
 
-    def lose(self, stream: Stream, record: Sent, made: Upload, outcome: Outcome) -> None:
+    def lose(self, stream: Stream, record: Sent, made: Upload, outcome: SendOutcome) -> None:
         """The upload didn't get through."""
         self.report.say(FAILED, f"{stream.folder}: the upload didn't go out")
         taken, is_over = self.collector.bytes_taken, made.size > self.link.bytes
-        self.link.failed(made.size, taken, outcome == Outcome.TOO_LONG)
+        self.link.failed(made.size, taken, outcome == SendOutcome.TOO_LONG)
         if not is_over or not taken:
             raise Unreached
         self.put_apart(stream, record, made)

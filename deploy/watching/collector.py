@@ -30,7 +30,7 @@ class Databases:
 
 
 @dataclass
-class Collector:
+class CollectorState:
     """All that is known of it."""
     folder: str = ""
     service: str = "unknown"
@@ -53,14 +53,14 @@ def is_set_up(path: str) -> bool:
     return any(os.path.isdir(os.path.join(folder, name)) for name in ("incoming", "databases", "sources"))
 
 
-def look(path: str, reading_path: str, forward_path: str, now: float, findings: Findings) -> Collector:
+def look(path: str, reading_path: str, forward_path: str, now: float, findings: Findings) -> CollectorState:
     """Looks at the collector by its settings."""
     try:
         chosen = settings.read(path)
     except Wrong as fault:
         findings.add(Status.WRONG, "settings", "collector", str(fault))
-        return Collector()
-    collector = Collector(chosen.folder)
+        return CollectorState()
+    collector = CollectorState(chosen.folder)
     if not os.path.isdir(chosen.folder):
         findings.add(Status.FAILED, "folder", "collector", f"there is no {chosen.folder}")
         return collector
@@ -76,7 +76,7 @@ def look(path: str, reading_path: str, forward_path: str, now: float, findings: 
     return collector
 
 
-def look_at_service(collector: Collector, findings: Findings) -> None:
+def look_at_service(collector: CollectorState, findings: Findings) -> None:
     """Whether it stores what comes."""
     unit = units.ask([SERVICE]).get(SERVICE)
     runs = unit.runs if unit else looking.is_locked("lock")
@@ -108,7 +108,7 @@ def look_at_databases() -> Databases:
     return found
 
 
-def look_at_journal_files(collector: Collector, path: str, findings: Findings) -> None:
+def look_at_journal_files(collector: CollectorState, path: str, findings: Findings) -> None:
     """How far journal files are, if they are made."""
     try:
         chosen = reading_settings.read(Path(path)) if os.path.exists(path) else reading_settings.Settings()
@@ -124,7 +124,7 @@ def look_at_journal_files(collector: Collector, path: str, findings: Findings) -
                      f"--now {JOURNAL_FILES_TIMER}")
 
 
-def look_at_forwarding(collector: Collector, path: str, findings: Findings) -> None:
+def look_at_forwarding(collector: CollectorState, path: str, findings: Findings) -> None:
     """How far forwarding is, if an engine is named."""
     try:
         chosen = dict(assignments(path)) if os.path.exists(path) else {}
@@ -139,7 +139,7 @@ def look_at_forwarding(collector: Collector, path: str, findings: Findings) -> N
             findings.add(Status.LOOK, "problem", "forward", problem.splitlines()[0].partition(" ")[2])
 
 
-def judge_machines(collector: Collector, now: float, findings: Findings) -> None:
+def judge_machines(collector: CollectorState, now: float, findings: Findings) -> None:
     """What of the machines is to be told."""
     for machine in collector.machines.values():
         name, last = machine.name, machine.last_answer
@@ -156,7 +156,7 @@ def judge_machines(collector: Collector, now: float, findings: Findings) -> None
             findings.add(Status.LOOK, "damaged", name, f"what is known of its source {source} is damaged")
 
 
-def judge(collector: Collector, now: float, findings: Findings) -> None:
+def judge(collector: CollectorState, now: float, findings: Findings) -> None:
     """What else is to be told."""
     for name in collector.databases.set_aside:
         findings.add(Status.LOOK, "set-aside", name, "it was set aside: journal-collect check says why")
@@ -174,7 +174,7 @@ def judge(collector: Collector, now: float, findings: Findings) -> None:
                          f"{words.span(now - made.waiting_since)}")
 
 
-def lines(collector: Collector, now: float) -> list[tuple[str, str]]:
+def lines(collector: CollectorState, now: float) -> list[tuple[str, str]]:
     """What people are shown of it: each with its name."""
     there, room = collector.databases, collector.disk
     told = [("folder", collector.folder), ("service", collector.service)]

@@ -47,7 +47,7 @@ class Run:
 
 
 @dataclass
-class Machine:
+class MachineState:
     """All that is known of it."""
     collector: str = ""
     folder: str = ""
@@ -70,14 +70,14 @@ def is_set_up(path: str) -> bool:
     return re.search(r"^\s*COLLECTOR=\s*[^\s#]", looking.text(path), re.MULTILINE) is not None
 
 
-def look(path: str, now: float, findings: Findings) -> Machine:
+def look(path: str, now: float, findings: Findings) -> MachineState:
     """Looks at a machine by its settings."""
     try:
         chosen = settings.read(path)
     except Wrong as fault:
         findings.add(Status.WRONG, "settings", "machine", str(fault))
-        return Machine()
-    machine = Machine(chosen.collector, chosen.folder, folder_bytes=chosen.folder_bytes)
+        return MachineState()
+    machine = MachineState(chosen.collector, chosen.folder, folder_bytes=chosen.folder_bytes)
     for what, file in (("key", chosen.key), ("known_hosts", chosen.known_hosts)):
         if looking.status(file) is None:
             findings.add(Status.WRONG, what, "machine", f"there is no {file}: see the guide, \"A machine\"")
@@ -91,7 +91,7 @@ def look(path: str, now: float, findings: Findings) -> Machine:
     return machine
 
 
-def look_at_units(machine: Machine, keeps_connection: bool, findings: Findings) -> None:
+def look_at_units(machine: MachineState, keeps_connection: bool, findings: Findings) -> None:
     """Whether systemd runs it each minute, and keeps its connection if it is to."""
     known = units.ask([TIMER, SERVICE, CONNECTION])
     connection, timer = known.get(CONNECTION), known.get(TIMER)
@@ -108,7 +108,7 @@ def look_at_units(machine: Machine, keeps_connection: bool, findings: Findings) 
                      f"{TIMER}")
 
 
-def look_at_folder(machine: Machine) -> None:
+def look_at_folder(machine: MachineState) -> None:
     """What its folder has."""
     machine.bytes = looking.bytes_below(".")
     places = [line.split(" ") for line in looking.text("gathered").splitlines() if line.startswith("file ")]
@@ -137,7 +137,7 @@ def stream_of(name: str) -> Stream:
     return Stream(name, told.st_size if told else 0, max(end, acknowledged), acknowledged, tries)
 
 
-def judge(machine: Machine, now: float, findings: Findings) -> None:
+def judge(machine: MachineState, now: float, findings: Findings) -> None:
     """What of it is to be told."""
     run = machine.last
     if run is None:
@@ -161,7 +161,7 @@ def judge(machine: Machine, now: float, findings: Findings) -> None:
                      "is gathered until it has gone out")
 
 
-def lines(machine: Machine, now: float) -> list[tuple[str, str]]:
+def lines(machine: MachineState, now: float) -> list[tuple[str, str]]:
     """What people are shown of it: each with its name."""
     told = [("collector", machine.collector), ("timer", machine.timer)]
     if machine.last:

@@ -43,8 +43,8 @@ class Sides:
     def __init__(self, asked: argparse.Namespace) -> None:
         self.now = time.time()
         self.findings = Findings()
-        self.machine: machine.Machine | None = None
-        self.collector: collector.Collector | None = None
+        self.machine: machine.MachineState | None = None
+        self.collector: collector.CollectorState | None = None
         self.look(asked)
 
     def look(self, asked: argparse.Namespace) -> None:

@@ -4,9 +4,9 @@ from collections.abc import Sequence
 from . import collector as collector_side
 from . import machine as machine_side
 from . import words
-from .collector import Collector
+from .collector import CollectorState
 from .findings import Findings
-from .machine import Machine
+from .machine import MachineState
 
 SHOWN_DAYS = 7
 
@@ -17,7 +17,7 @@ def columns(rows: Sequence[Sequence[str]]) -> list[str]:
     return ["  ".join(cell.ljust(width) for cell, width in zip(row, widths)).rstrip() for row in rows]
 
 
-def of_machine(machine: Machine, now: float) -> list[str]:
+def of_machine(machine: MachineState, now: float) -> list[str]:
     """A machine."""
     told = ["This machine", *columns([("", *line) for line in machine_side.lines(machine, now)])]
     rows = [(each.name, words.size(each.bytes), str(each.sent), str(each.acknowledged), str(each.tries))
@@ -27,7 +27,7 @@ def of_machine(machine: Machine, now: float) -> list[str]:
     return told
 
 
-def of_collector(collector: Collector, now: float) -> list[str]:
+def of_collector(collector: CollectorState, now: float) -> list[str]:
     """The collector, its machines, and its last days."""
     told = ["This collector", *columns([("", *line) for line in collector_side.lines(collector, now)])]
     rows = [(each.name, words.ago(each.last_answer, now), each.last_line.partition(" ")[0] or "-",
