@@ -1,11 +1,11 @@
 #!/usr/bin/env python3
-"""Counts the instructions of programs: instructions.py ENTRIES PROGRAM..
+"""Counts the instructions of programs: instructions.py ENTRIES PROGRAM.. or instructions.py --sequences PROGRAM..
 
 Each program collects one upload of entries with 24 fields into a new database, opens the database, collects the same
 upload again, and shows the first hundredth of the entries; with tables by key, and with tables by number. Valgrind
 counts the instructions, which are the same in each run, whatever else the machine does. The program `baseline` in
 bench/out, which `make bench` builds, may be one of them: it has tables by key alone, and no option for a part of the
-entries, so it shows all.
+entries, so it shows all. With --sequences it counts what notes of sequences take, by the runs of notes.py.
 """
 from __future__ import annotations
 
@@ -13,6 +13,7 @@ import os
 import re
 import sys
 
+import notes
 from measure import OUT, Run, forget, made
 
 COUNTING = ["valgrind", "--tool=cachegrind", "--cache-sim=no", "--cachegrind-out-file=/dev/null"]
@@ -50,8 +51,27 @@ def count(program: str, entries: int, options: list[str]) -> None:
     print(f"  bytes of the database          {size:18,}", flush=True)
 
 
+def count_notes(program: str) -> None:
+    """Prints what notes of new entries take, with many entries known and with none."""
+    for known in (notes.KNOWN, 0):
+        noted = notes.Noted(known)
+        counted = []
+        for command in notes.commands(program, noted):
+            forget(notes.DATABASE)
+            noted.put_back()
+            counted.append(instructions(command))
+        noted.forget()
+        print(f"{program}, {notes.NEW:,} new entries of 24 fields, {known:,} known, in instructions")
+        print(f"  judged and noted               {notes.of_notes(counted):18,}", flush=True)
+    forget(notes.DATABASE)
+
+
 def main() -> None:
     os.makedirs(OUT, exist_ok=True)
+    if sys.argv[1] == "--sequences":
+        for program in sys.argv[2:]:
+            count_notes(os.path.abspath(program))
+        return
     for program in sys.argv[2:]:
         kinds = [[]] if os.path.basename(program) == "baseline" else [["--tables", "2"], ["--tables", "3"]]
         for options in kinds:

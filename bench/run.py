@@ -5,8 +5,8 @@ Reading: `verify export` of streams of 10 MB and of 100 MB in turn with the C pa
 journal file. Collecting: new databases of 1,000 to 100,000 entries with 20 fields each, from export uploads and from
 journal files, the same uploads again, and listings of what is stored; each in turn with the C baseline of baseline.c.
 What is in C is left out if it can't be built. An upload of 10,000 entries with 24 fields, in turn with the baseline and
-with systemd-journal-remote, if it is installed. `migrate` of databases of schema 1. Each figure is the best of five
-runs.
+with systemd-journal-remote, if it is installed. `migrate` of databases of schema 1. Notes of sequences (notes.py). Each
+figure is the best of five runs. At the end the collector's service (service.py).
 """
 from __future__ import annotations
 
@@ -14,6 +14,7 @@ import os
 import sys
 from collections.abc import Sequence
 
+import notes
 from measure import HERE, OUT, Run, Runs, best, forget, interleaved, made, megabytes, output_of, say_machine
 
 STOCK = os.path.join(HERE, "..", "tests", "collect", "stock.py")
@@ -205,6 +206,14 @@ def measure_migrating(program: str) -> None:
     forget(database)
 
 
+def measure_service(program: str) -> None:
+    """What the collector's service takes beside the program. A process of its own measures it, which loads more."""
+    sys.stdout.flush()
+    words = [sys.executable, os.path.join(HERE, "service.py"), program, "--tables", "3"]
+    if os.spawnv(os.P_WAIT, sys.executable, words):
+        raise OSError("bench/service.py failed")
+
+
 def main() -> None:
     program = os.path.abspath(sys.argv[1])
     os.makedirs(OUT, exist_ok=True)
@@ -213,6 +222,8 @@ def main() -> None:
     measure_collecting(program)
     measure_beside_remote(program)
     measure_migrating(program)
+    notes.measure(program)
+    measure_service(program)
     print(f"load after: {' '.join(f'{load:.1f}' for load in os.getloadavg())}")
 
 
