@@ -20,7 +20,8 @@ from collections.abc import Iterator, Sequence
 from dataclasses import dataclass
 
 from pieces import bytes_of
-from words import WORDS, Told
+from told import Told, report_of
+from words import WORDS
 
 CALLS = os.path.abspath(os.environ["CALLS"])
 NUMBERS = re.compile("[0-9]+(,[0-9]+)*")
@@ -60,10 +61,6 @@ class Row:
         if told.rest:
             said = b"what means nothing, " + output
         return "" if said == self.wanted else report_of(self.line, said, self.wanted)
-
-
-def report_of(line: int, said: bytes, wanted: bytes) -> str:
-    return f"line {line}: {repr(said)[2:-1]} and not {repr(wanted)[2:-1]}"
 
 
 def reports(text: str) -> Iterator[str]:

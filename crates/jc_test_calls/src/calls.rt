@@ -42,12 +42,15 @@
 //! | `scanner` | | pieces of an export stream, or empty ones: a scanner is fed with these, and gives what it found |
 //! | `uploader` | limit | an export stream, a resume point and answers: an uploader makes its next upload and takes these |
 //! | `schedules` | | schedules of events, each in worlds of its own; `schedules.rt` says what the files are |
+//! | `journal` | | steps over a journal; `journals.rt` says what the files are |
+//! | `world` | | steps of a world; `worked.rt` says what the files are |
 //!
 //! Where a call answers that memory was refused, `refused` is printed in the place of what it makes.
 
+use crate::kept::Given;
 use crate::operands::number_in;
 use crate::output::{no_meaning, write_line};
-use crate::{collecting, entries, readings, schedules, spaces, values};
+use crate::{collecting, entries, journals, readings, schedules, spaces, values, worked};
 use jc_base::Limits;
 use jc_keeper::MapKeeper;
 use std::alloc::Global;
@@ -88,7 +91,7 @@ impl Calls {
             "texts" => self.spell(operand),
             "line" => write_line(&mut self.output, operand, &[]),
             "get" => collecting::get(self.alloc, &mut self.keeper, operand, &mut self.output),
-            "scanner" | "uploader" | "schedules" => {
+            "scanner" | "uploader" | "schedules" | "journal" | "world" => {
                 let files = read_files(rt, operand)?;
                 self.call_together(word, &files)
             }
@@ -125,7 +128,16 @@ impl Calls {
         match word {
             "scanner" => readings::feed_each(alloc, files, limits, output),
             "uploader" => entries::uploader(alloc, files, &self.numbers, limits, output),
-            _ => schedules::take_all(alloc, files, output),
+            "schedules" => schedules::take_all(alloc, files, output),
+            "world" => worked::take_all(alloc, files, output),
+            _ => journals::take_all(
+                Given {
+                    alloc,
+                    files,
+                    limits: *limits,
+                },
+                output,
+            ),
         }
     }
 

@@ -6,7 +6,10 @@
 
 mod calls;
 mod collecting;
+mod deliveries;
 mod entries;
+mod journals;
+mod kept;
 mod operands;
 mod output;
 mod readings;
@@ -15,6 +18,7 @@ mod schedules;
 mod spaces;
 mod stock;
 mod values;
+mod worked;
 mod worlds;
 
 use calls::Calls;

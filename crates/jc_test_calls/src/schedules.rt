@@ -4,7 +4,7 @@ use crate::output::{no_meaning, no_memory, write_line};
 use crate::stock::Stock;
 use crate::worlds::write_world;
 use jc_base::{Id128, Limits, OutOfMemory};
-use jc_keeper::MapKeeper;
+use jc_keeper::{Keeper, MapKeeper};
 use jc_test_samples::SOURCE_ID;
 use jc_world::{Event, World};
 use std::alloc::Global;
@@ -79,10 +79,19 @@ fn text_of(stock: &Stock, world: World<MapKeeper>) -> io::Result<Vec<u8>> {
     Ok(text)
 }
 
+/// The sources of two machines.
+pub fn sources(alloc: Global) -> io::Result<Vec<Id128>> {
+    Ok(Vec::from_array(alloc, [Id128(SOURCE_ID), Id128(OTHER_ID)])?)
+}
+
 fn two_machines(alloc: Global, output: &mut Vec<u8>) -> io::Result<World<MapKeeper>> {
     for _ in 0..TIMES {
-        let sources = Vec::from_array(alloc, [Id128(SOURCE_ID), Id128(OTHER_ID)])?;
-        match World::new(alloc, MapKeeper::new(alloc), sources, Limits::default()) {
+        match World::new(
+            alloc,
+            MapKeeper::new(alloc),
+            sources(alloc)?,
+            Limits::default(),
+        ) {
             Ok(Some(world)) => return Ok(world),
             Ok(None) => return no_meaning(),
             Err(OutOfMemory) => output.write_all(b"-")?,
@@ -91,7 +100,12 @@ fn two_machines(alloc: Global, output: &mut Vec<u8>) -> io::Result<World<MapKeep
     no_memory()
 }
 
-fn step(world: &mut World<MapKeeper>, event: &Event, output: &mut Vec<u8>) -> io::Result<()> {
+/// Takes an event, and writes whether it happened.
+pub fn step<K: Keeper + Drop>(
+    world: &mut World<K>,
+    event: &Event,
+    output: &mut Vec<u8>,
+) -> io::Result<()> {
     for _ in 0..TIMES {
         match world.step(event) {
             Ok(true) => return output.write_all(b"1"),

@@ -20,6 +20,16 @@ pub fn write_world(
     entries: &[Entry],
     output: &mut Vec<u8>,
 ) -> io::Result<()> {
+    write_sent(alloc, &world, output)?;
+    write_stored(&mut world.into_keeper(), entries, output)
+}
+
+/// Writes the uploads, the answers and the machines.
+pub fn write_sent<K: Keeper + Drop>(
+    alloc: Global,
+    world: &World<K>,
+    output: &mut Vec<u8>,
+) -> io::Result<()> {
     for upload in world.uploads() {
         write_line(output, "upload", &[upload.len() as u64])?;
         output.write_all(upload)?;
@@ -28,14 +38,14 @@ pub fn write_world(
         output.write_all(answer.line().bytes())?;
     }
     for machine in 0..MACHINES {
-        write_machine(alloc, &world, machine, output)?;
+        write_machine(alloc, world, machine, output)?;
     }
-    write_stored(&mut world.into_keeper(), entries, output)
+    Ok(())
 }
 
-fn write_machine(
+fn write_machine<K: Keeper + Drop>(
     alloc: Global,
-    world: &World<MapKeeper>,
+    world: &World<K>,
     machine: usize,
     output: &mut Vec<u8>,
 ) -> io::Result<()> {

@@ -1,4 +1,4 @@
-//! Worked uploads and readings over every kind of keeper.
+//! Journals in memory, in tables of every kind.
 #![tactic(auto)]
 
 #[cfg(test)]

@@ -1,18 +1,9 @@
-//! What no clause says of keepers and of collecting: worked rows, devices that fail, and machines whose answers come in
-//! any order.
+//! What no run of the program shows: runs and worlds over databases in memory, and journals in tables that nobody makes any
+//! more.
 
-mod answers;
-mod conflicts;
-mod failures;
-mod files;
 mod journals;
 mod memory;
-mod numbers;
+mod old_tables;
 mod readings;
-mod rows;
 mod same;
-mod tables;
-mod unions;
-mod whole_uploads;
-mod worlds;
 mod worlds_in_memory;

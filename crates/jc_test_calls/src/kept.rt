@@ -1,0 +1,231 @@
+//! Empty journals, in a map or in databases that take turns, and what is done to one.
+//!
+//! | Step | |
+//! |---|---|
+//! | `collect U:M R` | upload U is collected, from a device that fails after R reads |
+//! | `run W U:M..` | a run over uploads, to a sink that takes one byte at each write and fails after W of them |
+//! | `add E` | the export stream E's entries are added; then the next one that their reading gives is written |
+//! | `stored` | the entries that are stored under the numbers 1 to 4 |
+//!
+//! A device gives M bytes at most at each read. If M is 0 it is a space.
+
+use crate::deliveries::{Upload, collect_all, collect_delivery, delivered};
+use crate::operands::{number_in, numbered};
+use crate::output::{no_meaning, no_memory, write_code, write_line, write_text};
+use jc_base::{Ending, EntrySource, Id128, Key, Limits, ListSource, OutOfMemory, Step};
+use jc_collect::RunEnd;
+use jc_export::{canonical, read_all};
+use jc_keeper::{Absorbed, KeepStop, Keeper, MapKeeper};
+use jc_ledger::{EmptyShelf, MapLedger, UnionKeeper};
+use jc_test_samples::SEQNUM_ID;
+use std::alloc::Global;
+use std::collections::VecDeque;
+use std::io;
+use std::io::Write;
+
+/// Makes keepers of empty journals.
+pub trait Journals {
+    type Kept: Keeper + Drop;
+
+    fn empty(&self) -> Self::Kept;
+}
+
+/// Journals in maps.
+#[derive(Clone, Copy)]
+pub struct Maps(pub Global);
+
+impl Journals for Maps {
+    type Kept = MapKeeper;
+
+    fn empty(&self) -> MapKeeper {
+        MapKeeper::new(self.0)
+    }
+}
+
+/// Journals in databases that take turns, each of them in a map. No database is finished.
+#[derive(Clone, Copy)]
+pub struct Unions(pub Global);
+
+impl Journals for Unions {
+    type Kept = UnionKeeper<MapKeeper, MapLedger, EmptyShelf>;
+
+    fn empty(&self) -> UnionKeeper<MapKeeper, MapLedger, EmptyShelf> {
+        UnionKeeper::new(
+            self.0,
+            MapKeeper::new(self.0),
+            MapLedger::new(self.0),
+            EmptyShelf,
+        )
+    }
+}
+
+/// What steps take their bytes from, by numbers, and the limits of what they collect.
+#[derive(Clone, Copy)]
+pub struct Given<'a> {
+    pub alloc: Global,
+    pub files: &'a [Vec<u8>],
+    pub limits: Limits,
+}
+
+impl<'a> Given<'a> {
+    fn file(&self, number: u64) -> io::Result<&'a [u8]> {
+        match self.files.get(number as usize) {
+            Some(bytes) => Ok(bytes),
+            None => no_meaning(),
+        }
+    }
+
+    /// Upload U from a device that gives M bytes at most and fails after so many reads, named as `U:M`.
+    fn upload(&self, named: &str, passes: u64) -> io::Result<Upload<'a>> {
+        let Some((digits, most)) = numbered(named) else {
+            return no_meaning();
+        };
+        match number_in(digits) {
+            Some(number) => Ok(delivered(self.file(number)?, most, passes)),
+            None => no_meaning(),
+        }
+    }
+
+    /// Uploads from devices that don't fail, with spaces between them.
+    fn uploads(&self, named: &str) -> io::Result<Vec<Upload<'a>>> {
+        let mut uploads = Vec::new(self.alloc);
+        for one in named.split_whitespace() {
+            uploads.push(self.upload(one, u64::MAX)?)?;
+        }
+        Ok(uploads)
+    }
+
+    /// A source of the entries of the export stream that has this number.
+    pub fn source(&self, digits: &str) -> io::Result<ListSource> {
+        match number_in(digits) {
+            Some(number) => source_of(self.alloc, self.file(number)?),
+            None => no_meaning(),
+        }
+    }
+}
+
+/// A source of an export stream's entries.
+pub fn source_of(alloc: Global, bytes: &[u8]) -> io::Result<ListSource> {
+    match read_all(alloc, bytes, &Limits::default()) {
+        Ok(reading) => {
+            let entries = VecDeque::from(reading.entries);
+            Ok(ListSource::new(entries, Ending::End { left: 0 }))
+        }
+        Err(OutOfMemory) => no_memory(),
+    }
+}
+
+/// Takes a step, and writes what came of it.
+pub fn take_step<K: Keeper>(
+    given: Given<'_>,
+    keeper: &mut K,
+    step: &str,
+    output: &mut Vec<u8>,
+) -> io::Result<()> {
+    let (word, operands) = step.split_once(' ').unwrap_or((step, ""));
+    match word {
+        "collect" => collect(given, keeper, operands, output),
+        "run" => run(given, keeper, operands, output),
+        "add" => add(given, keeper, operands, output),
+        "stored" => write_stored(given.alloc, keeper, output),
+        _ => no_meaning(),
+    }
+}
+
+fn collect<K: Keeper>(
+    given: Given<'_>,
+    keeper: &mut K,
+    operands: &str,
+    output: &mut Vec<u8>,
+) -> io::Result<()> {
+    let (named, digits) = operands.split_once(' ').unwrap_or((operands, ""));
+    let Some(passes) = number_in(digits) else {
+        return no_meaning();
+    };
+    let mut delivery = given.upload(named, passes)?;
+    let answer = collect_delivery(given.alloc, keeper, &mut delivery, &given.limits);
+    output.write_all(answer.line().bytes())
+}
+
+fn run<K: Keeper>(
+    given: Given<'_>,
+    keeper: &mut K,
+    operands: &str,
+    output: &mut Vec<u8>,
+) -> io::Result<()> {
+    let (digits, named) = operands.split_once(' ').unwrap_or((operands, ""));
+    let Some(passes) = number_in(digits) else {
+        return no_meaning();
+    };
+    let mut uploads = given.uploads(named)?;
+    let (end, lines) = collect_all(given.alloc, keeper, &mut uploads, passes, &given.limits);
+    write_text(output, "lines", Ok(lines))?;
+    match end {
+        RunEnd::Done => write_line(output, "done", &[]),
+        RunEnd::Stopped { done, written } => write_line(output, "stopped", &[done, written]),
+    }
+}
+
+fn add<K: Keeper>(
+    given: Given<'_>,
+    keeper: &mut K,
+    digits: &str,
+    output: &mut Vec<u8>,
+) -> io::Result<()> {
+    let mut reading = given.source(digits)?;
+    write_absorbed(output, absorb(keeper, &mut reading))?;
+    match reading.next() {
+        Ok(Step::Entry(entry)) => write_text(output, "next", canonical(given.alloc, &entry)),
+        Ok(_) | Err(_) => write_line(output, "next none", &[]),
+    }
+}
+
+/// What becomes of a reading. What calls this has nothing of `absorb`'s contract to prove with.
+pub fn absorb<K: Keeper>(keeper: &mut K, reading: &mut ListSource) -> Result<Absorbed, KeepStop> {
+    keeper.absorb(reading)
+}
+
+fn write_absorbed(output: &mut Vec<u8>, absorbed: Result<Absorbed, KeepStop>) -> io::Result<()> {
+    match absorbed {
+        Ok(Absorbed::Taken { count, new, left }) => write_line(
+            output,
+            "taken",
+            &[count, new, left],
+        ),
+        Ok(Absorbed::Conflict { index }) => write_line(output, "conflict", &[index]),
+        Ok(Absorbed::NotTheOwner { index }) => write_line(output, "another's", &[index]),
+        Ok(Absorbed::Bad(fault)) => write_code(output, "bad", fault.code, fault.place),
+        Err(stop) => write_code(output, "stop", stop.code(), 0),
+    }
+}
+
+/// Writes the texts of the entries that are stored under the numbers 1 to 4, one after the other.
+pub fn write_stored<K: Keeper>(
+    alloc: Global,
+    keeper: &mut K,
+    output: &mut Vec<u8>,
+) -> io::Result<()> {
+    let mut texts = Vec::new(alloc);
+    for seqnum in 1..=4 {
+        add_stored(alloc, keeper, seqnum, &mut texts)?;
+    }
+    write_text(output, "stored", Ok(texts))
+}
+
+/// Adds the text of the entry with this number, if one is stored.
+fn add_stored<K: Keeper>(
+    alloc: Global,
+    keeper: &mut K,
+    seqnum: u64,
+    texts: &mut Vec<u8>,
+) -> io::Result<()> {
+    let seqnum_id = Id128(SEQNUM_ID);
+    let Ok(stored) = keeper.get(&Key { seqnum_id, seqnum }) else {
+        return no_memory();
+    };
+    match stored.map(|entry| canonical(alloc, &entry)) {
+        Some(Ok(text)) => texts.write_all(&text),
+        Some(Err(OutOfMemory)) => no_memory(),
+        None => Ok(()),
+    }
+}

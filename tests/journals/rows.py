@@ -1,0 +1,37 @@
+"""Worked uploads and worlds over journals that are kept in a map or in databases that take turns: the scripts NAME.rows
+beside this, and before them the scripts of mistakes.py, which have to fail. Each journal that is made counts.
+
+usage: python3 rows.py [NAME..]
+"""
+from __future__ import annotations
+
+import os
+import sys
+from collections.abc import Iterator, Sequence
+from pathlib import Path
+
+from made import reports_of
+from mistakes import unlike
+
+HERE = Path(__file__).resolve().parent
+
+
+def wrong(scripts: Sequence[Path]) -> Iterator[str]:
+    """How each journal is wrong, and where; empty if it is as it has to be."""
+    for path in scripts:
+        for report in reports_of(path.stem, path.read_text(encoding="utf-8")):
+            yield report and f"{os.path.relpath(path)}, {report}"
+
+
+def main(names: list[str]) -> int:
+    scripts = [HERE / f"{name}.rows" for name in names] or sorted(HERE.glob("*.rows"))
+    told = [*unlike(), *wrong(scripts)]
+    failed = [report for report in told if report]
+    for report in failed:
+        print(f"FAILED: {report}", file=sys.stderr)
+    print(f"{len(told) - len(failed)} passed, {len(failed)} failed")
+    return 1 if failed else 0
+
+
+if __name__ == "__main__":
+    sys.exit(main(sys.argv[1:]))
