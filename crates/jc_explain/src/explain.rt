@@ -1,6 +1,7 @@
 //! Runs of which what is refused or fails is explained.
 
-ghost use Rattle.std.specs.Prelude.{◌≡◌, ◌≤◌, ℕ, List, Option as Maybe, map, string_bytes};
+ghost use Rattle.std.specs.Prelude.{◌≡◌, ◌≢◌, ◌≤◌, ℕ, List, Option as Maybe, map, string_bytes};
+ghost use Rattle.jc_command_shared.specs.Status.{number_of};
 ghost use Rattle.jc_command_shared.specs.declared.status.Status.{Status};
 ghost use Rattle.jc_command.specs.Run.{EndsWithin, begins_with, devices};
 ghost use Rattle.jc_explain.specs.Explanations.{TellsOn};
@@ -27,17 +28,10 @@ pub fn explained<'a, F: OpenFromFiles, S: Begun, I: Read, O: Write + Drop, E: Wr
 ) -> u8
     ensures status { result ≤ 3 }
     // `told` is what `errors` had before the explanations, and what came then goes on from there.
-    ensures success { result ≡ 0 → (told : Maybe (List ℕ)) × EndsWithin (begins_with F.first S.windows S.past S.came)
-        (devices F.in_files ⟦<Sequences<'a, S> as Ledger>⟧) (map string_bytes words.items)
-        (I.remaining input.old) (O.contents output.old.inner) (O.contents output.new.inner) (E.contents errors.old.inner) told Status.Success
-        × TellsOn (map string_bytes words.items) CODES.now told (E.contents errors.new.inner) }
-    ensures refused { result ≡ 1 → (told : Maybe (List ℕ)) × EndsWithin (begins_with F.first S.windows S.past S.came)
-        (devices F.in_files ⟦<Sequences<'a, S> as Ledger>⟧) (map string_bytes words.items)
-        (I.remaining input.old) (O.contents output.old.inner) (O.contents output.new.inner) (E.contents errors.old.inner) told Status.Refused
-        × TellsOn (map string_bytes words.items) CODES.now told (E.contents errors.new.inner) }
-    ensures misused { result ≡ 2 → (told : Maybe (List ℕ)) × EndsWithin (begins_with F.first S.windows S.past S.came)
-        (devices F.in_files ⟦<Sequences<'a, S> as Ledger>⟧) (map string_bytes words.items)
-        (I.remaining input.old) (O.contents output.old.inner) (O.contents output.new.inner) (E.contents errors.old.inner) told Status.Misused
+    ensures ended { (status : Status) → status ≢ Status.Failed → result ≡ number_of status → (told : Maybe (List ℕ))
+        × EndsWithin (begins_with F.first S.windows S.past S.came) (devices F.in_files ⟦<Sequences<'a, S> as Ledger>⟧)
+        (map string_bytes words.items) (I.remaining input.old) (O.contents output.old.inner) (O.contents output.new.inner)
+        (E.contents errors.old.inner) told status
         × TellsOn (map string_bytes words.items) CODES.now told (E.contents errors.new.inner) }
 {
     let asked: Result<_, _> = words.clone();
