@@ -1,5 +1,5 @@
 -- What the bytes of a source say. (own)
-use Rattle.std.specs.Prelude.{◌≡◌, ℕ, List, ⊤}
+use Rattle.std.specs.Prelude.{◌≡◌, ◌^◌, ℕ, List, ⊤}
 use Rattle.jc_base.specs.LimitBounds.{AreDefaults}
 use Rattle.jc_base.specs.LogEntry.{LogEntry}
 use Rattle.jc_base.specs.Reading.{Reading}
@@ -11,6 +11,10 @@ use Rattle.jc_sender.specs.Reads.{ReadsAs}
 use Rattle.jc_command_shared.specs.declared.failure.Failure.{Failure}
 use Rattle.jc_command_shared.specs.declared.failure.Failure.TheVariants as failure
 use Rattle.jc_command_args.specs.declared.request.InputKind.{InputKind}
+
+-- the most bytes of a journal file under the default limits (docs/FORMATS.md, "Limits")
+abbrev pub most_file_bytes : ℕ
+most_file_bytes = 2 ^ 30
 
 abbrev pub IsEnd : Ending → Type 0
 IsEnd ending = (left : ℕ) × (ending ≡ End left)

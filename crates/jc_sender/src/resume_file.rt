@@ -40,9 +40,9 @@ pub fn read_resume<'a, R: System>(rt: &R, path: &'a str) -> Result<Resume, Failu
 /// The resume point whose text a reader gives.
 fn resume_in<'a, F: Read + Drop>(alloc: Global, file: F) -> Result<Resume, Failure<'a>>
     ensures lawful { IfOk result IsPoint }
-    ensures point { IfOk result (λ point. IfSome (F.remaining file) (λ text. take 129 text ≡ resume_text point)) }
+    ensures point { IfOk result (λ point. IfSome (F.remaining file) (λ text. take TEXT text ≡ resume_text point)) }
     ensures none { result ≡ Err Failure.BadResume → IfSome (F.remaining file) (λ text. (point : Point) → IsPoint point
-        → take 129 text ≢ resume_text point) }
+        → take TEXT text ≢ resume_text point) }
     ensures failed { IfErr result (λ failure. (failure ≡ Failure.ReadFailed) ⊎ (failure ≡ Failure.OutOfMemory)
         ⊎ (failure ≡ Failure.BadResume)) }
 {

@@ -1,8 +1,8 @@
 //! What the bytes of a source say.
 
-ghost use Rattle.std.specs.Prelude.{◌≡◌, ◌⊎◌, ◌+◌, ◌^◌, IfOk, IfErr, IfSome, OnOk, take};
+ghost use Rattle.std.specs.Prelude.{◌≡◌, ◌⊎◌, ◌+◌, IfOk, IfErr, IfSome, OnOk, take};
 ghost use Rattle.jc_base.specs.Reading.{Reading};
-ghost use Rattle.jc_sender.specs.Source.{HasEntriesOf, ReadsWell, WhyNoEntries};
+ghost use Rattle.jc_sender.specs.Source.{HasEntriesOf, ReadsWell, WhyNoEntries, most_file_bytes};
 
 use crate::entries::{all_entries, count_entries};
 use jc_base::{Ending, Entry, Limits};
@@ -21,7 +21,7 @@ pub fn open_source<'a, R: System>(rt: &R, source: Source<'a>) -> Result<R::File,
 
 /// The bytes of a journal file, read up to one byte over the limit of a file: more would change nothing.
 pub fn file_bytes<'a, F: Read + Drop>(alloc: Global, file: F) -> Result<Vec<u8>, Failure<'a>>
-    ensures front { IfOk result (λ bytes. IfSome (F.remaining file) (λ held. bytes.items ≡ take (2 ^ 30 + 1) held)) }
+    ensures front { IfOk result (λ bytes. IfSome (F.remaining file) (λ held. bytes.items ≡ take (most_file_bytes + 1) held)) }
     ensures failed { IfErr result (λ failure. (failure ≡ Failure.ReadFailed) ⊎ (failure ≡ Failure.OutOfMemory)) }
 {
     read_front(alloc, file, Limits::default().file + 1)
