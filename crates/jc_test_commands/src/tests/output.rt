@@ -4,6 +4,9 @@ use std::alloc::Global;
 use std::io;
 use std::io::Write;
 
+/// More flushes than there are.
+pub(super) const ALWAYS: u64 = u64::MAX;
+
 /// Keeps all that is written, and is flushed only so often: a disk that fails.
 #[derive(Drop)]
 pub(super) struct Output {

@@ -1,0 +1,338 @@
+//! What stops runs, and tells what came of them.
+
+ghost use Rattle.std.specs.Prelude.{⊤};
+
+use super::output::Output;
+use super::stops::{Came, Run};
+use jc_base::FromRead;
+use jc_collect::Delivery;
+use jc_collector::{Closed, Opened, OpenedFiles, Unopened, open_or_make, show};
+use jc_command_args::Tables;
+use jc_command_shared::{Failure, Host, Status};
+use jc_database::{OpenFromFiles, OverFiles, StoreInFiles, over_files};
+use jc_file::SliceSpace;
+use jc_ledger::{Ledger, MapLedger};
+use jc_store::{Listed, TableKeeper};
+use jc_theorem_stops::{
+    Stopped, collect_and_stop, collect_into_union_and_stop, collect_lines_and_stop,
+    open_after_lines, open_after_stop,
+};
+use jc_union::{NotedRun, collect_noted};
+use sqlite::{Alter, Unknown};
+use std::alloc::Global;
+use std::io;
+use std::marker::Brand;
+
+type Upload<'a> = Delivery<FromRead<&'a [u8]>, SliceSpace<'static>>;
+
+/// A run that is stopped.
+#[derive(Clone, Copy)]
+pub(super) struct Stopping<'a> {
+    pub(super) rt: &'a HostRuntime,
+    pub(super) path: &'a str,
+    pub(super) tables: Tables,
+    pub(super) run: Run,
+    /// How often the output can be flushed.
+    pub(super) flushes: u64,
+    pub(super) uploads: &'a [Vec<u8>],
+    pub(super) names: &'a [u8],
+}
+
+/// What came of it, and what it printed.
+#[derive(Drop)]
+pub(super) struct Told {
+    pub(super) came: Came,
+    pub(super) output: Vec<u8>,
+}
+
+impl<'a> OverFiles for Stopping<'a> {
+    type Outcome = Told;
+
+    ghost ends = { λ _ _. ⊤ };
+
+    fn over<F: OpenFromFiles>(self, start: F::Start) -> Told {
+        match self.run {
+            Run::Deliveries => deliveries_stop::<F>(self, start),
+            Run::Lines => lines_stop::<F>(self, start),
+            Run::Union => union_stops::<F>(self, start),
+            Run::Noted => union_ends::<F>(self, start),
+            Run::Show => shows::<F>(self, start),
+            Run::DeliveriesAndNext | Run::LinesAndNext => {
+                over_files(Next::<'a, F> { run: self, start }, Unknown)
+            }
+        }
+    }
+}
+
+/// A run that is stopped, and the next one.
+#[derive(Drop)]
+struct Next<'a, F: OpenFromFiles> {
+    run: Stopping<'a>,
+    start: F::Start,
+}
+
+impl<'a, F: OpenFromFiles> OverFiles for Next<'a, F> {
+    type Outcome = Told;
+
+    ghost ends = { λ _ _. ⊤ };
+
+    fn over<G: OpenFromFiles>(self, next: G::Start) -> Told {
+        let Next { run, start } = self;
+        match run.run {
+            Run::LinesAndNext => lines_and_next::<F, G>(run, start, next),
+            _ => deliveries_and_next::<F, G>(run, start, next),
+        }
+    }
+}
+
+fn deliveries_of(alloc: Global, uploads: &[Vec<u8>]) -> io::Result<Vec<Upload<'_>>> {
+    let mut all = Vec::new(alloc);
+    for upload in uploads {
+        all.push(Delivery::Stream(FromRead::new(upload.as_slice())))?;
+    }
+    Ok(all)
+}
+
+// The calls stand alone, so that no more than one function has their contracts to bear.
+
+fn deliveries_stop<F: OpenFromFiles>(run: Stopping<'_>, start: F::Start) -> Told {
+    let mut output = Output::new(run.rt.alloc(), run.flushes);
+    let mut host = Host::new(run.rt);
+    let came = match deliveries_of(run.rt.alloc(), run.uploads) {
+        Ok(mut deliveries) => ended(collect_and_stop::<_, F, _, _, _>(
+            &mut host,
+            start,
+            run.path,
+            run.tables,
+            None,
+            &mut deliveries,
+            &mut output,
+        )),
+        Err(_) => Came::Failed,
+    };
+    Told {
+        came,
+        output: output.kept,
+    }
+}
+
+fn lines_stop<F: OpenFromFiles>(run: Stopping<'_>, start: F::Start) -> Told {
+    let mut output = Output::new(run.rt.alloc(), run.flushes);
+    let mut errors = Vec::new(run.rt.alloc());
+    let mut names = run.names;
+    let mut host = Host::new(run.rt);
+    let came = ended(collect_lines_and_stop::<_, F, _, _, _>(
+        &mut host,
+        start,
+        run.path,
+        run.tables,
+        None,
+        &mut names,
+        &mut output,
+        &mut errors,
+    ));
+    Told {
+        came,
+        output: output.kept,
+    }
+}
+
+fn union_stops<F: OpenFromFiles>(run: Stopping<'_>, start: F::Start) -> Told {
+    let mut output = Output::new(run.rt.alloc(), run.flushes);
+    let mut errors = Vec::new(run.rt.alloc());
+    let mut names = run.names;
+    let mut host = Host::new(run.rt);
+    let came = match collect_into_union_and_stop::<_, F, MapLedger, Brand, _, _, _>(
+        &mut host,
+        start,
+        MapLedger::new(run.rt.alloc()),
+        run.path,
+        run.tables,
+        None,
+        &mut names,
+        &mut output,
+        &mut errors,
+    ) {
+        Ok(stopped) => stopped_with(stopped.answered),
+        Err(_) => Came::Failed,
+    };
+    Told {
+        came,
+        output: output.kept,
+    }
+}
+
+fn union_ends<F: OpenFromFiles>(run: Stopping<'_>, start: F::Start) -> Told {
+    let mut host = Host::new(run.rt);
+    noted_in(
+        run,
+        open_or_make::<_, F>(&mut host, run.path, start, run.tables),
+    )
+}
+
+/// What comes of a run over deliveries into the union of the journal that was opened alone, if one was.
+fn noted_in<F: StoreInFiles, L: Drop>(
+    run: Stopping<'_>,
+    opened: Result<OpenedFiles<F>, Unopened<'_, L>>,
+) -> Told {
+    match opened {
+        Ok(Opened::ByKey(keeper)) => noted(run, keeper),
+        Ok(Opened::ByNumber(keeper)) => noted(run, keeper),
+        Err(_) => Told {
+            came: Came::Failed,
+            output: Vec::new(run.rt.alloc()),
+        },
+    }
+}
+
+fn noted<F: StoreInFiles, T: Listed + Drop>(run: Stopping<'_>, keeper: TableKeeper<F, T>) -> Told {
+    let alloc = run.rt.alloc();
+    let mut output = Output::new(alloc, run.flushes);
+    let came = match deliveries_of(alloc, run.uploads) {
+        Ok(mut deliveries) => ended_well(collect_noted::<F, T, MapLedger, Brand, _, _, _>(
+            alloc,
+            keeper,
+            MapLedger::new(alloc),
+            &mut deliveries,
+            &mut output,
+        )),
+        Err(_) => Came::Failed,
+    };
+    Told {
+        came,
+        output: output.kept,
+    }
+}
+
+fn shows<F: OpenFromFiles>(run: Stopping<'_>, start: F::Start) -> Told {
+    let mut output = Output::new(run.rt.alloc(), run.flushes);
+    let mut host = Host::new(run.rt);
+    let came = shown(show::<_, F, _>(
+        &mut host,
+        start,
+        run.path,
+        None,
+        None,
+        0,
+        u64::MAX,
+        &mut output,
+    ));
+    Told {
+        came,
+        output: output.kept,
+    }
+}
+
+fn shown<C: Drop>(listed: Result<Closed<(), C>, Failure<'_>>) -> Came {
+    match listed {
+        Ok(_) => Came::Ended,
+        Err(Failure::WriteFailed) => Came::Unwritten,
+        Err(_) => Came::Failed,
+    }
+}
+
+fn deliveries_and_next<F: OpenFromFiles, G: OpenFromFiles>(
+    run: Stopping<'_>,
+    start: F::Start,
+    next: G::Start,
+) -> Told {
+    let mut output = Output::new(run.rt.alloc(), run.flushes);
+    let mut host = Host::new(run.rt);
+    let came = match deliveries_of(run.rt.alloc(), run.uploads) {
+        Ok(mut deliveries) => ended_and_found(open_after_stop::<_, F, G, _, _, _>(
+            &mut host,
+            start,
+            next,
+            run.path,
+            run.tables,
+            None,
+            &mut deliveries,
+            &mut output,
+        )),
+        Err(_) => Came::Failed,
+    };
+    Told {
+        came,
+        output: output.kept,
+    }
+}
+
+fn lines_and_next<F: OpenFromFiles, G: OpenFromFiles>(
+    run: Stopping<'_>,
+    start: F::Start,
+    next: G::Start,
+) -> Told {
+    let mut output = Output::new(run.rt.alloc(), run.flushes);
+    let mut errors = Vec::new(run.rt.alloc());
+    let mut names = run.names;
+    let mut host = Host::new(run.rt);
+    let came = ended_and_found(open_after_lines::<_, F, G, _, _, _>(
+        &mut host,
+        start,
+        next,
+        run.path,
+        run.tables,
+        None,
+        &mut names,
+        &mut output,
+        &mut errors,
+    ));
+    Told {
+        came,
+        output: output.kept,
+    }
+}
+
+/// What came of two runs.
+fn ended_and_found<F: OpenFromFiles, G: Alter + Drop, L: Drop>(
+    runs: Result<(Stopped<'_, F>, Result<OpenedFiles<G>, Unopened<'_, L>>), Failure<'_>>,
+) -> Came {
+    match runs {
+        Ok((stopped, next)) => found_after(stopped_with(stopped.answered), next),
+        Err(_) => Came::Failed,
+    }
+}
+
+fn ended<F: OpenFromFiles>(run: Result<Stopped<'_, F>, Failure<'_>>) -> Came {
+    match run {
+        Ok(stopped) => stopped_with(stopped.answered),
+        Err(_) => Came::Failed,
+    }
+}
+
+fn stopped_with(answered: Result<Status, Failure<'_>>) -> Came {
+    match answered {
+        Ok(Status::Success) => Came::Stopped,
+        Err(Failure::WriteFailed) => Came::Unwritten,
+        _ => Came::Failed,
+    }
+}
+
+fn ended_well<C: Drop, L: Ledger + Drop>(run: Result<NotedRun<C, L>, Failure<'_>>) -> Came {
+    match run {
+        Ok(ended) if ended.status == Status::Success => Came::Ended,
+        _ => Came::Failed,
+    }
+}
+
+/// What the next run found after this came of the one before.
+fn found_after<F: Alter + Drop, L: Drop>(
+    came: Came,
+    next: Result<OpenedFiles<F>, Unopened<'_, L>>,
+) -> Came {
+    match count_of(next) {
+        Some(count) if came == Came::Stopped => Came::Found(count),
+        _ => Came::Failed,
+    }
+}
+
+/// How many entries the next run has found, if it has opened a journal.
+fn count_of<F: Alter + Drop, L: Drop>(
+    next: Result<OpenedFiles<F>, Unopened<'_, L>>,
+) -> Option<u64> {
+    match next {
+        Ok(Opened::ByKey(mut keeper)) => keeper.count().ok(),
+        Ok(Opened::ByNumber(mut keeper)) => keeper.count().ok(),
+        Err(_) => None,
+    }
+}
