@@ -1,5 +1,5 @@
--- What a keeper took up of a source is a step over a reading of the source's bytes.
-use Rattle.std.proofs.Common.{◌≡◌, ◌<◌, ◌≤◌, ◌+◌, nat_le, true, false, ℕ, List, [], ◌++◌, length, Option, Some, None, Result, Ok, Err, IsSomeAnd, refl, sym, ap, ◌∙◌, subst, inl, ⊎_elim, arith}
+-- What a source may give is a reading of its bytes.
+use Rattle.std.proofs.Common.{◌≡◌, ◌<◌, ◌≤◌, ◌+◌, nat_le, true, false, ℕ, List, [], ◌++◌, length, Option, Some, None, IsSomeAnd, refl, sym, ap, ◌∙◌, subst, inl, ⊎_elim, arith}
 use Rattle.std.proofs.lemmas.Bool.{cases_lt, lt-leb}
 use Rattle.std.proofs.lemmas.List.{append-nil, length-append}
 use Rattle.std.specs.Io.KnownBytes.{Consumes, IsAtEnd}
@@ -8,49 +8,28 @@ use Rattle.jc_base.specs.declared.fault.Code.TheVariants.{FileTooLong}
 use Rattle.jc_base.specs.declared.fault.Fault.{Fault}
 use Rattle.jc_base.specs.declared.limits.Limits.{Limits}
 use Rattle.jc_base.specs.Reading.{Reading}
-use Rattle.jc_base.specs.Journal.{Journal}
 use Rattle.jc_stream.specs.Streaming.{ReadsKnown}
 use Rattle.jc_file.specs.Check.{first_failing}
 use Rattle.jc_file.specs.Header.{header_checks}
 use Rattle.jc_file.specs.FileReading.{IsFileReading}
-use Rattle.jc_keeper.specs.declared.keeper.Absorbed.{Absorbed}
-use Rattle.jc_keeper.specs.declared.keeper.KeepStop.{KeepStop}
-use Rattle.jc_keeper.specs.Absorb.{Absorbs}
-use Rattle.jc_upload.specs.declared.head.Kind.{Kind}
 use Rattle.jc_upload.specs.declared.head.Version.{Version}
 use Rattle.jc_upload.specs.declared.head.Version.TheVariants.{V1, V2}
 use Rattle.jc_upload.specs.Says.{BodySays, IsInParts, reading_under}
 use Rattle.jc_upload.specs.declared.head.Kind.TheVariants.{Export, File}
-use Rattle.jc_collect.specs.Body.{AbsorbsBody, SaysBody}
+use Rattle.jc_collect.specs.Body.{MayGive, SaysBody}
 
-pub export_step : (limits : Limits) (version : Version) (known : Option (List ℕ)) (answered : Option Reading) (before : Journal) (result : Result Absorbed KeepStop) (after : Journal)
-    → ReadsKnown limits known answered → Absorbs before (option_map (reading_under version) answered) result after
-    → AbsorbsBody (SaysBody limits version Export known) before result after
-export_step limits version known answered before (Err stop) after reads h = h
-export_step limits version None None before (Ok absorbed) after reads h = (h.0, tt, h.1)
-export_step limits version None (Some r) before (Ok absorbed) after reads h = (reading_under version r, tt, h)
-export_step limits version (Some b) None before (Ok absorbed) after reads h = absurd reads
-export_step limits version (Some b) (Some r) before (Ok absorbed) after reads h = (reading_under version r, record { read = r; reads = reads; under = refl }, h)
+pub export_says : (limits : Limits) (version : Version) (known : Option (List ℕ)) (answered : Option Reading) (r : Reading)
+    → ReadsKnown limits known answered → MayGive (option_map (reading_under version) answered) r → SaysBody limits version Export known r
+export_says limits version None answered r reads gives = tt
+export_says limits version (Some b) None r reads gives = absurd reads
+export_says limits version (Some b) (Some read) r reads gives = record { read = read; reads = reads; under = gives }
 
-pub file_absorbed : (limits : Limits) (version : Version) (known : Option (List ℕ)) (answered : Option Reading) (before : Journal) (result : Result Absorbed KeepStop) (after : Journal)
-    → ((b : List ℕ) → known ≡ Some b → IsSomeAnd answered (IsFileReading limits b)) → Absorbs before (option_map (reading_under version) answered) result after
-    → AbsorbsBody (SaysBody limits version File known) before result after
-file_absorbed limits version known answered before (Err stop) after reads h = h
-file_absorbed limits version None None before (Ok absorbed) after reads h = (h.0, tt, h.1)
-file_absorbed limits version None (Some r) before (Ok absorbed) after reads h = (reading_under version r, tt, h)
-file_absorbed limits version (Some b) None before (Ok absorbed) after reads h = absurd (reads b refl)
-file_absorbed limits version (Some b) (Some r) before (Ok absorbed) after reads h = (reading_under version r, record { read = r; reads = reads b refl; under = refl }, h)
-
--- the source stands over a space whose bytes are those known
-pub file_step : (limits : Limits) (version : Version) (known bytes : Option (List ℕ)) (answered : Option Reading) (before : Journal) (result : Result Absorbed KeepStop) (after : Journal)
-    → bytes ≡ known → ((b : List ℕ) → bytes ≡ Some b → IsSomeAnd answered (IsFileReading limits b)) → Absorbs before (option_map (reading_under version) answered) result after
-    → AbsorbsBody (SaysBody limits version File known) before result after
-file_step limits version known bytes answered before result after same reads h =
-    file_absorbed limits version known answered before result after (λ b is. reads b (same ∙ is)) h
-
-pub body_step : (limits : Limits) (version : Version) (kind : Kind) (bytes known : Option (List ℕ)) (before : Journal) (result : Result Absorbed KeepStop) (after : Journal)
-    → bytes ≡ known → AbsorbsBody (SaysBody limits version kind bytes) before result after → AbsorbsBody (SaysBody limits version kind known) before result after
-body_step limits version kind bytes known before result after same h = subst (λ (k : Option (List ℕ)). AbsorbsBody (SaysBody limits version kind k) before result after) same h
+pub file_says : (limits : Limits) (version : Version) (known : Option (List ℕ)) (answered : Option Reading) (r : Reading)
+    → ((b : List ℕ) → known ≡ Some b → IsSomeAnd answered (IsFileReading limits b)) → MayGive (option_map (reading_under version) answered) r
+    → SaysBody limits version File known r
+file_says limits version None answered r reads gives = tt
+file_says limits version (Some b) None r reads gives = absurd (reads b refl)
+file_says limits version (Some b) (Some read) r reads gives = record { read = read; reads = reads b refl; under = gives }
 
 -- ---- a file that is read whole first, up to one byte more than it may have
 
@@ -84,14 +63,12 @@ gathered limits version all rest bytes found came ended says = record {
         let whole : length all ≡ length bytes + length rest = ap length came ∙ length-append bytes rest in
         long_says limits bytes all says.read (omega arith) (omega arith) says.reads
 
-pub whole_step : (limits : Limits) (version : Version) (known rest : Option (List ℕ)) (bytes : List ℕ) (before : Journal) (result : Result Absorbed KeepStop) (after : Journal)
-    → Consumes known rest bytes → (length bytes < limits.file + 1 → IsAtEnd rest)
-    → AbsorbsBody (SaysBody limits version File (Some bytes)) before result after → AbsorbsBody (SaysBody limits version File known) before result after
-whole_step limits version known rest bytes before (Err stop) after came ended h = h
-whole_step limits version None rest bytes before (Ok absorbed) after came ended h = (h.0, tt, h.2)
-whole_step limits version (Some b) None bytes before (Ok absorbed) after came ended h = absurd came
-whole_step limits version (Some b) (Some r) bytes before (Ok absorbed) after came ended h =
-    (h.0, gathered limits version b r bytes h.0 came ended h.1, h.2)
+pub whole_says : (limits : Limits) (version : Version) (known rest : Option (List ℕ)) (bytes : List ℕ) (r : Reading)
+    → Consumes known rest bytes → (length bytes < limits.file + 1 → IsAtEnd rest) → SaysBody limits version File (Some bytes) r
+    → SaysBody limits version File known r
+whole_says limits version None rest bytes r came ended says = tt
+whole_says limits version (Some b) None bytes r came ended says = absurd came
+whole_says limits version (Some b) (Some left) bytes r came ended says = gathered limits version b left bytes r came ended says
 
 -- ---- what isn't to be whole counts as it is read
 

@@ -15,6 +15,7 @@ pub mod Heads
 pub mod Bodies
 pub mod Answering
 pub mod Crashed
+pub mod Taking
 pub mod Chains
 pub mod Bounding
 pub mod Inspecting

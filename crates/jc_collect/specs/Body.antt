@@ -23,6 +23,11 @@ abbrev pub SaysBody : Limits → Version → Kind → (body : Option (List ℕ))
 SaysBody limits version kind None reading = ⊤
 SaysBody limits version kind (Some body) reading = BodySays limits version kind body reading
 
+-- a reading that a source may give: any one if its own isn't known
+abbrev pub MayGive : Option Reading → Reading → Type 0
+MayGive None reading = ⊤
+MayGive (Some known) reading = reading ≡ known
+
 -- What became of a body is a step over a reading that it has. If the keeper stopped, the journal stays.
 abbrev pub AbsorbsBody : (Says : Reading → Type 0) → (before : Journal) → Result Absorbed KeepStop → (after : Journal) → Type 0
 AbsorbsBody Says before (Err stop) after = after ≡ before

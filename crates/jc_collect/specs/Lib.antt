@@ -5,6 +5,7 @@ pub mod Delivered
 pub mod Run
 pub mod RunLaws
 pub mod Crash
+pub mod Taken
 pub mod Part
 pub mod Whole
 pub mod Begun
