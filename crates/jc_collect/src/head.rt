@@ -56,7 +56,7 @@ pub(crate) fn read_head<R: ByteStream>(device: &mut R) -> Result<UploadHead, Unr
     ensures begins { BeginsUpload (R.remaining device.old) (R.remaining device.new) result }
     ensures never_falls { R.failures device.old ≤ R.failures device.new }
     ensures cause { result ≡ Err ReadingFailed → Rose (R.failures device.old) (R.failures device.new) }
-    ensures few { result ≡ Err ReadingFailed → HasGivenFewer 48 (R.remaining device.old) (R.remaining device.new) }
+    ensures few { result ≡ Err ReadingFailed → HasGivenFewer HEAD_LENGTH (R.remaining device.old) (R.remaining device.new) }
 {
     let mut bytes = [0; 48];
     let came = fill(device, &mut bytes)?;
@@ -65,8 +65,8 @@ pub(crate) fn read_head<R: ByteStream>(device: &mut R) -> Result<UploadHead, Unr
 
 /// Reads the header that a space begins with.
 pub(crate) fn read_head_at<B: ByteSpace>(space: &mut B) -> Result<UploadHead, Unread>
-    ensures begins { BeginsUpload (B.bytes space.old) (known_from 48 (B.bytes space.old)) result }
-    ensures long { OnOk result (48 ≤ B.size space.new) }
+    ensures begins { BeginsUpload (B.bytes space.old) (known_from HEAD_LENGTH (B.bytes space.old)) result }
+    ensures long { OnOk result (HEAD_LENGTH ≤ B.size space.new) }
     ensures bytes { B.bytes space.new ≡ B.bytes space.old }
     ensures never_falls { B.failures space.old ≤ B.failures space.new }
     ensures cause { result ≡ Err ReadingFailed → Rose (B.failures space.old) (B.failures space.new) }
@@ -83,7 +83,7 @@ pub(crate) fn read_head_at<B: ByteSpace>(space: &mut B) -> Result<UploadHead, Un
 fn head_in(bytes: &[u8; 48], came: u64) -> Result<UploadHead, Unread>
     ensures begins { (upload behind : Option (List ℕ)) → HasCome bytes.now came upload behind
         → BeginsUpload upload behind result }
-    ensures long { OnOk result (48 ≤ came) }
+    ensures long { OnOk result (HEAD_LENGTH ≤ came) }
     ensures never_failed { result ≢ Err ReadingFailed }
 {
     if came < HEAD_LENGTH {
