@@ -10,7 +10,7 @@ use Rattle.jc_export.specs.Cut.{AllFit, ReadsBack}
 use Rattle.jc_stream.specs.StreamFault.{IsStreamCode}
 use Rattle.jc_file.specs.Cut.{IsCutShort}
 use Rattle.jc_file.specs.FileReading.{IsFileReading}
-use Rattle.jc_upload.specs.Head.{fault_at}
+use Rattle.jc_upload.specs.Head.{fault_at, header_length}
 use Rattle.jc_upload.specs.Says.{Says}
 use Rattle.jc_upload.specs.declared.head.Version.{Version}
 use Rattle.jc_upload.specs.declared.head.Version.TheVariants.{V1, V2}
@@ -22,9 +22,9 @@ lacks_header cut = reading [] (Bad (fault_at ShortHeader cut))
 -- What the first bytes of an upload of entries are read as: the first of these entries, without a fault if each of them
 -- fits the limits. The whole upload is read back.
 pub record ReadsFirst (limits : Limits) (entries : List LogEntry) (upload : List ℕ) (cut : ℕ) (r : Reading) : Type 0 where
-  pub short : cut < 48 → r ≡ lacks_header cut
-  pub first : 48 ≤ cut → IsFront r.entries entries
-  pub ends : 48 ≤ cut → AllFit limits entries → EndsWell r
+  pub short : cut < header_length → r ≡ lacks_header cut
+  pub first : header_length ≤ cut → IsFront r.entries entries
+  pub ends : header_length ≤ cut → AllFit limits entries → EndsWell r
   pub whole : length upload ≤ cut → ReadsBack limits entries r
 
 -- A reading of the first bytes of an upload that is to be whole ends with all entries, at full length alone, or in a
@@ -38,9 +38,9 @@ EndsWhole limits entries upload cut r =
 -- fault that it is incomplete, or for entries beyond the limits a fault of its body, or none if all bytes are there. The
 -- whole upload has no fault if each entry fits the limits.
 pub record ReadsWhole (limits : Limits) (entries : List LogEntry) (upload : List ℕ) (cut : ℕ) (r : Reading) : Type 0 where
-  pub short : cut < 48 → r ≡ lacks_header cut
-  pub first : 48 ≤ cut → IsFront r.entries entries
-  pub ends : 48 ≤ cut → EndsWhole limits entries upload cut r
+  pub short : cut < header_length → r ≡ lacks_header cut
+  pub first : header_length ≤ cut → IsFront r.entries entries
+  pub ends : header_length ≤ cut → EndsWhole limits entries upload cut r
   pub whole : length upload ≤ cut → AllFit limits entries → r ≡ reading entries (End 0)
 
 -- So every beginning of an upload of these entries is read, under any limits.
@@ -67,8 +67,8 @@ CutsOfSecond true entries upload = CutsOfWhole entries upload
 -- What the first bytes of a file's upload are read as: all entries of the file, or none for a header or a file that is
 -- cut short. The whole upload is read as the file.
 pub record ReadsAllOrNone (entries : List LogEntry) (upload : List ℕ) (cut : ℕ) (r : Reading) : Type 0 where
-  pub short : cut < 48 → r ≡ lacks_header cut
-  pub body : 48 ≤ cut → (r ≡ reading entries (End 0)) ⊎ IsCutShort r
+  pub short : cut < header_length → r ≡ lacks_header cut
+  pub body : header_length ≤ cut → (r ≡ reading entries (End 0)) ⊎ IsCutShort r
   pub whole : length upload ≤ cut → r ≡ reading entries (End 0)
 
 -- So every beginning of the upload of a file that reads without a fault is read, under any limits.

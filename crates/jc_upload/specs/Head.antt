@@ -12,6 +12,10 @@ use Rattle.jc_upload.specs.declared.head.UploadHead.{UploadHead}
 use Rattle.jc_upload.specs.declared.head.Version.{Version}
 use Rattle.jc_upload.specs.declared.head.Version.TheVariants.{V1, V2}
 
+-- how many bytes a header has, of either version (docs/FORMATS.md, "Uploads")
+abbrev pub header_length : ℕ
+header_length = 48
+
 -- ---- the versions
 
 abbrev pub first_magic : List ℕ
@@ -58,7 +62,7 @@ pub record IsHead (h : UploadHead) : Type 0 where
 -- ---- the checks of an upload's beginning, in their order
 
 abbrev pub HasLength : List ℕ → Type 0
-HasLength bytes = 48 ≤ length bytes
+HasLength bytes = header_length ≤ length bytes
 
 -- a header of the first version, and one of the second
 abbrev pub IsFirst : List ℕ → Type 0

@@ -4,7 +4,7 @@ ghost use Rattle.std.specs.Prelude.{ℕ, ◌≡◌, ◌↔◌, ◌<◌, ◌≤�
 ghost use Rattle.std.specs.Int.{w64, to_le_bytes};
 ghost use Rattle.jc_upload.specs.declared.head.Version.TheVariants.{V2};
 ghost use Rattle.jc_upload.specs.Says.{IsInParts};
-ghost use Rattle.jc_upload.specs.Head.{AreZero, HasKind, HasKindOf, HasMagic, IsChecked, IsFirst, IsHead, IsHeadFault, IsKindByte, IsSecond, flag_of, head_text, kind_byte, magic_of, number_of};
+ghost use Rattle.jc_upload.specs.Head.{AreZero, HasKind, HasKindOf, HasLength, HasMagic, IsChecked, IsFirst, IsHead, IsHeadFault, IsKindByte, IsSecond, flag_of, head_text, kind_byte, magic_of, number_of};
 
 use byteorder::{ByteOrder, LittleEndian};
 use jc_base::{Code, Fault, Id128};
@@ -172,7 +172,7 @@ pub fn one_head()
         → ¬ IsHeadFault (head_text head ++ body) fault }
     ensures one_fault { (bytes : List ℕ) (a b : Fault) → IsHeadFault bytes a → IsHeadFault bytes b → a ≡ b }
     // The header's own bytes decide.
-    ensures front { (bytes body : List ℕ) (fault : Fault) → 48 ≤ length bytes
+    ensures front { (bytes body : List ℕ) (fault : Fault) → HasLength bytes
         → IsHeadFault bytes fault → IsHeadFault (bytes ++ body) fault }
 {}
 

@@ -1,13 +1,11 @@
 -- At first no entry came, and each position that was inserted is asked for.
-use Rattle.std.proofs.Common.{◌≡◌, ◌<◌, ◌^◌, ℕ, BTreeMap, refl, sym, subst, arith, take_all}
+use Rattle.std.proofs.Common.{◌≡◌, ◌<◌, ◌^◌, ℕ, refl, subst, arith, take_all}
 use Rattle.std.specs.List.{All}
 use Rattle.std.specs.Option.{IsSome}
 use Rattle.std.specs.Ordering.{nat_cmp}
 use Rattle.std.specs.BTreeMap.{get}
-use Rattle.std.proofs.lemmas.List.Elements.{All-more, All-weaker}
-use Rattle.jc_upload.specs.Resume.{Point, start}
+use Rattle.jc_upload.specs.Resume.{start}
 use Rattle.jc_upload.specs.Upload.{acked_to}
-use Rattle.jc_upload.specs.declared.answer.Answer.{Answer}
 use Rattle.jc_upload.proofs.Marking.{at_start, each_with, ends_more, none_of, none_yet, now_asked, still_asked}
 use Rattle.jc_upload.proofs.marks.Marks.asked.Goals as goal
 use Rattle.jc_upload.proofs.marks.Marks.asked.Goals.{in-Some+in_ok-insert-2, in_default}
