@@ -1,8 +1,18 @@
 """Rows over tables by key, as docs/FORMATS.md has them: usage: python3 by_key.py PROGRAM FOLDER"""
 import table_rows
-from table_rows import ACK, collect, expect, new, run, run_all, stock
+from table_rows import ACK, collect, expect, new, run, run_all, schema, stock
 from samples import E1, E2, E3
 
+BY_KEY = [
+    "CREATE TABLE field(seqid BLOB NOT NULL, seqnum INTEGER NOT NULL,\n"
+    "  pos INTEGER NOT NULL, name BLOB NOT NULL, value BLOB NOT NULL,\n"
+    "  PRIMARY KEY(seqid, seqnum, pos),\n"
+    "  FOREIGN KEY(seqid, seqnum) REFERENCES record(seqid, seqnum)) STRICT",
+    "CREATE TABLE journal(one INTEGER PRIMARY KEY, version INTEGER NOT NULL) STRICT",
+    "CREATE TABLE record(seqid BLOB NOT NULL, seqnum INTEGER NOT NULL,\n"
+    "  realtime INTEGER NOT NULL, monotonic INTEGER NOT NULL,\n"
+    "  PRIMARY KEY(seqid, seqnum)) STRICT",
+]
 BY_HAND = """
 CREATE TABLE journal(one INTEGER PRIMARY KEY, version INTEGER NOT NULL) STRICT;
 CREATE TABLE record(seqid BLOB NOT NULL, seqnum INTEGER NOT NULL,
@@ -55,6 +65,15 @@ HOSTILE = {
 }
 
 
+def is_made() -> None:
+    """What is made, as the stock SQLite reads it."""
+    path = new("made")
+    expect("collect", collect(path, E1, tables="2"), (0, ACK.format(1, 1)))
+    expect("its tables", sorted(schema(path)), BY_KEY)
+    with stock(path) as connection:
+        expect("the version", connection.execute("SELECT * FROM journal").fetchall(), [(1, 2)])
+
+
 def hostile() -> None:
     table_rows.hostile("2", HOSTILE)
 
@@ -94,4 +113,4 @@ def stays_in_order() -> None:
 
 
 if __name__ == "__main__":
-    run_all((hostile, by_hand, stays_in_order))
+    run_all((is_made, hostile, by_hand, stays_in_order))

@@ -3,7 +3,7 @@ import itertools
 import os
 
 import table_rows
-from table_rows import ACK, SOURCE, expect, new, run, run_all, stock
+from table_rows import ACK, SOURCE, expect, new, run, run_all, schema, stock
 from samples import BOOT_ID, E1, E2, E3, H1, SEQNUM_ID, entry_text
 
 BY_NUMBER = [
@@ -23,12 +23,6 @@ INSERT INTO journal VALUES (1, 1);
 
 def collect(path: str, *entries: bytes, tables: str = "3") -> tuple[int, str]:
     return table_rows.collect(path, *entries, tables=tables)
-
-
-def schema(path: str) -> list[str]:
-    with stock(path) as connection:
-        return [text for text, in connection.execute(
-            "SELECT sql FROM sqlite_schema WHERE sql IS NOT NULL ORDER BY rootpage")]
 
 
 def is_made() -> None:

@@ -48,6 +48,13 @@ def stock(path: str) -> Iterator[sqlite3.Connection]:
     connection.close()
 
 
+def schema(path: str) -> list[str]:
+    """The statements that made the tables, in the order in which they were made."""
+    with stock(path) as connection:
+        return [text for text, in connection.execute(
+            "SELECT sql FROM sqlite_schema WHERE sql IS NOT NULL ORDER BY rootpage")]
+
+
 def new(name: str) -> str:
     return f"{FOLDER}/{name}"
 

@@ -10,9 +10,10 @@ import termios
 import threading
 import time
 from collections.abc import Sequence
-from contextlib import ExitStack, suppress
+from contextlib import suppress
 from typing import Any
 
+from samples import HEAD
 from trial import PROGRAM
 
 Told = tuple[bytes, str, int]
@@ -24,24 +25,26 @@ def run(*words: str, **options: Any) -> Told:
     return told.stdout, told.stderr.decode(), told.returncode
 
 
-def in_pieces(upload: bytes, most: int) -> Sequence[bytes]:
-    return [upload[at:at + most] for at in range(0, len(upload), most)]
+def in_pieces(upload: bytes, most: int) -> list[bytes]:
+    """An upload in pieces of at most so many bytes. None has bytes of the header and of what is behind it: of a packet
+    what a read doesn't ask for is lost, and at the header's end no more is asked for than it has left."""
+    return [part[at:at + most] for part in (upload[:HEAD], upload[HEAD:]) for at in range(0, len(part), most)]
 
 
 def by_pipes(words: Sequence[str], uploads: Sequence[bytes], most: int) -> Told:
     """A run over uploads that come by pipes. They are written in packets of at most so many bytes, and each read gives
     one."""
-    with ExitStack() as open_ones:
-        ends = []
-        for _ in uploads:
-            reading, writing = os.pipe2(os.O_CLOEXEC | os.O_DIRECT)
-            open_ones.callback(os.close, reading)
-            ends.append((reading, writing))
-        writer = threading.Thread(target=write_all, args=([writing for _, writing in ends], uploads, most))
-        writer.start()
-        open_ones.callback(writer.join)
-        readings = [reading for reading, _ in ends]
+    ends = [os.pipe2(os.O_CLOEXEC | os.O_DIRECT) for _ in uploads]
+    readings = [reading for reading, _ in ends]
+    writer = threading.Thread(target=write_all, args=([writing for _, writing in ends], uploads, most))
+    writer.start()
+    try:
         return run(*words, *(f"/dev/fd/{reading}" for reading in readings), pass_fds=readings)
+    finally:
+        # a writer waits for what nobody reads while anybody might
+        for reading in readings:
+            os.close(reading)
+        writer.join()
 
 
 def write_all(ends: Sequence[int], uploads: Sequence[bytes], most: int) -> None:
