@@ -75,15 +75,20 @@ impl<'a> Given<'a> {
         }
     }
 
+    fn named(&self, digits: &str) -> io::Result<&'a [u8]> {
+        match number_in(digits) {
+            Some(number) => self.file(number),
+            None => no_meaning(),
+        }
+    }
+
     /// Upload U from a device that gives M bytes at most and fails after so many reads, named as `U:M`.
     fn upload(&self, named: &str, passes: u64) -> io::Result<Upload<'a>> {
         let Some((digits, most)) = numbered(named) else {
             return no_meaning();
         };
-        match number_in(digits) {
-            Some(number) => Ok(delivered(self.file(number)?, most, passes)),
-            None => no_meaning(),
-        }
+        let bytes = self.named(digits)?;
+        Ok(delivered(bytes, most, passes))
     }
 
     /// Uploads from devices that don't fail, with spaces between them.
@@ -97,10 +102,7 @@ impl<'a> Given<'a> {
 
     /// A source of the entries of the export stream that has this number.
     pub fn source(&self, digits: &str) -> io::Result<ListSource> {
-        match number_in(digits) {
-            Some(number) => source_of(self.alloc, self.file(number)?),
-            None => no_meaning(),
-        }
+        source_of(self.alloc, self.named(digits)?)
     }
 }
 
