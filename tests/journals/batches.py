@@ -5,7 +5,8 @@
 | `# TEXT` | a comment |
 | `upload PIECES => LINE` | the next upload, and its answer's line with `S` for the source's id |
 | `fronts FIRST LAST PIECES => LINE` | the same of each front of these bytes whose length is one of these |
-| `stores PIECES` | a run over the uploads that came since the last one, and the texts of the entries stored then |
+| `beside PIECES` | the texts of the entries that the next run stores under other ids than that of the samples |
+| `stores PIECES` | a run over the uploads that came since the last one, and the texts of the others stored then |
 | `begins PIECES` | the next run begins with the journal that this upload makes; others begin with an empty one |
 
 `tests/pieces.py` has the form of `PIECES`. A script that runs nothing is wrong, and so is one that ends with an upload.
@@ -27,8 +28,9 @@ class Batch:
     uploads: list[bytes] = field(default_factory=list)
     # what the run has to print
     lines: bytes = b""
-    # the texts of the entries that are stored then
+    # the texts of the entries that are stored then, and of those under ids that only an export shows
     stores: bytes = b""
+    beside: bytes = b""
 
 
 def lines_of(text: str) -> Iterator[tuple[int, str, str]]:
@@ -94,8 +96,12 @@ def stores(batch: Batch, pieces: str) -> None:
     batch.stores = bytes_of(pieces)
 
 
+def beside(batch: Batch, pieces: str) -> None:
+    batch.beside = bytes_of(pieces)
+
+
 def begins(batch: Batch, pieces: str) -> None:
     batch.begins = bytes_of(pieces)
 
 
-WORDS = {"upload": upload, "fronts": fronts, "stores": stores, "begins": begins}
+WORDS = {"upload": upload, "fronts": fronts, "beside": beside, "stores": stores, "begins": begins}

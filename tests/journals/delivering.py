@@ -36,24 +36,27 @@ def by_pipes(words: Sequence[str], uploads: Sequence[bytes], most: int) -> Told:
     one."""
     ends = [os.pipe2(os.O_CLOEXEC | os.O_DIRECT) for _ in uploads]
     readings = [reading for reading, _ in ends]
-    writer = threading.Thread(target=write_all, args=([writing for _, writing in ends], uploads, most))
-    writer.start()
+    # each by a thread of its own, since what is refused isn't read to its end, and others come behind it
+    writers = [threading.Thread(target=write, args=(writing, upload, most))
+               for (_, writing), upload in zip(ends, uploads)]
+    for writer in writers:
+        writer.start()
     try:
         return run(*words, *(f"/dev/fd/{reading}" for reading in readings), pass_fds=readings)
     finally:
         # a writer waits for what nobody reads while anybody might
         for reading in readings:
             os.close(reading)
-        writer.join()
+        for writer in writers:
+            writer.join()
 
 
-def write_all(ends: Sequence[int], uploads: Sequence[bytes], most: int) -> None:
-    """Writes uploads in packets, one after the other. A run that has ended reads no more."""
-    for end, upload in zip(ends, uploads):
-        with suppress(BrokenPipeError):
-            for piece in in_pieces(upload, most):
-                os.write(end, piece)
-        os.close(end)
+def write(end: int, upload: bytes, most: int) -> None:
+    """Writes an upload in packets. A run that has ended reads no more."""
+    with suppress(BrokenPipeError):
+        for piece in in_pieces(upload, most):
+            os.write(end, piece)
+    os.close(end)
 
 
 def by_failing_input(words: Sequence[str], packets: Sequence[bytes]) -> Told:

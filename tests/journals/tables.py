@@ -71,7 +71,7 @@ class Tables:
             if batch.uploads:
                 self.expect(f"{what}, {how}", deliver(self.collect(database), batch.uploads), printed(batch.lines))
             if batch.uploads or batch.begins:
-                self.stores(f"{what}, {how}", database, batch.stores)
+                self.stores(f"{what}, {how}", database, batch.stores + batch.beside)
             shutil.rmtree(os.path.dirname(database))
 
     def stream_fails(self, what: str, row: Failing) -> None:
