@@ -12,6 +12,7 @@ from pathlib import Path
 
 from made import reports_of
 from mistakes import unlike
+from told import counted
 
 HERE = Path(__file__).resolve().parent
 
@@ -25,12 +26,7 @@ def wrong(scripts: Sequence[Path]) -> Iterator[str]:
 
 def main(names: list[str]) -> int:
     scripts = [HERE / f"{name}.rows" for name in names] or sorted(HERE.glob("*.rows"))
-    told = [*unlike(), *wrong(scripts)]
-    failed = [report for report in told if report]
-    for report in failed:
-        print(f"FAILED: {report}", file=sys.stderr)
-    print(f"{len(told) - len(failed)} passed, {len(failed)} failed")
-    return 1 if failed else 0
+    return counted([*unlike(), *wrong(scripts)])
 
 
 if __name__ == "__main__":
