@@ -16,7 +16,7 @@ use Rattle.jc_ledger.specs.Known.{Known}
 use Rattle.jc_store.specs.Meaning.{IsSound, Meaning}
 use Rattle.jc_union.specs.Noted.{WhyNoUnion}
 use Rattle.jc_collector.specs.Database.{DatabaseFailsBy, MayEndNames}
-use Rattle.jc_collector.specs.IntoUnion.{LeadsIf, StoresNotedListed, StoresNotedNames, UnionFailsBy, UnionStopsBy}
+use Rattle.jc_collector.specs.IntoUnion.{LeadsIf, StoresNotedFromList, StoresNotedNames, UnionFailsBy, UnionStopsBy}
 use Rattle.jc_collector.specs.Kinds.{meaning_of}
 use Rattle.jc_collector.specs.Open.{IsFoundIn}
 
@@ -79,7 +79,7 @@ leads_weaker made image files Holds Step Other each leads clean kind before begi
 module _ (past : Journal) (known : Known) (came : LogEntry → Type 0) (status : Status) (old new : Option (List ℕ)) where
   pub listed_named : (list : List ℕ) (given text : Option (List ℕ)) → (list ≡ codes "-" → text ≡ given) → (before after : Journal)
       → StoresNotedNames past known came text status old new before after
-      → StoresNotedListed past known came list given status old new before after
+      → StoresNotedFromList past known came list given status old new before after
   listed_named list given text input before after stored = record { text = text; input = input; stored = stored }
 
   pub other_text : (text other : Option (List ℕ)) → text ≡ other → (before after : Journal)

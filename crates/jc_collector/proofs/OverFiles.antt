@@ -16,7 +16,7 @@ use Rattle.jc_collector.specs.declared.health.Health.{Health}
 use Rattle.jc_collector.specs.Open.{Begun, EndsOver, HasKind, StandsIn, StandsOver}
 use Rattle.jc_collector.specs.Kinds.{LeadsIn, OpenedOver, conn_of, journal_in, kind_of, meaning_of}
 use Rattle.jc_collector.specs.Checked.{Counts, PrintsHealth, count_line, health_text}
-use Rattle.jc_collector.specs.OverFiles.{Prints, StoresListed, StoresNamed, StoresPrinted}
+use Rattle.jc_collector.specs.OverFiles.{Prints, StoresFromList, StoresNamed, StoresPrinted}
 use Rattle.jc_database.specs.FilesLaws.{keeps_found}
 use Rattle.jc_collector.proofs.Found.{leads_kind}
 
@@ -96,7 +96,7 @@ leads_weaker made image files Step Other each leads clean kind before begin =
 
 -- what is said of the lines of a text, by the name of the list that has it
 pub listed_named : (list : List ℕ) (given text : Option (List ℕ)) (status : Status) (old new : Option (List ℕ)) → (list ≡ codes "-" → text ≡ given)
-    → (before after : Journal) → StoresNamed text status old new before after → StoresListed list given status old new before after
+    → (before after : Journal) → StoresNamed text status old new before after → StoresFromList list given status old new before after
 listed_named list given text status old new input before after stored = record { text = text; input = input; stored = stored }
 
 -- ---- one number for another, one text for another

@@ -34,7 +34,7 @@ pub record StoresNotedNames (past : Journal) (known : Known) (came : LogEntry �
 
 -- The same of an answer for each line of a list. The list is given by its name, which is that of a file unless it is
 -- standard input.
-pub record StoresNotedListed (past : Journal) (known : Known) (came : LogEntry → Type 0) (list : List ℕ) (given : Option (List ℕ))
+pub record StoresNotedFromList (past : Journal) (known : Known) (came : LogEntry → Type 0) (list : List ℕ) (given : Option (List ℕ))
     (status : Status) (old new : Option (List ℕ)) (before after : Journal) : Type 0 where
   pub text : Option (List ℕ)
   pub input : list ≡ codes "-" → text ≡ given

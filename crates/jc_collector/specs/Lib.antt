@@ -1,7 +1,7 @@
 pub mod Failures
 pub mod Database
 pub mod Adopted
-pub mod Listed
+pub mod FromList
 pub mod Checked
 pub mod Inspected
 pub mod Kinds

@@ -34,7 +34,7 @@ StoresNamed text status old new before after = NamedWith (λ answers. StoresEach
 
 -- The same of an answer for each line of a list. The list is given by its name, which is that of a file unless it is
 -- standard input.
-pub record StoresListed (list : List ℕ) (given : Option (List ℕ)) (status : Status) (old new : Option (List ℕ)) (before after : Journal)
+pub record StoresFromList (list : List ℕ) (given : Option (List ℕ)) (status : Status) (old new : Option (List ℕ)) (before after : Journal)
     : Type 0 where
   pub text : Option (List ℕ)
   pub input : list ≡ codes "-" → text ≡ given

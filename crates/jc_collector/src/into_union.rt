@@ -16,12 +16,12 @@ ghost use Rattle.jc_store.specs.Meaning.{IsSound, journal_of};
 ghost use Rattle.jc_union.specs.Noted.{HoldsNoted};
 ghost use Rattle.jc_union.specs.Opened.{MayOpen};
 ghost use Rattle.jc_collector.specs.Database.{DatabaseFailsBy};
-ghost use Rattle.jc_collector.specs.IntoUnion.{LeadsIf, StoresNotedListed, StoresNotedNames, UnionFailsBy, UnionStopsBy};
-ghost use Rattle.jc_collector.specs.Listed.{PrintsListed};
+ghost use Rattle.jc_collector.specs.IntoUnion.{LeadsIf, StoresNotedFromList, StoresNotedNames, UnionFailsBy, UnionStopsBy};
+ghost use Rattle.jc_collector.specs.FromList.{PrintsFromList};
 ghost use Rattle.jc_command_shared.specs.Deeds.{ChangesOnly, IsReplacedIf, OpensAndChanges};
 
 use crate::database::{Opened, open_or_make};
-use crate::listed::list_source;
+use crate::from_list::list_source;
 use crate::then_export::{check_names, export_after};
 use jc_collector_answers::{NameLines, answer_names};
 use jc_command_args::Tables;
@@ -40,7 +40,7 @@ use std::io::{BufRead, BufReader, Read, Write};
 
 /// Takes the uploads that the lines of a list name up into the union of the databases that are finished and the present
 /// one, which is made if there is none, and prints an answer for each line. The export and the status are as
-/// `collect_listed` has them, and so is the list, but that a line may name the machine before a tab. It fails besides with
+/// `collect_from_list` has them, and so is the list, but that a line may name the machine before a tab. It fails besides with
 /// a fault if an entry of the present database isn't the one that is noted, or is over the limits.
 #[tactic(auto, using(jc_command_shared::specs::DeedLaws::does_nothing))]
 pub fn collect_into_union<
@@ -68,9 +68,9 @@ pub fn collect_into_union<
     // some of what the present one had. Then what is noted is what they have.
     ensures each { IfOk result (λ run. LeadsIf tables F.first F.in_files run.files
         (λ before. MayCatchUp (L.known ledger) P.journal before (L.came ledger) × L.sound run.ledger × NoneCollide (L.came run.ledger))
-        (StoresNotedListed P.journal (L.known run.ledger) (L.came run.ledger) list.now (I.remaining input.old) run.status
+        (StoresNotedFromList P.journal (L.known run.ledger) (L.came run.ledger) list.now (I.remaining input.old) run.status
         (O.contents output.old) (O.contents output.new))) }
-    ensures printed { IfOk result (λ run. PrintsListed list.now (I.remaining input.old) run.status (O.contents output.old) (O.contents output.new)) }
+    ensures printed { IfOk result (λ run. PrintsFromList list.now (I.remaining input.old) run.status (O.contents output.old) (O.contents output.new)) }
     ensures quiet { IfOk result (λ run. run.status ≡ Status.Success → KeepsBytes (E.contents errors.old) (E.contents errors.new)) }
     ensures failed { IfErr result (UnionFailsBy database.now (list.now ∷ [])) }
     ensures untouched { IfErr result (λ failure. status_of failure ≢ Status.Failed

@@ -31,11 +31,11 @@ use Rattle.jc_collector.specs.Checked.{IsHealth, PrintsHealth, count_line}
 use Rattle.jc_collector.specs.Database.{CheckFailsBy, CollectFailsBy, DatabaseFailsBy, ShowFailsBy}
 use Rattle.jc_command_shared.specs.Failure.{status_of}
 use Rattle.jc_collector.specs.Inspected.{PrintsSomeInspected}
-use Rattle.jc_collector.specs.IntoUnion.{LeadsIf, StoresNotedListed, UnionFailsBy}
-use Rattle.jc_collector.specs.Listed.{PrintsListed}
+use Rattle.jc_collector.specs.IntoUnion.{LeadsIf, StoresNotedFromList, UnionFailsBy}
+use Rattle.jc_collector.specs.FromList.{PrintsFromList}
 use Rattle.jc_collector.specs.Earlier.{LeadsFrom}
 use Rattle.jc_collector.specs.Kinds.{LeadsIn, LeadsThere}
-use Rattle.jc_collector.specs.OverFiles.{CollectsAll, KeepsStored, Prints, PrintsAsked, StoresListed, StoresPrinted}
+use Rattle.jc_collector.specs.OverFiles.{CollectsAll, KeepsStored, Prints, PrintsAsked, StoresFromList, StoresPrinted}
 use Rattle.jc_sender.specs.Sent.{PrintsSomeUpload}
 use Rattle.jc_sender.specs.Failing.{AckFailsBy, UploadFailsBy}
 use Rattle.jc_sender.specs.Taken.{PrintsSomePoint}
@@ -92,10 +92,10 @@ module _ {S C L N : Type 0} (begun : Begins) (g : Devices S C L N) (left : Leave
     pub collects : named ≡ 0 → IfSome given (λ upload. Leads made (CollectsAll (upload ∷ []) old new))
 
   -- An answer to each upload that a list names was printed, and what they acknowledge is in the files.
-  pub record CollectsListed (made : Tables) (list : List ℕ) (given old new : Option (List ℕ)) (status : Status) : Type 0 where
-    pub printed : PrintsListed list given status old new
+  pub record CollectsFromList (made : Tables) (list : List ℕ) (given old new : Option (List ℕ)) (status : Status) : Type 0 where
+    pub printed : PrintsFromList list given status old new
     pub kept : Leads made KeepsStored
-    pub stores : Leads made (StoresListed list given status old new)
+    pub stores : Leads made (StoresFromList list given status old new)
 
   -- If what the files of sequences noted is what the finished databases have, and some of what the present one had, the notes
   -- are sound at the end, and of the entries that came no two differ and have one key and one digest, then such a step was
@@ -115,8 +115,8 @@ module _ {S C L N : Type 0} (begun : Begins) (g : Devices S C L N) (left : Leave
   -- An answer to each upload that a list names was printed, and what they acknowledge is stored in the union of the finished
   -- databases and the present one. What is noted then is what these have. No sequence was taken from its owner.
   pub record CollectsIntoUnion (made : Tables) (list : List ℕ) (given old new : Option (List ℕ)) (status : Status) : Type 0 where
-    pub printed : PrintsListed list given status old new
-    pub stores : LeadsNoted made (λ known came. StoresNotedListed begun.past known came list given status old new)
+    pub printed : PrintsFromList list given status old new
+    pub stores : LeadsNoted made (λ known came. StoresNotedFromList begun.past known came list given status old new)
     pub owners : IsSomeAnd left.ledger KeepOwners
 
   -- The line of what there is of a journal was printed. If the files are given back, it is that of the journal which they
@@ -144,7 +144,7 @@ module _ {S C L N : Type 0} (begun : Begins) (g : Devices S C L N) (left : Leave
   Performs (Upload source limit most_bytes whole) given old new status = (status ≡ Success) × PrintsSomeUpload source limit most_bytes whole old new
   Performs (Ack source) given old new status = (status ≡ Success) × PrintsSomePoint source given old new
   Performs (Collect database tables uploads then_export) given old new status = Collects tables (length uploads.items) given old new status
-  Performs (CollectListed database tables list then_export) given old new status = CollectsListed tables list.now given old new status
+  Performs (CollectListed database tables list then_export) given old new status = CollectsFromList tables list.now given old new status
   Performs (CollectIntoUnion database tables list sequences then_export) given old new status = CollectsIntoUnion tables list.now given old new status
   Performs (request.Export database) given old new status = (status ≡ Success) × LeadsOn (Prints export_text old new)
   Performs (Show database field id first last) given old new status =

@@ -13,7 +13,7 @@ use crate::note_folders::{NoteFolders, Sequences};
 use clap::error::ErrorKind;
 use jc_collect::Bounds;
 use jc_collector::{
-    Closed, Examined, check, collect, collect_into_union, collect_listed, export, inspect, migrate,
+    Closed, Examined, check, collect, collect_into_union, collect_from_list, export, inspect, migrate,
     show,
 };
 use jc_command_args::{CODES, Request, parse};
@@ -325,7 +325,7 @@ fn perform<
             list,
             then_export,
         } => {
-            let closed = collect_listed::<_, F, _, _, _>(
+            let closed = collect_from_list::<_, F, _, _, _>(
                 rt,
                 start,
                 database,

@@ -49,13 +49,13 @@ returns-in-Collect-clause-performed g c =
 
 pub returns-in-CollectListed-clause-performed : goal.returns-in-CollectListed-clause-performed
 returns-in-CollectListed-clause-performed g c =
-    ok_of c.closed-in-CollectListed.result c.collect_listed-closed.result _ _ c.closed-in-CollectListed.ensures.done
+    ok_of c.closed-in-CollectListed.result c.collect_from_list-closed.result _ _ c.closed-in-CollectListed.ensures.done
     (λ done it was same. performs_as _ _ _ _ _ _ _ _ (g.I.Read.remaining c.args.input.now) (g.O.Write.contents c.args.output.now)
-    (g.O.Write.contents c.collect_listed-closed.new.output) _ _ c.in-CollectListed.is same.1 refl same.0
+    (g.O.Write.contents c.collect_from_list-closed.new.output) _ _ c.in-CollectListed.is same.1 refl same.0
     (record {
-      printed = at_ok c.collect_listed-closed.result it _ was c.collect_listed-closed.ensures.printed;
-      kept = at_ok c.collect_listed-closed.result it _ was c.collect_listed-closed.ensures.kept;
-      stores = at_ok c.collect_listed-closed.result it _ was c.collect_listed-closed.ensures.each;
+      printed = at_ok c.collect_from_list-closed.result it _ was c.collect_from_list-closed.ensures.printed;
+      kept = at_ok c.collect_from_list-closed.result it _ was c.collect_from_list-closed.ensures.kept;
+      stores = at_ok c.collect_from_list-closed.result it _ was c.collect_from_list-closed.ensures.each;
     }))
 
 pub returns-in-Export-clause-performed : goal.returns-in-Export-clause-performed
@@ -127,8 +127,8 @@ returns-in-Collect-clause-quiet g c = stays_quiet c.closed.result _ (g.E.Write.c
 
 pub returns-in-CollectListed-clause-quiet : goal.returns-in-CollectListed-clause-quiet
 returns-in-CollectListed-clause-quiet g c =
-    ok_of c.closed-in-CollectListed.result c.collect_listed-closed.result _ _ c.closed-in-CollectListed.ensures.done
-    (λ done it was same success. at_ok c.collect_listed-closed.result it _ was c.collect_listed-closed.ensures.quiet (sym same.0 ∙ success))
+    ok_of c.closed-in-CollectListed.result c.collect_from_list-closed.result _ _ c.closed-in-CollectListed.ensures.done
+    (λ done it was same success. at_ok c.collect_from_list-closed.result it _ was c.collect_from_list-closed.ensures.quiet (sym same.0 ∙ success))
 
 pub returns-in-Export-clause-quiet : goal.returns-in-Export-clause-quiet
 returns-in-Export-clause-quiet g c = stays_quiet c.listed.result _ (g.E.Write.contents c.args.errors.now)
@@ -160,7 +160,7 @@ returns-in-Collect-clause-failed g c =
 
 pub returns-in-CollectListed-clause-failed : goal.returns-in-CollectListed-clause-failed
 returns-in-CollectListed-clause-failed g c =
-    fails_of c.closed-in-CollectListed.result c.collect_listed-closed.result _ _ _ c.in-CollectListed.is c.closed-in-CollectListed.ensures.failed c.collect_listed-closed.ensures.failed
+    fails_of c.closed-in-CollectListed.result c.collect_from_list-closed.result _ _ _ c.in-CollectListed.is c.closed-in-CollectListed.ensures.failed c.collect_from_list-closed.ensures.failed
 
 pub returns-in-Export-clause-failed : goal.returns-in-Export-clause-failed
 returns-in-Export-clause-failed g c =
@@ -204,7 +204,7 @@ returns-in-Collect-clause-untouched g c =
 
 pub returns-in-CollectListed-clause-untouched : goal.returns-in-CollectListed-clause-untouched
 returns-in-CollectListed-clause-untouched g c =
-    err_of c.closed-in-CollectListed.result c.collect_listed-closed.result _ c.closed-in-CollectListed.ensures.failed c.collect_listed-closed.ensures.untouched
+    err_of c.closed-in-CollectListed.result c.collect_from_list-closed.result _ c.closed-in-CollectListed.ensures.failed c.collect_from_list-closed.ensures.untouched
 
 pub returns-in-Export-clause-untouched : goal.returns-in-Export-clause-untouched
 returns-in-Export-clause-untouched g c =
@@ -242,7 +242,7 @@ pub returns-in-Collect-clause-touched : goal.returns-in-Collect-clause-touched
 returns-in-Collect-clause-touched g c = does_as _ _ _ _ c.in-Collect.is c.collect-closed.ensures.touched
 
 pub returns-in-CollectListed-clause-touched : goal.returns-in-CollectListed-clause-touched
-returns-in-CollectListed-clause-touched g c = does_as _ _ _ _ c.in-CollectListed.is c.collect_listed-closed.ensures.touched
+returns-in-CollectListed-clause-touched g c = does_as _ _ _ _ c.in-CollectListed.is c.collect_from_list-closed.ensures.touched
 
 pub returns-in-Export-clause-touched : goal.returns-in-Export-clause-touched
 returns-in-Export-clause-touched g c = does_as _ _ _ _ c.in-Export.is c.export-closed.ensures.touched

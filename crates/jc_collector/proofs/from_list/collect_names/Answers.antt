@@ -6,7 +6,7 @@ use Rattle.jc_collector.proofs.Causes.{by_names, names_failed}
 use Rattle.jc_collector.proofs.Open.{leads_named}
 use Rattle.jc_collector.proofs.OverFiles.{leads_on}
 use Rattle.jc_collector.proofs.Results.{IfErr-each, IfOk-both, IfOk-three, failure_of_other, value_of_other}
-use Rattle.jc_collector.proofs.listed.collect_names.Goals as goal
+use Rattle.jc_collector.proofs.from_list.collect_names.Goals as goal
 
 pub returns-clause-kept : goal.returns-clause-kept
 returns-clause-kept g c =

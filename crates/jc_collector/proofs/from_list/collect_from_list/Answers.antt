@@ -1,8 +1,8 @@
 -- The list is standard input, or a file.
-use Rattle.jc_collector.specs.OverFiles.{StoresListed, StoresNamed}
+use Rattle.jc_collector.specs.OverFiles.{StoresFromList, StoresNamed}
 use Rattle.jc_collector.proofs.OverFiles.{leads_weaker, listed_named}
 use Rattle.jc_collector.proofs.Results.{IfOk-each}
-use Rattle.jc_collector.proofs.listed.collect_listed.Goals as goal
+use Rattle.jc_collector.proofs.from_list.collect_from_list.Goals as goal
 
 pub returns-clause-each : goal.returns-clause-each
 returns-clause-each g c =
@@ -11,6 +11,6 @@ returns-clause-each g c =
     let given = g.I.Read.remaining c.args.input.now in
     IfOk-each c.collect_lines.result _ _
     (λ closed leads. leads_weaker c.args.tables g.F.OpenFromFiles.first closed.files (StoresNamed _ closed.value old new)
-    (StoresListed c.args.list.now given closed.value old new)
+    (StoresFromList c.args.list.now given closed.value old new)
     (listed_named c.args.list.now given _ closed.value old new c.in_ok-source.ensures.given) leads)
     c.collect_lines.ensures.each

@@ -4,7 +4,7 @@ use Rattle.std.specs.Io.KnownBytes.{prepend_known}
 use Rattle.jc_collector.specs.OverFiles.{StoresNamed}
 use Rattle.jc_collector.proofs.OverFiles.{leads_weaker, other_text, prepend_nothing}
 use Rattle.jc_collector.proofs.Results.{IfOk-each}
-use Rattle.jc_collector.proofs.listed.collect_lines.Goals as goal
+use Rattle.jc_collector.proofs.from_list.collect_lines.Goals as goal
 
 pub returns-clause-each : goal.returns-clause-each
 returns-clause-each g c =
