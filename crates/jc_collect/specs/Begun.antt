@@ -7,14 +7,14 @@ use Rattle.jc_base.specs.declared.fault.Code.TheVariants.{ReadFailed as ReadFail
 use Rattle.jc_upload.specs.declared.answer.Answer.{Answer}
 use Rattle.jc_upload.specs.declared.answer.Answer.TheVariants.{No}
 use Rattle.jc_upload.specs.declared.head.UploadHead.{UploadHead}
-use Rattle.jc_upload.specs.Head.{IsHead, IsHeadFault, head_text}
+use Rattle.jc_upload.specs.Head.{IsHead, IsHeadFault, head_text, header_length}
 use Rattle.jc_collect.specs.declared.head.Unread.{Unread}
 use Rattle.jc_collect.specs.declared.head.Unread.TheVariants.{Fault, ReadFailed}
 
 -- This many bytes of an upload have come: all if they are fewer than a header has, and else the first ones.
 pub record HasCome (bytes : List ℕ) (came : ℕ) (upload behind : Option (List ℕ)) : Type 0 where
-  pub short : came < 48 → IfSome upload (λ all. length all ≡ came)
-  pub long : 48 ≤ came → Consumes upload behind bytes
+  pub short : came < header_length → IfSome upload (λ all. length all ≡ came)
+  pub long : header_length ≤ came → Consumes upload behind bytes
 
 -- The bytes begin with the header, and those after it are left; or their beginning shows a fault. Nothing is said of a
 -- failed read.

@@ -12,6 +12,7 @@ use Rattle.jc_base.specs.LogEntry.{LogEntry}
 use Rattle.jc_base.specs.Reading.{Reading}
 use Rattle.jc_keeper.specs.Agree.{IsStored}
 use Rattle.jc_upload.specs.Answer.{IsAnswer, answer_text}
+use Rattle.jc_upload.specs.Head.{header_length}
 use Rattle.jc_upload.specs.declared.answer.Answer.{Answer}
 use Rattle.jc_upload.specs.declared.answer.Answer.TheVariants.{Ack}
 use Rattle.jc_collect.specs.Accepted.{SaysAt, AreAccepted, IsStoredBefore}
@@ -75,7 +76,7 @@ pub record Collected (limits : Limits) (uploads : List (List ℕ)) (before after
   pub stores : AreCaused StoreFailed answers (λ _. Rose before.store_failures after.store_failures)
   -- and one is reported without source and start only if fewer bytes came of a stream than a header has
   pub unread : (i : ℕ) (answer : Answer) → slice_get answers i ≡ Some answer → FailsUnread answer
-      → HasGivenFewer 48 (left_at before i) (left_at after i)
+      → HasGivenFewer header_length (left_at before i) (left_at after i)
 
 -- the lines of answers, in order
 abbrev pub lines_of_answers : List Answer → List ℕ
