@@ -18,7 +18,7 @@ pub struct Closed<T: Drop, C: Drop> {
 }
 
 /// Closes a database after something was done over it. If both fail, the first failure is reported.
-pub fn close_opened<'a, T: Drop, F: StoreInFiles>(
+pub(crate) fn close_opened<'a, T: Drop, F: StoreInFiles>(
     opened: OpenedFiles<F>,
     done: Result<T, Failure<'a>>,
 ) -> Result<Closed<T, F::Files>, Failure<'a>>
@@ -38,7 +38,7 @@ pub fn close_opened<'a, T: Drop, F: StoreInFiles>(
 }
 
 /// The same of a keeper over tables of one kind.
-pub fn close_after<'a, T: Drop, F: StoreInFiles, L: Layout>(
+pub(crate) fn close_after<'a, T: Drop, F: StoreInFiles, L: Layout>(
     keeper: TableKeeper<F, L>,
     done: Result<T, Failure<'a>>,
 ) -> Result<Closed<T, F::Files>, Failure<'a>>

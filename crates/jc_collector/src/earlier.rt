@@ -20,16 +20,16 @@ use std::alloc::Global;
 
 /// A keeper of a journal in tables of an earlier kind than those by number.
 #[derive(Drop)]
-pub enum Earlier<O: Drop, K: Drop> {
+pub(crate) enum Earlier<O: Drop, K: Drop> {
     Oldest(O),
     ByKey(K),
 }
 
 /// A keeper of the journal in a database's files, whose tables are of an earlier kind.
-pub type EarlierFiles<F> = Earlier<SqlKeeper1<F>, TableKeeper<F, SchemaTwo>>;
+pub(crate) type EarlierFiles<F> = Earlier<SqlKeeper1<F>, TableKeeper<F, SchemaTwo>>;
 
 /// The journal in tables of an earlier kind in the database at `path`, which has to be there.
-pub fn open_earlier<'a, Y: Databases, F: OpenFromFiles>(
+pub(crate) fn open_earlier<'a, Y: Databases, F: OpenFromFiles>(
     rt: &mut Y,
     path: &'a str,
     start: F::Start,

@@ -9,7 +9,7 @@ use jc_keeper::{KeepStop, OutStop};
 use jc_store::AdoptFault;
 
 /// Why a database wasn't taken as a keeper's.
-pub fn why_refused<'a>(fault: AdoptFault) -> Failure<'a>
+pub(crate) fn why_refused<'a>(fault: AdoptFault) -> Failure<'a>
     ensures { result ≡ adopt_failure fault.code fault.row }
 {
     match fault.code {
@@ -23,7 +23,7 @@ pub fn why_refused<'a>(fault: AdoptFault) -> Failure<'a>
 }
 
 /// Why a keeper gave no answer.
-pub fn why_unanswered<'a>(stop: KeepStop) -> Failure<'a>
+pub(crate) fn why_unanswered<'a>(stop: KeepStop) -> Failure<'a>
     ensures { result ≡ keep_failure stop }
 {
     match stop {
@@ -34,7 +34,7 @@ pub fn why_unanswered<'a>(stop: KeepStop) -> Failure<'a>
 }
 
 /// Why a listing stopped.
-pub fn why_stopped<'a>(stop: OutStop) -> Failure<'a>
+pub(crate) fn why_stopped<'a>(stop: OutStop) -> Failure<'a>
     ensures { result ≡ out_failure stop.code }
 {
     match stop.code {

@@ -123,7 +123,7 @@ fn read_health<'a, Y: Databases, F: OpenFromFiles>(
 }
 
 /// What is said of a database with this fault. It has no journal, and so its files aren't given back.
-pub fn refused<C: Drop>(fault: Fault) -> Examined<Health, C>
+pub(crate) fn refused<C: Drop>(fault: Fault) -> Examined<Health, C>
     ensures value { result.value ≡ Health.Bad fault }
     ensures files { result.files ≡ None }
 {
@@ -134,7 +134,7 @@ pub fn refused<C: Drop>(fault: Fault) -> Examined<Health, C>
 }
 
 /// Counts the entries of a keeper's journal, and closes its database.
-pub fn count_and_close<'a, F: StoreInFiles, L: Listed>(
+pub(crate) fn count_and_close<'a, F: StoreInFiles, L: Listed>(
     mut keeper: TableKeeper<F, L>,
 ) -> Result<Closed<Health, F::Files>, Failure<'a>>
     ensures sound { IfOk result (λ closed. F.in_files.clean closed.files
@@ -164,7 +164,7 @@ fn count<'a, S: Alter, L: Listed>(keeper: &mut TableKeeper<S, L>) -> Result<Heal
 }
 
 /// Prints what was found, and answers its status.
-pub fn print_health<'a, O: Write>(health: Health, output: &mut O) -> Result<Status, Failure<'a>>
+pub(crate) fn print_health<'a, O: Write>(health: Health, output: &mut O) -> Result<Status, Failure<'a>>
     ensures printed { IfOk result (λ status. PrintsHealth health status (O.contents output.old) (O.contents output.new)) }
     ensures failed { IfErr result (λ failure. failure ≡ Failure.WriteFailed) }
 {

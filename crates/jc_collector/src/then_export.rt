@@ -85,7 +85,7 @@ fn is_same_file<Y: System>(rt: &Y, first: &str, second: &str) -> bool {
 /// Puts a keeper's journal into the file at a path, if one is given and all uploads were answered. The status stays that of
 /// the answers.
 #[tactic(auto, using(jc_command_shared::specs::DeedLaws::nothing_changes))]
-pub fn export_after<'a, Y: System, S: Alter, L: Listed>(
+pub(crate) fn export_after<'a, Y: System, S: Alter, L: Listed>(
     rt: &mut Y,
     keeper: &mut TableKeeper<S, L>,
     answered: Result<Status, Failure<'a>>,
