@@ -4,8 +4,9 @@ makes of it and its edits, in processor seconds, and the largest memory of one p
 usage: python3 tools/gate_times.py [COMMAND ..]
 
 It looks at the running processes four times a second, so what a process does after the last look isn't counted: the
-table's sum is a little below the whole, which stands under it. The table goes to build/gate-times.md too. The status is
-the gate's.
+table's sum is a little below the whole, which stands under it. What a processor gets done in a second differs from
+machine to machine and from hour to hour: so each minute one piece of work is timed, which is the same everywhere. The
+table goes to build/gate-times.md too. The status is the gate's.
 """
 
 from __future__ import annotations
@@ -13,6 +14,7 @@ from __future__ import annotations
 import os
 import resource
 import signal
+import statistics
 import subprocess
 import sys
 import threading
@@ -21,6 +23,9 @@ from collections import defaultdict
 from dataclasses import dataclass
 
 EVERY = 0.25
+# Each minute a loop of so many steps is timed.
+SPEED_EVERY = 60.0
+STEPS = 1_000_000
 TICKS = os.sysconf("SC_CLK_TCK")
 KINDS = ("proof", "tests", "code", "edits")
 # What the checker calls the copies of itself that check some of a crate's modules.
@@ -97,6 +102,29 @@ class Watch:
         return crates.get(number)
 
 
+class Speed:
+    """How many processor seconds the same piece of work took, each time that it was timed."""
+
+    def __init__(self) -> None:
+        self.took: list[float] = []
+        self.ended = threading.Event()
+
+    def time_again(self) -> None:
+        self.time_once()
+        while not self.ended.wait(SPEED_EVERY):
+            self.time_once()
+
+    def time_once(self) -> None:
+        begin, total = time.thread_time(), 0
+        for step in range(STEPS):
+            total += step * step % 7
+        self.took.append(time.thread_time() - begin)
+
+    def __str__(self) -> str:
+        middle, least, most = statistics.median(self.took), min(self.took), max(self.took)
+        return f"A loop of {STEPS:,} steps in Python took {middle:.2f} s of a processor ({least:.2f} to {most:.2f})."
+
+
 def _fields(number: int) -> list[str]:
     """The fields of a process's stat after its name, which may have blanks: its state, its parent and so on."""
     return _read(number, "stat").rpartition(")")[2].split()
@@ -144,23 +172,26 @@ def _numbers(of_kind: dict[str, float]) -> list[str]:
 
 
 def main(command: list[str]) -> int:
-    watch, begin = Watch(), time.monotonic()
-    looking = threading.Thread(target=watch.look_again, daemon=True)
-    looking.start()
+    watch, speed, begin = Watch(), Speed(), time.monotonic()
+    beside = [threading.Thread(target=it, daemon=True) for it in (watch.look_again, speed.time_again)]
+    for it in beside:
+        it.start()
     with subprocess.Popen(command) as gate:
         # an interrupt at the terminal reaches the gate too, which then ends all that it started
         signal.signal(signal.SIGINT, signal.SIG_IGN)
         status = gate.wait()
-    watch.ended.set()
-    looking.join()
+    for ended in (watch.ended, speed.ended):
+        ended.set()
+    for it in beside:
+        it.join()
     used = resource.getrusage(resource.RUSAGE_CHILDREN)
     whole = (used.ru_utime + used.ru_stime) / 60
     minutes = (time.monotonic() - begin) / 60
     said = table(list(watch.seen.values()))
-    said += f"\n\nThe whole took {whole:.0f} processor minutes, in {minutes:.0f} minutes."
+    said += f"\n\nThe whole took {whole:.0f} processor minutes, in {minutes:.0f} minutes. {speed}"
     os.makedirs("build", exist_ok=True)
-    with open("build/gate-times.md", "w", encoding="utf-8") as it:
-        it.write(said + "\n")
+    with open("build/gate-times.md", "w", encoding="utf-8") as file:
+        file.write(said + "\n")
     print(said)
     return status
 
