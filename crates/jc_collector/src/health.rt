@@ -164,7 +164,10 @@ fn count<'a, S: Alter, L: Listed>(keeper: &mut TableKeeper<S, L>) -> Result<Heal
 }
 
 /// Prints what was found, and answers its status.
-pub(crate) fn print_health<'a, O: Write>(health: Health, output: &mut O) -> Result<Status, Failure<'a>>
+pub(crate) fn print_health<'a, O: Write>(
+    health: Health,
+    output: &mut O,
+) -> Result<Status, Failure<'a>>
     ensures printed { IfOk result (λ status. PrintsHealth health status (O.contents output.old) (O.contents output.new)) }
     ensures failed { IfErr result (λ failure. failure ≡ Failure.WriteFailed) }
 {

@@ -13,8 +13,8 @@ use crate::note_folders::{NoteFolders, Sequences};
 use clap::error::ErrorKind;
 use jc_collect::Bounds;
 use jc_collector::{
-    Closed, Examined, check, collect, collect_into_union, collect_from_list, export, inspect, migrate,
-    show,
+    Closed, Examined, check, collect, collect_from_list, collect_into_union, export, inspect,
+    migrate, show,
 };
 use jc_command_args::{CODES, Request, parse};
 use jc_command_shared::{Failure, Status, printed};
