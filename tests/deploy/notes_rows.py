@@ -1,5 +1,5 @@
-"""Rows of the notes of what is stored: made anew, for a folder of an earlier version too, gone after their days, and
-needed by several processes at once.
+"""Rows of the notes of what is stored: made anew, for a folder of an earlier version too, of databases that are set
+aside, gone after their days, and needed by several processes at once.
 
 usage: python3 notes_rows.py LIBRARY [ROW..]
 """
@@ -12,7 +12,7 @@ import sys
 import time
 
 from collector_case import SEQUENCE, SOURCE, Case, entries, source, tried, upload
-from service_rows import begin, stop, wait_for
+from service_rows import begin, left_with_an_upload, stop, wait_for
 from trial_rows import Row, Rows
 
 ROWS: Rows = Rows()
@@ -178,6 +178,49 @@ def folder_is_none(row: Row, case: Case) -> None:
     status, said = case.store(upload(entries(1, 9)))
     row.expect("told", (status, "sequences is no folder" in said), (3, True))
     row.expect("stored", (case.answers()[0], case.numbers()), (f"ack {SOURCE} 0 9 4 0", list(range(1, 10))))
+
+
+# Databases that are set aside ----------------------------------------------------------------------------------------
+
+
+def damage(case: Case) -> None:
+    """The database that a run left can't be read any more."""
+    with open(case.path("databases", "d.db"), "r+b") as file:
+        file.write(b"x" * 4096)
+
+
+def set_aside(row: Row, case: Case) -> None:
+    """A run sets the damaged database aside."""
+    damage(case)
+    status, said = case.collect()
+    row.expect("told", (status, "d.db was refused; another one takes its place" in said), (3, True))
+
+
+@ROWS.once
+def set_aside_with_all_answered(row: Row, case: Case) -> None:
+    """All that it had is answered, and so it is noted: that is known still, isn't stored again, and takes no other
+    entry under its keys."""
+    case.set(DATABASE_NAME="d")
+    case.store(upload(entries(1, 2)))
+    os.unlink(case.path("databases", "d.db.sha256"))
+    set_aside(row, case)
+    row.expect("all of it again", case.store(upload(entries(1, 4))), (0, ""))
+    row.expect("stored elsewhere", (case.answers()[0], case.numbers()), (f"ack {SOURCE} 0 4 2 0", [3, 4]))
+    row.expect("an entry under one of its keys", case.store(upload(entries(2, 2, text="other"), name=OTHER))[0], 1)
+
+
+@ROWS.once
+def set_aside_with_an_upload_under_way(row: Row, case: Case) -> None:
+    """A kill came between its notes and an upload's answer: what is noted of the database isn't believed any more. So
+    that upload is stored in another one, and so is what was acknowledged and comes again."""
+    left_with_an_upload(case)
+    name = os.listdir(case.path("batch", "d"))[0]
+    told = subprocess.run([os.environ["PROGRAM"], "collect", "--sequences", "sequences", "--files-from", "-",
+                           case.path("databases", "d.db")], cwd=case.folder, capture_output=True, check=False,
+                          input=f"web\tbatch/d/{name}\n".encode())
+    row.expect("stored there", told.stdout.decode(), f"ack {SOURCE} 0 4 2 0\n")
+    set_aside(row, case)
+    row.expect("stored elsewhere", (case.answers()[0], case.numbers()), (f"ack {SOURCE} 0 4 4 0", [1, 2, 3, 4]))
 
 
 # Their days -----------------------------------------------------------------------------------------------------------
