@@ -6,7 +6,6 @@ mod devices;
 mod entry;
 mod file;
 mod pieces;
-mod said;
 mod upload;
 
 pub use answer::answer_lines;
@@ -14,5 +13,4 @@ pub use devices::{Pieces, Slow};
 pub use entry::{ENTRY, SEQNUM_ID};
 pub use file::JOURNAL_FILE;
 pub use pieces::add_pieces;
-pub use said::line;
-pub use upload::{SOURCE, SOURCE_ID};
+pub use upload::SOURCE_ID;

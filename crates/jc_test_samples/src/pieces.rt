@@ -4,18 +4,13 @@
 //!
 //! - the name of a sample, as `ENTRY`
 //! - `head:KIND:START`: the header of an upload
-//! - `entries:FIRST:LAST`: the entries with these numbers
-//! - `number:N`: eight bytes, the least first
-//! - `fill:N:COUNT`: so many bytes, each of them N
-//! - `set:PLACE:N`, `put:PLACE:N`: one byte, or eight, in the place of what is there
 //! - `cut:N`: only the first N bytes of all that was named before
-//! - `again:COUNT:N`: the last COUNT bytes of all that was named before, N times more
 
 use super::entry::{
     BINARY_FRONT, BOOT_FIELD, CHANGED_ENTRY, ENTRY, ENTRY_2, ENTRY_3, LAST_ENTRY, METADATA,
-    METADATA_2, SHOWN, numbered_entry,
+    METADATA_2,
 };
-use super::file::{JOURNAL_FILE, LONG_HEADER_FILE, put, put_number};
+use super::file::{JOURNAL_FILE, LONG_HEADER_FILE};
 use super::upload::head;
 use std::alloc::Global;
 use std::io;
@@ -27,7 +22,7 @@ pub fn add_pieces(alloc: Global, pieces: &str, bytes: &mut Vec<u8>) -> io::Resul
         if is_text {
             add_text(alloc, part, bytes)?;
         } else {
-            add_words(alloc, part, bytes)?;
+            add_words(part, bytes)?;
         }
         is_text = !is_text;
     }
@@ -40,17 +35,17 @@ fn add_text(alloc: Global, text: &str, bytes: &mut Vec<u8>) -> io::Result<()> {
     add(bytes, text.replace(alloc, "\\n", "\n")?.as_bytes())
 }
 
-fn add_words(alloc: Global, words: &str, bytes: &mut Vec<u8>) -> io::Result<()> {
+fn add_words(words: &str, bytes: &mut Vec<u8>) -> io::Result<()> {
     for word in words.split_whitespace() {
-        add_word(alloc, word, bytes)?;
+        add_word(word, bytes)?;
     }
     Ok(())
 }
 
 /// Adds what one word names, or changes what is there.
-fn add_word(alloc: Global, word: &str, bytes: &mut Vec<u8>) -> io::Result<()> {
+fn add_word(word: &str, bytes: &mut Vec<u8>) -> io::Result<()> {
     match word.split_once(':') {
-        Some((name, numbers)) => add_made(alloc, name, numbers, bytes),
+        Some((name, numbers)) => add_made(name, numbers, bytes),
         None => add_sample(word, bytes),
     }
 }
@@ -75,7 +70,6 @@ fn add_sample(name: &str, bytes: &mut Vec<u8>) -> io::Result<()> {
         "METADATA_2" => METADATA_2,
         "BOOT_FIELD" => BOOT_FIELD,
         "BINARY_FRONT" => BINARY_FRONT,
-        "SHOWN" => SHOWN.as_bytes(),
         "JOURNAL_FILE" => &JOURNAL_FILE,
         "LONG_HEADER_FILE" => &LONG_HEADER_FILE,
         _ => return no_piece(),
@@ -84,30 +78,16 @@ fn add_sample(name: &str, bytes: &mut Vec<u8>) -> io::Result<()> {
 }
 
 /// Adds what a word with one or two numbers makes, or changes what is there.
-fn add_made(alloc: Global, name: &str, numbers: &str, bytes: &mut Vec<u8>) -> io::Result<()> {
+fn add_made(name: &str, numbers: &str, bytes: &mut Vec<u8>) -> io::Result<()> {
     let (first, second) = numbers.split_once(':').unwrap_or((numbers, "0"));
     let (Ok(first), Ok(second)) = (first.parse::<u64>(), second.parse::<u64>()) else {
         return no_piece();
     };
     match name {
-        "set" => put(bytes.as_mut_slice(), first as usize, &[low_byte(second)]),
-        "put" => put_number(bytes.as_mut_slice(), first as usize, second),
-        "cut" => bytes.truncate(first as usize),
-        _ => return make(alloc, name, first, second, bytes),
-    }
-    Ok(())
-}
-
-fn make(alloc: Global, name: &str, first: u64, second: u64, bytes: &mut Vec<u8>) -> io::Result<()> {
-    match name {
         "head" => add(bytes, &head(low_byte(first), low_byte(second))),
-        "entries" => add_entries(alloc, first, second, bytes),
-        "number" => add(bytes, &first.to_le_bytes()),
-        "fill" => add_times(&[low_byte(first)], second, bytes),
-        "again" => {
-            let start = (bytes.len() as u64).saturating_sub(first);
-            let last = Vec::from_slice(alloc, tail(bytes, start))?;
-            add_times(&last, second, bytes)
+        "cut" => {
+            bytes.truncate(first as usize);
+            Ok(())
         }
         _ => no_piece(),
     }
@@ -117,24 +97,4 @@ fn make(alloc: Global, name: &str, first: u64, second: u64, bytes: &mut Vec<u8>)
 fn low_byte(number: u64) -> u8 {
     let [low, ..] = number.to_le_bytes();
     low
-}
-
-/// What comes from this place on.
-fn tail(bytes: &[u8], place: u64) -> &[u8] {
-    bytes.get(place as usize..).unwrap_or(b"")
-}
-
-fn add_times(more: &[u8], times: u64, bytes: &mut Vec<u8>) -> io::Result<()> {
-    for _ in 0..times {
-        add(bytes, more)?;
-    }
-    Ok(())
-}
-
-/// Adds the entries of these numbers, the first and the last of them among them.
-fn add_entries(alloc: Global, first: u64, last: u64, bytes: &mut Vec<u8>) -> io::Result<()> {
-    for number in first..=last {
-        add(bytes, numbered_entry(alloc, number)?.as_bytes())?;
-    }
-    Ok(())
 }
