@@ -1,4 +1,4 @@
-//! Commands over devices that fail, and runs that are stopped.
+//! Commands over devices that fail, runs that are stopped, and journals in databases in memory.
 #![tactic(auto)]
 
 #[cfg(test)]

@@ -1,6 +1,5 @@
 //! Folders of tests, and the files in them.
 
-use jc_test_samples::add_pieces;
 use std::alloc::Global;
 use std::{env, fs, io, process};
 
@@ -12,13 +11,6 @@ pub(super) fn new_folder(rt: &HostRuntime, name: &str) -> io::Result<String> {
     let folder = format!(in rt.alloc(); "{all}/journal-collect-{id}-{name}/")?;
     fs::create_dir(rt, folder.as_str())?;
     Ok(folder)
-}
-
-/// The bytes that pieces name, as jc_test_samples has them.
-pub(super) fn bytes_of(alloc: Global, pieces: &str) -> io::Result<Vec<u8>> {
-    let mut bytes = Vec::new(alloc);
-    add_pieces(alloc, pieces, &mut bytes)?;
-    Ok(bytes)
 }
 
 /// The path of a file in a folder.

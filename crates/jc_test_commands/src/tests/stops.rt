@@ -1,15 +1,17 @@
 //! Runs that are stopped before they close their database, over tables of either kind: what they acknowledge, and what
 //! the next run finds. And some that come to their end: one into a union, and one that lists a journal.
 
-use super::folder::{bytes_of, new_folder, path_in};
+use super::folder::{new_folder, path_in};
 use super::output::ALWAYS;
+use super::pieces::bytes_of;
 use super::same::{same, same_bytes};
-use super::stopping::Stopping;
+use super::stopping::{Stopping, Told};
 use jc_command_args::Tables;
 use jc_database::over_files;
 use jc_test_samples::answer_lines;
 use sqlite::Unknown;
 use std::alloc::Global;
+use std::process::Abort;
 use std::test::Fail;
 use std::{fs, io};
 
@@ -190,21 +192,37 @@ const ROWS: [Row; 14] = [
 
 #[test]
 fn what_the_next_run_has(rt: HostRuntime) -> Result<(), Fail> {
-    perform(&rt, "by-key", Tables::ByKey)?;
-    perform(&rt, "by-number", Tables::ByNumber)?;
+    check_rows(&rt, &told_of_rows(&rt, "by-key", Tables::ByKey)?)?;
+    check_rows(&rt, &told_of_rows(&rt, "by-number", Tables::ByNumber)?)
+}
+
+/// What came of the rows' runs.
+fn told_of_rows(rt: &HostRuntime, name: &str, tables: Tables) -> io::Result<Vec<Told>> {
+    let folder = new_folder(rt, name)?;
+    let mut told = Vec::new(rt.alloc());
+    for row in &ROWS {
+        told.push(stop(rt, folder.as_str(), tables, row)?)?;
+    }
+    fs::remove_dir_all(rt, folder.as_str())?;
+    Ok(told)
+}
+
+fn check_rows(rt: &(impl Abort + AllocGlobal), told: &[Told]) -> Result<(), Fail> {
+    for (row, told) in ROWS.iter().zip(told) {
+        check_row(rt, row, told)?;
+    }
     Ok(())
 }
 
-fn perform(rt: &HostRuntime, name: &str, tables: Tables) -> io::Result<()> {
-    let folder = new_folder(rt, name)?;
-    for row in &ROWS {
-        stop(rt, folder.as_str(), tables, row)?;
-    }
-    fs::remove_dir_all(rt, folder.as_str())
+fn check_row(rt: &(impl Abort + AllocGlobal), row: &Row, told: &Told) -> Result<(), Fail> {
+    same(rt, row.of, &told.came, &row.comes);
+    let wanted = answer_lines(rt.alloc(), row.prints)?;
+    same_bytes(rt, row.of, &told.output, wanted.as_bytes());
+    Ok(())
 }
 
 /// Makes the run of a row, and stops it.
-fn stop(rt: &HostRuntime, folder: &str, tables: Tables, row: &Row) -> io::Result<()> {
+fn stop(rt: &HostRuntime, folder: &str, tables: Tables, row: &Row) -> io::Result<Told> {
     let path = path_in(rt.alloc(), folder, row.database)?;
     let names = write_uploads(rt, folder, row.uploads)?;
     let uploads = uploads_of(rt.alloc(), row.uploads)?;
@@ -217,10 +235,7 @@ fn stop(rt: &HostRuntime, folder: &str, tables: Tables, row: &Row) -> io::Result
         flushes: row.flushes,
         names: names.as_bytes(),
     };
-    let told = over_files(stopping, Unknown);
-    same(rt, row.of, &told.came, &row.comes)?;
-    let wanted = answer_lines(rt.alloc(), row.prints)?;
-    same_bytes(rt, row.of, &told.output, wanted.as_bytes())
+    Ok(over_files(stopping, Unknown))
 }
 
 /// Writes uploads into files, and answers lines that name them.

@@ -1,8 +1,8 @@
 //! Uploads in memory, collected into a database in memory.
 
-use super::journals::check_stored;
-use super::readings::bytes_of;
+use super::pieces::bytes_of;
 use super::same::same_bytes;
+use super::stored::check_stored;
 use jc_base::{Limits, OutOfMemory, VecSink};
 use jc_collect::{Delivery, RunEnd};
 use jc_keeper::KeepStop;
@@ -43,7 +43,7 @@ fn check_lines(
 ) -> Result<(), Fail> {
     assert!(rt; matches!(end, RunEnd::Done));
     let wanted = answer_lines(rt.alloc(), short)?;
-    same_bytes(rt, sink.bytes(), wanted.as_bytes());
+    same_bytes(rt, "answers", sink.bytes(), wanted.as_bytes());
     Ok(())
 }
 

@@ -1,8 +1,8 @@
 //! Journals in the tables of schema 1, which nobody collects into any more: they are read where one goes over to others.
 
-use super::journals::check_stored;
-use super::readings::bytes_of;
+use super::pieces::bytes_of;
 use super::same::{same_answers, same_bytes};
+use super::stored::check_stored;
 use jc_base::faulty::FailSink;
 use jc_base::{ByteSink, ByteStream, Code, Limits, SliceStream, VecSink};
 use jc_collect::{Delivery, collect_one};
@@ -172,7 +172,7 @@ fn check_row<K: Keeper + Drop>(
     for pieces in row.uploads {
         answers.push(collected(rt.alloc(), &mut keeper, pieces)?)?;
     }
-    same_answers(rt, &answers, row.answers)?;
+    same_answers(rt, "answers", &answers, row.answers)?;
     check_stored(rt, &mut keeper, row.stored)
 }
 
@@ -210,7 +210,7 @@ fn check_export<S: Alter, L: Listed>(
     let mut sink = VecSink::new(rt.alloc());
     assert!(rt; matches!(exported(keeper, &mut sink), Ok(3)));
     let texts = bytes_of(rt.alloc(), "ENTRY ENTRY_2 LAST_ENTRY")?;
-    same_bytes(rt, sink.bytes(), &texts);
+    same_bytes(rt, "an export", sink.bytes(), &texts);
     assert!(rt; matches!(keeper.count(), Ok(3)));
     Ok(())
 }
@@ -224,6 +224,7 @@ fn check_line<S: Alter, L: Listed>(
     assert!(rt; shown(keeper, &mut sink, 2, 2).is_ok());
     same_bytes(
         rt,
+        "a line",
         sink.bytes(),
         b"000102030405060708090a0b0c0d0e0f 2 1000000 5 hi\n",
     );
@@ -248,7 +249,7 @@ fn check_a_failure<S: Alter, L: Listed>(
             })
         )
     );
-    same_bytes(rt, sink.inner.inner.bytes(), &ENTRY[..5]);
+    same_bytes(rt, "a front", sink.inner.inner.bytes(), &ENTRY[..5]);
     assert!(rt; shown(keeper, &mut sink, 0, u64::MAX).is_ok());
 }
 

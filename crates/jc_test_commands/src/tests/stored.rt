@@ -1,6 +1,6 @@
 //! What is stored in a journal.
 
-use super::readings::bytes_of;
+use super::pieces::bytes_of;
 use super::same::same_bytes;
 use jc_base::{Id128, Key};
 use jc_export::canonical;
@@ -40,6 +40,6 @@ pub(super) fn check_stored<K: Keeper>(
     texts: &str,
 ) -> Result<(), Fail> {
     let found = stored(rt.alloc(), keeper)?;
-    same_bytes(rt, &found, &bytes_of(rt.alloc(), texts)?);
+    same_bytes(rt, "stored", &found, &bytes_of(rt.alloc(), texts)?);
     Ok(())
 }

@@ -1,11 +1,11 @@
-//! Bytes in memory, as the pieces of `add_pieces` name them.
+//! Bytes, as the pieces of `add_pieces` name them.
 
 use jc_test_samples::add_pieces;
 use std::alloc::Global;
-use std::test::Fail;
+use std::io;
 
 /// The bytes of these pieces.
-pub(super) fn bytes_of(alloc: Global, pieces: &str) -> Result<Vec<u8>, Fail> {
+pub(super) fn bytes_of(alloc: Global, pieces: &str) -> io::Result<Vec<u8>> {
     let mut bytes = Vec::new(alloc);
     add_pieces(alloc, pieces, &mut bytes)?;
     Ok(bytes)

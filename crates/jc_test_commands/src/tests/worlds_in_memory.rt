@@ -1,6 +1,6 @@
 //! Machines and a collector over a database in memory.
 
-use super::readings::bytes_of;
+use super::pieces::bytes_of;
 use super::same::same_answers;
 use jc_base::{Id128, Limits};
 use jc_schema_three::SchemaThree;
@@ -35,7 +35,12 @@ fn check_world<L: Layout>(rt: &(impl Abort + AllocGlobal)) -> Result<(), Fail> {
     ];
     let (progress, world) = world_of::<L>(rt.alloc(), &events)?;
     assert!(rt; progress.taken == 5 && progress.refusal.is_none());
-    same_answers(rt, world.answers(), &["ack S 0 0 0 0", "no - - 1 8"])
+    same_answers(
+        rt,
+        "answers",
+        world.answers(),
+        &["ack S 0 0 0 0", "no - - 1 8"],
+    )
 }
 
 /// A run takes every event, also one that names no machine.

@@ -1,5 +1,0 @@
-//! Journals in memory, in tables of every kind.
-#![tactic(auto)]
-
-#[cfg(test)]
-mod tests;
