@@ -25,7 +25,7 @@ refuses CONTRACTS.md 's/`impl ByteSpace for FileSpace`/`impl ByteSpace for NoSpa
 refuses CONTRACTS.md 's/^## jc_base$/## The values/' "jc_base has no section"
 refuses PROOFS.md 's/\*\*`run`\*\* (`run`)/**`run`** (`ran`)/' "jc_collect: run has no clause ran"
 refuses PROOFS.md 's/\*\*`run`\*\* (`run`)/**`ran`** (`run`)/' "jc_collect: there is no ran"
-refuses PROOFS.md 's/`IsStoredIn` in/`IsStoredInside` in/' "jc_world: there is no IsStoredInside in specs/State.antt"
+refuses PROOFS.md 's/`IsKept` in/`IsKeptInside` in/' "jc_world: there is no IsKeptInside in specs/Kept.antt"
 refuses PROOFS.md 's/`LeaveLagging` in/`LeavesLagging` in/' "jc_ledger: there is no LeavesLagging in specs/Lagging.antt"
 refuses PROOFS.md 's/^- jc_keeper: `Agree`, /- jc_keeper: /' "the main theorem's list: jc_keeper, Agree"
 refuses PROOFS.md 's/^- jc_upload: `Resume`, /- jc_upload: /' "jc_world's list: jc_upload, Resume"

@@ -1,10 +1,12 @@
--- What holds of uploads and answers stays so: the machines keep their sources and entries, and more is stored.
+-- What holds of uploads and answers stays so: the machines keep their sources and entries, and the journal grows.
 use Rattle.std.proofs.Common.{◌≡◌, ◌⊎◌, ℕ, ◌+◌, ◌≤◌, List, [], ◌++◌, Some, length, set, take, drop, refl, sym, ap, subst, ◌∙◌, inl, inr, ⊎_elim, arith, length-append, append_assoc, append-nil}
 use Rattle.std.specs.List.{slice_get, All, Contains}
 use Rattle.std.proofs.lemmas.List.{drop-append-le}
 use Rattle.std.proofs.lemmas.List.Elements.{All-weaker}
+use Rattle.jc_base.specs.Journal.{Journal}
 use Rattle.jc_base.specs.LogEntry.{LogEntry}
 use Rattle.jc_base.specs.declared.limits.Limits.{Limits}
+use Rattle.jc_keeper.specs.Agree.{IsStored}
 use Rattle.jc_upload.specs.declared.answer.Answer.{Answer}
 use Rattle.jc_upload.specs.declared.answer.Answer.TheVariants.{Ack, No}
 use Rattle.jc_world.specs.Given.{FileReadsFront}
@@ -90,31 +92,31 @@ module _ (limits : Limits) (machines : List MachineState) (m : ℕ) (old new : M
 
 -- ---- answers
 
-stored_more : (Before After : LogEntry → Type 0) (entries more whole : List LogEntry) (start count : ℕ) → Has Before After → whole ≡ entries ++ more → AreStored Before entries start count → AreStored After whole start count
-stored_more Before After entries more whole start count has is h = record {
+stored_more : (before after : Journal) (entries more whole : List LogEntry) (start count : ℕ) → Has before after → whole ≡ entries ++ more → AreStored before entries start count → AreStored after whole start count
+stored_more before after entries more whole start count has is h = record {
   within = subst (λ (es : List LogEntry). start + count ≤ length es) (sym is) (omega (arith, h.within, length-append entries more));
-  stored = subst (All After) (sym (ap (λ (es : List LogEntry). take count (drop start es)) is ∙ part_more entries more start count h.within))
-      (All-weaker Before After has (take count (drop start entries)) h.stored);
+  stored = subst (All (IsStored after)) (sym (ap (λ (es : List LogEntry). take count (drop start es)) is ∙ part_more entries more start count h.within))
+      (All-weaker (IsStored before) (IsStored after) has (take count (drop start entries)) h.stored);
 }
 
--- an ack is backed still, where more is stored
-pub backed_later : (Before After : LogEntry → Type 0) (machines : List MachineState) → Has Before After → (answer : Answer) → IsBacked Before machines answer → IsBacked After machines answer
-backed_later Before After machines has (Ack source start count new left) h = λ machine one own.
+-- an ack is backed still, where the journal has grown
+pub backed_later : (before after : Journal) (machines : List MachineState) → Has before after → (answer : Answer) → IsBacked before machines answer → IsBacked after machines answer
+backed_later before after machines has (Ack source start count new left) h = λ machine one own.
     let at = h machine one own in
     record {
       within = at.within;
-      stored = All-weaker Before After has (take count (drop start machine.entries)) at.stored;
+      stored = All-weaker (IsStored before) (IsStored after) has (take count (drop start machine.entries)) at.stored;
     }
-backed_later Before After machines has (No of code place) h = tt
+backed_later before after machines has (No of code place) h = tt
 
 -- ... or a machine has more entries
-pub backed_more : (Stored : LogEntry → Type 0) (machines : List MachineState) (m : ℕ) (old new : MachineState) → slice_get machines m ≡ Some old → Comes old new
-    → (answer : Answer) → IsBacked Stored machines answer → IsBacked Stored (set machines m new) answer
-backed_more Stored machines m old new at comes (Ack source start count fresh left) h = λ machine one own. ⊎_elim
+pub backed_more : (journal : Journal) (machines : List MachineState) (m : ℕ) (old new : MachineState) → slice_get machines m ≡ Some old → Comes old new
+    → (answer : Answer) → IsBacked journal machines answer → IsBacked journal (set machines m new) answer
+backed_more journal machines m old new at comes (Ack source start count fresh left) h = λ machine one own. ⊎_elim
     (λ (kept : Contains machines machine). h machine kept own)
     (λ (is : new ≡ machine).
     let before = h old (contains_get machines m old at) (sym comes.same ∙ ap source_of is ∙ own) in
-    let now : AreStored Stored new.entries start count = stored_more Stored Stored old.entries comes.more new.entries start count (λ e s. s) comes.whole before in
-    subst (λ (x : MachineState). AreStored Stored x.entries start count) is now)
+    let now : AreStored journal new.entries start count = stored_more journal journal old.entries comes.more new.entries start count (λ e s. s) comes.whole before in
+    subst (λ (x : MachineState). AreStored journal x.entries start count) is now)
     (contains_set machines m new machine one)
-backed_more Stored machines m old new at comes (No of code place) h = tt
+backed_more journal machines m old new at comes (No of code place) h = tt

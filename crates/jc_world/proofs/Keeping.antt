@@ -1,5 +1,5 @@
 -- Every event keeps what is kept of a world.
-use Rattle.std.proofs.Common.{◌≡◌, ℕ, ◌+◌, ◌-◌, ◌≤◌, Bool, List, [], ◌∷◌, ◌++◌, Some, length, map, set, take, drop, refl, sym, ap, subst, ◌∙◌, inl, inr, ⊎_elim, arith, append-nil}
+use Rattle.std.proofs.Common.{◌≡◌, ℕ, ◌+◌, ◌≤◌, Bool, List, [], ◌∷◌, ◌++◌, Some, length, map, set, take, drop, refl, sym, ap, subst, ◌∙◌, inl, inr, ⊎_elim, arith, append-nil}
 use Rattle.std.specs.List.{slice_get, All, Contains}
 use Rattle.std.proofs.lemmas.List.{length-take, length-drop, take-append-drop}
 use Rattle.std.proofs.lemmas.List.Elements.{All-cons, All-contains, All-contains_itself, All-map, All-nil, All-push, All-set, All-weaker}
@@ -16,35 +16,35 @@ use Rattle.jc_upload.specs.Upload.{acked_to, export_head, file_head, file_upload
 use Rattle.jc_collect.specs.Position.{IsPosition}
 use Rattle.jc_world.specs.Event.{Appends, Delivers, DeliversAlien, Hands, Happens, IsAlien, Makes, Makes2, MakesFile, MovesOn, Restarts, moved_on, named}
 use Rattle.jc_world.specs.Kept.{AreStored, IsBacked, IsExportOf, IsKept, IsMachine, IsMade, IsSafe}
-use Rattle.jc_world.specs.State.{AreDistinct, IsInOneOf, IsStoredIn, MachineState, State, new_machine, new_state, source_of, with_answer, with_entry, with_machine, with_point, with_turn, with_upload}
+use Rattle.jc_world.specs.State.{AreDistinct, MachineState, State, new_machine, new_state, source_of, with_answer, with_entry, with_machine, with_point, with_upload}
 use Rattle.jc_world.specs.declared.event.Event.{Event}
 use Rattle.jc_world.specs.declared.event.Event.TheVariants.{Append, Make, Make2, MakeFile, Deliver, Alien, Hand, Restart}
 use Rattle.jc_world.proofs.Growing.{Comes, backed_later, backed_more, made_more}
-use Rattle.jc_world.proofs.Lists.{all_further, all_get, all_joined, contains_get, contains_map, map_written}
-use Rattle.jc_world.proofs.Points.{Has, agrees_behind, in_grown, in_present, in_turned, safe_later, safe_more, safe_start}
+use Rattle.jc_world.proofs.Lists.{all_further, all_get, contains_get, contains_map, map_written}
+use Rattle.jc_world.proofs.Points.{Has, agrees_behind, safe_later, safe_more, safe_start}
 use Rattle.jc_world.proofs.Sending.{FilesCut, HeadOnce, SaysOnce, TextsCut, ack_of, made_backed, same_machine}
 
 -- ---- one machine changes
 
 machine_kept : (limits : Limits) (s : State) (m : ℕ) (old new : MachineState) → IsKept limits s → slice_get s.machines m ≡ Some old → Comes old new
-    → IsMachine (IsStoredIn s) new → IsKept limits (with_machine s m new)
+    → IsMachine s.journal new → IsKept limits (with_machine s m new)
 machine_kept limits s m old new kept at comes is = record {
   distinct = subst AreDistinct (sym (map_written source_of s.machines m new old at comes.same)) kept.distinct;
-  machines = All-set (IsMachine (IsStoredIn s)) s.machines m new is kept.machines;
+  machines = All-set (IsMachine s.journal) s.machines m new is kept.machines;
   made = All-weaker (IsMade limits s.machines) (IsMade limits (set s.machines m new)) (made_more limits s.machines m old new at comes) s.uploads kept.made;
-  backed = All-weaker (IsBacked (IsStoredIn s) s.machines) (IsBacked (IsStoredIn s) (set s.machines m new)) (backed_more (IsStoredIn s) s.machines m old new at comes) s.answers kept.backed;
+  backed = All-weaker (IsBacked s.journal s.machines) (IsBacked s.journal (set s.machines m new)) (backed_more s.journal s.machines m old new at comes) s.answers kept.backed;
 }
 
 -- ... without new entries
 point_changed : (machine : MachineState) (point : Point) → Comes machine (with_point machine point)
 point_changed machine point = record { same = refl; more = []; whole = sym (append-nil machine.entries) }
 
-appended : (Stored : LogEntry → Type 0) (machine : MachineState) (entry : LogEntry) → IsEntry entry → IsMachine Stored machine → IsMachine Stored (with_entry machine entry)
-appended Stored machine entry lawful is = record {
+appended : (journal : Journal) (machine : MachineState) (entry : LogEntry) → IsEntry entry → IsMachine journal machine → IsMachine journal (with_entry machine entry)
+appended journal machine entry lawful is = record {
   lawful = All-push IsEntry machine.entries entry is.lawful lawful;
-  point = safe_more Stored Stored machine.entries (entry ∷ []) machine.sender.point (λ e s. s) is.point;
-  saved = All-weaker (IsSafe Stored machine.entries) (IsSafe Stored (machine.entries ++ entry ∷ []))
-      (λ point safe. safe_more Stored Stored machine.entries (entry ∷ []) point (λ e s. s) safe) machine.saved is.saved;
+  point = safe_more journal journal machine.entries (entry ∷ []) machine.sender.point (λ e s. s) is.point;
+  saved = All-weaker (IsSafe journal machine.entries) (IsSafe journal (machine.entries ++ entry ∷ []))
+      (λ point safe. safe_more journal journal machine.entries (entry ∷ []) point (λ e s. s) safe) machine.saved is.saved;
 }
 
 append_kept : (limits : Limits) (s t : State) (m : ℕ) (entry : LogEntry) → IsKept limits s → Appends s m entry t → IsKept limits t
@@ -52,12 +52,12 @@ append_kept limits s t m entry kept a =
     subst (IsKept limits) (sym a.after)
     (machine_kept limits s m a.machine (with_entry a.machine entry) kept a.at
     (record { same = refl; more = entry ∷ []; whole = refl })
-    (appended (IsStoredIn s) a.machine entry a.lawful (all_get (IsMachine (IsStoredIn s)) s.machines m a.machine kept.machines a.at)))
+    (appended s.journal a.machine entry a.lawful (all_get (IsMachine s.journal) s.machines m a.machine kept.machines a.at)))
 
-restarted : (Stored : LogEntry → Type 0) (machine : MachineState) (k : ℕ) (point : Point) → slice_get machine.saved k ≡ Some point → IsMachine Stored machine → IsMachine Stored (with_point machine point)
-restarted Stored machine k point was is = record {
+restarted : (journal : Journal) (machine : MachineState) (k : ℕ) (point : Point) → slice_get machine.saved k ≡ Some point → IsMachine journal machine → IsMachine journal (with_point machine point)
+restarted journal machine k point was is = record {
   lawful = is.lawful;
-  point = all_get (IsSafe Stored machine.entries) machine.saved k point is.saved was;
+  point = all_get (IsSafe journal machine.entries) machine.saved k point is.saved was;
   saved = is.saved;
 }
 
@@ -65,41 +65,41 @@ restart_kept : (limits : Limits) (s t : State) (m k : ℕ) → IsKept limits s �
 restart_kept limits s t m k kept r =
     subst (IsKept limits) (sym r.after)
     (machine_kept limits s m r.machine (with_point r.machine r.point) kept r.at (point_changed r.machine r.point)
-    (restarted (IsStoredIn s) r.machine k r.point r.was (all_get (IsMachine (IsStoredIn s)) s.machines m r.machine kept.machines r.at)))
+    (restarted s.journal r.machine k r.point r.was (all_get (IsMachine s.journal) s.machines m r.machine kept.machines r.at)))
 
 -- ---- an answer is handed over
 
 -- what an ack reaches is safe
-reached : (Stored : LogEntry → Type 0) (machines : List MachineState) (machine : MachineState) (answer : Answer) → Contains machines machine
-    → IsMachine Stored machine → IsBacked Stored machines answer → named answer ≡ Some (source_of machine) → MovesOn machine answer
-    → IsSafe Stored machine.entries (point_behind machine.entries (acked_to answer))
-reached Stored machines machine (No of code place) one is backed own moves = absurd moves
-reached Stored machines machine (Ack source start count new left) one is backed own moves =
-    let at : AreStored Stored machine.entries start count = backed machine one (sym cc) in
+reached : (journal : Journal) (machines : List MachineState) (machine : MachineState) (answer : Answer) → Contains machines machine
+    → IsMachine journal machine → IsBacked journal machines answer → named answer ≡ Some (source_of machine) → MovesOn machine answer
+    → IsSafe journal machine.entries (point_behind machine.entries (acked_to answer))
+reached journal machines machine (No of code place) one is backed own moves = absurd moves
+reached journal machines machine (Ack source start count new left) one is backed own moves =
+    let at : AreStored journal machine.entries start count = backed machine one (sym cc) in
     record {
       agrees = agrees_behind machine.entries (start + count) moves.within;
-      stored = all_further Stored machine.entries machine.sender.point.position start count moves.begun moves.within is.point.stored at.stored;
+      stored = all_further (IsStored journal) machine.entries machine.sender.point.position start count moves.begun moves.within is.point.stored at.stored;
     }
 
-handed : (Stored : LogEntry → Type 0) (machine : MachineState) (answer : Answer) → IsMachine Stored machine
-    → IsSafe Stored machine.entries (point_behind machine.entries (acked_to answer)) → IsMachine Stored (moved_on machine answer)
-handed Stored machine answer is safe = record {
+handed : (journal : Journal) (machine : MachineState) (answer : Answer) → IsMachine journal machine
+    → IsSafe journal machine.entries (point_behind machine.entries (acked_to answer)) → IsMachine journal (moved_on machine answer)
+handed journal machine answer is safe = record {
   lawful = is.lawful;
   point = safe;
-  saved = All-push (IsSafe Stored machine.entries) machine.saved (point_behind machine.entries (acked_to answer)) is.saved safe;
+  saved = All-push (IsSafe journal machine.entries) machine.saved (point_behind machine.entries (acked_to answer)) is.saved safe;
 }
 
 hand_kept : (limits : Limits) (s t : State) (j : ℕ) → IsKept limits s → Hands s j t → IsKept limits t
 hand_kept limits s t j kept h =
-    let is = all_get (IsMachine (IsStoredIn s)) s.machines h.m h.machine kept.machines h.at in
-    let backed = all_get (IsBacked (IsStoredIn s) s.machines) s.answers j h.answer kept.backed h.given in
+    let is = all_get (IsMachine s.journal) s.machines h.m h.machine kept.machines h.at in
+    let backed = all_get (IsBacked s.journal s.machines) s.answers j h.answer kept.backed h.given in
     ⊎_elim
     (λ (moved : MovesOn h.machine h.answer × (t ≡ with_machine s h.m (moved_on h.machine h.answer))).
-    let safe = reached (IsStoredIn s) s.machines h.machine h.answer (contains_get s.machines h.m h.machine h.at) is backed h.own moved.0 in
+    let safe = reached s.journal s.machines h.machine h.answer (contains_get s.machines h.m h.machine h.at) is backed h.own moved.0 in
     subst (IsKept limits) (sym moved.1)
     (machine_kept limits s h.m h.machine (moved_on h.machine h.answer) kept h.at
     (record { same = refl; more = []; whole = sym (append-nil h.machine.entries) })
-    (handed (IsStoredIn s) h.machine h.answer is safe)))
+    (handed s.journal h.machine h.answer is safe)))
     (λ (stays : (¬ MovesOn h.machine h.answer) × (t ≡ s)). subst (IsKept limits) (sym stays.1) kept)
     h.after
 
@@ -120,8 +120,8 @@ sent_within machine limit within =
     omega (arith, length-take limit rest, length-drop machine.sender.point.position machine.entries, within)
 
 -- the entries that an upload carries are a part of the machine's
-next_made : (machine : MachineState) (limit : ℕ) (Stored : LogEntry → Type 0) → IsMachine Stored machine → IsHead (export_head machine.sender) → IsExportOf machine (next_upload_of machine.sender machine.entries limit)
-next_made machine limit Stored is lawful =
+next_made : (machine : MachineState) (limit : ℕ) (journal : Journal) → IsMachine journal machine → IsHead (export_head machine.sender) → IsExportOf machine (next_upload_of machine.sender machine.entries limit)
+next_made machine limit journal is lawful =
     let rest = drop machine.sender.point.position machine.entries in
     record {
       head = export_head machine.sender;
@@ -135,20 +135,20 @@ next_made machine limit Stored is lawful =
 
 make_kept : (limits : Limits) (s t : State) (m limit : ℕ) → IsKept limits s → Makes s m limit t → IsKept limits t
 make_kept limits s t m limit kept a =
-    let is = all_get (IsMachine (IsStoredIn s)) s.machines m a.machine kept.machines a.at in
+    let is = all_get (IsMachine s.journal) s.machines m a.machine kept.machines a.at in
     subst (IsKept limits) (sym a.after)
     (upload_kept limits s (next_upload_of a.machine.sender a.machine.entries limit) kept
     (record {
       machine = a.machine;
       one = contains_get s.machines m a.machine a.at;
-      from = inl (next_made a.machine limit (IsStoredIn s) is a.head);
+      from = inl (next_made a.machine limit s.journal is a.head);
     }))
 
 -- ... and so with a header of the second version
-next2_made : (machine : MachineState) (limit : ℕ) (whole : Bool) (Stored : LogEntry → Type 0) → IsMachine Stored machine
+next2_made : (machine : MachineState) (limit : ℕ) (whole : Bool) (journal : Journal) → IsMachine journal machine
     → IsHead (second_head machine.sender whole (length (sent_of machine.sender machine.entries limit)))
     → IsExportOf machine (next_upload2_of machine.sender machine.entries limit whole)
-next2_made machine limit whole Stored is lawful =
+next2_made machine limit whole journal is lawful =
     let rest = drop machine.sender.point.position machine.entries in
     record {
       head = second_head machine.sender whole (length (sent_of machine.sender machine.entries limit));
@@ -162,13 +162,13 @@ next2_made machine limit whole Stored is lawful =
 
 make2_kept : (limits : Limits) (s t : State) (m limit : ℕ) (whole : Bool) → IsKept limits s → Makes2 s m limit whole t → IsKept limits t
 make2_kept limits s t m limit whole kept a =
-    let is = all_get (IsMachine (IsStoredIn s)) s.machines m a.machine kept.machines a.at in
+    let is = all_get (IsMachine s.journal) s.machines m a.machine kept.machines a.at in
     subst (IsKept limits) (sym a.after)
     (upload_kept limits s (next_upload2_of a.machine.sender a.machine.entries limit whole) kept
     (record {
       machine = a.machine;
       one = contains_get s.machines m a.machine a.at;
-      from = inl (next2_made a.machine limit whole (IsStoredIn s) is a.head);
+      from = inl (next2_made a.machine limit whole s.journal is a.head);
     }))
 
 make_file_kept : (limits : Limits) (s t : State) (m : ℕ) (file : List ℕ) → IsKept limits s → MakesFile limits s m file t → IsKept limits t
@@ -191,78 +191,39 @@ make_file_kept limits s t m file kept a =
 
 -- ---- one more answer
 
-pub grown : (limits : Limits) (delivery : List ℕ) (before after : Journal) (answer : Answer) → IsPosition limits delivery before answer after → Has (IsStored before) (IsStored after)
+pub grown : (limits : Limits) (delivery : List ℕ) (before after : Journal) (answer : Answer) → IsPosition limits delivery before answer after → Has before after
 grown limits delivery before after (Ack source start count new left) position = λ e s. (position.leaves.has e).1 (inl s)
 grown limits delivery before after (No of code place) position = λ e s. subst (λ (m : Journal). IsStored m e) (sym position.leaves) s
 
-machine_later : (Before After : LogEntry → Type 0) (machine : MachineState) → Has Before After → IsMachine Before machine → IsMachine After machine
-machine_later Before After machine has is = record {
-  lawful = is.lawful;
-  point = safe_later Before After machine.entries machine.sender.point has is.point;
-  saved = All-weaker (IsSafe Before machine.entries) (IsSafe After machine.entries)
-      (λ point safe. safe_later Before After machine.entries point has safe) machine.saved is.saved;
+answer_kept : (limits : Limits) (s : State) (answer : Answer) (after : Journal) → IsKept limits s → Has s.journal after → IsBacked after s.machines answer
+    → IsKept limits (with_answer s answer after)
+answer_kept limits s answer after kept has backed = record {
+  distinct = kept.distinct;
+  machines = All-weaker (IsMachine s.journal) (IsMachine after) later s.machines kept.machines;
+  made = kept.made;
+  backed = All-push (IsBacked after s.machines) s.answers answer
+      (All-weaker (IsBacked s.journal s.machines) (IsBacked after s.machines) (backed_later s.journal after s.machines has) s.answers kept.backed)
+      backed;
 }
-
-answer_kept : (limits : Limits) (s : State) (answer : Answer) (after : Journal) → IsKept limits s → Has (IsStored s.journal) (IsStored after)
-    → IsBacked (IsInOneOf s.past after) s.machines answer → IsKept limits (with_answer s answer after)
-answer_kept limits s answer after kept has backed =
-    let more : Has (IsStoredIn s) (IsInOneOf s.past after) = in_grown s.past s.journal after has in
-    record {
-      distinct = kept.distinct;
-      machines = All-weaker (IsMachine (IsStoredIn s)) (IsMachine (IsInOneOf s.past after))
-          (λ machine is. machine_later (IsStoredIn s) (IsInOneOf s.past after) machine more is) s.machines kept.machines;
-      made = kept.made;
-      backed = All-push (IsBacked (IsInOneOf s.past after) s.machines) s.answers answer
-          (All-weaker (IsBacked (IsStoredIn s) s.machines) (IsBacked (IsInOneOf s.past after) s.machines)
-          (backed_later (IsStoredIn s) (IsInOneOf s.past after) s.machines more) s.answers kept.backed)
-          backed;
+  where
+    later : (machine : MachineState) → IsMachine s.journal machine → IsMachine after machine
+    later machine is = record {
+      lawful = is.lawful;
+      point = safe_later s.journal after machine.entries machine.sender.point has is.point;
+      saved = All-weaker (IsSafe s.journal machine.entries) (IsSafe after machine.entries)
+          (λ point safe. safe_later s.journal after machine.entries point has safe) machine.saved is.saved;
     }
-
--- ---- another journal
-
-pub turn_kept : (limits : Limits) (s : State) (journal : Journal) → IsKept limits s → IsKept limits (with_turn s journal)
-turn_kept limits s journal kept =
-    let Now : LogEntry → Type 0 = IsInOneOf (s.past ++ s.journal ∷ []) journal in
-    let more : Has (IsStoredIn s) Now = in_turned s.past s.journal journal in
-    record {
-      distinct = kept.distinct;
-      machines = All-weaker (IsMachine (IsStoredIn s)) (IsMachine Now) (λ machine is. machine_later (IsStoredIn s) Now machine more is) s.machines kept.machines;
-      made = kept.made;
-      backed = All-weaker (IsBacked (IsStoredIn s) s.machines) (IsBacked Now s.machines) (backed_later (IsStoredIn s) Now s.machines more) s.answers kept.backed;
-    }
-
--- ---- two acks joined
-
-ack_joined : (Stored : LogEntry → Type 0) (machines : List MachineState) (source : Id128) (start count from number new left more rest fresh over : ℕ) → start ≤ from
-    → from ≤ start + count → IsBacked Stored machines (Ack source start count new left) → IsBacked Stored machines (Ack source from number more rest)
-    → IsBacked Stored machines (Ack source start ((from + number) - start) fresh over)
-ack_joined Stored machines source start count from number new left more rest fresh over begun joins one other = λ machine c own.
-    let first = one machine c own in
-    let second = other machine c own in
-    record {
-      within = omega (arith, begun, second.within);
-      stored = all_joined Stored machine.entries start count from number ((from + number) - start) begun joins (omega (arith, begun)) second.within first.stored second.stored;
-    }
-
-pub joined_kept : (limits : Limits) (s : State) (source : Id128) (i j start count from number new left more rest fresh over : ℕ) → IsKept limits s → start ≤ from
-    → from ≤ start + count → slice_get s.answers i ≡ Some (Ack source start count new left) → slice_get s.answers j ≡ Some (Ack source from number more rest)
-    → IsKept limits (with_answer s (Ack source start ((from + number) - start) fresh over) s.journal)
-joined_kept limits s source i j start count from number new left more rest fresh over kept begun joins at_i at_j =
-    let one = all_get (IsBacked (IsStoredIn s) s.machines) s.answers i (Ack source start count new left) kept.backed at_i in
-    let other = all_get (IsBacked (IsStoredIn s) s.machines) s.answers j (Ack source from number more rest) kept.backed at_j in
-    answer_kept limits s (Ack source start ((from + number) - start) fresh over) s.journal kept (λ e stored. stored)
-    (ack_joined (IsStoredIn s) s.machines source start count from number new left more rest fresh over begun joins one other)
 
 module _ (once : SaysOnce) (one_head : HeadOnce) (texts : TextsCut) (files : FilesCut) where
-  delivered_backed : (Before : LogEntry → Type 0) (limits : Limits) (machines : List MachineState) (upload : List ℕ) (cut : ℕ) (before after : Journal) (answer : Answer)
-      → AreDistinct (map source_of machines) → All (IsMachine Before) machines → IsMade limits machines upload
-      → IsPosition limits (take cut upload) before answer after → IsBacked (IsStored after) machines answer
-  delivered_backed Before limits machines upload cut before after (No of code place) distinct all made position = tt
-  delivered_backed Before limits machines upload cut before after (Ack source start count new left) distinct all made position = λ machine one own.
+  delivered_backed : (limits : Limits) (machines : List MachineState) (upload : List ℕ) (cut : ℕ) (before after : Journal) (answer : Answer)
+      → AreDistinct (map source_of machines) → All (IsMachine before) machines → IsMade limits machines upload
+      → IsPosition limits (take cut upload) before answer after → IsBacked after machines answer
+  delivered_backed limits machines upload cut before after (No of code place) distinct all made position = tt
+  delivered_backed limits machines upload cut before after (Ack source start count new left) distinct all made position = λ machine one own.
       let ack = ack_of once limits (take cut upload) source start count new left before after position.answers position.leaves in
-      let lawful = (All-contains (IsMachine Before) machines made.machine all made.one).lawful in
+      let lawful = (All-contains (IsMachine before) machines made.machine all made.one).lawful in
       let backed = made_backed one_head texts files limits made.machine upload cut source start count after lawful made.from ack in
-      subst (λ (x : MachineState). AreStored (IsStored after) x.entries start count)
+      subst (λ (x : MachineState). AreStored after x.entries start count)
       (same_machine machines made.machine machine distinct made.one one (sym backed.0 ∙ sym own))
       backed.1
 
@@ -273,12 +234,11 @@ module _ (once : SaysOnce) (one_head : HeadOnce) (texts : TextsCut) (files : Fil
       subst (IsKept limits) (sym c.after)
       (answer_kept limits s c.answer c.journal kept
       (grown limits (take cut d.upload) s.journal c.journal c.answer c.answers.position)
-      (backed_later (IsStored c.journal) (IsInOneOf s.past c.journal) s.machines (in_present s.past c.journal) c.answer
-      (delivered_backed (IsStoredIn s) limits s.machines d.upload cut s.journal c.journal c.answer kept.distinct kept.machines made c.answers.position)))
+      (delivered_backed limits s.machines d.upload cut s.journal c.journal c.answer kept.distinct kept.machines made c.answers.position))
 
   -- an alien ack names no machine
   alien_backed : (limits : Limits) (machines : List MachineState) (bytes : List ℕ) (before after : Journal) (answer : Answer)
-      → IsAlien (map source_of machines) bytes → IsPosition limits bytes before answer after → IsBacked (IsStored after) machines answer
+      → IsAlien (map source_of machines) bytes → IsPosition limits bytes before answer after → IsBacked after machines answer
   alien_backed limits machines bytes before after (No of code place) alien position = tt
   alien_backed limits machines bytes before after (Ack source start count new left) alien position = λ machine one own.
       let ack = ack_of once limits bytes source start count new left before after position.answers position.leaves in
@@ -291,8 +251,7 @@ module _ (once : SaysOnce) (one_head : HeadOnce) (texts : TextsCut) (files : Fil
       subst (IsKept limits) (sym c.after)
       (answer_kept limits s c.answer c.journal kept
       (grown limits bytes s.journal c.journal c.answer c.answers.position)
-      (backed_later (IsStored c.journal) (IsInOneOf s.past c.journal) s.machines (in_present s.past c.journal) c.answer
-      (alien_backed limits s.machines bytes s.journal c.journal c.answer d.alien c.answers.position)))
+      (alien_backed limits s.machines bytes s.journal c.journal c.answer d.alien c.answers.position))
 
   -- ---- each event
 
@@ -308,11 +267,11 @@ module _ (once : SaysOnce) (one_head : HeadOnce) (texts : TextsCut) (files : Fil
 
 -- ---- the beginning
 
-new_is : (Stored : LogEntry → Type 0) (id : Id128) → IsMachine Stored (new_machine id)
-new_is Stored id = record {
+new_is : (journal : Journal) (id : Id128) → IsMachine journal (new_machine id)
+new_is journal id = record {
   lawful = All-nil IsEntry;
-  point = safe_start Stored [];
-  saved = All-cons (IsSafe Stored []) first_point [] (safe_start Stored []) (All-nil (IsSafe Stored []));
+  point = safe_start journal [];
+  saved = All-cons (IsSafe journal []) first_point [] (safe_start journal []) (All-nil (IsSafe journal []));
 }
 
 sources_new : (ids : List Id128) → map source_of (map new_machine ids) ≡ ids
@@ -322,17 +281,16 @@ sources_new (id ∷ ids) = ap (λ (l : List Id128). id ∷ l) (sources_new ids)
 pub new_kept : (limits : Limits) (ids : List Id128) (journal : Journal) → AreDistinct ids → IsKept limits (new_state ids journal)
 new_kept limits ids journal distinct = record {
   distinct = subst AreDistinct (sym (sources_new ids)) distinct;
-  machines = All-map (IsMachine (IsStored journal)) new_machine ids (All-weaker (Contains ids) (λ (id : Id128). IsMachine (IsStored journal) (new_machine id)) (λ id _. new_is (IsStored journal) id) ids (All-contains_itself ids));
+  machines = All-map (IsMachine journal) new_machine ids (All-weaker (Contains ids) (λ (id : Id128). IsMachine journal (new_machine id)) (λ id _. new_is journal id) ids (All-contains_itself ids));
   made = All-nil (IsMade limits (map new_machine ids));
-  backed = All-nil (IsBacked (IsStored journal) (map new_machine ids));
+  backed = All-nil (IsBacked journal (map new_machine ids));
 }
 
 -- a state that is a new one part by part
 pub begun_kept : (limits : Limits) (ids : List Id128) (s : State) → s.machines ≡ map new_machine ids → s.uploads ≡ [] → s.answers ≡ []
-    → s.past ≡ [] → IsKept limits (new_state ids s.journal) → IsKept limits s
-begun_kept limits ids s machines uploads answers past kept =
-    let made : List (List ℕ) → State = λ us. record { machines = map new_machine ids; uploads = us; answers = []; past = []; journal = s.journal } in
-    let answered : List Answer → State = λ given. record { machines = map new_machine ids; uploads = s.uploads; answers = given; past = []; journal = s.journal } in
-    let whole : List MachineState → State = λ ms. record { machines = ms; uploads = s.uploads; answers = s.answers; past = []; journal = s.journal } in
-    let turned : List Journal → State = λ js. record { machines = s.machines; uploads = s.uploads; answers = s.answers; past = js; journal = s.journal } in
-    subst (IsKept limits) (ap made (sym uploads) ∙ ap answered (sym answers) ∙ ap whole (sym machines) ∙ ap turned (sym past)) kept
+    → IsKept limits (new_state ids s.journal) → IsKept limits s
+begun_kept limits ids s machines uploads answers kept =
+    let made : List (List ℕ) → State = λ us. record { machines = map new_machine ids; uploads = us; answers = []; journal = s.journal } in
+    let answered : List Answer → State = λ given. record { machines = map new_machine ids; uploads = s.uploads; answers = given; journal = s.journal } in
+    let whole : List MachineState → State = λ ms. record { machines = ms; uploads = s.uploads; answers = s.answers; journal = s.journal } in
+    subst (IsKept limits) (ap made (sym uploads) ∙ ap answered (sym answers) ∙ ap whole (sym machines)) kept

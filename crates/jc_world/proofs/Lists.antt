@@ -81,23 +81,3 @@ all_further P xs position start count begun within before part k d lt = ⊎_elim
     ∙ get_or-drop start xs (k - start) d ∙ ap (λ n. get_or xs n d) at ∙ sym (get_or-take (start + count) xs k d short))
     (part (k - start) d (subst (λ n. k - start < n) (sym (length-take count (drop start xs))) (omega (arith, high, short, within, length-drop start xs)))))
     (cases_lt k start)
-
--- all of a part, from what holds of its beginning and of a part that begins within this or at its end
-pub all_joined : {X : Type 0} (P : X → Type 0) (xs : List X) (start count from number whole : ℕ) → start ≤ from → from ≤ start + count
-    → start + whole ≡ from + number → from + number ≤ length xs → All P (take count (drop start xs)) → All P (take number (drop from xs))
-    → All P (take whole (drop start xs))
-all_joined P xs start count from number whole begun joins is within one other k d lt =
-    let short : k < whole = omega (arith, lt, length-take whole (drop start xs)) in
-    ⊎_elim
-    (λ (low : k < count).
-    subst P (get_or-take count (drop start xs) k d low ∙ sym (get_or-take whole (drop start xs) k d short))
-    (one k d (subst (λ n. k < n) (sym (length-take count (drop start xs))) (omega (arith, low, short, is, within, length-drop start xs)))))
-    (λ (high : count ≤ k).
-    let m : ℕ = (start + k) - from in
-    let at : from + m ≡ start + k = omega (arith, high, joins) in
-    let few : m < number = omega (arith, high, joins, short, is) in
-    subst P
-    (get_or-take number (drop from xs) m d few ∙ get_or-drop from xs m d ∙ ap (λ n. get_or xs n d) at
-    ∙ sym (get_or-take whole (drop start xs) k d short ∙ get_or-drop start xs k d))
-    (other m d (subst (λ n. m < n) (sym (length-take number (drop from xs))) (omega (arith, few, within, length-drop from xs)))))
-    (cases_lt k count)

@@ -1,17 +1,16 @@
 -- Resume points of a machine, and what is stored before them.
-use Rattle.std.proofs.Common.{◌≡◌, ℕ, suc, zero, ◌≤◌, List, [], ◌∷◌, ◌++◌, length, take, refl, sym, ap, subst, ◌∙◌, inl, inr, ⊎_elim, arith, length-append}
+use Rattle.std.proofs.Common.{◌≡◌, ℕ, suc, zero, ◌≤◌, List, [], ◌∷◌, ◌++◌, length, take, refl, sym, ap, subst, ◌∙◌, arith, length-append}
 use Rattle.std.specs.List.{All}
 use Rattle.std.specs.Option.{option_map}
 use Rattle.std.proofs.lemmas.List.{take-append-le}
 use Rattle.std.proofs.lemmas.List.Elements.{All-nil, All-weaker}
-use Rattle.jc_base.specs.LogEntry.{LogEntry}
 use Rattle.jc_base.specs.Journal.{Journal}
+use Rattle.jc_base.specs.LogEntry.{LogEntry}
 use Rattle.jc_keeper.specs.Agree.{IsStored}
 use Rattle.jc_upload.specs.Resume.{Point, start}
 use Rattle.jc_upload.specs.Upload.{Agrees, Sender, key_before, point_behind}
 use Rattle.jc_world.specs.Kept.{IsSafe}
 use Rattle.jc_world.specs.Machine.{IsInOrder}
-use Rattle.jc_world.specs.State.{IsInOneOf}
 use Rattle.jc_world.proofs.Lists.{get_left}
 
 key_more : (entries more : List LogEntry) (n : ℕ) → n ≤ length entries → key_before (entries ++ more) n ≡ key_before entries n
@@ -33,47 +32,25 @@ agrees_start entries = record { within = omega arith; last = refl }
 
 -- ---- what is stored before them
 
--- what is stored by one is stored by another
-abbrev pub Has : (Before After : LogEntry → Type 0) → Type 0
-Has Before After = (e : LogEntry) → Before e → After e
+-- a journal has what another one has
+abbrev pub Has : (before after : Journal) → Type 0
+Has before after = (e : LogEntry) → IsStored before e → IsStored after e
 
-pub safe_more : (Before After : LogEntry → Type 0) (entries more : List LogEntry) (point : Point) → Has Before After → IsSafe Before entries point → IsSafe After (entries ++ more) point
-safe_more Before After entries more point has h = record {
+pub safe_more : (before after : Journal) (entries more : List LogEntry) (point : Point) → Has before after → IsSafe before entries point → IsSafe after (entries ++ more) point
+safe_more before after entries more point has h = record {
   agrees = agrees_more entries more point h.agrees;
-  stored = subst (All After) (sym (take-append-le point.position entries more h.agrees.within))
-      (All-weaker Before After has (take point.position entries) h.stored);
+  stored = subst (All (IsStored after)) (sym (take-append-le point.position entries more h.agrees.within))
+      (All-weaker (IsStored before) (IsStored after) has (take point.position entries) h.stored);
 }
 
-pub safe_later : (Before After : LogEntry → Type 0) (entries : List LogEntry) (point : Point) → Has Before After → IsSafe Before entries point → IsSafe After entries point
-safe_later Before After entries point has h = record {
+pub safe_later : (before after : Journal) (entries : List LogEntry) (point : Point) → Has before after → IsSafe before entries point → IsSafe after entries point
+safe_later before after entries point has h = record {
   agrees = h.agrees;
-  stored = All-weaker Before After has (take point.position entries) h.stored;
+  stored = All-weaker (IsStored before) (IsStored after) has (take point.position entries) h.stored;
 }
 
-pub safe_start : (Stored : LogEntry → Type 0) (entries : List LogEntry) → IsSafe Stored entries start
-safe_start Stored entries = record { agrees = agrees_start entries; stored = All-nil Stored }
-
--- ---- several journals
-
--- what is stored in a journal is stored in it or in an earlier one
-pub in_present : (past : List Journal) (present : Journal) → Has (IsStored present) (IsInOneOf past present)
-in_present [] present e stored = stored
-in_present (old ∷ past) present e stored = inr (in_present past present e stored)
-
-pub in_grown : (past : List Journal) (before after : Journal) → Has (IsStored before) (IsStored after) → Has (IsInOneOf past before) (IsInOneOf past after)
-in_grown [] before after has e stored = has e stored
-in_grown (old ∷ past) before after has e stored = ⊎_elim
-    (λ (first : IsStored old e). inl first)
-    (λ (later : IsInOneOf past before e). inr (in_grown past before after has e later))
-    stored
-
--- another journal comes, and those that were there stay
-pub in_turned : (past : List Journal) (before new : Journal) → Has (IsInOneOf past before) (IsInOneOf (past ++ before ∷ []) new)
-in_turned [] before new e stored = inl stored
-in_turned (old ∷ past) before new e stored = ⊎_elim
-    (λ (first : IsStored old e). inl first)
-    (λ (later : IsInOneOf past before e). inr (in_turned past before new e later))
-    stored
+pub safe_start : (journal : Journal) (entries : List LogEntry) → IsSafe journal entries start
+safe_start journal entries = record { agrees = agrees_start entries; stored = All-nil (IsStored journal) }
 
 -- ---- a machine by itself
 

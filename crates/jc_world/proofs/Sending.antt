@@ -141,7 +141,7 @@ head_cut once upload cut h k whole body has begins =
 
 -- entries that are a beginning of what the machine has from a place on
 backed_by : (after : Journal) (entries read more : List LogEntry) (start count : ℕ) → drop start entries ≡ read ++ more
-    → count ≡ length read → start + count ≤ length entries → All (IsStored after) read → AreStored (IsStored after) entries start count
+    → count ≡ length read → start + count ≤ length entries → All (IsStored after) read → AreStored after entries start count
 backed_by after entries read more start count is size within stored = record {
   within = within;
   stored = subst (All (IsStored after)) (sym (take_rest_front entries read more start count is size)) stored;
@@ -159,7 +159,7 @@ ending_once a b left fault e f = cc
 module _ (one_head : HeadOnce) (texts : TextsCut) (files : FilesCut) where
   export_backed : (limits : Limits) (machine : MachineState) (upload : List ℕ) (cut : ℕ) (source : Id128) (start count : ℕ) (after : Journal)
       → All IsEntry machine.entries → IsExportOf machine upload → IsAckOf limits (take cut upload) source start count after
-      → (source ≡ source_of machine) × AreStored (IsStored after) machine.entries start count
+      → (source ≡ source_of machine) × AreStored after machine.entries start count
   export_backed limits machine upload cut source start count after lawful made ack =
       let same = head_cut one_head upload cut made.head ack.head (flat_map canon made.sent) ack.body made.has ack.has in
       let kind : ack.head.kind ≡ Export = ap (λ (h : UploadHead). h.kind) same.0 ∙ made.kind in
@@ -181,7 +181,7 @@ module _ (one_head : HeadOnce) (texts : TextsCut) (files : FilesCut) where
 
   file_backed : (limits : Limits) (machine : MachineState) (upload : List ℕ) (cut : ℕ) (source : Id128) (start count : ℕ) (after : Journal)
       → IsFileOf limits machine upload → IsAckOf limits (take cut upload) source start count after
-      → (source ≡ source_of machine) × AreStored (IsStored after) machine.entries start count
+      → (source ≡ source_of machine) × AreStored after machine.entries start count
   file_backed limits machine upload cut source start count after made ack =
       let same = head_cut one_head upload cut made.head ack.head made.file ack.body made.has ack.has in
       let kind : ack.head.kind ≡ File = ap (λ (h : UploadHead). h.kind) same.0 ∙ made.kind in
@@ -218,7 +218,7 @@ module _ (one_head : HeadOnce) (texts : TextsCut) (files : FilesCut) where
   pub made_backed : (limits : Limits) (machine : MachineState) (upload : List ℕ) (cut : ℕ) (source : Id128) (start count : ℕ) (after : Journal)
       → All IsEntry machine.entries → IsExportOf machine upload ⊎ IsFileOf limits machine upload
       → IsAckOf limits (take cut upload) source start count after
-      → (source ≡ source_of machine) × AreStored (IsStored after) machine.entries start count
+      → (source ≡ source_of machine) × AreStored after machine.entries start count
   made_backed limits machine upload cut source start count after lawful from ack = ⊎_elim
       (λ (made : IsExportOf machine upload). export_backed limits machine upload cut source start count after lawful made ack)
       (λ (made : IsFileOf limits machine upload). file_backed limits machine upload cut source start count after made ack)

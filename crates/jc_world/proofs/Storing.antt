@@ -7,13 +7,11 @@ use Rattle.jc_upload.specs.declared.answer.Answer.{Answer}
 use Rattle.jc_collect.specs.Chain.{AreTaken, IsChain, Turn, journal_before}
 use Rattle.jc_collect.specs.Position.{IsPosition}
 use Rattle.jc_world.specs.Event.{Collects, Hands, Happens, MovesOn, moved_on}
-use Rattle.jc_world.specs.Kept.{IsKept}
-use Rattle.jc_world.specs.Schedule.{Brings, BringsEach, BringsNothing, Extends, Grows, StoresAccepted, Takes, TakesEach, TakesStretches, delivery_of}
+use Rattle.jc_world.specs.Schedule.{Brings, BringsEach, BringsNothing, Grows, StoresAccepted, Takes, TakesEach, delivery_of}
 use Rattle.jc_world.specs.Stepped.{Never}
-use Rattle.jc_world.specs.State.{State, with_machine, with_turn}
+use Rattle.jc_world.specs.State.{State, with_machine}
 use Rattle.jc_world.specs.declared.event.Event.{Event}
 use Rattle.jc_world.specs.declared.event.Event.TheVariants.{Append, Make, Make2, MakeFile, Deliver, Alien, Hand, Restart}
-use Rattle.jc_world.proofs.Keeping.{turn_kept}
 use Rattle.jc_world.proofs.Running.{happens_grows}
 
 -- ---- one event
@@ -139,52 +137,3 @@ point_of limits s t [] more h = (s, refl, h)
 point_of limits s t (event ∷ events) more h =
     let rest : (u : State) × TakesEach limits h.0 events u × TakesEach limits u more t = point_of limits h.0 t events more h.2 in
     (rest.0, (h.0, h.1, rest.1), rest.2)
-
--- ---- journals that turn
-
-collects_past : (limits : Limits) (s t : State) (bytes : List ℕ) → Collects limits s bytes t → t.past ≡ s.past
-collects_past limits s t bytes c = ap (λ (u : State). u.past) c.after
-
-hands_past : (s t : State) (j : ℕ) → Hands s j t → t.past ≡ s.past
-hands_past s t j h = ⊎_elim
-    (λ (moved : MovesOn h.machine h.answer × (t ≡ with_machine s h.m (moved_on h.machine h.answer))). ap (λ (u : State). u.past) moved.1)
-    (λ (stays : (¬ MovesOn h.machine h.answer) × (t ≡ s)). ap (λ (u : State). u.past) stays.1)
-    h.after
-
-happens_past : (limits : Limits) (s t : State) (event : Event) → Happens limits s event t → t.past ≡ s.past
-happens_past limits s t (Append m entry) h = ap (λ (u : State). u.past) h.after
-happens_past limits s t (Make m limit) h = ap (λ (u : State). u.past) h.after
-happens_past limits s t (Make2 m limit whole) h = ap (λ (u : State). u.past) h.after
-happens_past limits s t (MakeFile m file) h = ap (λ (u : State). u.past) h.after
-happens_past limits s t (Deliver i cut) h = collects_past limits s t (take cut h.upload) h.collects
-happens_past limits s t (Alien bytes) h = collects_past limits s t bytes.items h.collects
-happens_past limits s t (Hand j) h = hands_past s t j h
-happens_past limits s t (Restart m k) h = ap (λ (u : State). u.past) h.after
-
-each_past : (limits : Limits) (s t : State) (events : List Event) → TakesEach limits s events t → t.past ≡ s.past
-each_past limits s t events h =
-    each_keeps limits (λ u. u.past ≡ s.past) (λ u v event was does. happens_past limits u v event does ∙ was) s t events h refl
-
-pub turns_keep : (limits : Limits) → ((s t : State) (event : Event) → IsKept limits s → Happens limits s event t → IsKept limits t)
-    → (s t : State) (stretches : List (List Event × Journal)) (last : List Event) → IsKept limits s → TakesStretches limits s stretches last t → IsKept limits t
-turns_keep limits keeps s t [] last kept h = each_keeps limits (IsKept limits) keeps s t last h kept
-turns_keep limits keeps s t (stretch ∷ stretches) last kept h =
-    turns_keep limits keeps (with_turn h.0 stretch.1) t stretches last
-    (turn_kept limits h.0 stretch.1 (each_keeps limits (IsKept limits) keeps s h.0 stretch.0 h.1 kept)) h.2
-
-pub turns_extend : (limits : Limits) (s t : State) (stretches : List (List Event × Journal)) (last : List Event) → TakesStretches limits s stretches last t → Extends s t
-turns_extend limits s t [] last h = record {
-  now = t.journal;
-  later = [];
-  whole = ap (λ (past : List Journal). past ++ t.journal ∷ []) (each_past limits s t last h);
-  has = each_grows limits s t last h;
-}
-turns_extend limits s t (stretch ∷ stretches) last h =
-    let rest : Extends (with_turn h.0 stretch.1) t = turns_extend limits (with_turn h.0 stretch.1) t stretches last h.2 in
-    record {
-      now = h.0.journal;
-      later = rest.now ∷ rest.later;
-      whole = rest.whole ∙ append_assoc h.0.past (h.0.journal ∷ []) (rest.now ∷ rest.later)
-          ∙ ap (λ (past : List Journal). past ++ h.0.journal ∷ (rest.now ∷ rest.later)) (each_past limits s h.0 stretch.0 h.1);
-      has = each_grows limits s h.0 stretch.0 h.1;
-    }

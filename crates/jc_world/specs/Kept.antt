@@ -1,10 +1,12 @@
 -- What holds of a world from its beginning on, after every step: when a machine may delete what it sent. (own)
 use Rattle.std.specs.Prelude.{ℕ, ◌≡◌, ◌+◌, ◌≤◌, ◌⊎◌, ⊤, List, length, take, drop, flat_map}
 use Rattle.std.specs.List.{All, Contains}
+use Rattle.jc_base.specs.Journal.{Journal}
 use Rattle.jc_base.specs.LogEntry.{IsEntry, LogEntry}
 use Rattle.jc_base.specs.Reading.{IsFront}
 use Rattle.jc_base.specs.declared.limits.Limits.{Limits}
 use Rattle.jc_export.specs.Canonical.{canon}
+use Rattle.jc_keeper.specs.Agree.{IsStored}
 use Rattle.jc_upload.specs.declared.answer.Answer.{Answer}
 use Rattle.jc_upload.specs.declared.answer.Answer.TheVariants.{Ack, No}
 use Rattle.jc_upload.specs.declared.head.Kind.TheVariants.{Export, File}
@@ -13,21 +15,20 @@ use Rattle.jc_upload.specs.Resume.{Point}
 use Rattle.jc_upload.specs.Upload.{Agrees}
 use Rattle.jc_upload.specs.Says.{HasHead}
 use Rattle.jc_world.specs.Given.{FileReadsFront}
-use Rattle.jc_world.specs.State.{AreDistinct, IsStoredIn, MachineState, State, source_of, sources}
+use Rattle.jc_world.specs.State.{AreDistinct, MachineState, State, source_of, sources}
 
 -- ---- resume points
 
--- Every entry before a resume point is stored, as the machine itself has it. What is stored is said by `Stored`: in a
--- world it is what one of the collector's journals has.
-pub record IsSafe (Stored : LogEntry → Type 0) (entries : List LogEntry) (point : Point) : Type 0 where
+-- Every entry before a resume point is stored, as the machine itself has it.
+pub record IsSafe (journal : Journal) (entries : List LogEntry) (point : Point) : Type 0 where
   pub agrees : Agrees point entries
-  pub stored : All Stored (take point.position entries)
+  pub stored : All (IsStored journal) (take point.position entries)
 
 -- So it is for the machine's resume point and for each that it saved.
-pub record IsMachine (Stored : LogEntry → Type 0) (machine : MachineState) : Type 0 where
+pub record IsMachine (journal : Journal) (machine : MachineState) : Type 0 where
   pub lawful : All IsEntry machine.entries
-  pub point : IsSafe Stored machine.entries machine.sender.point
-  pub saved : All (IsSafe Stored machine.entries) machine.saved
+  pub point : IsSafe journal machine.entries machine.sender.point
+  pub saved : All (IsSafe journal machine.entries) machine.saved
 
 -- ---- uploads
 
@@ -62,21 +63,21 @@ pub record IsMade (limits : Limits) (machines : List MachineState) (upload : Lis
 -- ---- answers
 
 -- These entries of a machine, from a place on, are stored.
-pub record AreStored (Stored : LogEntry → Type 0) (entries : List LogEntry) (start count : ℕ) : Type 0 where
+pub record AreStored (journal : Journal) (entries : List LogEntry) (start count : ℕ) : Type 0 where
   pub within : start + count ≤ length entries
-  pub stored : All Stored (take count (drop start entries))
+  pub stored : All (IsStored journal) (take count (drop start entries))
 
 -- What an ack says of a machine is so.
-abbrev pub IsBacked : (LogEntry → Type 0) → List MachineState → Answer → Type 0
-IsBacked Stored machines (Ack source start count new left) =
+abbrev pub IsBacked : Journal → List MachineState → Answer → Type 0
+IsBacked journal machines (Ack source start count new left) =
     (machine : MachineState) → Contains machines machine → source_of machine ≡ source
-    → AreStored Stored machine.entries start count
-IsBacked Stored machines (No of code place) = ⊤
+    → AreStored journal machine.entries start count
+IsBacked journal machines (No of code place) = ⊤
 
 -- ---- all of it
 
 pub record IsKept (limits : Limits) (s : State) : Type 0 where
   pub distinct : AreDistinct (sources s)
-  pub machines : All (IsMachine (IsStoredIn s)) s.machines
+  pub machines : All (IsMachine s.journal) s.machines
   pub made : All (IsMade limits s.machines) s.uploads
-  pub backed : All (IsBacked (IsStoredIn s) s.machines) s.answers
+  pub backed : All (IsBacked s.journal s.machines) s.answers

@@ -1,14 +1,13 @@
 -- What a whole run of events does. (own)
 use Rattle.std.specs.Prelude.{ℕ, ◌≡◌, ◌⊎◌, List, [], ◌∷◌, ◌++◌, length, map, take, Option, None, Some, slice_get}
 use Rattle.std.specs.Option.{option_map}
-use Rattle.jc_base.specs.Journal.{Journal}
 use Rattle.jc_base.specs.LogEntry.{LogEntry}
 use Rattle.jc_base.specs.declared.limits.Limits.{Limits}
 use Rattle.jc_keeper.specs.Agree.{IsStored}
 use Rattle.jc_collect.specs.Chain.{AreTaken, Turn, journal_before}
 use Rattle.jc_world.specs.Event.{Happens}
 use Rattle.jc_world.specs.Stepped.{Never}
-use Rattle.jc_world.specs.State.{State, with_turn}
+use Rattle.jc_world.specs.State.{State}
 use Rattle.jc_world.specs.declared.event.Event.{Event}
 use Rattle.jc_world.specs.declared.event.Event.TheVariants.{Append, Make, Make2, MakeFile, Deliver, Alien, Hand, Restart}
 
@@ -24,23 +23,6 @@ TakesEach limits s (event ∷ events) t = (u : State) × Takes limits s event u 
 -- What is stored before is stored after.
 abbrev pub Grows : (before after : State) → Type 0
 Grows s t = (e : LogEntry) → IsStored s.journal e → IsStored t.journal e
-
--- ---- journals that turn
-
--- Events are taken, and then the collector turns to another journal; so it goes for each of these, and then the last
--- events are taken.
-abbrev pub TakesStretches : Limits → (before : State) → (stretches : List (List Event × Journal)) → (last : List Event) → (after : State) → Type 0
-TakesStretches limits s [] last t = TakesEach limits s last t
-TakesStretches limits s (stretch ∷ stretches) last t =
-    (u : State) × TakesEach limits s stretch.0 u × TakesStretches limits (with_turn u stretch.1) stretches last t
-
--- The journals that were past stand first, as they were. The one that was present stands behind them and has what it had,
--- under each key the same entry. Those behind it came later.
-pub record Extends (s t : State) : Type 0 where
-  pub now : Journal
-  pub later : List Journal
-  pub whole : t.past ++ t.journal ∷ [] ≡ s.past ++ now ∷ later
-  pub has : (e : LogEntry) → IsStored s.journal e → IsStored now e
 
 -- ---- what reached the collector
 

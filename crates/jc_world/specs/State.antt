@@ -1,9 +1,8 @@
 -- A world: machines that send their entries, and the collector that they send them to. (own)
-use Rattle.std.specs.Prelude.{ℕ, ◌≡◌, ◌⊎◌, List, [], ◌∷◌, ◌++◌, map, slice_get, slice_set, Some}
+use Rattle.std.specs.Prelude.{ℕ, ◌≡◌, List, [], ◌∷◌, ◌++◌, map, slice_get, slice_set, Some}
 use Rattle.jc_base.specs.Journal.{Journal}
 use Rattle.jc_base.specs.LogEntry.{LogEntry}
 use Rattle.jc_base.specs.declared.id.Id128.{Id128}
-use Rattle.jc_keeper.specs.Agree.{IsStored}
 use Rattle.jc_upload.specs.declared.answer.Answer.{Answer}
 use Rattle.jc_upload.specs.Resume.{Point, start}
 use Rattle.jc_upload.specs.Upload.{Sender}
@@ -17,26 +16,16 @@ pub record MachineState : Type 0 where
 abbrev pub source_of : MachineState → Id128
 source_of machine = machine.sender.source
 
--- What there is: the machines, every upload that was made, every answer that was given, and the collector's journal: the
--- present one, and those that it had before, which stay as they were.
+-- What there is: the machines, every upload that was made, every answer that was given, and the collector's journal.
 pub record State : Type 0 where
   pub machines : List MachineState
   pub uploads : List (List ℕ)
   pub answers : List Answer
-  pub past : List Journal
   pub journal : Journal
 
 -- the ids of the machines' sources
 abbrev pub sources : State → List Id128
 sources s = map source_of s.machines
-
--- An entry is stored in one of the past journals, or in the present one.
-abbrev pub IsInOneOf : (past : List Journal) → (present : Journal) → LogEntry → Type 0
-IsInOneOf [] present e = IsStored present e
-IsInOneOf (old ∷ past) present e = IsStored old e ⊎ IsInOneOf past present e
-
-abbrev pub IsStoredIn : State → LogEntry → Type 0
-IsStoredIn s e = IsInOneOf s.past s.journal e
 
 -- No id stands twice.
 abbrev pub AreDistinct : List Id128 → Type 0
@@ -49,7 +38,7 @@ abbrev pub new_machine : Id128 → MachineState
 new_machine source = record { sender = record { source = source; point = start }; entries = []; saved = start ∷ [] }
 
 abbrev pub new_state : List Id128 → Journal → State
-new_state ids journal = record { machines = map new_machine ids; uploads = []; answers = []; past = []; journal = journal }
+new_state ids journal = record { machines = map new_machine ids; uploads = []; answers = []; journal = journal }
 
 -- ---- a state with one thing more, or one thing changed
 
@@ -62,10 +51,6 @@ with_upload s upload = record s { uploads = s.uploads ++ upload ∷ [] }
 -- ... with one answer more, and the journal after it
 abbrev pub with_answer : State → Answer → Journal → State
 with_answer s answer journal = record s { answers = s.answers ++ answer ∷ []; journal = journal }
-
--- ... with another journal, behind the one that it had
-abbrev pub with_turn : State → Journal → State
-with_turn s journal = record s { past = s.past ++ s.journal ∷ []; journal = journal }
 
 abbrev pub with_entry : MachineState → LogEntry → MachineState
 with_entry machine entry = record machine { entries = machine.entries ++ entry ∷ [] }

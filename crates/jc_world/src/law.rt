@@ -3,13 +3,12 @@
 ghost use Rattle.jc_base.specs.declared.id.Id128.{Id128};
 ghost use Rattle.jc_base.specs.declared.limits.Limits.{Limits};
 ghost use Rattle.jc_base.specs.Journal.{Journal};
-ghost use Rattle.std.specs.Prelude.{◌≡◌, ◌++◌, ◌+◌, ◌-◌, ◌≤◌, ℕ, List, Some, slice_get};
-ghost use Rattle.jc_upload.specs.declared.answer.Answer.TheVariants.{Ack};
+ghost use Rattle.std.specs.Prelude.{◌++◌, List};
 ghost use Rattle.jc_world.specs.declared.event.Event.{Event};
 ghost use Rattle.jc_world.specs.Event.{Happens};
 ghost use Rattle.jc_world.specs.Kept.{IsKept};
-ghost use Rattle.jc_world.specs.Schedule.{Extends, Grows, StoresAccepted, TakesEach, TakesStretches};
-ghost use Rattle.jc_world.specs.State.{AreDistinct, State, new_state, with_answer, with_turn};
+ghost use Rattle.jc_world.specs.Schedule.{Grows, StoresAccepted, TakesEach};
+ghost use Rattle.jc_world.specs.State.{AreDistinct, State, new_state};
 
 use jc_collect::chain_stored;
 use jc_export::canonical_texts_read_back;
@@ -45,25 +44,3 @@ pub fn schedules_keep()
     events_keep();
     chain_stored();
 }
-
-/// The same holds of a collector that turns to another journal, whatever that one has, and of any events and turns, in any
-/// order. Does nothing.
-pub fn turns_keep()
-    ensures turn { (limits : Limits) (s : State) (journal : Journal) → IsKept limits s → IsKept limits (with_turn s journal) }
-    ensures kept { (limits : Limits) (s t : State) (stretches : List (List Event × Journal)) (last : List Event) →
-        IsKept limits s → TakesStretches limits s stretches last t → IsKept limits t }
-    ensures extends { (limits : Limits) (s t : State) (stretches : List (List Event × Journal)) (last : List Event) →
-        TakesStretches limits s stretches last t → Extends s t }
-{
-    events_keep();
-}
-
-/// Two acks of one source of which the second begins within the first, or at its end, may be joined to one that ends with
-/// the second, whichever journals they were given over: resume points are safe still if it is an answer too. Does nothing.
-pub fn acks_join()
-    ensures { (limits : Limits) (s : State) (source : Id128) (i j start count from number new left more rest fresh over : ℕ) →
-        IsKept limits s → start ≤ from → from ≤ start + count →
-        slice_get s.answers i ≡ Some (Ack source start count new left) →
-        slice_get s.answers j ≡ Some (Ack source from number more rest) →
-        IsKept limits (with_answer s (Ack source start ((from + number) - start) fresh over) s.journal) }
-{}

@@ -5,8 +5,10 @@ mod event;
 mod given;
 mod law;
 mod machine;
+mod parts;
 mod world;
 
 pub use event::Event;
-pub use law::{acks_join, events_keep, schedules_keep, turns_keep};
+pub use law::{events_keep, schedules_keep};
+pub use parts::Machines;
 pub use world::{Progress, World};

@@ -1,37 +1,35 @@
 //! A world of machines and one collector.
 
-ghost use Rattle.std.specs.Prelude.{◌≡◌, ◌↔◌, ◌≤◌, ◌<◌, ◌++◌, ◌∷◌, [], IfErr, IfOk, IfSome, IsSome, IsTrue, None, OnErr, OnOk, length, map, slice_get, take};
+ghost use Rattle.std.specs.Prelude.{◌≡◌, ◌↔◌, ◌≤◌, ◌<◌, IfOk, IfSome, IsSome, IsTrue, None, OnErr, OnOk, length, map, slice_get, take};
 ghost use Rattle.std.specs.Option.{option_map};
 ghost use Rattle.jc_base.specs.declared.failure.OutOfMemory.{OutOfMemory};
 ghost use Rattle.jc_world.specs.Kept.{IsKept};
 ghost use Rattle.jc_world.specs.Schedule.{Grows, StoresAccepted, TakesEach};
-ghost use Rattle.jc_world.specs.State.{AreDistinct, new_machine, new_state, with_turn};
+ghost use Rattle.jc_world.specs.State.{AreDistinct, new_machine, new_state};
 ghost use Rattle.jc_world.specs.Event.{Appends, Delivers, DeliversAlien, Hands, Happens, Makes, Makes2, MakesFile, Restarts, named};
 ghost use Rattle.jc_world.specs.Stepped.{AddsAnswers, IsAnswered, Steps};
-ghost use Rattle.jc_world.specs.World.{answers_of, keeper_of, limits_of, past_of, state_of};
+ghost use Rattle.jc_world.specs.World.{answers_of, keeper_of, limits_of, state_of};
 
 use crate::given::{is_alien, place_of, reads_front};
 use crate::machine::Machine;
-use crate::{Event, events_keep, schedules_keep, turns_keep};
+use crate::{Event, events_keep, schedules_keep};
 use jc_base::{Entry, Id128, Limits, OutOfMemory, SliceStream};
 use jc_collect::{Delivery, collect_one};
 use jc_file::SliceSpace;
 use jc_keeper::Keeper;
 use jc_upload::{Answer, Resume};
 use std::alloc::Global;
-use std::mem::replace;
 
 /// Machines that send their entries, and the collector that they send them to, with everything that was ever made or
 /// answered: any order of events can be tried on it.
 #[derive(Drop)]
 pub struct World<K> {
-    keeper: K,
-    past: Vec<K>,
-    machines: Vec<Machine>,
-    uploads: Vec<Vec<u8>>,
-    answers: Vec<Answer>,
-    limits: Limits,
-    alloc: Global,
+    pub(crate) keeper: K,
+    pub(crate) machines: Vec<Machine>,
+    pub(crate) uploads: Vec<Vec<u8>>,
+    pub(crate) answers: Vec<Answer>,
+    pub(crate) limits: Limits,
+    pub(crate) alloc: Global,
 }
 
 /// How far a run came.
@@ -56,7 +54,6 @@ impl<K: Keeper + Drop> World<K> {
         ensures state { IfOk result (λ found. IfSome found (λ world.
             state_of K.journal world ≡ new_state sources.items (K.journal keeper))) }
         ensures keeper { IfOk result (λ found. IfSome found (λ world. keeper_of world ≡ keeper)) }
-        ensures past { IfOk result (λ found. IfSome found (λ world. past_of world ≡ [])) }
         ensures limits { IfOk result (λ found. IfSome found (λ world. limits_of world ≡ limits)) }
         ensures kept { IfOk result (λ found. IfSome found (λ world. IsKept limits (state_of K.journal world))) }
     {
@@ -71,7 +68,6 @@ impl<K: Keeper + Drop> World<K> {
             machines,
             uploads: Vec::new(alloc),
             answers: Vec::new(alloc),
-            past: Vec::new(alloc),
             limits,
             alloc,
         }))
@@ -126,54 +122,12 @@ impl<K: Keeper + Drop> World<K> {
         &self.keeper
     }
 
-    /// The keepers that the collector had before, in order. Takes no memory.
-    pub fn past(&self) -> &[K]
-        ensures { result.now ≡ past_of self.now }
-    {
-        &self.past
-    }
-
     /// The collector's keeper, and nothing else of the world. Takes no memory.
     pub fn into_keeper(self) -> K
         ensures { result ≡ keeper_of self }
     {
         let World { keeper, .. } = self;
         keeper
-    }
-
-    /// The keepers that the collector had before, in order, and the one that it has. Takes no memory.
-    pub fn into_keepers(self) -> (Vec<K>, K)
-        ensures past { result.0.items ≡ past_of self }
-        ensures keeper { result.1 ≡ keeper_of self }
-    {
-        let World { past, keeper, .. } = self;
-        (past, keeper)
-    }
-
-    /// Begins another database: from now on what is delivered goes to this keeper. The one before it stays as it is,
-    /// behind those that it followed. If memory is refused nothing changes, and the keeper comes back.
-    pub fn turn(&mut self, keeper: K) -> Result<(), (OutOfMemory, K)>
-        ensures turned { OnOk result (state_of K.journal self.new ≡ with_turn (state_of K.journal self.old) (K.journal keeper)) }
-        ensures keeper { OnOk result (keeper_of self.new ≡ keeper) }
-        ensures past { OnOk result (past_of self.new ≡ past_of self.old ++ keeper_of self.old ∷ []) }
-        ensures kept { IsKept (limits_of self.old) (state_of K.journal self.old)
-            → IsKept (limits_of self.old) (state_of K.journal self.new) }
-        ensures refused { OnErr result (state_of K.journal self.new ≡ state_of K.journal self.old) }
-        ensures refused_keeper { OnErr result (keeper_of self.new ≡ keeper_of self.old) }
-        ensures refused_past { OnErr result (past_of self.new ≡ past_of self.old) }
-        ensures back { IfErr result (λ back. back.1 ≡ keeper) }
-        ensures limits { limits_of self.new ≡ limits_of self.old }
-    {
-        // Does nothing: from its contract the proof has what another journal keeps.
-        turns_keep();
-        if self.past.reserve(1).is_err() {
-            return Err((OutOfMemory, keeper));
-        }
-        let before = replace(&mut self.keeper, keeper);
-        match self.past.push(before) {
-            Ok(()) => Ok(()),
-            Err(_) => unreachable!(),
-        }
     }
 
     /// Takes events in order, those that answer false too. It stops at a refusal alone.

@@ -11,7 +11,6 @@ returns-clause-kept g c =
     let distinct : AreDistinct ids = subst AreDistinct c.deref.ensures.value (c.are_distinct.ensures.0 c.if-not-are_distinct.false) in
     begun_kept c.args.limits ids _ (c.in_ok-machines.ensures ∙ ap (λ (l : List Id128). map new_machine l) c.deref-2.ensures.value)
     (map_none (λ u. u.items) c.new.result.items c.new.ensures.items) c.new-2.ensures.items
-    (map_none g.K.Keeper.journal c.new-3.result.items c.new-3.ensures.items)
     (c.events_keep.ensures.begun c.args.limits ids (g.K.Keeper.journal c.args.keeper) distinct)
 
 pub returns-clause-limits : goal.returns-clause-limits
