@@ -45,7 +45,7 @@ class Step:
 
 @dataclass
 class Journal:
-    # what it is kept by, as crates/jc_test_calls/src/journals.rt names it, or worked.rt
+    # what it is kept by, as crates/jc_test_calls/src/journals.rt names it; that of a world is kept in a map
     kind: str
     # the numbers of the limits, or none for the usual ones
     limits: str = ""
@@ -60,7 +60,7 @@ class Journal:
         """The words that have the program take the steps, and then print a line."""
         things = list(dict.fromkeys(thing for step in self.steps for thing in step.things))
         texts = (step.text.format(*map(things.index, step.things)) for step in self.steps if step.text)
-        script = "".join(f"{text}\n" for text in (self.kind, *texts)).encode()
+        script = "".join(f"{text}\n" for text in filter(None, (self.kind, *texts))).encode()
         paths = ",".join(map(files.put, (script, *self.before, *things)))
         return [self.word, paths, "line", end]
 

@@ -104,22 +104,20 @@ stops 46,0,45 ENTRY
 limits 1 2 3
     no limits and not 1 2 3
 """,
-    "worlds": r"""turn
+    "worlds": r"""stores ""
     no world is there and not
 world ENTRY
 append 0 ENTRY_2 => 1 0 2
-    1 0 1 and not 1 0 2 (map:0)
+    1 0 1 and not 1 0 2 (a world)
 world ""
 hand 0 => 1 0 1
-    0 0 1 and not 1 0 1 (map:0)
+    0 0 1 and not 1 0 1 (a world)
 world ""
-turn => 1 0 1
 lengths 1
-    lengths \npast \npresent  and not lengths 1\npresent  (map:0)
+    lengths \nstores  and not lengths 1\nstores  (a world)
 world ENTRY
-turn => 1 0 1
-past ""
-    lengths \npast (the entry)\npresent  and not lengths \npast \npresent  (map:0)
+stores ""
+    lengths \nstores (the entry) and not lengths \nstores  (a world)
 world ""
 make 0 => 1 0 1
     invalid literal

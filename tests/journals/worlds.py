@@ -1,4 +1,4 @@
-"""Scripts of worked worlds: two machines and their collector, over a journal of each kind. A script is lines:
+"""Scripts of worked worlds: two machines and their collector, over a journal in a map. A script is lines:
 
 | Line | |
 |---|---|
@@ -12,11 +12,9 @@
 | `alien PIECES => ..` | these bytes reach the collector |
 | `hand A => ..` | answer A reaches the machine that it names |
 | `restart M P => ..` | machine M goes back to its saved resume point P |
-| `turn => ..` | the collector turns to an empty journal |
 | `lengths N..` | how long each upload is in the end |
 | `> LINE` | the next of the answers, in order, with `S` for the id of the first machine's source |
-| `past PIECES` | the entries of the next journal that the collector turned from |
-| `present PIECES` | those of its present one |
+| `stores PIECES` | the entries that are stored in the end |
 
 Behind the arrow of an event stands whether it may happen, `1` or `0`, and afterwards the first machine's resume point
 and how many it saved. Machines, uploads, answers and resume points have numbers, from 0.
@@ -27,12 +25,11 @@ from collections.abc import Iterator
 from dataclasses import dataclass, field
 
 from batches import answer, lines_of, wanted_by
-from failing import KINDS
 from journals import Journal, Step, line
 from pieces import bytes_of
 from told import Told, report_of
 
-EVENTS = ("append", "make", "whole", "parts", "file", "deliver", "alien", "hand", "restart", "turn")
+EVENTS = ("append", "make", "whole", "parts", "file", "deliver", "alien", "hand", "restart")
 
 
 @dataclass
@@ -40,14 +37,12 @@ class Left:
     """What a world is in the end."""
     lengths: list[int] = field(default_factory=list)
     answers: bytes = b""
-    past: list[bytes] = field(default_factory=list)
-    present: bytes = b""
+    stores: bytes = b""
 
     def text(self) -> bytes:
         """All of it, as reports have it."""
         lengths = " ".join(map(str, self.lengths)).encode()
-        past = b"".join(b"past %s\n" % texts for texts in self.past)
-        return b"lengths %s\n%s%spresent %s" % (lengths, self.answers, past, self.present)
+        return b"lengths %s\n%sstores %s" % (lengths, self.answers, self.stores)
 
 
 @dataclass
@@ -60,12 +55,10 @@ class World:
     steps: list[Step] = field(default_factory=list)
     left: Left = field(default_factory=Left)
 
-    def journals(self) -> Iterator[Journal]:
-        """The world over a journal of each kind."""
+    def journal(self) -> Journal:
         before = [b"".join(self.entries), self.begins, *self.brought]
         last = Step(self.line, "", [], left, self.left.text())
-        for kind in KINDS:
-            yield Journal(f"{kind}:0", "", "", [*self.steps, last], "world", before)
+        return Journal("", "", "a world", [*self.steps, last], "world", before)
 
     def take(self, number: int, word: str, rest: str) -> None:
         self.line = number
@@ -73,29 +66,25 @@ class World:
             self.left.lengths = [int(it) for it in rest.split()]
         elif word == ">":
             self.left.answers += answer(rest)
-        elif word == "past":
-            self.left.past.append(bytes_of(rest))
-        elif word == "present":
-            self.left.present = bytes_of(rest)
+        elif word == "stores":
+            self.left.stores = bytes_of(rest)
         else:
-            operands, wanted = wanted_by(f" {rest}" if word == "turn" else rest)
+            operands, wanted = wanted_by(rest)
             self.steps.append(Step(number, self.event(word, operands), [], line, wanted.encode()))
 
     def event(self, word: str, operands: str) -> str:
         """The event as the program reads it."""
         if word not in EVENTS:
             raise ValueError(f"no line begins with {word!r}")
-        if word == "turn":
-            return word
         if word == "alien":
-            return f"alien {place_in(self.brought, bytes_of(operands)) + 1} 0"
+            return f"alien {place_in(self.brought, bytes_of(operands))} 0"
         if word == "hand":
             return f"hand {int(operands)} 0"
         first, _, second = operands.partition(" ")
         if word == "append":
             second = str(place_in(self.entries, bytes_of(second)))
         elif word == "file":
-            second = str(place_in(self.brought, bytes_of(second)) + 1)
+            second = str(place_in(self.brought, bytes_of(second)))
         return f"{word} {int(first)} {int(second)}"
 
 
@@ -117,9 +106,7 @@ def left(told: Told) -> bytes:
         found.answers += line(told) + b"\n"
     while not told.begins("stored"):
         told.line()
-    while told.rest:
-        found.past.append(told.text("stored"))
-    found.present = found.past.pop()
+    found.stores = told.text("stored")
     return found.text()
 
 
@@ -130,7 +117,7 @@ def worlds_of(text: str) -> Iterator[Journal | str]:
         try:
             if word == "world":
                 if world:
-                    yield from world.journals()
+                    yield world.journal()
                 world = World(number, bytes_of(rest))
             elif world:
                 world.take(number, word, rest)
@@ -139,6 +126,6 @@ def worlds_of(text: str) -> Iterator[Journal | str]:
         except ValueError as error:
             yield report_of(number, str(error).encode(), rest.encode())
     if world:
-        yield from world.journals()
+        yield world.journal()
     else:
         yield report_of(number, b"no world", b"one")

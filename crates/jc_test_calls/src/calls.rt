@@ -43,7 +43,7 @@
 //! | `uploader` | limit | an export stream, a resume point and answers: an uploader makes its next upload and takes these |
 //! | `schedules` | | schedules of events, each in worlds of its own; `schedules.rt` says what the files are |
 //! | `journal` | | steps over a journal; `journals.rt` says what the files are |
-//! | `world` | | steps of a world; `worked.rt` says what the files are |
+//! | `world` | | events of a world; `worked.rt` says what the files are |
 //!
 //! Where a call answers that memory was refused, `refused` is printed in the place of what it makes.
 

@@ -13,11 +13,13 @@
 //!
 //! With `elsewhere` for its first line, an entry is asked for that lies in databases which aren't opened.
 
-use crate::kept::{Given, Journals, Maps, Unions, take_step};
+use crate::kept::{Given, take_step};
 use crate::output::{no_meaning, write_code, write_line};
 use jc_base::{Id128, Key, ListSource};
 use jc_keeper::{KeepStop, Keeper, MapKeeper};
-use jc_ledger::{Behind, CaughtUp, Elsewhere, Ledger, Shelf, UnionKeeper, catch_up};
+use jc_ledger::{
+    Behind, CaughtUp, Elsewhere, EmptyShelf, Ledger, MapLedger, Shelf, UnionKeeper, catch_up,
+};
 use jc_test_samples::SEQNUM_ID;
 use std::alloc::Global;
 use std::io;
@@ -35,16 +37,26 @@ pub fn take_all(given: Given<'_>, output: &mut Vec<u8>) -> io::Result<()> {
     let given = Given { files, ..given };
     let (kind, steps) = script.split_once('\n').unwrap_or((script, ""));
     match kind {
-        "map" => take_each(given, &mut Maps(given.alloc).empty(), steps, output),
-        "union" => before_turns(given, Unions(given.alloc).empty(), steps, output),
+        "map" => take_each(given, &mut MapKeeper::new(given.alloc), steps, output),
+        "union" => before_turns(given, empty_union(given.alloc), steps, output),
         "shut" => {
-            let mut union = Unions(given.alloc).empty();
+            let mut union = empty_union(given.alloc);
             union.ledger.is_shut = true;
             before_turns(given, union, steps, output)
         }
         "elsewhere" => ask_elsewhere(output),
         _ => no_meaning(),
     }
+}
+
+/// Databases that take turns, each of them in a map. None is finished.
+fn empty_union(alloc: Global) -> UnionKeeper<MapKeeper, MapLedger, EmptyShelf> {
+    UnionKeeper::new(
+        alloc,
+        MapKeeper::new(alloc),
+        MapLedger::new(alloc),
+        EmptyShelf,
+    )
 }
 
 fn take_each<K: Keeper>(

@@ -1,4 +1,4 @@
-//! Empty journals, in a map or in databases that take turns, and what is done to one.
+//! What is done to a journal.
 //!
 //! | Step | |
 //! |---|---|
@@ -15,49 +15,12 @@ use crate::output::{no_meaning, no_memory, write_code, write_line, write_text};
 use jc_base::{Ending, EntrySource, Id128, Key, Limits, ListSource, OutOfMemory, Step};
 use jc_collect::RunEnd;
 use jc_export::{canonical, read_all};
-use jc_keeper::{Absorbed, KeepStop, Keeper, MapKeeper};
-use jc_ledger::{EmptyShelf, MapLedger, UnionKeeper};
+use jc_keeper::{Absorbed, KeepStop, Keeper};
 use jc_test_samples::SEQNUM_ID;
 use std::alloc::Global;
 use std::collections::VecDeque;
 use std::io;
 use std::io::Write;
-
-/// Makes keepers of empty journals.
-pub trait Journals {
-    type Kept: Keeper + Drop;
-
-    fn empty(&self) -> Self::Kept;
-}
-
-/// Journals in maps.
-#[derive(Clone, Copy)]
-pub struct Maps(pub Global);
-
-impl Journals for Maps {
-    type Kept = MapKeeper;
-
-    fn empty(&self) -> MapKeeper {
-        MapKeeper::new(self.0)
-    }
-}
-
-/// Journals in databases that take turns, each of them in a map. No database is finished.
-#[derive(Clone, Copy)]
-pub struct Unions(pub Global);
-
-impl Journals for Unions {
-    type Kept = UnionKeeper<MapKeeper, MapLedger, EmptyShelf>;
-
-    fn empty(&self) -> UnionKeeper<MapKeeper, MapLedger, EmptyShelf> {
-        UnionKeeper::new(
-            self.0,
-            MapKeeper::new(self.0),
-            MapLedger::new(self.0),
-            EmptyShelf,
-        )
-    }
-}
 
 /// What steps take their bytes from, by numbers, and the limits of what they collect.
 #[derive(Clone, Copy)]

@@ -4,7 +4,7 @@ use crate::output::{no_meaning, no_memory, write_line};
 use crate::stock::Stock;
 use crate::worlds::write_world;
 use jc_base::{Id128, Limits, OutOfMemory};
-use jc_keeper::{Keeper, MapKeeper};
+use jc_keeper::MapKeeper;
 use jc_test_samples::SOURCE_ID;
 use jc_world::{Event, World};
 use std::alloc::Global;
@@ -101,11 +101,7 @@ fn two_machines(alloc: Global, output: &mut Vec<u8>) -> io::Result<World<MapKeep
 }
 
 /// Takes an event, and writes whether it happened.
-pub fn step<K: Keeper + Drop>(
-    world: &mut World<K>,
-    event: &Event,
-    output: &mut Vec<u8>,
-) -> io::Result<()> {
+pub fn step(world: &mut World<MapKeeper>, event: &Event, output: &mut Vec<u8>) -> io::Result<()> {
     for _ in 0..TIMES {
         match world.step(event) {
             Ok(true) => return output.write_all(b"1"),

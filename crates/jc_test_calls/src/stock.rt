@@ -71,11 +71,6 @@ impl<'a> Stock<'a> {
     }
 
     fn copied(&self, number: usize) -> Option<Vec<u8>> {
-        Vec::from_slice(self.alloc, self.bytes(number as u64)?).ok()
-    }
-
-    /// The bytes of this number.
-    pub fn bytes(&self, number: u64) -> Option<&[u8]> {
-        Some(self.bytes.get(number as usize)?)
+        Vec::from_slice(self.alloc, self.bytes.get(number)?).ok()
     }
 }

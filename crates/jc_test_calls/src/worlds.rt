@@ -25,11 +25,7 @@ pub fn write_world(
 }
 
 /// Writes the uploads, the answers and the machines.
-pub fn write_sent<K: Keeper + Drop>(
-    alloc: Global,
-    world: &World<K>,
-    output: &mut Vec<u8>,
-) -> io::Result<()> {
+pub fn write_sent(alloc: Global, world: &World<MapKeeper>, output: &mut Vec<u8>) -> io::Result<()> {
     for upload in world.uploads() {
         write_line(output, "upload", &[upload.len() as u64])?;
         output.write_all(upload)?;
@@ -43,9 +39,9 @@ pub fn write_sent<K: Keeper + Drop>(
     Ok(())
 }
 
-fn write_machine<K: Keeper + Drop>(
+fn write_machine(
     alloc: Global,
-    world: &World<K>,
+    world: &World<MapKeeper>,
     machine: usize,
     output: &mut Vec<u8>,
 ) -> io::Result<()> {
