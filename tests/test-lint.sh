@@ -66,6 +66,25 @@ docs/CONTRACTS.md:1: it is older (printed)
 *" "" lint_alone "$folder/tree"
 rm "$folder/tree/tools/contracts.py"
 
+# what a library calls public and doesn't hand on; a module that it opens, and a program, may call all so
+mkdir -p "$folder/library/crates/lends/src" "$folder/library/crates/runs/src"
+(
+    cd "$folder/library/crates" || exit
+    printf '%s\n' 'mod closed;' 'pub mod open;' 'mod other;' 'pub use closed::{' '    Lent as Given, lend,' '};' \
+        'pub use closed::back;' 'pub use other::kept;' > lends/src/lib.rt
+    printf '%s\n' 'pub struct Lent;' 'pub enum Kept {}' 'pub fn lend() {}' 'pub fn back() {}' 'fn own() {}' \
+        'pub(crate) fn near() {}' 'impl Lent {' '    pub fn inside(&self) {}' '}' 'pub const fn kept() {}' \
+        > lends/src/closed.rt
+    printf 'pub fn seen() {}\n' > lends/src/open.rt
+    printf 'pub fn kept() {}\n' > lends/src/other.rt
+    printf 'mod steps;\n' > runs/src/main.rt
+    printf 'pub fn step() {}\n' > runs/src/steps.rt
+)
+expect 1 "~crates/lends/src/closed.rt:2: Kept is pub, and lib.rt doesn't hand it on (visible)
+crates/lends/src/closed.rt:10: kept is pub, and lib.rt doesn't hand it on (visible)
+*
+6 texts: 2 mistakes, *" "" lint_alone "$folder/library"
+
 # what the list names is passed over; a line of it that isn't needed is a mistake, but not for a check that was skipped
 exceptions=$folder/tree/tools/lint/exceptions.txt
 printf '%s\n' '# why' 'blanks *.md they are old' 'types *.py so are they' 'steps steps as well' 'width width.md too' \

@@ -3,11 +3,11 @@
 usage: python3 tools/lint [FOLDER]
 
 The checks are: `width`, lines of at most 120 characters; `blanks`, no tabs, no blanks at an end; `steps` of four blanks
-in shell; `types` at public functions of Python; `printed`, that docs/CONTRACTS.md is as tools/contracts.py prints it;
-`shell`, what shellcheck says; `python`, what pyflakes says; `layout`, what `rattle fmt` says, without which no crate is
-proved. What they pass over is in tools/lint/exceptions.txt of the folder. A line is printed for each mistake, and one
-that begins with `skipped:` for a program that isn't installed. The last line says how many texts were read and what was
-found.
+in shell; `types` at public functions of Python; `visible`, that an item of a library is `pub` if its `lib.rt` hands it
+on, and only then; `printed`, that docs/CONTRACTS.md is as tools/contracts.py prints it; `shell`, what shellcheck says;
+`python`, what pyflakes says; `layout`, what `rattle fmt` says, without which no crate is proved. What they pass over is
+in tools/lint/exceptions.txt of the folder. A line is printed for each mistake, and one that begins with `skipped:` for
+a program that isn't installed. The last line says how many texts were read and what was found.
 """
 
 from __future__ import annotations
@@ -21,6 +21,7 @@ from printed import mistakes_in_printed
 from programs import PROGRAMS, mistakes_by
 from texts import Mistake, Text, texts_below
 from typed import mistakes_in_types
+from visible import mistakes_in_visibility
 
 CHECKS: dict[str, Callable[[Text], Iterator[Mistake]]] = {
     "width": mistakes_in_width,
@@ -33,8 +34,9 @@ CHECKS: dict[str, Callable[[Text], Iterator[Mistake]]] = {
 def main(top: str) -> int:
     texts = list(texts_below(top))
     skipped: list[str] = []
-    made = {*CHECKS, "printed"}
+    made = {*CHECKS, "visible", "printed"}
     mistakes = [mistake for check in CHECKS.values() for text in texts for mistake in check(text)]
+    mistakes += mistakes_in_visibility(texts)
     mistakes += mistakes_in_printed(top)
     for program in PROGRAMS:
         before = len(skipped)

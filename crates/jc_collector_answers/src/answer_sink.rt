@@ -17,7 +17,7 @@ use std::snapshot::Snapshot;
 /// Passes answer lines on to a writer, each of them as one piece, flushes it after each, and keeps what was printed.
 /// Once it has failed it takes no more. What went out of a line before that is kept, too.
 #[derive(Drop)]
-pub struct AnswerSink<'a, O: Write> {
+pub(crate) struct AnswerSink<'a, O: Write> {
     output: &'a mut O,
     /// The writer as it was before the first line.
     before: Snapshot<O>,
@@ -30,7 +30,7 @@ pub struct AnswerSink<'a, O: Write> {
 
 impl<'a, O: Write> AnswerSink<'a, O> {
     /// A sink that keeps in `lines` what it prints.
-    pub fn new(output: &'a mut O, lines: &'a mut Vec<u8>) -> AnswerSink<'a, O>
+    pub(crate) fn new(output: &'a mut O, lines: &'a mut Vec<u8>) -> AnswerSink<'a, O>
         requires { lines.old.items ≡ [] }
         ensures written { ⟦<AnswerSink<'a, O> as ByteSink>⟧.written result ≡ Some (begun (O.contents output.old) []) }
         ensures borrowed_device { ⟦<AnswerSink<'a, O> as ByteSink>⟧.borrowed_device result ≡ output.entry.ghost_name ∷ [] }
@@ -46,7 +46,7 @@ impl<'a, O: Write> AnswerSink<'a, O> {
 
     /// The writer, and the status by the answers that were printed; `None` if the sink has failed.
     #[tactic(auto, using(crate::proofs::Printing::went_out))]
-    pub fn end(self) -> (&'a mut O, Option<Status>)
+    pub(crate) fn end(self) -> (&'a mut O, Option<Status>)
         ensures borrowed_device { result.0.ghost_name ∷ [] ≡ ⟦<AnswerSink<'a, O> as ByteSink>⟧.borrowed_device self.entry }
         ensures printed { IfSome result.1 (λ status. (before : Option (List ℕ)) (answers : List Answer) → All IsAnswer answers
             → ⟦<AnswerSink<'a, O> as ByteSink>⟧.written self.entry ≡ Some (begun before (lines_of_answers answers))

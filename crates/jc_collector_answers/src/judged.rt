@@ -12,7 +12,7 @@ use jc_command_shared::{Status, line_length};
 use jc_upload::Answer;
 
 /// The status of a run that printed these lines.
-pub fn status_of_lines(lines: &[u8]) -> Status
+pub(crate) fn status_of_lines(lines: &[u8]) -> Status
     ensures { (answers : List AnswerValue) → AreAnswers answers lines.now → result ≡ judged answers }
 {
     let mut status = Status::Success;

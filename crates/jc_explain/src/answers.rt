@@ -6,7 +6,7 @@ ghost use Rattle.std.specs.Str.Parse.{IsNumeral, digits_value, without_leading_p
 ghost use Rattle.jc_explain.specs.Answers.{HasCode, LeavesAlone, code_place, left_places, words_of};
 
 /// The code in a line that refuses something: none if it has none.
-pub fn code_in(line: &str) -> Option<u64>
+pub(crate) fn code_in(line: &str) -> Option<u64>
     ensures { MatchOption result ((code : ℕ) → ¬ HasCode line.now code) (HasCode line.now) }
 {
     let place = place_of_code(word_at(line, 0)?)?;
@@ -14,7 +14,7 @@ pub fn code_in(line: &str) -> Option<u64>
 }
 
 /// How many bytes were left of a reading that found no complete entry: none if the line says no such thing.
-pub fn left_alone(line: &str) -> Option<&str>
+pub(crate) fn left_alone(line: &str) -> Option<&str>
     ensures { MatchOption result ((left : List ℕ) → ¬ LeavesAlone line.now left) (λ left. LeavesAlone line.now left.now) }
 {
     let (count, left) = places_of_left(word_at(line, 0)?)?;

@@ -21,7 +21,7 @@ const PAGE: u64 = 512;
 const CELLS: usize = 103;
 
 /// Why the file at `path` can't be read. A pipe or a device can.
-pub fn why_unread(rt: &HostRuntime, path: &str) -> Cause
+pub(crate) fn why_unread(rt: &HostRuntime, path: &str) -> Cause
     ensures { IsOfUnread result }
 {
     let place = place_at(rt, path);
@@ -33,7 +33,7 @@ pub fn why_unread(rt: &HostRuntime, path: &str) -> Cause
 }
 
 /// Why the file at `path` can't be opened as a database. `makes` says that one that is missing would be made.
-pub fn why_closed(rt: &HostRuntime, path: &str, makes: bool) -> Cause
+pub(crate) fn why_closed(rt: &HostRuntime, path: &str, makes: bool) -> Cause
     ensures { IsOfClosed makes result }
 {
     match fs::metadata(rt, path) {
@@ -43,14 +43,14 @@ pub fn why_closed(rt: &HostRuntime, path: &str, makes: bool) -> Cause
 }
 
 /// Why the folder at `path`, which is made if it is missing, can't be used.
-pub fn why_no_folder(rt: &HostRuntime, path: &str) -> Cause
+pub(crate) fn why_no_folder(rt: &HostRuntime, path: &str) -> Cause
     ensures { IsOfNoFolder result }
 {
     cause_no_folder(place_at(rt, path))
 }
 
 /// Why the file at `path` is taken for no journal's database.
-pub fn why_no_journal(rt: &HostRuntime, path: &str) -> Cause
+pub(crate) fn why_no_journal(rt: &HostRuntime, path: &str) -> Cause
     ensures { IsOfNoJournal result }
 {
     let front = front_of(rt, path, MAGIC.len() as u64);
@@ -58,7 +58,7 @@ pub fn why_no_journal(rt: &HostRuntime, path: &str) -> Cause
 }
 
 /// The first of these paths at which there is a folder, of which no bytes can be read.
-pub fn folder_among<'a>(rt: &HostRuntime, paths: &[&'a str]) -> Option<&'a str>
+pub(crate) fn folder_among<'a>(rt: &HostRuntime, paths: &[&'a str]) -> Option<&'a str>
     ensures { IfSome result (λ path. Contains (map (λ name. name.now) paths.now) path.now) }
 {
     for path in paths {

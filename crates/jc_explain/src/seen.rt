@@ -6,11 +6,11 @@ ghost use Rattle.jc_explain.specs.Causes.{Tells, cause_of_front, no_folder_cause
 use crate::Cause;
 
 /// The first bytes of a database (SQLite's file format, "The Database Header").
-pub const MAGIC: &[u8; 16] = b"SQLite format 3\0";
+pub(crate) const MAGIC: &[u8; 16] = b"SQLite format 3\0";
 
 /// What there is at a path.
 #[derive(Clone, Copy, PartialEq, Eq)]
-pub enum Place {
+pub(crate) enum Place {
     Missing,
     /// The folder that it would be in is missing, or is no folder.
     NoFolder,
@@ -25,7 +25,7 @@ pub enum Place {
 
 /// What there is of a log, named as the database is and `-wal`.
 #[derive(Clone, Copy, PartialEq, Eq)]
-pub enum Log {
+pub(crate) enum Log {
     Missing,
     Closed,
     Writable,
@@ -33,20 +33,20 @@ pub enum Log {
 
 /// What is seen of a regular file that was to be opened as a database.
 #[derive(Clone, Copy)]
-pub struct Seen {
-    pub is_readable: bool,
+pub(crate) struct Seen {
+    pub(crate) is_readable: bool,
     /// It has no byte, or a single one.
-    pub is_empty: bool,
-    pub is_writable: bool,
-    pub has_second_name: bool,
-    pub has_rollback_journal: bool,
+    pub(crate) is_empty: bool,
+    pub(crate) is_writable: bool,
+    pub(crate) has_second_name: bool,
+    pub(crate) has_rollback_journal: bool,
     /// Its first page lists none, and it has no log.
-    pub has_no_tables: bool,
-    pub log: Log,
+    pub(crate) has_no_tables: bool,
+    pub(crate) log: Log,
 }
 
 /// Why what is there can't be read. A pipe or a device can.
-pub fn cause_unread(place: Place, is_readable: bool) -> Cause
+pub(crate) fn cause_unread(place: Place, is_readable: bool) -> Cause
     ensures { result ≡ unread_cause place is_readable }
 {
     match place {
@@ -60,7 +60,7 @@ pub fn cause_unread(place: Place, is_readable: bool) -> Cause
 }
 
 /// Why what is no regular file can't be opened as a database. `makes` says that one that is missing would be made.
-pub fn cause_unopened(place: Place, makes: bool) -> Cause
+pub(crate) fn cause_unopened(place: Place, makes: bool) -> Cause
     ensures { result ≡ unopened_cause place makes }
 {
     match place {
@@ -71,7 +71,7 @@ pub fn cause_unopened(place: Place, makes: bool) -> Cause
 }
 
 /// Why what is there can't be used as a folder, which is made if it is missing.
-pub fn cause_no_folder(place: Place) -> Cause
+pub(crate) fn cause_no_folder(place: Place) -> Cause
     ensures { result ≡ no_folder_cause place }
 {
     match place {
@@ -83,7 +83,7 @@ pub fn cause_no_folder(place: Place) -> Cause
 }
 
 /// Why a file with these first bytes, if they are known, is taken for no journal's database.
-pub fn cause_no_journal(front: Option<&[u8]>) -> Cause
+pub(crate) fn cause_no_journal(front: Option<&[u8]>) -> Cause
     ensures { result ≡ cause_of_front MAGIC.now (option_copied front.entry) }
 {
     match front {
@@ -94,7 +94,7 @@ pub fn cause_no_journal(front: Option<&[u8]>) -> Cause
 
 /// Why a regular file can't be opened as a database: who may, what it is, and at last what else has it open. `makes` says
 /// that its tables would be made.
-pub fn cause_closed(seen: &Seen, makes: bool) -> Cause
+pub(crate) fn cause_closed(seen: &Seen, makes: bool) -> Cause
     ensures { Tells seen.now makes result }
 {
     if !seen.is_readable {

@@ -8,20 +8,20 @@ use std::alloc::{AllocError, Global};
 
 /// What a command works on, as far as an explanation asks for it.
 #[derive(Drop)]
-pub struct Subject<'a> {
-    pub database: Option<&'a str>,
+pub(crate) struct Subject<'a> {
+    pub(crate) database: Option<&'a str>,
     /// Whether the database is made if it is missing.
-    pub makes: bool,
+    pub(crate) makes: bool,
     /// The folder in which is noted what databases have.
-    pub sequences: Option<&'a str>,
+    pub(crate) sequences: Option<&'a str>,
     /// The files that are read.
-    pub files: Vec<&'a str>,
+    pub(crate) files: Vec<&'a str>,
     /// Whether standard output has lines that say how something was found.
-    pub answers: bool,
+    pub(crate) answers: bool,
 }
 
 /// What the words ask to be worked on: nothing if they ask for nothing.
-pub fn subject_of<'a>(alloc: Global, words: &'a [String]) -> Result<Subject<'a>, AllocError>
+pub(crate) fn subject_of<'a>(alloc: Global, words: &'a [String]) -> Result<Subject<'a>, AllocError>
     ensures { IfOk result (IsSubjectOf (map string_bytes words.entry.now)) }
 {
     match parse(alloc, words) {

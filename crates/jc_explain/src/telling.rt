@@ -16,7 +16,7 @@ use std::io::Write;
 use std::str;
 
 /// Writes an explanation of each line that needs one, and none twice.
-pub fn tell<W: Write>(
+pub(crate) fn tell<W: Write>(
     rt: &HostRuntime,
     words: &[String],
     answers: &[u8],

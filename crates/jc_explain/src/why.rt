@@ -23,7 +23,7 @@ const DIFFERS: &str = "bad 60 ";
 const BAD_ANSWER: &str = "bad answer ";
 
 /// What is to be said about a line, if anything is.
-pub fn explanation(
+pub(crate) fn explanation(
     rt: &HostRuntime,
     subject: &Subject<'_>,
     line: &str,

@@ -10,7 +10,7 @@ use jc_command_args::CODES;
 use std::alloc::{AllocError, Global};
 
 /// The object of a line; none if it is no such line.
-pub fn object_of_answer(alloc: Global, line: &str) -> Result<Option<String>, AllocError>
+pub(crate) fn object_of_answer(alloc: Global, line: &str) -> Result<Option<String>, AllocError>
     ensures { IfOk result (λ found. IfSome found (λ object. IsAnswer CODES.now line.now (string_bytes object))) }
 {
     if let Some(rest) = line.strip_prefix("ok ") {
@@ -69,13 +69,13 @@ fn object_of_fault(alloc: Global, rest: &str) -> Result<Option<String>, AllocErr
 
 /// The words of a line of `inspect`.
 #[derive(Clone, Copy)]
-pub struct Upload<'a> {
-    pub source: &'a str,
-    pub start: &'a str,
-    pub entries: &'a str,
-    pub left: &'a str,
-    pub id: &'a str,
-    pub number: &'a str,
+struct Upload<'a> {
+    source: &'a str,
+    start: &'a str,
+    entries: &'a str,
+    left: &'a str,
+    id: &'a str,
+    number: &'a str,
 }
 
 /// The object of what an upload has.

@@ -12,14 +12,14 @@ use std::alloc::{AllocError, Global};
 const ADVICE: &str = "                        ";
 
 /// Whether a line stands below that of a code, whose object has it.
-pub fn is_advice(line: &str) -> bool
+pub(crate) fn is_advice(line: &str) -> bool
     ensures { IsTrue result ↔ StandsBelow line.now }
 {
     line.starts_with(ADVICE)
 }
 
 /// The object of the first line of a code; none if it is no such line.
-pub fn object_of_code(alloc: Global, line: &str) -> Result<Option<String>, AllocError>
+pub(crate) fn object_of_code(alloc: Global, line: &str) -> Result<Option<String>, AllocError>
     ensures { IfOk result (λ found. IfSome found (λ object. IsCode CODES.now (string_bytes object))) }
 {
     let Some((digits, _)) = line.split_once(' ') else {

@@ -6,7 +6,7 @@ ghost use Rattle.std.specs.List.{list_all};
 ghost use Rattle.jc_json.specs.Digits.{is_id, is_number};
 
 /// Whether this is an id, of hexadecimal digits.
-pub fn is_id(word: &str) -> bool
+pub(crate) fn is_id(word: &str) -> bool
     ensures { result ≡ is_id word.now }
 {
     if word.len() == 32 {
@@ -17,7 +17,7 @@ pub fn is_id(word: &str) -> bool
 }
 
 /// Whether this is a number, of digits alone.
-pub fn is_number(word: &str) -> bool
+pub(crate) fn is_number(word: &str) -> bool
     ensures { result ≡ is_number word.now }
 {
     if word.is_empty() {

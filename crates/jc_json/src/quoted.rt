@@ -7,7 +7,7 @@ use serde_json::Value;
 use std::alloc::{AllocError, Global};
 
 /// A text as a string of JSON.
-pub fn quoted(alloc: Global, text: &str) -> Result<String, AllocError>
+pub(crate) fn quoted(alloc: Global, text: &str) -> Result<String, AllocError>
     ensures { IfOk result (λ told. string_bytes told ≡ quoted text.now) }
 {
     Value::String(String::from_str(alloc, text)?).to_string(alloc)

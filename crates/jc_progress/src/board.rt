@@ -10,7 +10,7 @@ use std::io::{IsTerminal, Stderr, Write};
 use std::time::Instant;
 
 /// What brings the cursor to the line's beginning and clears the line.
-pub const CLEAR: &str = "\r\x1b[K";
+pub(crate) const CLEAR: &str = "\r\x1b[K";
 
 /// A file of so many bytes is told of before there is anything to count.
 const LARGE: u64 = 10_000_000;

@@ -12,7 +12,10 @@ use std::alloc::Global;
 use std::io::Read;
 
 /// The answers whose lines a reader gives.
-pub fn answers_on<'a, I: Read>(alloc: Global, input: &mut I) -> Result<Vec<Answer>, Failure<'a>>
+pub(crate) fn answers_on<'a, I: Read>(
+    alloc: Global,
+    input: &mut I,
+) -> Result<Vec<Answer>, Failure<'a>>
     ensures all { IfOk result (λ answers. (text : List ℕ) × IfSome (I.remaining input.old) (λ held. text ≡ held)
         × AreAnswers answers.items text) }
     ensures failed { IfErr result (WhyNoneCame (I.remaining input.old)) }
@@ -41,7 +44,7 @@ fn read_answers<'a>(alloc: Global, text: &[u8]) -> Result<Vec<Answer>, Failure<'
 }
 
 /// Takes answers in their order.
-pub fn take_answers(uploader: &mut Uploader, entries: &[Entry], answers: &[Answer])
+pub(crate) fn take_answers(uploader: &mut Uploader, entries: &[Entry], answers: &[Answer])
     ensures { TakesAnswers entries.now answers.now uploader.old uploader.new }
 {
     for answer in answers {

@@ -19,13 +19,13 @@ const TEXT: u64 = 129;
 
 /// A new file, empty, and as it then took the old one's place, which proofs alone see.
 #[derive(Drop)]
-pub struct NewFile<W: Write> {
-    pub empty: Snapshot<W>,
-    pub whole: Snapshot<W>,
+pub(crate) struct NewFile<W: Write> {
+    pub(crate) empty: Snapshot<W>,
+    pub(crate) whole: Snapshot<W>,
 }
 
 /// The resume point in the file at `path`: position 0 if there is no such file.
-pub fn read_resume<'a, R: System>(rt: &R, path: &'a str) -> Result<Resume, Failure<'a>>
+pub(crate) fn read_resume<'a, R: System>(rt: &R, path: &'a str) -> Result<Resume, Failure<'a>>
     ensures lawful { IfOk result IsPoint }
     ensures failed { IfErr result (λ failure. (failure ≡ Failure.CannotOpen path.entry) ⊎ (failure ≡ Failure.ReadFailed)
         ⊎ (failure ≡ Failure.OutOfMemory) ⊎ (failure ≡ Failure.BadResume)) }
@@ -53,7 +53,7 @@ fn resume_in<'a, F: Read + Drop>(alloc: Global, file: F) -> Result<Resume, Failu
 /// Puts the resume point's text into the file at `path`. It is written into a new file beside that one, which then takes
 /// its name: a failure leaves the old file whole.
 #[tactic(auto, using(jc_command_shared::specs::DeedLaws::nothing_changes, jc_command_shared::specs::DeedLaws::changes_one))]
-pub fn write_resume<'a, R: System>(
+pub(crate) fn write_resume<'a, R: System>(
     rt: &mut R,
     path: &str,
     resume: &Resume,

@@ -13,14 +13,14 @@ use std::alloc::Global;
 use std::io::Read;
 
 /// The file of a source.
-pub fn open_source<'a, R: System>(rt: &R, source: Source<'a>) -> Result<R::File, Failure<'a>>
+pub(crate) fn open_source<'a, R: System>(rt: &R, source: Source<'a>) -> Result<R::File, Failure<'a>>
     ensures { IfErr result (λ failure. failure ≡ Failure.CannotOpen source.entry.file) }
 {
     open_file(rt, source.file)
 }
 
 /// The bytes of a journal file, read up to one byte over the limit of a file: more would change nothing.
-pub fn file_bytes<'a, F: Read + Drop>(alloc: Global, file: F) -> Result<Vec<u8>, Failure<'a>>
+pub(crate) fn file_bytes<'a, F: Read + Drop>(alloc: Global, file: F) -> Result<Vec<u8>, Failure<'a>>
     ensures front { IfOk result (λ bytes. IfSome (F.remaining file) (λ held. bytes.items ≡ take (most_file_bytes + 1) held)) }
     ensures failed { IfErr result (λ failure. (failure ≡ Failure.ReadFailed) ⊎ (failure ≡ Failure.OutOfMemory)) }
 {
@@ -28,7 +28,7 @@ pub fn file_bytes<'a, F: Read + Drop>(alloc: Global, file: F) -> Result<Vec<u8>,
 }
 
 /// The complete entries of a journal file with these bytes, which has no fault.
-pub fn file_entries<'a>(alloc: Global, bytes: &[u8]) -> Result<Vec<Entry>, Failure<'a>>
+pub(crate) fn file_entries<'a>(alloc: Global, bytes: &[u8]) -> Result<Vec<Entry>, Failure<'a>>
     ensures entries { IfOk result (λ entries. HasEntriesOf InputKind.File bytes.now entries.items) }
     ensures failed { IfErr result (WhyNoEntries InputKind.File bytes.now) }
 {
@@ -41,7 +41,7 @@ pub fn file_entries<'a>(alloc: Global, bytes: &[u8]) -> Result<Vec<Entry>, Failu
 }
 
 /// Fails if these bytes have a fault as a journal file. No entry is kept.
-pub fn check_file<'a>(alloc: Global, bytes: &[u8]) -> Result<(), Failure<'a>>
+pub(crate) fn check_file<'a>(alloc: Global, bytes: &[u8]) -> Result<(), Failure<'a>>
     ensures well { OnOk result ((reading : Reading) × ReadsWell InputKind.File bytes.now reading) }
     ensures failed { IfErr result (WhyNoEntries InputKind.File bytes.now) }
 {

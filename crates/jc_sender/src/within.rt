@@ -11,7 +11,7 @@ use std::alloc::Global;
 const HEAD_LENGTH: u64 = 48;
 
 /// Keeps as many of the first entries as an upload has room for, if its bytes are bounded; one in any case.
-pub fn keep_within(
+pub(crate) fn keep_within(
     alloc: Global,
     entries: &mut Vec<Entry>,
     most_bytes: Option<u64>,

@@ -18,7 +18,7 @@ use std::collections::BTreeMap;
 
 /// How many entries a source has given, and the points behind them at the positions that are asked for.
 #[derive(Drop)]
-pub struct Marks {
+pub(crate) struct Marks {
     count: u64,
     points: BTreeMap<u64, Resume>,
 }
