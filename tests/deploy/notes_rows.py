@@ -199,7 +199,7 @@ def set_aside(row: Row, case: Case) -> None:
 @ROWS.once
 def set_aside_with_all_answered(row: Row, case: Case) -> None:
     """All that it had is answered, and so it is noted: that is known still, isn't stored again, and takes no other
-    entry under its keys."""
+    entry under its keys, until the notes are made anew."""
     case.set(DATABASE_NAME="d")
     case.store(upload(entries(1, 2)))
     os.unlink(case.path("databases", "d.db.sha256"))
@@ -207,6 +207,9 @@ def set_aside_with_all_answered(row: Row, case: Case) -> None:
     row.expect("all of it again", case.store(upload(entries(1, 4))), (0, ""))
     row.expect("stored elsewhere", (case.answers()[0], case.numbers()), (f"ack {SOURCE} 0 4 2 0", [3, 4]))
     row.expect("an entry under one of its keys", case.store(upload(entries(2, 2, text="other"), name=OTHER))[0], 1)
+    row.expect("notes made anew", case.collect("--notes-anew"), (0, ""))
+    case.store(upload(entries(1, 4), name=OTHER))
+    row.expect("stored then", (case.answers()[0], case.numbers()), (f"ack {OTHER} 0 4 2 0", [1, 2, 3, 4]))
 
 
 @ROWS.once
