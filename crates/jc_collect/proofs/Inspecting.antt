@@ -24,7 +24,7 @@ use Rattle.jc_upload.specs.declared.head.Version.{Version}
 use Rattle.jc_upload.specs.Head.{IsHeadFault, head_text}
 use Rattle.jc_upload.specs.Says.{BodySays, HasHead, SaysBehind, reading_under}
 use Rattle.jc_upload.proofs.Excerpts.{key_last}
-use Rattle.jc_collect.specs.Bounds.{AreWithin, IsLeft, PassesAt}
+use Rattle.jc_collect.specs.Bounds.{AreWithin, IsLeft}
 use Rattle.jc_collect.specs.Inspected.{FormatEnding, HasBody, HasFormatCode, IsInspected, IsRead, IsReadTo, SaysBodyOf, inspected_by, inspected_of, inspected_unread, last_key}
 use Rattle.jc_collect.specs.declared.bounds.Bounds.{Bounds}
 use Rattle.jc_collect.specs.Begun.{BeginsUpload}
