@@ -49,7 +49,7 @@
 
 use crate::kept::Given;
 use crate::operands::number_in;
-use crate::output::{no_meaning, write_line};
+use crate::output::{Output, write_line};
 use crate::{collecting, entries, journals, readings, schedules, spaces, values, worked};
 use jc_base::Limits;
 use jc_keeper::MapKeeper;
@@ -63,7 +63,7 @@ pub struct Calls {
     numbers: Vec<u64>,
     spells: bool,
     keeper: MapKeeper,
-    output: Vec<u8>,
+    output: Output,
 }
 
 impl Calls {
@@ -74,16 +74,16 @@ impl Calls {
             numbers: Vec::new(alloc),
             spells: false,
             keeper: MapKeeper::new(alloc),
-            output: Vec::new(alloc),
+            output: Output::new(alloc),
         }
     }
 
     /// What is to be printed.
-    pub fn output(&self) -> &[u8] {
-        &self.output
+    pub fn into_output(self) -> io::Result<Vec<u8>> {
+        self.output.into_bytes()
     }
 
-    /// Makes the call of a word. A failure is one of the program, and never the call's.
+    /// Makes the call of a word, if the files can be read that it names.
     pub fn perform(&mut self, rt: &HostRuntime, word: &str, operand: &str) -> io::Result<()> {
         match word {
             "limits" => self.limit(operand),
@@ -92,38 +92,35 @@ impl Calls {
             "line" => write_line(&mut self.output, operand, &[]),
             "get" => collecting::get(self.alloc, &mut self.keeper, operand, &mut self.output),
             "scanner" | "uploader" | "schedules" | "journal" | "world" => {
-                let files = read_files(rt, operand)?;
-                self.call_together(word, &files)
+                self.call_together(word, &read_files(rt, operand)?);
             }
-            _ => {
-                let bytes = fs::read(rt, operand)?;
-                self.call(word, &bytes)
-            }
+            _ => self.call(word, &fs::read(rt, operand)?),
         }
+        Ok(())
     }
 
-    fn limit(&mut self, operand: &str) -> io::Result<()> {
-        match limits_in(&numbers_in(self.alloc, operand)?) {
+    fn limit(&mut self, operand: &str) {
+        match limits_in(self.alloc, operand) {
             Some(limits) => {
                 self.limits = limits;
                 self.keeper = MapKeeper::new(self.alloc);
-                Ok(())
             }
-            None => no_meaning(),
+            None => self.output.no_meaning(),
         }
     }
 
-    fn number(&mut self, operand: &str) -> io::Result<()> {
-        self.numbers = numbers_in(self.alloc, operand)?;
-        Ok(())
+    fn number(&mut self, operand: &str) {
+        match numbers_in(self.alloc, operand) {
+            Some(numbers) => self.numbers = numbers,
+            None => self.output.no_meaning(),
+        }
     }
 
-    fn spell(&mut self, operand: &str) -> io::Result<()> {
+    fn spell(&mut self, operand: &str) {
         self.spells = operand == "yes";
-        Ok(())
     }
 
-    fn call_together(&mut self, word: &str, files: &[Vec<u8>]) -> io::Result<()> {
+    fn call_together(&mut self, word: &str, files: &[Vec<u8>]) {
         let (alloc, limits, output) = (self.alloc, &self.limits, &mut self.output);
         match word {
             "scanner" => readings::feed_each(alloc, files, limits, output),
@@ -141,7 +138,7 @@ impl Calls {
         }
     }
 
-    fn call(&mut self, word: &str, bytes: &[u8]) -> io::Result<()> {
+    fn call(&mut self, word: &str, bytes: &[u8]) {
         let (alloc, limits, output) = (self.alloc, &self.limits, &mut self.output);
         match word {
             "space" => collecting::space(alloc, &mut self.keeper, bytes, limits, output),
@@ -164,7 +161,7 @@ impl Calls {
         }
     }
 
-    fn call_as_set(&mut self, word: &str, bytes: &[u8]) -> io::Result<()> {
+    fn call_as_set(&mut self, word: &str, bytes: &[u8]) {
         let (alloc, limits, output) = (self.alloc, self.limits, &mut self.output);
         let (numbers, spells) = (self.numbers.as_slice(), self.spells);
         match word {
@@ -173,9 +170,9 @@ impl Calls {
             "pages" => readings::pages(alloc, bytes, limits, spells, output),
             "long" => spaces::long(alloc, bytes, numbers, limits, output),
             "parts" => spaces::parts(alloc, bytes, numbers, output),
-            "payload" => spaces::object(alloc, bytes, numbers, output),
+            "payload" => spaces::object(bytes, numbers, output),
             "value" => values::value(alloc, bytes, numbers, &limits, output),
-            _ => no_meaning(),
+            _ => output.no_meaning(),
         }
     }
 }
@@ -189,20 +186,18 @@ fn read_files(rt: &HostRuntime, paths: &str) -> io::Result<Vec<Vec<u8>>> {
     Ok(files)
 }
 
-/// The numbers that have commas between them.
-fn numbers_in(alloc: Global, operand: &str) -> io::Result<Vec<u64>> {
+/// The numbers that have commas between them, if there is memory for them.
+fn numbers_in(alloc: Global, operand: &str) -> Option<Vec<u64>> {
     let mut numbers = Vec::new(alloc);
     for digits in operand.split(',') {
-        match number_in(digits) {
-            Some(number) => numbers.push(number)?,
-            None => return no_meaning(),
-        }
+        numbers.push(number_in(digits)?).ok()?;
     }
-    Ok(numbers)
+    Some(numbers)
 }
 
-fn limits_in(numbers: &[u64]) -> Option<Limits> {
-    let [name, value, fields, entry, file] = numbers else {
+fn limits_in(alloc: Global, operand: &str) -> Option<Limits> {
+    let numbers = numbers_in(alloc, operand)?;
+    let [name, value, fields, entry, file] = numbers.as_slice() else {
         return None;
     };
     Limits::new(*name, *value, *fields, *entry, *file)

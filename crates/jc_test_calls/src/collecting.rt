@@ -1,7 +1,7 @@
 //! Uploads that are collected into a journal, and entries of it.
 
 use crate::operands::numbered;
-use crate::output::{no_meaning, write_line, write_run, write_text};
+use crate::output::{Output, write_line, write_run, write_text};
 use crate::recorded::{Asked, RecordedSpace};
 use jc_base::{Id128, Key, Limits, OutOfMemory, SliceStream, VecSink};
 use jc_collect::{Delivery, collect_one, run};
@@ -10,8 +10,6 @@ use jc_file::SliceSpace;
 use jc_keeper::{KeepStop, Keeper};
 use jc_test_samples::Pieces;
 use std::alloc::Global;
-use std::io;
-use std::io::Write;
 
 /// So many bytes are given at each read of a stream.
 pub const PIECE: usize = 7;
@@ -22,13 +20,13 @@ pub fn space<K: Keeper>(
     keeper: &mut K,
     upload: &[u8],
     limits: &Limits,
-    output: &mut Vec<u8>,
-) -> io::Result<()> {
+    output: &mut Output,
+) {
     let asked = Asked::from_place(0);
     let recorded = RecordedSpace::new(upload, upload.len() as u64, &asked);
     let mut delivery: Delivery<SliceStream<'_>, _> = Delivery::Space(recorded);
     let answer = collect_one(alloc, keeper, &mut delivery, limits);
-    output.write_all(answer.line().bytes())?;
+    output.put(answer.line().bytes());
     asked.write_to(output)
 }
 
@@ -38,14 +36,14 @@ pub fn stream<K: Keeper>(
     keeper: &mut K,
     upload: &[u8],
     limits: &Limits,
-    output: &mut Vec<u8>,
-) -> io::Result<()> {
+    output: &mut Output,
+) {
     let mut delivery: Delivery<_, SliceSpace<'_>> = Delivery::Stream(Pieces {
         inner: SliceStream::new(upload),
         most: PIECE,
     });
     let answer = collect_one(alloc, keeper, &mut delivery, limits);
-    output.write_all(answer.line().bytes())
+    output.put(answer.line().bytes())
 }
 
 /// Collects an upload by a run, and writes what the run wrote. Its sink takes memory: without it the run stops, and what was
@@ -55,8 +53,8 @@ pub fn run_one<K: Keeper>(
     keeper: &mut K,
     upload: &[u8],
     limits: &Limits,
-    output: &mut Vec<u8>,
-) -> io::Result<()> {
+    output: &mut Output,
+) {
     let mut deliveries: [Delivery<SliceStream<'_>, _>; 1] = [Delivery::Space(SliceSpace {
         bytes: upload,
     })];
@@ -66,14 +64,9 @@ pub fn run_one<K: Keeper>(
 }
 
 /// Writes the stored entry under a key, an id and a number with a colon between them.
-pub fn get<K: Keeper>(
-    alloc: Global,
-    keeper: &mut K,
-    named: &str,
-    output: &mut Vec<u8>,
-) -> io::Result<()> {
+pub fn get<K: Keeper>(alloc: Global, keeper: &mut K, named: &str, output: &mut Output) {
     let Some(key) = key_of(named) else {
-        return no_meaning();
+        return output.no_meaning();
     };
     match keeper.get(&key) {
         Ok(None) => write_line(output, "entry none", &[]),

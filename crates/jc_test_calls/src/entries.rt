@@ -1,69 +1,47 @@
 //! Copies and texts of entries, and uploads that are made of them.
 
-use crate::output::{no_meaning, no_memory, write_code, write_line, write_refused, write_text};
+use crate::output::{Output, write_code, write_line, write_refused, write_text};
 use jc_base::{Entry, Field, Id128, Limits, OutOfMemory};
-use jc_export::{Reading, canonical, fields_text, read_all, read_fields};
+use jc_export::{canonical, fields_text, read_all, read_fields};
 use jc_test_samples::SOURCE_ID;
 use jc_upload::{Answer, Resume, UploadFault, Uploader, file_upload};
 use std::alloc::Global;
-use std::io;
 
 /// More entries than an upload has.
 const ALL: u64 = u64::MAX;
 
 /// Copies and spells each entry of an export stream, and writes the canonical text of what came of it.
-pub fn copies(
-    alloc: Global,
-    bytes: &[u8],
-    limits: &Limits,
-    output: &mut Vec<u8>,
-) -> io::Result<()> {
-    for entry in &read_whole(alloc, bytes, limits)?.entries {
-        write_copies(alloc, output, entry, limits)?;
+pub fn copies(alloc: Global, bytes: &[u8], limits: &Limits, output: &mut Output) {
+    let Ok(reading) = read_all(alloc, bytes, limits) else {
+        return output.no_memory();
+    };
+    for entry in &reading.entries {
+        write_copies(alloc, output, entry, limits);
     }
-    Ok(())
 }
 
-fn write_copies(
-    alloc: Global,
-    output: &mut Vec<u8>,
-    entry: &Entry,
-    limits: &Limits,
-) -> io::Result<()> {
-    write_text(output, "canonical", canonical(alloc, entry))?;
-    write_text(output, "fields", fields_text(alloc, entry))?;
-    write_entry(alloc, output, "clone", entry.try_clone())?;
-    write_read_back(alloc, output, entry)?;
-    write_pairs(alloc, output, entry, limits)?;
+fn write_copies(alloc: Global, output: &mut Output, entry: &Entry, limits: &Limits) {
+    write_text(output, "canonical", canonical(alloc, entry));
+    write_text(output, "fields", fields_text(alloc, entry));
+    write_entry(alloc, output, "clone", entry.try_clone());
+    write_read_back(alloc, output, entry);
+    write_pairs(alloc, output, entry, limits);
     write_field_copies(output, alloc, entry)
 }
 
-/// The export stream's entries. That memory for them was refused is a failure of the program here.
-fn read_whole(alloc: Global, bytes: &[u8], limits: &Limits) -> io::Result<Reading> {
-    match read_all(alloc, bytes, limits) {
-        Ok(reading) => Ok(reading),
-        Err(OutOfMemory) => no_memory(),
-    }
-}
-
 /// Writes an entry's canonical text. Another refusal, of the memory for that text, is a failure of the program.
-fn write_entry(
-    alloc: Global,
-    output: &mut Vec<u8>,
-    name: &str,
-    made: Result<Entry, OutOfMemory>,
-) -> io::Result<()> {
+fn write_entry(alloc: Global, output: &mut Output, name: &str, made: Result<Entry, OutOfMemory>) {
     let Ok(entry) = made else {
         return write_refused(output, name);
     };
     match canonical(alloc, &entry) {
         Ok(text) => write_text(output, name, Ok(text)),
-        Err(OutOfMemory) => no_memory(),
+        Err(OutOfMemory) => output.no_memory(),
     }
 }
 
 /// An entry of the text of another one's fields.
-fn write_read_back(alloc: Global, output: &mut Vec<u8>, entry: &Entry) -> io::Result<()> {
+fn write_read_back(alloc: Global, output: &mut Output, entry: &Entry) {
     let text = entry.fields_text();
     match Entry::from_text(
         alloc,
@@ -79,12 +57,7 @@ fn write_read_back(alloc: Global, output: &mut Vec<u8>, entry: &Entry) -> io::Re
 }
 
 /// An entry of the fields that another one's text has.
-fn write_pairs(
-    alloc: Global,
-    output: &mut Vec<u8>,
-    entry: &Entry,
-    limits: &Limits,
-) -> io::Result<()> {
+fn write_pairs(alloc: Global, output: &mut Output, entry: &Entry, limits: &Limits) {
     let fields = match read_fields(alloc, entry.fields_text()) {
         Ok(Some(fields)) => fields,
         Ok(None) => return write_line(output, "pairs none", &[]),
@@ -99,17 +72,16 @@ fn write_pairs(
 }
 
 /// Copies of an entry's fields.
-fn write_field_copies(output: &mut Vec<u8>, alloc: Global, entry: &Entry) -> io::Result<()> {
+fn write_field_copies(output: &mut Output, alloc: Global, entry: &Entry) {
     for field in entry.fields() {
         match Field::copied(alloc, field.name(), field.value()) {
-            Ok(copy) => write_same(output, &copy)?,
-            Err(OutOfMemory) => write_refused(output, "field")?,
+            Ok(copy) => write_same(output, &copy),
+            Err(OutOfMemory) => write_refused(output, "field"),
         }
     }
-    Ok(())
 }
 
-fn write_same(output: &mut Vec<u8>, field: &Field) -> io::Result<()> {
+fn write_same(output: &mut Output, field: &Field) {
     match field.try_clone() {
         Ok(copy) => {
             let lengths = [copy.name().len() as u64, copy.value().len() as u64];
@@ -120,18 +92,15 @@ fn write_same(output: &mut Vec<u8>, field: &Field) -> io::Result<()> {
 }
 
 /// Makes the first upload of an export stream's entries.
-pub fn upload(
-    alloc: Global,
-    bytes: &[u8],
-    limits: &Limits,
-    output: &mut Vec<u8>,
-) -> io::Result<()> {
-    let entries = read_whole(alloc, bytes, limits)?.entries;
+pub fn upload(alloc: Global, bytes: &[u8], limits: &Limits, output: &mut Output) {
+    let Ok(reading) = read_all(alloc, bytes, limits) else {
+        return output.no_memory();
+    };
     let uploader = Uploader::new(Id128(SOURCE_ID), Resume::default());
-    write_upload(output, uploader.next_upload(alloc, &entries, ALL))
+    write_upload(output, uploader.next_upload(alloc, &reading.entries, ALL))
 }
 
-fn write_upload(output: &mut Vec<u8>, made: Result<Vec<u8>, UploadFault>) -> io::Result<()> {
+fn write_upload(output: &mut Output, made: Result<Vec<u8>, UploadFault>) {
     match made {
         Ok(upload) => write_text(output, "upload", Ok(upload)),
         Err(UploadFault::OutOfMemory) => write_text(output, "upload", Err(OutOfMemory)),
@@ -147,15 +116,20 @@ pub fn uploader(
     files: &[Vec<u8>],
     numbers: &[u64],
     limits: &Limits,
-    output: &mut Vec<u8>,
-) -> io::Result<()> {
+    output: &mut Output,
+) {
     let [stream, point, answers @ ..] = files else {
-        return no_meaning();
+        return output.no_meaning();
     };
-    let uploader = uploader_at(point)?;
-    let entries = read_whole(alloc, stream, limits)?.entries;
-    write_uploads(alloc, &uploader, &entries, numbers, output)?;
-    take_answers(alloc, uploader, &entries, answers, output)
+    let Some(resume) = Resume::read(point) else {
+        return output.no_meaning();
+    };
+    let Ok(reading) = read_all(alloc, stream, limits) else {
+        return output.no_memory();
+    };
+    let uploader = Uploader::new(Id128(SOURCE_ID), resume);
+    write_uploads(alloc, &uploader, &reading.entries, numbers, output);
+    take_answers(alloc, uploader, &reading.entries, answers, output)
 }
 
 fn write_uploads(
@@ -163,14 +137,14 @@ fn write_uploads(
     uploader: &Uploader,
     entries: &[Entry],
     numbers: &[u64],
-    output: &mut Vec<u8>,
-) -> io::Result<()> {
+    output: &mut Output,
+) {
     let [limit] = numbers else {
-        return no_meaning();
+        return output.no_meaning();
     };
     let agrees = uploader.agrees(entries);
-    write_line(output, if agrees { "yes" } else { "no" }, &[])?;
-    write_upload(output, uploader.next_upload(alloc, entries, *limit))?;
+    write_line(output, if agrees { "yes" } else { "no" }, &[]);
+    write_upload(output, uploader.next_upload(alloc, entries, *limit));
     write_upload(output, uploader.next_upload2(alloc, entries, *limit, true))
 }
 
@@ -179,18 +153,10 @@ fn take_answers(
     mut uploader: Uploader,
     entries: &[Entry],
     answers: &[Vec<u8>],
-    output: &mut Vec<u8>,
-) -> io::Result<()> {
+    output: &mut Output,
+) {
     for answer in answers {
-        take_answer(alloc, &mut uploader, entries, answer, output)?;
-    }
-    Ok(())
-}
-
-fn uploader_at(point: &[u8]) -> io::Result<Uploader> {
-    match Resume::read(point) {
-        Some(resume) => Ok(Uploader::new(Id128(SOURCE_ID), resume)),
-        None => no_meaning(),
+        take_answer(alloc, &mut uploader, entries, answer, output);
     }
 }
 
@@ -199,10 +165,10 @@ fn take_answer(
     uploader: &mut Uploader,
     entries: &[Entry],
     line: &[u8],
-    output: &mut Vec<u8>,
-) -> io::Result<()> {
+    output: &mut Output,
+) {
     let Some(answer) = Answer::read(line) else {
-        return no_meaning();
+        return output.no_meaning();
     };
     let moves = uploader.on_answer(entries, &answer);
     let name = if moves { "moves" } else { "stays" };
@@ -210,7 +176,7 @@ fn take_answer(
 }
 
 /// Makes an upload of a journal file.
-pub fn send(alloc: Global, bytes: &[u8], output: &mut Vec<u8>) -> io::Result<()> {
+pub fn send(alloc: Global, bytes: &[u8], output: &mut Output) {
     write_text(
         output,
         "upload",
@@ -219,7 +185,7 @@ pub fn send(alloc: Global, bytes: &[u8], output: &mut Vec<u8>) -> io::Result<()>
 }
 
 /// Writes the text of a resume point that was read from one.
-pub fn resume(alloc: Global, bytes: &[u8], output: &mut Vec<u8>) -> io::Result<()> {
+pub fn resume(alloc: Global, bytes: &[u8], output: &mut Output) {
     match Resume::read(bytes) {
         Some(point) => write_text(output, "resume", point.text(alloc)),
         None => write_line(output, "none", &[]),

@@ -14,7 +14,7 @@
 //! With `elsewhere` for its first line, an entry is asked for that lies in databases which aren't opened.
 
 use crate::kept::{Given, take_step};
-use crate::output::{no_meaning, write_code, write_line};
+use crate::output::{Output, write_code, write_line};
 use jc_base::{Id128, Key, ListSource};
 use jc_keeper::{KeepStop, Keeper, MapKeeper};
 use jc_ledger::{
@@ -22,17 +22,16 @@ use jc_ledger::{
 };
 use jc_test_samples::SEQNUM_ID;
 use std::alloc::Global;
-use std::io;
 use std::marker::Brand;
 use std::str::from_utf8;
 
 /// Takes the steps over a journal. The first file is the script, and the others are what the steps name by numbers.
-pub fn take_all(given: Given<'_>, output: &mut Vec<u8>) -> io::Result<()> {
+pub fn take_all(given: Given<'_>, output: &mut Output) {
     let [script, files @ ..] = given.files else {
-        return no_meaning();
+        return output.no_meaning();
     };
     let Ok(script) = from_utf8(script) else {
-        return no_meaning();
+        return output.no_meaning();
     };
     let given = Given { files, ..given };
     let (kind, steps) = script.split_once('\n').unwrap_or((script, ""));
@@ -45,7 +44,7 @@ pub fn take_all(given: Given<'_>, output: &mut Vec<u8>) -> io::Result<()> {
             before_turns(given, union, steps, output)
         }
         "elsewhere" => ask_elsewhere(output),
-        _ => no_meaning(),
+        _ => output.no_meaning(),
     }
 }
 
@@ -59,16 +58,10 @@ fn empty_union(alloc: Global) -> UnionKeeper<MapKeeper, MapLedger, EmptyShelf> {
     )
 }
 
-fn take_each<K: Keeper>(
-    given: Given<'_>,
-    keeper: &mut K,
-    steps: &str,
-    output: &mut Vec<u8>,
-) -> io::Result<()> {
+fn take_each<K: Keeper>(given: Given<'_>, keeper: &mut K, steps: &str, output: &mut Output) {
     for step in steps.lines() {
-        take_step(given, keeper, step, output)?;
+        take_step(given, keeper, step, output);
     }
-    Ok(())
 }
 
 /// The steps before the next turn, and those behind it.
@@ -80,10 +73,10 @@ fn before_turns<K: Keeper + Drop, L: Ledger + Drop, S: Shelf + Drop>(
     given: Given<'_>,
     mut union: UnionKeeper<K, L, S>,
     steps: &str,
-    output: &mut Vec<u8>,
-) -> io::Result<()> {
+    output: &mut Output,
+) {
     let (now, later) = parts_at_turn(steps);
-    take_over_union(given, &mut union, now, output)?;
+    take_over_union(given, &mut union, now, output);
     after_a_turn(given, turned(given.alloc, union), later, output)
 }
 
@@ -91,10 +84,10 @@ fn after_a_turn<K: Keeper + Drop, L: Ledger + Drop, S: Shelf + Drop>(
     given: Given<'_>,
     mut union: UnionKeeper<K, L, S>,
     steps: &str,
-    output: &mut Vec<u8>,
-) -> io::Result<()> {
+    output: &mut Output,
+) {
     let (now, later) = parts_at_turn(steps);
-    take_over_union(given, &mut union, now, output)?;
+    take_over_union(given, &mut union, now, output);
     after_two_turns(given, turned(given.alloc, union), later, output)
 }
 
@@ -102,8 +95,8 @@ fn after_two_turns<K: Keeper + Drop, L: Ledger + Drop, S: Shelf + Drop>(
     given: Given<'_>,
     mut union: UnionKeeper<K, L, S>,
     steps: &str,
-    output: &mut Vec<u8>,
-) -> io::Result<()> {
+    output: &mut Output,
+) {
     take_over_union(given, &mut union, steps, output)
 }
 
@@ -119,34 +112,33 @@ fn take_over_union<K: Keeper, L: Ledger, S: Shelf>(
     given: Given<'_>,
     union: &mut UnionKeeper<K, L, S>,
     steps: &str,
-    output: &mut Vec<u8>,
-) -> io::Result<()> {
+    output: &mut Output,
+) {
     for step in steps.lines() {
-        take_union_step(given, union, step, output)?;
+        take_union_step(given, union, step, output);
     }
-    Ok(())
 }
 
 fn take_union_step<K: Keeper, L: Ledger, S: Shelf>(
     given: Given<'_>,
     union: &mut UnionKeeper<K, L, S>,
     step: &str,
-    output: &mut Vec<u8>,
-) -> io::Result<()> {
+    output: &mut Output,
+) {
     let (word, rest) = step.split_once(' ').unwrap_or((step, ""));
     match word {
         "present" => take_step(given, &mut union.present, rest, output),
-        "catch" => {
-            let mut entries = given.source(rest)?;
-            write_caught_up(
+        "catch" => match given.source(rest) {
+            Some(mut entries) => write_caught_up(
                 output,
                 caught_up(given.alloc, &mut union.ledger, &mut entries),
-            )
-        }
-        "recover" => {
-            let mut entries = given.source(rest)?;
-            write_caught_up(output, recovered(union, &mut entries))
-        }
+            ),
+            None => output.no_meaning(),
+        },
+        "recover" => match given.source(rest) {
+            Some(mut entries) => write_caught_up(output, recovered(union, &mut entries)),
+            None => output.no_meaning(),
+        },
         _ => take_step(given, union, step, output),
     }
 }
@@ -169,7 +161,7 @@ fn recovered<K: Keeper, L: Ledger, S: Shelf>(
     union.recover(entries)
 }
 
-fn write_caught_up(output: &mut Vec<u8>, caught: Result<CaughtUp, KeepStop>) -> io::Result<()> {
+fn write_caught_up(output: &mut Output, caught: Result<CaughtUp, KeepStop>) {
     match caught {
         Ok(CaughtUp::Done) => write_line(output, "done", &[]),
         Ok(CaughtUp::Differs { index }) => write_line(output, "differs", &[index]),
@@ -179,15 +171,15 @@ fn write_caught_up(output: &mut Vec<u8>, caught: Result<CaughtUp, KeepStop>) -> 
 }
 
 /// Asks for an entry of databases that aren't opened, and writes how often that failed.
-fn ask_elsewhere(output: &mut Vec<u8>) -> io::Result<()> {
+fn ask_elsewhere(output: &mut Output) {
     let key = Key {
         seqnum_id: Id128(SEQNUM_ID),
         seqnum: 1,
     };
     let mut shelf: Elsewhere<Brand> = Elsewhere::new();
     match shelf.get(&key) {
-        Ok(_) => write_line(output, "opened", &[])?,
-        Err(stop) => write_code(output, "stop", stop.code(), 0)?,
+        Ok(_) => write_line(output, "opened", &[]),
+        Err(stop) => write_code(output, "stop", stop.code(), 0),
     }
     write_line(output, "failures", &[shelf.failures])
 }

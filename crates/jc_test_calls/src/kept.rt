@@ -11,7 +11,7 @@
 
 use crate::deliveries::{Upload, collect_all, collect_delivery, delivered};
 use crate::operands::{number_in, numbered};
-use crate::output::{no_meaning, no_memory, write_code, write_line, write_text};
+use crate::output::{Output, write_bytes, write_code, write_line, write_text};
 use jc_base::{Ending, EntrySource, Id128, Key, Limits, ListSource, OutOfMemory, Step};
 use jc_collect::RunEnd;
 use jc_export::{canonical, read_all};
@@ -19,8 +19,6 @@ use jc_keeper::{Absorbed, KeepStop, Keeper};
 use jc_test_samples::SEQNUM_ID;
 use std::alloc::Global;
 use std::collections::VecDeque;
-use std::io;
-use std::io::Write;
 
 /// What steps take their bytes from, by numbers, and the limits of what they collect.
 #[derive(Clone, Copy)]
@@ -31,114 +29,85 @@ pub struct Given<'a> {
 }
 
 impl<'a> Given<'a> {
-    fn file(&self, number: u64) -> io::Result<&'a [u8]> {
-        match self.files.get(number as usize) {
-            Some(bytes) => Ok(bytes),
-            None => no_meaning(),
-        }
-    }
-
-    fn named(&self, digits: &str) -> io::Result<&'a [u8]> {
-        match number_in(digits) {
-            Some(number) => self.file(number),
-            None => no_meaning(),
-        }
+    fn named(&self, digits: &str) -> Option<&'a [u8]> {
+        let number = number_in(digits)?;
+        Some(self.files.get(number as usize)?)
     }
 
     /// Upload U from a device that gives M bytes at most and fails after so many reads, named as `U:M`.
-    fn upload(&self, named: &str, passes: u64) -> io::Result<Upload<'a>> {
-        let Some((digits, most)) = numbered(named) else {
-            return no_meaning();
-        };
+    fn upload(&self, named: &str, passes: u64) -> Option<Upload<'a>> {
+        let (digits, most) = numbered(named)?;
         let bytes = self.named(digits)?;
-        Ok(delivered(bytes, most, passes))
+        Some(delivered(bytes, most, passes))
     }
 
     /// Uploads from devices that don't fail, with spaces between them.
-    fn uploads(&self, named: &str) -> io::Result<Vec<Upload<'a>>> {
+    fn uploads(&self, named: &str) -> Option<Vec<Upload<'a>>> {
         let mut uploads = Vec::new(self.alloc);
         for one in named.split_whitespace() {
-            uploads.push(self.upload(one, u64::MAX)?)?;
+            uploads.push(self.upload(one, u64::MAX)?).ok()?;
         }
-        Ok(uploads)
+        Some(uploads)
     }
 
     /// A source of the entries of the export stream that has this number.
-    pub fn source(&self, digits: &str) -> io::Result<ListSource> {
+    pub fn source(&self, digits: &str) -> Option<ListSource> {
         source_of(self.alloc, self.named(digits)?)
     }
 }
 
-/// A source of an export stream's entries.
-pub fn source_of(alloc: Global, bytes: &[u8]) -> io::Result<ListSource> {
-    match read_all(alloc, bytes, &Limits::default()) {
-        Ok(reading) => {
-            let entries = VecDeque::from(reading.entries);
-            Ok(ListSource::new(entries, Ending::End { left: 0 }))
-        }
-        Err(OutOfMemory) => no_memory(),
-    }
+/// A source of an export stream's entries, if there is memory for them.
+pub fn source_of(alloc: Global, bytes: &[u8]) -> Option<ListSource> {
+    let reading = read_all(alloc, bytes, &Limits::default()).ok()?;
+    let entries = VecDeque::from(reading.entries);
+    Some(ListSource::new(entries, Ending::End { left: 0 }))
 }
 
 /// Takes a step, and writes what came of it.
-pub fn take_step<K: Keeper>(
-    given: Given<'_>,
-    keeper: &mut K,
-    step: &str,
-    output: &mut Vec<u8>,
-) -> io::Result<()> {
+pub fn take_step<K: Keeper>(given: Given<'_>, keeper: &mut K, step: &str, output: &mut Output) {
     let (word, operands) = step.split_once(' ').unwrap_or((step, ""));
     match word {
         "collect" => collect(given, keeper, operands, output),
         "run" => run(given, keeper, operands, output),
         "add" => add(given, keeper, operands, output),
         "stored" => write_stored(given.alloc, keeper, output),
-        _ => no_meaning(),
+        _ => output.no_meaning(),
     }
 }
 
-fn collect<K: Keeper>(
-    given: Given<'_>,
-    keeper: &mut K,
-    operands: &str,
-    output: &mut Vec<u8>,
-) -> io::Result<()> {
+fn collect<K: Keeper>(given: Given<'_>, keeper: &mut K, operands: &str, output: &mut Output) {
     let (named, digits) = operands.split_once(' ').unwrap_or((operands, ""));
     let Some(passes) = number_in(digits) else {
-        return no_meaning();
+        return output.no_meaning();
     };
-    let mut delivery = given.upload(named, passes)?;
+    let Some(mut delivery) = given.upload(named, passes) else {
+        return output.no_meaning();
+    };
     let answer = collect_delivery(given.alloc, keeper, &mut delivery, &given.limits);
-    output.write_all(answer.line().bytes())
+    output.put(answer.line().bytes())
 }
 
-fn run<K: Keeper>(
-    given: Given<'_>,
-    keeper: &mut K,
-    operands: &str,
-    output: &mut Vec<u8>,
-) -> io::Result<()> {
+fn run<K: Keeper>(given: Given<'_>, keeper: &mut K, operands: &str, output: &mut Output) {
     let (digits, named) = operands.split_once(' ').unwrap_or((operands, ""));
     let Some(passes) = number_in(digits) else {
-        return no_meaning();
+        return output.no_meaning();
     };
-    let mut uploads = given.uploads(named)?;
+    let Some(mut uploads) = given.uploads(named) else {
+        return output.no_meaning();
+    };
     let (end, lines) = collect_all(given.alloc, keeper, &mut uploads, passes, &given.limits);
-    write_text(output, "lines", Ok(lines))?;
+    write_text(output, "lines", Ok(lines));
     match end {
         RunEnd::Done => write_line(output, "done", &[]),
         RunEnd::Stopped { done, written } => write_line(output, "stopped", &[done, written]),
     }
 }
 
-fn add<K: Keeper>(
-    given: Given<'_>,
-    keeper: &mut K,
-    digits: &str,
-    output: &mut Vec<u8>,
-) -> io::Result<()> {
-    let mut reading = given.source(digits)?;
-    write_absorbed(output, absorb(keeper, &mut reading))?;
+fn add<K: Keeper>(given: Given<'_>, keeper: &mut K, digits: &str, output: &mut Output) {
+    let Some(mut reading) = given.source(digits) else {
+        return output.no_meaning();
+    };
+    write_absorbed(output, absorb(keeper, &mut reading));
     match reading.next() {
         Ok(Step::Entry(entry)) => write_text(output, "next", canonical(given.alloc, &entry)),
         Ok(_) | Err(_) => write_line(output, "next none", &[]),
@@ -150,7 +119,7 @@ pub fn absorb<K: Keeper>(keeper: &mut K, reading: &mut ListSource) -> Result<Abs
     keeper.absorb(reading)
 }
 
-fn write_absorbed(output: &mut Vec<u8>, absorbed: Result<Absorbed, KeepStop>) -> io::Result<()> {
+fn write_absorbed(output: &mut Output, absorbed: Result<Absorbed, KeepStop>) {
     match absorbed {
         Ok(Absorbed::Taken { count, new, left }) => write_line(
             output,
@@ -165,32 +134,26 @@ fn write_absorbed(output: &mut Vec<u8>, absorbed: Result<Absorbed, KeepStop>) ->
 }
 
 /// Writes the texts of the entries that are stored under the numbers 1 to 4, one after the other.
-pub fn write_stored<K: Keeper>(
-    alloc: Global,
-    keeper: &mut K,
-    output: &mut Vec<u8>,
-) -> io::Result<()> {
-    let mut texts = Vec::new(alloc);
+pub fn write_stored<K: Keeper>(alloc: Global, keeper: &mut K, output: &mut Output) {
+    let mut texts = Output::new(alloc);
     for seqnum in 1..=4 {
-        add_stored(alloc, keeper, seqnum, &mut texts)?;
+        add_stored(alloc, keeper, seqnum, &mut texts);
     }
-    write_text(output, "stored", Ok(texts))
+    match texts.into_bytes() {
+        Ok(texts) => write_bytes(output, "stored", &texts),
+        Err(_) => output.no_memory(),
+    }
 }
 
 /// Adds the text of the entry with this number, if one is stored.
-fn add_stored<K: Keeper>(
-    alloc: Global,
-    keeper: &mut K,
-    seqnum: u64,
-    texts: &mut Vec<u8>,
-) -> io::Result<()> {
+fn add_stored<K: Keeper>(alloc: Global, keeper: &mut K, seqnum: u64, texts: &mut Output) {
     let seqnum_id = Id128(SEQNUM_ID);
     let Ok(stored) = keeper.get(&Key { seqnum_id, seqnum }) else {
-        return no_memory();
+        return texts.no_memory();
     };
     match stored.map(|entry| canonical(alloc, &entry)) {
-        Some(Ok(text)) => texts.write_all(&text),
-        Some(Err(OutOfMemory)) => no_memory(),
-        None => Ok(()),
+        Some(Ok(text)) => texts.put(&text),
+        Some(Err(OutOfMemory)) => texts.no_memory(),
+        None => {}
     }
 }

@@ -38,5 +38,5 @@ fn main(rt: HostRuntime) -> io::Result<()> {
             }
         }
     }
-    rt.stdout().write_all(calls.output())
+    rt.stdout().write_all(&calls.into_output()?)
 }

@@ -1,7 +1,7 @@
 //! Readings of export streams and of journal files.
 
 use crate::collecting::PIECE;
-use crate::output::{no_meaning, write_end, write_line, write_text, write_words};
+use crate::output::{Output, write_end, write_line, write_text, write_words};
 use jc_base::faulty::FailStream;
 use jc_base::{
     ByteStream, Ending, Entry, EntrySource, FromRead, Limits, OutOfMemory, SliceStream, Step, Stop,
@@ -11,14 +11,12 @@ use jc_file::{FileEntries, PagedSpace, SliceSpace};
 use jc_stream::{Scanner, Stream};
 use jc_test_samples::Pieces;
 use std::alloc::Global;
-use std::io;
-use std::io::Write;
 
 /// So many fields of a scanner are written.
 const FIELDS: usize = 3;
 
 /// Reads an export stream at once.
-pub fn read(alloc: Global, bytes: &[u8], limits: &Limits, output: &mut Vec<u8>) -> io::Result<()> {
+pub fn read(alloc: Global, bytes: &[u8], limits: &Limits, output: &mut Output) {
     match read_all(alloc, bytes, limits) {
         Ok(reading) => write_end(output, reading.entries.len() as u64, Ok(reading.end)),
         Err(OutOfMemory) => write_end(output, 0, Err(Stop::OutOfMemory)),
@@ -26,13 +24,7 @@ pub fn read(alloc: Global, bytes: &[u8], limits: &Limits, output: &mut Vec<u8>) 
 }
 
 /// Reads an export stream from a reader.
-pub fn reader(
-    alloc: Global,
-    bytes: &[u8],
-    limits: Limits,
-    spells: bool,
-    output: &mut Vec<u8>,
-) -> io::Result<()> {
+pub fn reader(alloc: Global, bytes: &[u8], limits: Limits, spells: bool, output: &mut Output) {
     read_stream(alloc, FromRead::new(bytes), limits, spells, output)
 }
 
@@ -44,8 +36,8 @@ pub fn entries(
     numbers: &[u64],
     limits: Limits,
     spells: bool,
-    output: &mut Vec<u8>,
-) -> io::Result<()> {
+    output: &mut Output,
+) {
     let (most, reads) = match numbers {
         [most, reads] => (*most as usize, *reads),
         _ => (PIECE, u64::MAX),
@@ -68,8 +60,8 @@ fn read_stream<R: ByteStream + Drop>(
     device: R,
     limits: Limits,
     spells: bool,
-    output: &mut Vec<u8>,
-) -> io::Result<()> {
+    output: &mut Output,
+) {
     match Stream::new(alloc, device, limits) {
         Ok(mut source) => write_reading(alloc, &mut source, spells, output),
         Err(OutOfMemory) => write_end(output, 0, Err(Stop::OutOfMemory)),
@@ -77,25 +69,13 @@ fn read_stream<R: ByteStream + Drop>(
 }
 
 /// Reads an export stream by a scanner, in pieces of a size.
-pub fn scan(
-    alloc: Global,
-    bytes: &[u8],
-    limits: &Limits,
-    size: usize,
-    output: &mut Vec<u8>,
-) -> io::Result<()> {
+pub fn scan(alloc: Global, bytes: &[u8], limits: &Limits, size: usize, output: &mut Output) {
     let most = limits.entry + limits.name + limits.value + 16;
     scan_by(&mut Scanner::new(alloc, *limits), bytes, size, most, output)
 }
 
 /// Reads an export stream by a scanner, which may hold so many bytes at most.
-fn scan_by(
-    scanner: &mut Scanner,
-    bytes: &[u8],
-    size: usize,
-    most: u64,
-    output: &mut Vec<u8>,
-) -> io::Result<()> {
+fn scan_by(scanner: &mut Scanner, bytes: &[u8], size: usize, most: u64, output: &mut Output) {
     let mut rest = bytes;
     let mut count: u64 = 0;
     for _ in 0..u64::MAX {
@@ -125,54 +105,48 @@ fn scan_by(
 }
 
 /// Feeds an export stream to a scanner as long as it takes bytes, and writes what each call answers.
-pub fn feed_whole(
-    alloc: Global,
-    bytes: &[u8],
-    limits: &Limits,
-    output: &mut Vec<u8>,
-) -> io::Result<()> {
+pub fn feed_whole(alloc: Global, bytes: &[u8], limits: &Limits, output: &mut Output) {
     let mut scanner = Scanner::new(alloc, *limits);
     let mut rest = bytes;
     for _ in 0..u64::MAX {
-        let used = feed_once(&mut scanner, rest, output)?;
+        let used = feed_once(&mut scanner, rest, output);
         if used == 0 {
             break;
         }
         rest = rest.split_at(used.min(rest.len())).1;
     }
-    Ok(())
 }
 
 /// Feeds bytes to a scanner, and writes what the calls answer. Answers how many it took: none once it was refused memory.
-fn feed_once(scanner: &mut Scanner, bytes: &[u8], output: &mut Vec<u8>) -> io::Result<usize> {
+fn feed_once(scanner: &mut Scanner, bytes: &[u8], output: &mut Output) -> usize {
     let Ok(used) = feed(scanner, bytes) else {
-        write_line(output, "refused", &[])?;
-        return Ok(0);
+        write_line(output, "refused", &[]);
+        return 0;
     };
-    write_words(output, "feed", &[used as u64])?;
-    write_words(output, " held", &[scanner.held()])?;
-    write_held(output, scanner)?;
+    write_words(output, "feed", &[used as u64]);
+    write_words(output, " held", &[scanner.held()]);
+    write_held(output, scanner);
     match scanner.take() {
         Ok(taken) => {
-            write_taken(output, taken)?;
-            Ok(used)
+            write_taken(output, taken);
+            used
         }
         Err(OutOfMemory) => {
-            write_line(output, " refused", &[])?;
-            Ok(0)
+            write_line(output, " refused", &[]);
+            0
         }
     }
 }
 
 /// Writes the first field that a scanner holds, and how the stream would end here.
-fn write_held(output: &mut Vec<u8>, scanner: &Scanner) -> io::Result<()> {
+fn write_held(output: &mut Output, scanner: &Scanner) {
     if let Some((name, value)) = scanner.field_at(0) {
-        write_words(output, " field", &[name.len() as u64, value.len() as u64])?;
+        write_words(output, " field", &[name.len() as u64, value.len() as u64]);
     }
     write_finish(output, scanner.finish())
 }
 
-fn write_finish(output: &mut Vec<u8>, end: Option<Step>) -> io::Result<()> {
+fn write_finish(output: &mut Output, end: Option<Step>) {
     match end {
         Some(Step::End { left }) => write_words(output, " left", &[left]),
         Some(Step::Bad(fault)) => {
@@ -182,7 +156,7 @@ fn write_finish(output: &mut Vec<u8>, end: Option<Step>) -> io::Result<()> {
     }
 }
 
-fn write_taken(output: &mut Vec<u8>, taken: Option<Step>) -> io::Result<()> {
+fn write_taken(output: &mut Output, taken: Option<Step>) {
     match taken {
         Some(Step::Entry(_)) => write_line(output, " entry", &[]),
         Some(_) => write_line(output, " fault", &[]),
@@ -192,20 +166,14 @@ fn write_taken(output: &mut Vec<u8>, taken: Option<Step>) -> io::Result<()> {
 
 /// Feeds pieces to a scanner, one after the other; an empty one has it give what it found. Writes what each call answers,
 /// and the place and the first fields of the scanner after each piece.
-pub fn feed_each(
-    alloc: Global,
-    pieces: &[Vec<u8>],
-    limits: &Limits,
-    output: &mut Vec<u8>,
-) -> io::Result<()> {
+pub fn feed_each(alloc: Global, pieces: &[Vec<u8>], limits: &Limits, output: &mut Output) {
     let mut scanner = Scanner::new(alloc, *limits);
     for piece in pieces {
-        feed_one(&mut scanner, piece, output)?;
+        feed_one(&mut scanner, piece, output);
     }
-    Ok(())
 }
 
-fn feed_one(scanner: &mut Scanner, piece: &[u8], output: &mut Vec<u8>) -> io::Result<()> {
+fn feed_one(scanner: &mut Scanner, piece: &[u8], output: &mut Output) {
     if piece.is_empty() {
         return match scanner.take() {
             Ok(taken) => write_taken(output, taken),
@@ -218,21 +186,20 @@ fn feed_one(scanner: &mut Scanner, piece: &[u8], output: &mut Vec<u8>) -> io::Re
     }
 }
 
-fn write_fed(output: &mut Vec<u8>, scanner: &Scanner, used: u64) -> io::Result<()> {
-    write_line(output, "takes", &[used, scanner.position()])?;
+fn write_fed(output: &mut Output, scanner: &Scanner, used: u64) {
+    write_line(output, "takes", &[used, scanner.position()]);
     for place in 0..FIELDS {
-        write_field(output, scanner.field_at(place))?;
+        write_field(output, scanner.field_at(place));
     }
-    Ok(())
 }
 
-fn write_field(output: &mut Vec<u8>, field: Option<(&[u8], &[u8])>) -> io::Result<()> {
+fn write_field(output: &mut Output, field: Option<(&[u8], &[u8])>) {
     let Some((name, value)) = field else {
-        return Ok(());
+        return;
     };
-    write_line(output, "field", &[name.len() as u64, value.len() as u64])?;
-    output.write_all(name)?;
-    output.write_all(value)
+    write_line(output, "field", &[name.len() as u64, value.len() as u64]);
+    output.put(name);
+    output.put(value)
 }
 
 /// Feeds a piece to a scanner, if the bytes can be counted.
@@ -244,13 +211,7 @@ fn feed(scanner: &mut Scanner, piece: &[u8]) -> Result<usize, OutOfMemory> {
 }
 
 /// Reads a journal file by pages.
-pub fn pages(
-    alloc: Global,
-    bytes: &[u8],
-    limits: Limits,
-    spells: bool,
-    output: &mut Vec<u8>,
-) -> io::Result<()> {
+pub fn pages(alloc: Global, bytes: &[u8], limits: Limits, spells: bool, output: &mut Output) {
     let space = PagedSpace::new(alloc, SliceSpace { bytes });
     write_reading(
         alloc,
@@ -266,12 +227,12 @@ pub fn write_reading<S: EntrySource>(
     alloc: Global,
     source: &mut S,
     spells: bool,
-    output: &mut Vec<u8>,
-) -> io::Result<()> {
-    let (count, end) = read_out(alloc, source, spells, output)?;
-    let (more, again) = read_out(alloc, source, spells, output)?;
+    output: &mut Output,
+) {
+    let (count, end) = read_out(alloc, source, spells, output);
+    let (more, again) = read_out(alloc, source, spells, output);
     if more > 0 || again != end {
-        write_line(output, "another end", &[])?;
+        write_line(output, "another end", &[]);
     }
     write_end(output, count, end)
 }
@@ -280,19 +241,19 @@ fn read_out<S: EntrySource>(
     alloc: Global,
     source: &mut S,
     spells: bool,
-    output: &mut Vec<u8>,
-) -> io::Result<(u64, Result<Ending, Stop>)> {
+    output: &mut Output,
+) -> (u64, Result<Ending, Stop>) {
     for count in 0..u64::MAX {
         match entry_of(source.next()) {
             Ok(entry) => {
                 if spells {
-                    write_text(output, "entry", canonical(alloc, &entry))?;
+                    write_text(output, "entry", canonical(alloc, &entry));
                 }
             }
-            Err(end) => return Ok((count, end)),
+            Err(end) => return (count, end),
         }
     }
-    no_meaning()
+    (u64::MAX, Err(Stop::ReadFailed))
 }
 
 /// The entry that a step gives, or how the source ended.

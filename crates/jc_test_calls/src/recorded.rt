@@ -2,11 +2,10 @@
 
 ghost use Rattle.jc_file.specs.SpaceLaws.{nothing_known};
 
-use crate::output::write_line;
+use crate::output::{Output, write_line};
 use jc_base::ReadFailed;
 use jc_file::ByteSpace;
 use std::cell::Cell;
-use std::io;
 
 /// What was asked of a space.
 #[derive(Drop)]
@@ -44,7 +43,7 @@ impl Asked {
         self.reads.get()
     }
 
-    pub fn write_to(&self, output: &mut Vec<u8>) -> io::Result<()> {
+    pub fn write_to(&self, output: &mut Output) {
         write_line(output, "asked", &[self.end.get(), self.bytes.get()])
     }
 }

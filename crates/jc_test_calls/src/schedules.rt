@@ -1,6 +1,6 @@
 //! Schedules in worlds of two machines.
 
-use crate::output::{no_meaning, no_memory, write_line};
+use crate::output::{Output, write_line};
 use crate::stock::Stock;
 use crate::worlds::write_world;
 use jc_base::{Id128, Limits, OutOfMemory};
@@ -8,8 +8,6 @@ use jc_keeper::MapKeeper;
 use jc_test_samples::SOURCE_ID;
 use jc_world::{Event, World};
 use std::alloc::Global;
-use std::io;
-use std::io::Write;
 use std::str::from_utf8;
 
 /// How often a call is made that is refused memory.
@@ -20,106 +18,119 @@ const OTHER_ID: [u8; 16] = *b"\xb0\xb1\xb2\xb3\xb4\xb5\xb6\xb7\xb8\xb9\xba\xbb\x
 
 /// Takes schedules, each in worlds of its own. The files are the schedules, one a line, as `stock.rt` has them; an export
 /// stream whose entries machines may have; and files whose bytes events may bring.
-pub fn take_all(alloc: Global, files: &[Vec<u8>], output: &mut Vec<u8>) -> io::Result<()> {
+pub fn take_all(alloc: Global, files: &[Vec<u8>], output: &mut Output) {
     let [schedules, entries, bytes @ ..] = files else {
-        return no_meaning();
+        return output.no_meaning();
     };
     let Ok(schedules) = from_utf8(schedules) else {
-        return no_meaning();
+        return output.no_meaning();
     };
-    let stock = Stock::new(alloc, entries, bytes)?;
+    let Some(stock) = Stock::new(alloc, entries, bytes) else {
+        return output.no_memory();
+    };
     for schedule in schedules.lines() {
-        take_schedule(&stock, schedule, output)?;
+        take_schedule(&stock, schedule, output);
     }
-    Ok(())
 }
 
 /// Takes the events of a schedule in a new world, one by one, and in another one all in one run. Writes what each event
 /// answered and what the worlds then are, of the second one only if it isn't the same, after `runs differ`. A call that is
 /// refused memory is made once more, and a `-` is written first.
-fn take_schedule(stock: &Stock, schedule: &str, output: &mut Vec<u8>) -> io::Result<()> {
+fn take_schedule(stock: &Stock, schedule: &str, output: &mut Output) {
     let mut events = Vec::new(stock.alloc);
-    let of_steps = step_all(stock, schedule, &mut events, output)?;
-    let of_run = run_all(stock, &events, output)?;
-    write_line(output, "", &[])?;
-    output.write_all(&of_steps)?;
-    if of_run != of_steps {
-        write_line(output, "runs differ", &[])?;
-        output.write_all(&of_run)?;
+    let of_steps = step_all(stock, schedule, &mut events, output);
+    let of_run = run_all(stock, &events, output);
+    write_line(output, "", &[]);
+    output.add(&of_steps);
+    if !of_run.is_same(&of_steps) {
+        write_line(output, "runs differ", &[]);
+        output.add(&of_run);
     }
-    Ok(())
 }
 
 /// Takes the events of a schedule in a new world, one by one, and keeps them. Answers what is written of that world then.
-fn step_all(
-    stock: &Stock,
-    schedule: &str,
-    events: &mut Vec<Event>,
-    output: &mut Vec<u8>,
-) -> io::Result<Vec<u8>> {
-    let mut world = two_machines(stock.alloc, output)?;
+fn step_all(stock: &Stock, schedule: &str, events: &mut Vec<Event>, output: &mut Output) -> Output {
+    let Some(mut world) = two_machines(stock.alloc, output) else {
+        return Output::new(stock.alloc);
+    };
     for text in schedule.split(';') {
-        let event = stock.event(text)?;
-        step(&mut world, &event, output)?;
-        events.push(event)?;
+        step_once(stock, &mut world, text, events, output);
     }
     text_of(stock, world)
+}
+
+fn step_once(
+    stock: &Stock,
+    world: &mut World<MapKeeper>,
+    text: &str,
+    events: &mut Vec<Event>,
+    output: &mut Output,
+) {
+    let Some(event) = stock.event(text) else {
+        return output.no_meaning();
+    };
+    step(world, &event, output);
+    if events.push(event).is_err() {
+        output.no_memory();
+    }
 }
 
 /// Takes events in a new world, all in one run. Answers what is written of that world then.
-fn run_all(stock: &Stock, events: &[Event], output: &mut Vec<u8>) -> io::Result<Vec<u8>> {
-    let mut world = two_machines(stock.alloc, output)?;
-    run(&mut world, events, output)?;
+fn run_all(stock: &Stock, events: &[Event], output: &mut Output) -> Output {
+    let Some(mut world) = two_machines(stock.alloc, output) else {
+        return Output::new(stock.alloc);
+    };
+    run(&mut world, events, output);
     text_of(stock, world)
 }
 
-fn text_of(stock: &Stock, world: World<MapKeeper>) -> io::Result<Vec<u8>> {
-    let mut text = Vec::new(stock.alloc);
-    write_world(stock.alloc, world, &stock.entries, &mut text)?;
-    Ok(text)
+fn text_of(stock: &Stock, world: World<MapKeeper>) -> Output {
+    let mut text = Output::new(stock.alloc);
+    write_world(stock.alloc, world, &stock.entries, &mut text);
+    text
 }
 
-/// The sources of two machines.
-pub fn sources(alloc: Global) -> io::Result<Vec<Id128>> {
-    Ok(Vec::from_array(alloc, [Id128(SOURCE_ID), Id128(OTHER_ID)])?)
+/// The sources of two machines, if there is memory for them.
+pub fn sources(alloc: Global) -> Option<Vec<Id128>> {
+    Vec::from_array(alloc, [Id128(SOURCE_ID), Id128(OTHER_ID)]).ok()
 }
 
-fn two_machines(alloc: Global, output: &mut Vec<u8>) -> io::Result<World<MapKeeper>> {
+/// A world of two machines. Without one the output has failed.
+fn two_machines(alloc: Global, output: &mut Output) -> Option<World<MapKeeper>> {
     for _ in 0..TIMES {
-        match World::new(
-            alloc,
-            MapKeeper::new(alloc),
-            sources(alloc)?,
-            Limits::default(),
-        ) {
-            Ok(Some(world)) => return Ok(world),
-            Ok(None) => return no_meaning(),
-            Err(OutOfMemory) => output.write_all(b"-")?,
+        let keeper = MapKeeper::new(alloc);
+        let Some(sources) = sources(alloc) else {
+            break;
+        };
+        match World::new(alloc, keeper, sources, Limits::default()) {
+            Ok(Some(world)) => return Some(world),
+            Ok(None) => output.no_meaning(),
+            Err(OutOfMemory) => output.put(b"-"),
         }
     }
-    no_memory()
+    output.no_memory();
+    None
 }
 
 /// Takes an event, and writes whether it happened.
-pub fn step(world: &mut World<MapKeeper>, event: &Event, output: &mut Vec<u8>) -> io::Result<()> {
+pub fn step(world: &mut World<MapKeeper>, event: &Event, output: &mut Output) {
     for _ in 0..TIMES {
         match world.step(event) {
-            Ok(true) => return output.write_all(b"1"),
-            Ok(false) => return output.write_all(b"0"),
-            Err(OutOfMemory) => output.write_all(b"-")?,
+            Ok(true) => return output.put(b"1"),
+            Ok(false) => return output.put(b"0"),
+            Err(OutOfMemory) => output.put(b"-"),
         }
     }
-    no_memory()
+    output.no_memory();
 }
 
-fn run(world: &mut World<MapKeeper>, events: &[Event], output: &mut Vec<u8>) -> io::Result<()> {
+fn run(world: &mut World<MapKeeper>, events: &[Event], output: &mut Output) {
     let progress = world.run(events);
     if progress.refusal.is_none() {
-        return Ok(());
+        return;
     }
-    output.write_all(b"-")?;
-    match world.run(&events[progress.taken..]).refusal {
-        None => Ok(()),
-        Some(OutOfMemory) => no_memory(),
+    output.put(b"-");
+    if world.run(&events[progress.taken..]).refusal.is_some() {
+        output.no_memory();
     }
 }

@@ -1,50 +1,42 @@
 //! Spaces with a journal file and zeros after it, as far as they go.
 
-use crate::output::{no_meaning, write_line, write_text};
+use crate::output::{Output, write_bytes, write_line};
 use crate::readings::write_reading;
 use crate::recorded::{Asked, RecordedSpace};
-use jc_base::{Limits, OutOfMemory};
+use jc_base::Limits;
 use jc_file::{ByteSpace, FileEntries, PagedSpace, payload};
 use std::alloc::Global;
-use std::io;
-use std::io::Write;
 
 /// Reads a journal file by ranges, and writes how many arrays were visited and what was asked of the space.
-pub fn file(alloc: Global, bytes: &[u8], limits: Limits, output: &mut Vec<u8>) -> io::Result<()> {
+pub fn file(alloc: Global, bytes: &[u8], limits: Limits, output: &mut Output) {
     long(alloc, bytes, &[bytes.len() as u64, 0], limits, output)
 }
 
 /// The same in a space of a length. Of the bytes those count that were asked for from a place on.
-pub fn long(
-    alloc: Global,
-    bytes: &[u8],
-    numbers: &[u64],
-    limits: Limits,
-    output: &mut Vec<u8>,
-) -> io::Result<()> {
+pub fn long(alloc: Global, bytes: &[u8], numbers: &[u64], limits: Limits, output: &mut Output) {
     let [len, from] = numbers else {
-        return no_meaning();
+        return output.no_meaning();
     };
     let asked = Asked::from_place(*from);
     let space = RecordedSpace::new(bytes, *len, &asked);
-    write_steps(alloc, FileEntries::new(alloc, space, limits), output)?;
+    write_steps(alloc, FileEntries::new(alloc, space, limits), output);
     asked.write_to(output)
 }
 
 fn write_steps<B: ByteSpace + Drop>(
     alloc: Global,
     mut source: FileEntries<B>,
-    output: &mut Vec<u8>,
-) -> io::Result<()> {
-    write_reading(alloc, &mut source, false, output)?;
+    output: &mut Output,
+) {
+    write_reading(alloc, &mut source, false, output);
     write_line(output, "steps", &[source.steps()])
 }
 
 /// Reads eight bytes at one place after another of a space of a length, by pages. Writes after each how often the space
 /// was read by now, and the bytes.
-pub fn parts(alloc: Global, bytes: &[u8], numbers: &[u64], output: &mut Vec<u8>) -> io::Result<()> {
+pub fn parts(alloc: Global, bytes: &[u8], numbers: &[u64], output: &mut Output) {
     let [len, places @ ..] = numbers else {
-        return no_meaning();
+        return output.no_meaning();
     };
     let asked = Asked::from_place(0);
     let space = RecordedSpace::new(bytes, *len, &asked);
@@ -55,14 +47,13 @@ fn write_parts<B: ByteSpace + Drop>(
     mut space: B,
     places: &[u64],
     asked: &Asked,
-    output: &mut Vec<u8>,
-) -> io::Result<()> {
+    output: &mut Output,
+) {
     for place in places {
         let part = part_at(&mut space, *place);
-        write_line(output, "reads", &[asked.reads()])?;
-        output.write_all(&part)?;
+        write_line(output, "reads", &[asked.reads()]);
+        output.put(&part);
     }
-    Ok(())
 }
 
 /// Eight bytes of a space, or `no bytes` if it can't give them.
@@ -75,21 +66,12 @@ fn part_at<B: ByteSpace>(space: &mut B, place: u64) -> [u8; 8] {
 }
 
 /// Writes the payload of the object at an offset of a journal file.
-pub fn object(
-    alloc: Global,
-    bytes: &[u8],
-    numbers: &[u64],
-    output: &mut Vec<u8>,
-) -> io::Result<()> {
+pub fn object(bytes: &[u8], numbers: &[u64], output: &mut Output) {
     let [offset] = numbers else {
-        return no_meaning();
+        return output.no_meaning();
     };
     match payload(bytes, *offset) {
-        Some(part) => write_text(output, "payload", copied(alloc, part)),
+        Some(part) => write_bytes(output, "payload", part),
         None => write_line(output, "none", &[]),
     }
-}
-
-fn copied(alloc: Global, bytes: &[u8]) -> Result<Vec<u8>, OutOfMemory> {
-    Ok(Vec::from_slice(alloc, bytes)?)
 }

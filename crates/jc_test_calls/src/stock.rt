@@ -13,12 +13,10 @@
 //! | `restart M P` | machine M goes back to its saved resume point P |
 
 use crate::operands::number_in;
-use crate::output::{no_meaning, no_memory};
-use jc_base::{Entry, Limits, OutOfMemory};
+use jc_base::{Entry, Limits};
 use jc_export::read_all;
 use jc_world::Event;
 use std::alloc::Global;
-use std::io;
 
 #[derive(Drop)]
 pub struct Stock<'a> {
@@ -28,26 +26,18 @@ pub struct Stock<'a> {
 }
 
 impl<'a> Stock<'a> {
-    pub fn new(alloc: Global, entries: &[u8], bytes: &'a [Vec<u8>]) -> io::Result<Stock<'a>> {
-        match read_all(alloc, entries, &Limits::default()) {
-            Ok(reading) => Ok(Stock {
-                alloc,
-                entries: reading.entries,
-                bytes,
-            }),
-            Err(OutOfMemory) => no_memory(),
-        }
+    /// The entries of an export stream, if there is memory for them, and bytes.
+    pub fn new(alloc: Global, entries: &[u8], bytes: &'a [Vec<u8>]) -> Option<Stock<'a>> {
+        let reading = read_all(alloc, entries, &Limits::default()).ok()?;
+        Some(Stock {
+            alloc,
+            entries: reading.entries,
+            bytes,
+        })
     }
 
-    /// The event that a text means.
-    pub fn event(&self, text: &str) -> io::Result<Event> {
-        match self.meant(text) {
-            Some(event) => Ok(event),
-            None => no_meaning(),
-        }
-    }
-
-    fn meant(&self, text: &str) -> Option<Event> {
+    /// The event that a text means, if it means one and there is memory for it.
+    pub fn event(&self, text: &str) -> Option<Event> {
         let mut words = text.split(' ');
         let name = words.next()?;
         let first = number_in(words.next()?)? as usize;
