@@ -1,5 +1,5 @@
 -- The lines that say how far a command is.
-use Rattle.std.specs.Prelude.{◌/◌, ◌%◌, ◌++◌, ◌∷◌, ℕ, List, [], codes, decimal}
+use Rattle.std.specs.Prelude.{◌/◌, ◌%◌, ◌++◌, ◌∷◌, ℕ, List, codes, decimal}
 use Rattle.jc_progress.specs.declared.line.Line.{Line}
 use Rattle.jc_progress.specs.declared.task.Unit.{Unit}
 use Rattle.jc_progress.specs.declared.task.Unit.TheVariants.{Uploads, Listed, Exported, Shown, Checked, Migrated, Verified}
