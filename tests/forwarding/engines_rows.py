@@ -24,7 +24,7 @@ from compared import Entry
 from elasticsearch import Elasticsearch
 from forwarded import Collectors, quick
 from loki import Loki
-from programs import call, killed_before
+from programs import call, killed_before, read_terminal
 from rows import Row, Rows
 from stand_in import Fault, Reply, Request, StandIn
 from victorialogs import VictoriaLogs
@@ -451,8 +451,10 @@ def progress(row: Row, collectors: Collectors) -> None:
 
         row.ends(target.collector.run(before=begin), 0)
         os.close(theirs)
-        said = os.read(ours, 10_000).decode()
+        shown = bytearray()
+        read_terminal(ours, shown)
         os.close(ours)
+        said = shown.decode()
         row.same("what is shown", "entries, " in said and " a second; 2025-12-01T12-00, 0 databases left" in said, True)
         row.same("it is wiped", said.endswith("\r\x1b[K"), True)
 

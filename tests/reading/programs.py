@@ -69,6 +69,15 @@ def text_of(file: IO[bytes]) -> str:
     return file.read().decode(errors="surrogateescape").removesuffix("\n")
 
 
+def read_terminal(terminal: int, shown: bytearray) -> None:
+    """Adds all that a terminal shows, until nobody has it open: one read may bring a part of it."""
+    try:
+        while data := os.read(terminal, 65_536):
+            shown += data
+    except OSError:
+        return
+
+
 def killed_before(number: int) -> Callable[[], None]:
     """For `before`: the child is killed just before its call of this number that changes a file or starts a program."""
     def begin() -> None:

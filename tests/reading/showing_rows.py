@@ -11,7 +11,7 @@ import sys
 import threading
 from pathlib import Path
 
-from programs import Done, call
+from programs import Done, call, read_terminal
 from rows import Row, Rows
 from searched import FIRST, TIME, Searched, binary, entry
 
@@ -67,20 +67,12 @@ def seen_of(command: list[str], errors: bool, environment: dict[str, str]) -> tu
     with subprocess.Popen(command, stdin=subprocess.DEVNULL, stdout=theirs,
                           stderr=theirs if errors else subprocess.DEVNULL, env=environ) as process:
         os.close(theirs)
-        reader = threading.Thread(target=read_all, args=(ours, seen))
+        reader = threading.Thread(target=read_terminal, args=(ours, seen))
         reader.start()
         status = process.wait(600)
         reader.join()
     os.close(ours)
     return status, seen.decode(errors="surrogateescape").replace("\r\n", "\n")
-
-
-def read_all(terminal: int, seen: bytearray) -> None:
-    try:
-        while data := os.read(terminal, 65_536):
-            seen += data
-    except OSError:
-        return
 
 
 def with_little_memory(searched: Searched, *words: str) -> Done:
