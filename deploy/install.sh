@@ -11,9 +11,10 @@ library=$prefix/lib/journal-collect
 install -d "$root$library"/{collector,forwarding,machine,reading,shared,watching}
 install -d "$root$prefix"/{bin,lib/systemd/{system,journald.conf.d},lib/sysusers.d}
 install -d "$root/etc/journal-collect"
-install -m 755 deploy/{send,serve,receive,answers,collect-incoming,journal-files,search,forward,status} "$root$library"
+for program in send serve receive answers collect-incoming fit-stream journal-files search forward status; do
+    install -m 755 "deploy/$program" "$root$library"
+done
 install -m 644 deploy/{sshd,slice}.conf deploy/{together,make_together}.py "$root$library"
-install -m 755 deploy/machine/fit_stream.py "$root$library/fit-stream"
 for part in collector forwarding machine reading shared watching; do
     install -m 644 deploy/$part/*.py "$root$library/$part"
 done

@@ -6,7 +6,7 @@ set -uo pipefail
 . "$(dirname "$0")/expect.sh"
 
 fixtures=$PWD/tests/fixtures
-fit_stream=$PWD/deploy/machine/fit_stream.py
+fit_stream=$PWD/deploy/fit-stream
 expected_text=$PWD/tests/collect/expected_text.py
 source=a0a1a2a3a4a5a6a7a8a9aaabacadaeaf
 new_folder
@@ -18,7 +18,7 @@ unpack() {
     gzip -dc "$there/$2.journal.gz" > file
     if [[ $1 -lt 254 ]]; then
         expect 1 "bad 23 0" "" "$PROGRAM" verify export "$there/$2.export"
-        python3 "$fit_stream" < "$there/$2.export" > stream
+        "$fit_stream" < "$there/$2.export" > stream
     else
         cp "$there/$2.export" stream
     fi

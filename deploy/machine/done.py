@@ -5,8 +5,9 @@ that isn't of this product's own units, or had one acknowledged: on a machine on
 end by themselves.
 """
 from machine import upload
-from machine.fit_stream import Entry, Unfit, entries
+from machine.fit_stream import Entry, entries
 from machine.report import Report
+from shared.export_stream import Unfit
 from shared.records import dataclass, field
 
 # How an entry of such a unit tells that it is, and one of systemd about it. Whoever logs either by hand keeps a line
@@ -42,7 +43,7 @@ class Done:
 
 
 def is_own(entry: Entry) -> bool:
-    return any(piece.startswith(OWN) for piece in entry.pieces)
+    return any(pieces[0].startswith(OWN) for _, pieces in entry.held())
 
 
 def has_others() -> bool:

@@ -1,44 +1,29 @@
-#!/usr/bin/python3 -IB
-"""Makes an export stream one that journal-collect takes: fit-stream [--leave-out-large] < STREAM > FITTED
-or several streams, each of which systemd-journal-remote makes one journal file of:
-fit-stream --split FOLDER < STREAM
+"""Makes an export stream one that journal-collect takes: what fit-stream does, and how a machine reads its journal.
 
 An entry without `__SEQNUM` and `__SEQNUM_ID`, as journalctl before systemd 254 writes it, gets both from its
-`__CURSOR`. With --leave-out-large an entry over the limits is left out and named on standard error. All else is
-written as it was. Lengths are followed, so no line of a message is taken for a field. The status is 1 if the
-stream is cut off within an entry, can't be followed, or can't be written.
-
-A value is read in pieces, and an entry is held as long as it is within the limits. So memory is bounded by them,
-whatever the stream has.
+`__CURSOR`. An entry over the limits is left out, or its text goes elsewhere as it comes: it is held as long as it is
+within the limits. So memory is bounded by them, whatever the stream has.
 """
 from __future__ import annotations
 
 import os
 import sys
+from io import BytesIO
+
+from shared.export_stream import Damaged, Stream, Unfit
 
 TYPE_CHECKING = False
 if TYPE_CHECKING:
     from typing import BinaryIO, Callable, Iterator, Optional, TypeVar
+
+    from shared.export_stream import Source
 
     Kind = TypeVar("Kind", bound="Entry")
 
 NAME, VALUE, FIELDS, ENTRY = 1_024, 16_777_216, 4_096, 33_554_432
 # journald takes no value of 768 MiB, so a length over this is of no stream.
 LONGEST = 1 << 30
-PIECE = 1 << 16
 HEXADECIMAL = frozenset("0123456789abcdefABCDEF")
-
-
-class Unfit(Exception):
-    """The stream can't be followed any more."""
-
-
-class CutOff(Unfit):
-    """It ends within an entry, of which the metadata that came are known."""
-
-    def __init__(self, known: dict[bytes, bytes]) -> None:
-        super().__init__("the stream is cut off within an entry")
-        self.known = known
 
 
 class Entry:
@@ -51,13 +36,36 @@ class Entry:
         self.pieces: list[bytes] = []
         # The name of each field, and which piece it begins with, as long as all pieces are held.
         self.begins: list[tuple[bytes, int]] = []
+        # In place of both: the text of an entry that was taken at once.
+        self.whole = b""
         self.fields = self.counted = self.bytes = 0
         self.is_large = False
+        # Where it ends in its stream.
+        self.end = 0
+
+    def take(self, text: bytes, known: dict[bytes, bytes], names: list[bytes]) -> None:
+        """All of it at once; it is short."""
+        self.known, self.whole = known, text
+        longest = max(map(len, names), default=0), max(map(len, known), default=0)
+        if max(longest) > NAME or len(names) > FIELDS or b"" in names:
+            self.unfold()
+
+    def unfold(self) -> None:
+        """Takes field by field what was taken at once."""
+        if self.whole:
+            text, self.whole = self.whole, b""
+            Stream(BytesIO(text + b"\n"), LONGEST).read(self)
+
+    def held(self) -> list[tuple[bytes, list[bytes]]]:
+        """The name and the pieces of each field, if they are held."""
+        self.unfold()
+        ends = [at for _, at in self.begins[1:]] + [len(self.pieces)]
+        return [(name, self.pieces[begin:end]) for (name, begin), end in zip(self.begins, ends)]
 
     def begin(self, name: bytes) -> None:
         """A field of this name begins."""
         if not name:
-            raise Unfit("a field has no name: this isn't an export stream, or it is damaged")
+            raise Damaged("a field has no name")
         self.begins.append((name, len(self.pieces)))
         is_metadata = name.startswith(b"__")
         self.fields += not is_metadata
@@ -102,11 +110,9 @@ class Entry:
     def text(self, seqnum_id: Optional[bytes] = None) -> list[bytes]:
         """Its text with its key, perhaps under another sequence id."""
         own, number = self.key()
-        pieces, missing = self.pieces, []
+        pieces, missing = [self.whole, *self.pieces], []
         if seqnum_id is not None:
-            ends = [at for _, at in self.begins[1:]] + [len(pieces)]
-            pieces = [piece for (name, begin), end in zip(self.begins, ends) if name != b"__SEQNUM_ID"
-                      for piece in pieces[begin:end]]
+            pieces = [piece for name, parts in self.held() if name != b"__SEQNUM_ID" for piece in parts]
         if seqnum_id is not None or b"__SEQNUM_ID" not in self.known:
             missing.append(b"__SEQNUM_ID=%s\n" % (seqnum_id or own))
         if b"__SEQNUM" not in self.known:
@@ -118,75 +124,19 @@ class Entry:
         return f"__SEQNUM={number.decode(errors='replace')} __SEQNUM_ID={number_id.decode(errors='replace')}"
 
 
-def read_text(stream: BinaryIO, line: bytes, entry: Entry) -> bytes:
-    """The rest of a field NAME=VALUE that begins with this line; its value, if it is short."""
-    name, _, value = line.partition(b"=")
-    entry.begin(name)
-    entry.count_value(len(value) - line.endswith(b"\n"))
-    entry.add(line)
-    piece = line
-    while not piece.endswith(b"\n"):
-        piece = stream.readline(PIECE)
-        if not piece:
-            raise CutOff(entry.known)
-        entry.count_value(len(piece) - piece.endswith(b"\n"))
-        entry.add(piece)
-    return value[:-1]
-
-
-def read_exactly(stream: BinaryIO, length: int, entry: Entry) -> bytes:
-    data = stream.read(length)
-    if len(data) < length:
-        raise CutOff(entry.known)
-    return data
-
-
-def read_binary(stream: BinaryIO, line: bytes, entry: Entry) -> bytes:
-    """The rest of a field whose value has a length before it; its value, if it is short."""
-    entry.begin(line[:-1])
-    length = read_exactly(stream, 8, entry)
-    left = int.from_bytes(length, "little")
-    if left > LONGEST:
-        raise Unfit(f"a value of {left} bytes: this isn't an export stream, or it is damaged")
-    entry.count_value(left)
-    entry.add(line + length)
-    value = b""
-    while left:
-        value = read_exactly(stream, min(left, PIECE), entry)
-        entry.add(value)
-        left -= len(value)
-    newline = read_exactly(stream, 1, entry)
-    if newline != b"\n":
-        raise Unfit("no newline after a value: this isn't an export stream, or it is damaged")
-    entry.add(newline)
-    return value
-
-
-def read_field(stream: BinaryIO, line: bytes, entry: Entry) -> None:
-    if b"=" in line:
-        value = read_text(stream, line, entry)
-    elif line.endswith(b"\n"):
-        value = read_binary(stream, line, entry)
-    elif len(line) < PIECE:
-        raise CutOff(entry.known)
-    else:
-        raise Unfit("a name is too long: this isn't an export stream, or it is damaged")
-    if line.startswith(b"__") and line.endswith(b"\n"):
-        entry.known[line[:-1].partition(b"=")[0]] = value
-
-
-def entries(stream: BinaryIO, begun: Optional[Callable[[], Kind]] = None) -> Iterator[Kind]:
+def entries(source: Source, begun: Optional[Callable[[], Kind]] = None) -> Iterator[Kind]:
     """Each entry of a stream, once it is read whole; `begun` makes one."""
     begin = begun or Entry
-    entry = begin()
-    while line := stream.readline(PIECE):
-        if line != b"\n":
-            read_field(stream, line, entry)
-        elif entry.fields or entry.known:
-            yield entry
+    stream = Stream(source, LONGEST)
+    for found in stream.entries(begin):
+        if isinstance(found, tuple):
+            text, known, names, _ = found
             entry = begin()
-    if entry.fields or entry.known:
-        raise CutOff(entry.known)
+            entry.take(text, known, names)
+        else:
+            entry = found
+        entry.end = stream.place
+        yield entry
 
 
 class Split:
@@ -261,7 +211,3 @@ def main() -> None:
         sys.exit(str(fault))
     except OSError as error:
         sys.exit(f"write failed: {error}")
-
-
-if __name__ == "__main__":
-    main()

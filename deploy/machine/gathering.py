@@ -8,7 +8,6 @@ from __future__ import annotations
 import os
 
 from machine import places, streams, texts
-from machine.fit_stream import Unfit
 from machine.forks import Forks
 from machine.journal import Journal, JournalFile, Listing, Reading, cursor_of
 from machine.kept import NEW, Large, name_of, status
@@ -20,6 +19,7 @@ from machine.shortened import Shortened
 from machine.streams import Stream
 from machine.unreadable import next_readable
 from shared import files
+from shared.export_stream import Unfit
 from shared.records import dataclass
 
 TYPE_CHECKING = False

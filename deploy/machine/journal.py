@@ -9,9 +9,10 @@ from __future__ import annotations
 import os
 from itertools import takewhile
 
-from machine.fit_stream import CutOff, Unfit, entries
+from machine.fit_stream import entries
 from machine.shortened import Shortened
 from shared import processes
+from shared.export_stream import CutOff, Unfit
 from shared.records import dataclass
 
 TYPE_CHECKING = False

@@ -5,9 +5,9 @@ from __future__ import annotations
 import os
 
 from machine import texts
-from machine.fit_stream import Unfit
 from machine.report import LOOK
 from shared import files
+from shared.export_stream import Unfit
 
 TYPE_CHECKING = False
 if TYPE_CHECKING:

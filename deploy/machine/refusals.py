@@ -12,11 +12,11 @@ acknowledged of the stream stays so, and whatever has no answer yet goes out aga
 from __future__ import annotations
 
 from machine import streams, texts
-from machine.fit_stream import Unfit
 from machine.kept import keep, name_of, status
 from machine.report import LOOK, Report
 from machine.shortened import Shortened, is_shortened
 from machine.streams import Stream
+from shared.export_stream import Unfit
 
 TYPE_CHECKING = False
 if TYPE_CHECKING:

@@ -129,14 +129,13 @@ class Shortened(Entry):
 def rest_of(entry: Entry) -> Rest:
     """The rest of what came of an entry so far."""
     rest = Rest()
-    ends = [at for _, at in entry.begins[1:]] + [len(entry.pieces)]
-    for (name, begin), end in zip(entry.begins, ends):
+    for name, pieces in entry.held():
         rest.begin(name)
-        for piece in entry.pieces[begin:end]:
+        for piece in pieces:
             rest.add(piece)
     return rest
 
 
 def is_shortened(entry: Entry) -> bool:
     """Something was left out of it already."""
-    return any(name == LEFT_OUT for name, _ in entry.begins)
+    return any(name == LEFT_OUT for name, _ in entry.held())

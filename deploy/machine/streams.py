@@ -13,12 +13,12 @@ import os
 import zlib
 
 from machine import texts
-from machine.fit_stream import CutOff, Unfit, entries
+from machine.fit_stream import entries
 from machine.report import LOOK, Report
 from machine.shortened import Shortened
 from machine.sent import Sent
 from shared import files
-
+from shared.export_stream import Unfit
 
 TYPE_CHECKING = False
 if TYPE_CHECKING:
@@ -72,9 +72,9 @@ class Stream:
         with open(self.path("stream"), "rb") as file:
             try:
                 for entry in entries(file, Shortened):
-                    yield begin, file.tell(), entry
-                    begin = file.tell()
-            except (CutOff, Unfit):
+                    yield begin, entry.end, entry
+                    begin = entry.end
+            except Unfit:
                 return
 
     def delete(self) -> None:

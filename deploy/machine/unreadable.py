@@ -6,9 +6,9 @@ can't find, without a word: that there is more is seen by the file's header.
 """
 from __future__ import annotations
 
-from machine.fit_stream import Unfit
 from machine.journal import Journal, JournalFile, cursor_of
 from machine.places import Place
+from shared.export_stream import Unfit
 
 # So many numbers are tried one by one, and then each at twice the distance.
 ONE_BY_ONE = 32

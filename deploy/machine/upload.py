@@ -43,5 +43,4 @@ def ends() -> Iterator[int]:
     """Where each of its entries ends, counted from the first one's beginning."""
     with open(PATH, "rb") as file:
         file.seek(HEADER_BYTES)
-        for _ in entries(file):
-            yield file.tell() - HEADER_BYTES
+        yield from (entry.end for entry in entries(file))

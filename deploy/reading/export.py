@@ -5,11 +5,12 @@ from collections.abc import Iterator
 from dataclasses import dataclass
 from itertools import chain
 from struct import pack
-from typing import IO
+
+from shared.export_stream import Source, Stream, Unfit
 
 LONGEST = 1 << 26
 # The name of a sequence becomes a file's: nothing else goes through.
-SEQUENCE, NUMBER = re.compile(rb"[0-9a-f]{32}\n"), re.compile(rb"[0-9]{1,20}\n")
+SEQUENCE, NUMBER = re.compile(rb"[0-9a-f]{32}"), re.compile(rb"[0-9]{1,20}")
 TEXT = bytes(range(32, 256)) + b"\t"
 Names = tuple[bytes, ...]
 
@@ -47,46 +48,41 @@ def value_of(name: bytes, field: bytes) -> bytes:
     return field[begin:-1] if field[begin - 1] == 61 else field[begin + 8:-1]
 
 
-def read_exactly(stream: IO[bytes], length: int) -> bytes:
-    data = stream.read(length)
-    if len(data) < length:
-        raise Malformed("the stream is cut off within an entry")
-    return data
+class Long:
+    """The fields of an entry that comes in pieces."""
+
+    def __init__(self) -> None:
+        self.known: dict[bytes, bytes] = {}
+        self.names: list[bytes] = []
+        self.pieces: list[list[bytes]] = []
+
+    def begin(self, name: bytes) -> None:
+        self.names.append(name)
+        self.pieces.append([])
+
+    def count_value(self, length: int) -> None:
+        """All of it is kept."""
+
+    def add(self, piece: bytes) -> None:
+        self.pieces[-1].append(piece)
+
+    def fields(self) -> tuple[list[bytes], list[bytes]]:
+        """The names and texts of those that aren't metadata."""
+        kept = [(name, b"".join(pieces)) for name, pieces in zip(self.names, self.pieces) if name[:2] != b"__"]
+        return [name for name, _ in kept], [field for _, field in kept]
 
 
-def read_value(stream: IO[bytes]) -> bytes:
-    """A length, so many bytes of a value, and a newline."""
-    length = read_exactly(stream, 8)
-    if int.from_bytes(length, "little") > LONGEST:
-        raise Malformed(f"a value of {int.from_bytes(length, 'little')} bytes")
-    value = read_exactly(stream, int.from_bytes(length, "little") + 1)
-    if value[-1] != 10:
-        raise Malformed("no newline after a value")
-    return length + value
-
-
-def entries(stream: IO[bytes], keys: bool = True) -> Iterator[Entry]:
+def entries(source: Source, keys: bool = True) -> Iterator[Entry]:
     """The entries; without keys those of a stream that has none, as journalctl writes it."""
-    known: dict[bytes, bytes] = {}
-    names: list[bytes] = []
-    fields: list[bytes] = []
-    line = b"\n"
-    for line in stream:
-        name, equals, value = line.partition(b"=")
-        if not equals and line != b"\n":
-            name, value = line[:-1], read_value(stream)
-            line, value = line + value, value[8:]
-        if line == b"\n":
-            if known or names:
-                yield entry_of(known, names, fields, keys)
-            known, names, fields = {}, [], []
-        elif name[:2] == b"__":
-            known[name] = value
-        else:
-            names.append(name)
-            fields.append(line)
-    if known or names or line[-1:] != b"\n":
-        raise Malformed("the stream is cut off within an entry")
+    try:
+        for found in Stream(source, LONGEST).entries(Long):
+            if isinstance(found, tuple):
+                _, known, names, fields = found
+            else:
+                known, (names, fields) = found.known, found.fields()
+            yield entry_of(known, names, fields, keys)
+    except Unfit as fault:
+        raise Malformed(fault.args[0]) from fault
 
 
 def entry_of(known: dict[bytes, bytes], names: list[bytes], fields: list[bytes], keys: bool) -> Entry:
@@ -94,7 +90,7 @@ def entry_of(known: dict[bytes, bytes], names: list[bytes], fields: list[bytes],
     if keys and not SEQUENCE.fullmatch(sequence):
         raise Malformed("an entry without the id of its sequence")
     number = number_of(known, b"__SEQNUM") if keys else 0
-    return Entry(sequence[:-1].decode("ascii") if keys else "", number, number_of(known, b"__REALTIME_TIMESTAMP"),
+    return Entry(sequence.decode("ascii") if keys else "", number, number_of(known, b"__REALTIME_TIMESTAMP"),
                  number_of(known, b"__MONOTONIC_TIMESTAMP"), tuple(names), fields)
 
 

@@ -63,42 +63,11 @@ def entries(upload: Upload, sieve: Sieve | None = None) -> Iterator[Entry]:
         if data[8:9] != bytes([STREAM]):
             yield from entries_of_file(upload)
         elif sieve is None or sieve.takes_upload(data):
-            yield from entries_of_stream(data)
+            stream = io.BytesIO(data)
+            stream.seek(HEAD)
+            yield from export.entries(stream)
     except (OSError, export.Malformed):
         return
-
-
-def entries_of_stream(data: bytes) -> Iterator[Entry]:
-    """The entries of a stream behind the head of an upload. Most have a line for each field, and are read at once."""
-    at, stream = HEAD, io.BytesIO(data)
-    while at < len(data):
-        end = data.find(b"\n\n", at)
-        lines = data[at:end].split(b"\n") if end >= 0 else [b""]
-        if all(b"=" in line for line in lines):
-            yield entry_of_lines(lines)
-            at = end + 2
-            continue
-        stream.seek(at)
-        entry = next(export.entries(stream), None)
-        if entry is None:
-            return
-        yield entry
-        at = stream.tell()
-
-
-def entry_of_lines(lines: list[bytes]) -> Entry:
-    """An entry that has these lines."""
-    known: dict[bytes, bytes] = {}
-    names: list[bytes] = []
-    fields: list[bytes] = []
-    for line in lines:
-        name, _, value = line.partition(b"=")
-        if name[:2] == b"__":
-            known[name] = value + b"\n"
-        else:
-            names.append(name)
-            fields.append(line + b"\n")
-    return export.entry_of(known, names, fields, True)
 
 
 def entries_of_file(upload: Upload) -> Iterator[Entry]:

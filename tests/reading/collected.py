@@ -62,7 +62,7 @@ class Machine:
         text = text or b"".join(entry(host, number, time) for number, time in enumerate(times(host, entries)))
         run(REMOTE, "--split-mode=none", f"--output={self.journal}", "-", data=text)
         told = run("journalctl", f"--file={self.journal}", "--output=export", "--quiet")
-        self.stream.write_bytes(run(ROOT / "deploy/machine/fit_stream.py", data=told))
+        self.stream.write_bytes(run(ROOT / "deploy/fit-stream", data=told))
 
     def upload(self, limit: int) -> bytes:
         return run("journal-collect", "upload", "--source", self.id, "--resume", self.resume, "--limit", str(limit),
