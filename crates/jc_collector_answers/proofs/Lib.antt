@@ -3,5 +3,5 @@ pub mod Successive
 pub mod Judging
 pub mod Printing
 pub mod LeftPrinted
-pub mod Losing
+pub mod Kept
 pub mod Tying

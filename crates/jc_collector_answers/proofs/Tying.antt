@@ -1,15 +1,13 @@
 -- What holds of the answers that were printed, one after the other.
-use Rattle.std.proofs.Common.{◌≡◌, ◌∙◌, ℕ, List, [], ◌∷◌, ◌++◌, Option, Some, None, length, take, inl, inr, ⊎_elim, sym, ap, subst, arith}
-use Rattle.std.specs.Prelude.{IfSome, IfOk, IfErr, Result, Ok, Err}
+use Rattle.std.proofs.Common.{◌≡◌, ◌∙◌, ℕ, List, [], ◌∷◌, ◌++◌, Option, Some, None, length, take, sym, ap, subst, arith}
+use Rattle.std.specs.Prelude.{IfSome}
 use Rattle.std.specs.List.{All}
 use Rattle.std.specs.Io.KnownBytes.{Appends, Keeps}
-use Rattle.std.proofs.KnownBytes.{Appends-nil}
 use Rattle.std.proofs.lemmas.List.{append-nil}
 use Rattle.jc_base.specs.declared.limits.Limits.{Limits}
-use Rattle.jc_base.specs.Journal.{Journal}
 use Rattle.jc_collect.specs.declared.runs.RunEnd.{RunEnd}
 use Rattle.jc_collect.specs.declared.runs.RunEnd.TheVariants.{Done, Stopped}
-use Rattle.jc_collect.specs.Each.{Held, HoldsEach, KeepsEach, NoneAcknowledged, RunsEach, StoresEach}
+use Rattle.jc_collect.specs.Each.{Held, HoldsEach, NoneAcknowledged, RunsEach}
 use Rattle.jc_collect.specs.EachLaws.{holds_refused}
 use Rattle.jc_collect.specs.Run as run
 use Rattle.jc_collect.specs.Run.{OnlyIfOwned}
@@ -92,51 +90,6 @@ pub holds_of_run : (limits : Limits) (known : List (Option (List ℕ))) (before 
     → RunsEach limits known before now written end sunk → run.WritesWith (HoldsEach before now) (length known) written sunk end
 holds_of_run limits known before now written sunk Done ran = (ran.wrote, ran.holds)
 holds_of_run limits known before now written sunk (Stopped done bytes) ran = (ran.inside, ran.wrote, ran.holds)
-
--- ---- nothing collected
-
-pub prints_none : (Holds : List Answer → Type 0) → Holds [] → (old : Option (List ℕ)) → PrintsFront Holds old old
-prints_none Holds none old = record { answers = []; more = []; one = omega arith; bytes = 0; printed = Appends-nil old; holds = none }
-
--- what holds of answers holds of others too
-module _ (First Other : List Answer → Type 0) (each : (answers : List Answer) → First answers → Other answers) where
-  with_other : (count : ℕ) (status : Status) (old new : Option (List ℕ)) → PrintsWith First count status old new → PrintsWith Other count status old new
-  with_other count status old new prints = record { shown = prints.shown; holds = each prints.shown.answers prints.holds }
-
-  front_other : (old new : Option (List ℕ)) → PrintsFront First old new → PrintsFront Other old new
-  front_other old new prints = record {
-    answers = prints.answers;
-    more = prints.more;
-    one = prints.one;
-    bytes = prints.bytes;
-    printed = prints.printed;
-    holds = each (prints.answers ++ prints.more) prints.holds;
-  }
-
-  pub other_if_ok : {F : Type 0} (count : ℕ) (old new : Option (List ℕ)) (result : Result Status F)
-      → IfOk result (λ status. PrintsWith First count status old new) → IfOk result (λ status. PrintsWith Other count status old new)
-  other_if_ok count old new (Ok status) prints = with_other count status old new prints
-  other_if_ok count old new (Err failure) prints = tt
-
-  pub other_if_err : {F : Type 0} (old new : Option (List ℕ)) (result : Result Status F)
-      → IfErr result (λ _. PrintsFront First old new) → IfErr result (λ _. PrintsFront Other old new)
-  other_if_err old new (Ok status) prints = tt
-  other_if_err old new (Err failure) prints = front_other old new prints
-
-pub for_any : {T F : Type 0} (P : Type 0) (result : Result T F) → P → IfErr result (λ _. P)
-for_any P (Ok value) p = tt
-for_any P (Err failure) p = p
-
--- a keeper was told something before, of which nothing is seen
-pub holds_told : (before mid now : Held) → mid.journal ≡ before.journal → (mid.Sound → before.Sound)
-    → ((found : Journal) → mid.may_leave found → before.may_leave found) → (answers : List Answer) → HoldsEach mid now answers
-    → HoldsEach before now answers
-holds_told before mid now same earlier back answers holds = record {
-  stored = λ sound. subst (λ (j : Journal). StoresEach j answers now.journal) same (holds.stored sound);
-  found = λ left may.
-      ⊎_elim (λ was. inl (back left was.0, was.1))
-      (λ kept. inr (earlier kept.0, subst (λ (j : Journal). KeepsEach j answers left) same kept.1)) (holds.found left may);
-}
 
 -- ---- an upload of which nothing could be read
 

@@ -1,4 +1,6 @@
 pub mod Answered
+pub mod Kept
 pub mod Named
 pub mod Opened
+pub mod PrintedLaws
 pub mod Tied

@@ -7,8 +7,8 @@ use Rattle.jc_collector_answers.proofs.Successive.{unread_with}
 use Rattle.jc_collector_answers.proofs.Tying.{front_of_one}
 use Rattle.jc_collector_answers.proofs.named.answer_unread.Goals as goal
 
-pub returns-clause-refused : goal.returns-clause-refused
-returns-clause-refused g c =
+pub returns-clause-unread : goal.returns-clause-unread
+returns-clause-unread g c =
     let old = g.O.Write.contents c.args.output.now in
     let mid = g.O.Write.contents c.write_front-count.new.output in
     let bytes = c.bytes.result.now in
@@ -20,10 +20,10 @@ returns-clause-refused g c =
     c.flushed.ensures.keeps c.bytes.ensures.value c.line-line.ensures.text c.line-line.ensures.lawful c.number.ensures
 
 pub returns-clause-printed : goal.returns-clause-printed
-returns-clause-printed g c = let refused = returns-clause-refused g c in refused.shown
+returns-clause-printed g c = let unread = returns-clause-unread g c in unread.shown
 
-pub returns-then-not-flushed-clause-front : goal.returns-then-not-flushed-clause-front
-returns-then-not-flushed-clause-front g c =
+pub returns-then-not-flushed-clause-unread : goal.returns-then-not-flushed-clause-unread
+returns-then-not-flushed-clause-unread g c =
     front_of_one (No None c.number.result 0) (c.number.ensures, tt) c.write_front-count.result c.bytes.result.now c.line-line.result (g.O.Write.contents c.args.output.now)
     (g.O.Write.contents c.write_front-count.new.output) (g.O.Write.contents c.flushed.new.output) c.write_front-count.ensures.front
     c.flushed.ensures.keeps c.bytes.ensures.value c.line-line.ensures.text
