@@ -1,5 +1,5 @@
 -- The closed files have what the keeper had.
-use Rattle.std.proofs.Common.{◌≡◌, None, Some, Ok, Err, Option, Result, sym, subst, rules}
+use Rattle.std.proofs.Common.{◌≡◌, Some, Ok, Err, Option, Result, sym, subst, rules}
 use Rattle.std.specs.Prelude.{IfOk, IfSome}
 use Rattle.std.specs.Result.{result_ok}
 use Rattle.jc_union.proofs.collecting.close_union.Goals as goal
