@@ -10,7 +10,8 @@ use Rattle.jc_upload.specs.declared.answer.Answer.{Answer}
 use Rattle.jc_command_shared.specs.declared.status.Status.{Status}
 use Rattle.jc_collector_answers.specs.Tied.{PrintsFront}
 
--- A keeper has kept all that it had stored, from one moment to a later one.
+-- A keeper has kept all that it had stored, from one moment to a later one, if its device is sound then. A crash then leaves
+-- what it might have left before, or all of that.
 pub record HasKept {K : Type 0} (k : keepers.Ghosts K) (old new : K) : Type 0 where
   -- a device that is sound now was sound before, and one that has returned what was written had done so before
   pub was_sound : k.sound new → k.sound old
@@ -34,7 +35,8 @@ Printing = (Holds : List Answer → Type 0) → Status → (old new : Option (Li
 abbrev pub HoldsPrinted : {F : Type 0} → (Whole : Printing) → (Holds : List Answer → Type 0) → Result Status F → (old new : Option (List ℕ)) → Type 0
 HoldsPrinted Whole Holds result old new = MatchResult result (λ status. Whole Holds status old new) (λ _. PrintsFront Holds old new)
 
--- What printed answers say is so of the keeper that they were given over, between two moments of it.
+-- What printed answers say is so of the keeper that they were given over, between two moments of it: what they acknowledge
+-- is stored, and found after a crash. If printing failed, this holds of those that were printed, the last perhaps in part.
 pub record AnswersHold {K F : Type 0} (k : keepers.Ghosts K) (Whole : Printing) (old new : K) (result : Result Status F) (printed printed_now : Option (List ℕ))
     : Type 0 where
   -- what they acknowledge is stored, and found after a crash

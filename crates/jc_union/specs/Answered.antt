@@ -13,8 +13,10 @@ use Rattle.jc_store.specs.Meaning.{IsSound, Meaning, journal_of}
 use Rattle.jc_union.specs.Noted.{HoldsNoted}
 use Rattle.jc_union.specs.Opened.{MayOpen}
 
--- A union was to be opened of a present database and a ledger, and uploads were to be collected into it. These are what is
--- answered, and the union afterwards, with the present database and the ledger that it has then.
+-- A union was to be opened of a present database and a ledger, and uploads were to be collected into it. This is what was
+-- answered, and the union afterwards, with the present database and the ledger that it has then. What the printed answers
+-- acknowledge is stored and noted, and found after a crash, if the union might be opened: if printing failed, this holds of
+-- those that were printed. Whatever a crash leaves, a union is made of it again.
 pub record AnswersNoted (m : Meaning) {S N U F : Type 0} (g : Ghosts S) (n : ledgers.Ghosts N) (u : keepers.Ghosts U) (past : Journal) (Whole : Printing)
     (present : Held S) (ledger : N) (union : U) (present_now : Held S) (ledger_now : N) (result : Result Status F) (printed printed_now : Option (List ℕ))
     : Type 0 where
