@@ -8,7 +8,7 @@ use sha2::{Digest, Sha256};
 /// A machine, by the SHA-256 digest of its name.
 ///
 /// Source: FIPS 180-4, section 6.2.
-#[derive(Clone, Copy, Debug, PartialEq, Eq)]
+#[derive(Clone, Copy, PartialEq, Eq)]
 pub struct MachineDigest(pub [u8; 32]);
 
 impl MachineDigest {
