@@ -11,7 +11,7 @@ use jc_base::{Id128, NUMBER_END};
 use jc_ledger::MachineDigest;
 
 /// The machine that a sequence belongs to, if it belongs to one.
-#[derive(Clone, Copy, Debug, PartialEq, Eq)]
+#[derive(Clone, Copy)]
 pub struct Owned {
     pub sequence: Id128,
     pub machine: Option<MachineDigest>,
