@@ -94,6 +94,19 @@ def two_machines(trial: Trial) -> None:
     is_of(trial, "later", union, (one, "one"), (two, "two"))
 
 
+def two_sequences(trial: Trial) -> None:
+    """An upload claims each sequence of which it has something new, in a file with one note and a closed gate."""
+    union = Union(trial)
+    one, two = (Machine(trial.dice, 4) for _ in range(2))
+    database = union.database()
+    taken(trial, "both at once", union, database, "one", one.stream(0, 2) + two.stream(0, 2)[48:])
+    is_of(trial, "both are one's", union, (one, "one"), (two, "one"))
+    for machine in (one, two):
+        with open(file_of(union, machine), "rb") as file:
+            trial.expect("the file", file.read(), note("one") + bytes([CLOSED]))
+    refused(trial, "another one", union, database, "two", two.stream(0, 4), foreign(two, 0, 0))
+
+
 def journal_file(trial: Trial) -> None:
     """A journal file of another machine's sequence is refused at its first entry."""
     union = Union(trial)
@@ -274,8 +287,8 @@ def plain_list(trial: Trial) -> None:
 
 def main() -> None:
     with Trial("owners") as trial:
-        rows = (two_machines, journal_file, thief, beside_conflicts, no_machine, names_of_machines, notes_that_are_none,
-                notes_that_hold, released, no_file, at_once, plain_list)
+        rows = (two_machines, two_sequences, journal_file, thief, beside_conflicts, no_machine, names_of_machines,
+                notes_that_are_none, notes_that_hold, released, no_file, at_once, plain_list)
         for row in rows:
             row(trial)
         trial.finish(f"{len(rows)} kinds of rows over sequences that belong to machines")

@@ -22,6 +22,7 @@ from trial import Trial, as_output, run, start, status_of
 # How many numbers a file has the notes of, and a note: its gate, the entry's number and the digest of its text.
 WINDOW = 4096
 NOTE = struct.Struct("<BQ32s")
+OPEN, CLOSED = b"\1", b"\0"
 Told = tuple[bytes, str, int]
 
 
@@ -81,6 +82,11 @@ class Union:
         """The path of the file that has the note of an entry."""
         return os.path.join(self.folder, entry.seqnum_id.hex(), str(entry.seqnum // WINDOW))
 
+    def file(self, entry: Entry) -> bytes:
+        """What that file has."""
+        with open(self.path(entry), "rb") as file:
+            return file.read()
+
     def notes(self) -> dict[tuple[bytes, int], bytes]:
         """What is noted, by keys."""
         noted = {}
@@ -100,6 +106,11 @@ def notes_in(path: str) -> Iterator[tuple[int, bytes]]:
             if gate != 1:
                 return
             yield number, digest
+
+
+def note(entry: Entry) -> bytes:
+    """The note of an entry."""
+    return NOTE.pack(OPEN[0], entry.seqnum, hashlib.sha256(entry.text()).digest())
 
 
 def file_then_stream(trial: Trial) -> None:
@@ -133,16 +144,55 @@ def differs(trial: Trial) -> None:
 def folder_is_made(trial: Trial) -> None:
     """The folder is made for its user alone, with a file for each window of numbers that has notes."""
     union = Union(trial)
-    machine = Machine(trial.dice, 3)
-    far = [entry._replace(seqnum=number) for entry, number in zip(machine.entries, (WINDOW - 1, WINDOW, 2**63 - 1))]
-    machine.entries = far
+    machine = Machine(trial.dice, 4)
+    machine.entries = at_numbers(machine, (WINDOW - 1, WINDOW, 2**63 - 1, 5))
+    far, near = machine.entries[:3], machine.entries[3]
     union.collect("far apart", union.database(), machine.stream(0, 3))
     trial.expect("the folder's mode", stat.S_IMODE(os.stat(union.folder).st_mode), 0o700)
     trial.expect("sequences", os.listdir(union.folder), [machine.seqnum_id.hex()])
     windows = os.listdir(os.path.join(union.folder, machine.seqnum_id.hex()))
     trial.expect("windows", {name for name in windows if not name.endswith("-wal")}, {"0", "1", str(2**51 - 1)})
-    union.collect("again", union.database(), machine.stream(0, 3))
+    trial.expect("their files", [union.file(entry) for entry in far], [note(entry) + CLOSED for entry in far])
+    union.collect("again, and one more", union.database(), machine.stream(0, 4))
+    trial.expect("the longer file", union.file(near), note(far[0]) + note(near) + CLOSED)
     union.hold("far apart")
+
+
+def at_numbers(machine: Machine, numbers: Sequence[int]) -> list[Entry]:
+    """A machine's entries with other numbers."""
+    return [entry._replace(seqnum=number) for entry, number in zip(machine.entries, numbers)]
+
+
+def many_windows(trial: Trial) -> None:
+    """More windows than have their notes in memory, one after the other, and then twice in each of two runs."""
+    union = Union(trial)
+    machine = Machine(trial.dice, 6)
+    machine.entries = at_numbers(machine, range(7, 6 * WINDOW, WINDOW))
+    first, second = union.database(), union.database()
+    for number in range(6):
+        union.collect(f"window {number}", first, machine.stream(number, number + 1))
+    for time in range(2):
+        lines = union.collect("all windows", second, machine.stream(0, 6), machine.stream(0, 6))
+        trial.expect(f"none is new, {time}", [line.split()[4] for line in lines], ["0", "0"])
+    union.hold("many windows")
+
+
+def behind_notes(trial: Trial) -> None:
+    """Whatever stands behind the last whole note whose gate is open, the next note comes behind that one."""
+    for place in range(5):
+        union = Union(trial)
+        machine = Machine(trial.dice, 3)
+        first, *_, last = machine.entries
+        union.collect("the first", union.database(), machine.stream(0, 1))
+        tail = (b"", CLOSED, note(last)[:-1], CLOSED + 3 * OPEN, b"\xff")[place]
+        with open(union.path(first), "wb") as file:
+            file.write(note(first) + tail)
+        union.collect(f"behind {tail!r}", union.database(), machine.stream(2, 3))
+        made = union.file(last)
+        trial.expect(f"the file behind {tail!r}", made[:2 * NOTE.size + 1], note(first) + note(last) + CLOSED)
+        [line] = union.collect(f"all behind {tail!r}", union.database(), machine.stream(0, 3))
+        trial.expect(f"one is new behind {tail!r}", line.split()[4], "1")
+        union.hold(f"behind {tail!r}")
 
 
 def lost_notes(trial: Trial) -> None:
@@ -262,8 +312,8 @@ def not_opened(trial: Trial) -> None:
 
 def main() -> None:
     with Trial("sequences") as trial:
-        rows = (file_then_stream, differs, folder_is_made, lost_notes, noted_anew, database_differs, both_orders,
-                then_export, two_at_once, not_opened)
+        rows = (file_then_stream, differs, folder_is_made, many_windows, behind_notes, lost_notes, noted_anew,
+                database_differs, both_orders, then_export, two_at_once, not_opened)
         for row in rows:
             row(trial)
         trial.finish(f"{len(rows)} kinds of rows over databases that share their notes")

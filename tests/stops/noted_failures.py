@@ -2,7 +2,8 @@
 are of lists and uploads too, are counted.
 
 What was acknowledged is stored once and noted, and the sequence is its machine's. An upload that failed may be stored,
-too, if none behind it was acknowledged. A next run over a sound device takes all uploads.
+too, if none behind it was acknowledged. Once a note couldn't be written or synced, the run takes up nothing more. A
+next run over a sound device takes all uploads.
 """
 from __future__ import annotations
 
@@ -22,6 +23,16 @@ from upwards import NEVER, upwards
 WHY = re.compile(r"(cannot open .*\n)*((read|store) failed\n)?")
 
 
+def is_note(call: device.Call) -> bool:
+    """Whether a call writes or syncs the file of a window."""
+    folder, name = os.path.split(call.path)
+    return call.operation in (b"w", b"s") and name.isdigit() and "sequences" in folder.split(os.sep)
+
+
+def is_failure(line: str) -> bool:
+    return line.endswith(" 62 0")
+
+
 def failing(noted: NotedRun, number: int, last: int) -> bool:
     """The calls from one to another fail; answers whether there are such calls."""
     trial, what = noted.trial, f"calls {number} to {last} fail"
@@ -35,6 +46,9 @@ def failing(noted: NotedRun, number: int, last: int) -> bool:
     trial.expect(f"{what}: all are answered", bool(errors) or len(lines) == len(noted.uploads), True)
     if not calls:
         trial.expect(f"{what}: undisturbed", told, noted.usual)
+    if any(map(is_note, calls)):
+        trial.expect(f"{what}: {lines}, all fail from one on", lines == sorted(lines, key=is_failure), True)
+        trial.expect(f"{what}: {lines}, one fails", is_failure(lines[-1]), True)
     may_be = noted.may_be(what, lines)
     # what an earlier run left so, to the byte, was looked at then
     if may_be and trial.is_new(folder, *lines):
