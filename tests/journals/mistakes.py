@@ -81,6 +81,12 @@ recover ENTRY => differs 0
 journal union
 present-add ENTRY => taken 1 0 0
     taken 1 1 0 and not taken 1 0 0 (union)
+journal union
+machine web
+take 0 head:1:0 ENTRY => ack S 0 1 1 0
+machine db
+take 0 head:1:0 ENTRY_2 => ack S 0 1 1 0
+    no (source) 0 71 0\n and not ack (source) 0 1 1 0\n (union)
 journal shut
 take 0 head:1:0 => ack S 0 0 0 0
     no (source) 0 62 0\n and not ack (source) 0 0 0 0\n (shut)

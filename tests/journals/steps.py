@@ -15,6 +15,8 @@
 | `catch PIECES => TEXT` | what becomes of a database's entries that are to be noted |
 | `recover PIECES => TEXT` | what becomes of a stopped union whose present database had these entries |
 | `turn` | an empty database becomes the present one |
+| `machine NAME` | the machine of this name brings what comes next |
+| `nobody` | no machine is named |
 | `asked => TEXT` | what becomes of an entry that is asked for, and how often that failed |
 | `fails MOST,LENGTH,HEAD,FIRST,END,READS PIECES => LINE` | an upload fails, and comes again: see `Failing` |
 | `fails MOST,LENGTH,HEAD PIECES => LINE` | the same behind each number of reads |
@@ -98,8 +100,8 @@ def step_of(number: int, word: str, rest: str) -> Step:
         return storing(number, bytes_of(rest))
     if word == "present":
         return Step(number, "present stored", [], stored, bytes_of(rest))
-    if word == "turn":
-        return Step(number, "turn", [], nothing, b"")
+    if word in ("turn", "machine", "nobody"):
+        return Step(number, f"{word} {rest}".strip(), [], nothing, b"")
     if word == "asked":
         return Step(number, "asked", [], failure, wanted_by(f" {rest}")[1].encode())
     if word not in READINGS:

@@ -6,6 +6,8 @@
 //! | `run W U:M..` | a run over uploads, to a sink that takes one byte at each write and fails after W of them |
 //! | `add E` | the export stream E's entries are added; then the next one that their reading gives is written |
 //! | `stored` | the entries that are stored under the numbers 1 to 4 |
+//! | `machine NAME` | the machine of this name brings what comes next |
+//! | `nobody` | no machine is named |
 //!
 //! A device gives M bytes at most at each read. If M is 0 it is a space.
 
@@ -71,8 +73,15 @@ pub fn take_step<K: Keeper>(given: Given<'_>, keeper: &mut K, step: &str, output
         "run" => run(given, keeper, operands, output),
         "add" => add(given, keeper, operands, output),
         "stored" => write_stored(given.alloc, keeper, output),
+        "machine" => brought(keeper, Some(operands.as_bytes())),
+        "nobody" => brought(keeper, None),
         _ => output.no_meaning(),
     }
+}
+
+/// What comes next comes from this machine. What calls this has nothing of `brought_by`'s contract to prove with.
+fn brought<K: Keeper>(keeper: &mut K, machine: Option<&[u8]>) {
+    keeper.brought_by(machine)
 }
 
 fn collect<K: Keeper>(given: Given<'_>, keeper: &mut K, operands: &str, output: &mut Output) {
