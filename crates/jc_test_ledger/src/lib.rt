@@ -1,5 +1,0 @@
-//! Worked ledgers over files in memory.
-#![tactic(auto)]
-
-#[cfg(test)]
-mod tests;
