@@ -1,5 +1,5 @@
 -- What stands behind the first place of a text is one text.
-use Rattle.std.proofs.Common.{◌≡◌, ◌≢◌, ◌∙◌, ◌<◌, ◌≤◌, ◌+◌, ◌⊎◌, ◌++◌, ◌∷◌, ℕ, List, Option, Some, None, Bor, length, take, drop, ap, sym, subst, arith, inl, inr, codes, lit<, length-append}
+use Rattle.std.proofs.Common.{◌≡◌, ◌≢◌, ◌∙◌, ◌+◌, ◌++◌, ◌∷◌, ℕ, List, Option, Some, None, Bor, length, take, drop, ap, sym, subst, arith, inl, inr, codes, lit<, length-append}
 use Rattle.std.specs.Prelude.{MatchOption, decimal}
 use Rattle.std.specs.Str.{trim}
 use Rattle.std.specs.Str.Pattern.{FindsText}
@@ -7,7 +7,7 @@ use Rattle.std.proofs.Math.Seq.{drop-append_seam}
 use Rattle.std.proofs.lemmas.Bool.{cases_order}
 use Rattle.std.proofs.lemmas.List.{append_cancel_left, take-append-drop}
 use Rattle.std.proofs.lemmas.Str.Pattern.{IsSplitOnceResult, split_after}
-use Rattle.jc_codes.specs.Rows.{BeginsLine, IsBelow, IsRow, SaysRow, at_once, below}
+use Rattle.jc_codes.specs.Rows.{IsBelow, IsRow, SaysRow, at_once, below}
 use Rattle.jc_codes.specs.declared.table.Coded.{Coded}
 
 module _ (begin text : List ℕ) where

@@ -39,7 +39,7 @@ use Rattle.jc_command_shared.specs.Failure.{status_of}
 use Rattle.jc_command.specs.Run.{Begins, Collects, Devices, DoesFor, Ends, FailsBy, Leaves, leaves, Performs, Stops, StopsAsked}
 use Rattle.jc_command_shared.specs.Status.{number_of}
 use Rattle.jc_sender.specs.Verdict.{verdict_status}
-use Rattle.jc_command_args.specs.Words.{AreAnswered, AreWrong, AskFor}
+use Rattle.jc_command_args.specs.Words.{AreAnswered, AskFor}
 
 -- a reading's status is one of two
 not_misused : (ending : Ending) → Misused ≡ verdict_status ending → ⊥

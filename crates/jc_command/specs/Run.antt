@@ -12,6 +12,7 @@ use Rattle.jc_ledger.specs.Kept.{NoneCollide}
 use Rattle.jc_ledger.specs.Known.{Known}
 use Rattle.jc_ledger.specs.Lagging.{MayCatchUp}
 use Rattle.jc_ledger.specs.Owners.{Owner, StayOwned, StayOwnedAfter}
+use Rattle.jc_ledger.specs.Union.{union}
 use Rattle.jc_ledger_files.specs.declared.window_name.WindowName.{WindowName}
 use Rattle.jc_ledger_files.specs.NotesOf.{notes_of}
 use Rattle.jc_ledger_files.specs.Owned.{owner_found}
@@ -45,17 +46,31 @@ use Rattle.jc_command_args.specs.Words.{AreWrong, AskFor, AskForHelp}
 -- ---- what is done over a database
 
 -- What a run begins with: what its database's files have, what the files of sequences' windows note, the machines that
--- sequences belong to, the journal of the finished databases, and the entries that came in earlier runs.
+-- sequences belong to, the journal of the finished databases, what is noted of databases that were set aside, and the entries
+-- that came in earlier runs.
 pub record Begins : Type 1 where
   pub image : Image
   pub noted : Known
   pub owner : Owner
-  pub past : Journal
+  pub finished : Journal
+  pub aside : Journal
   pub came : LogEntry → Type 0
 
-abbrev pub begins_with : Image → (windows : WindowName → List ℕ) → (past : Journal) → (came : LogEntry → Type 0) → Begins
-begins_with image windows past came =
-    record { image = image; noted = known_in (λ w. notes_of (windows w)); owner = owner_found windows; past = past; came = came }
+abbrev pub begins_with : Image → (windows : WindowName → List ℕ) → (finished aside : Journal) → (came : LogEntry → Type 0) → Begins
+begins_with image windows finished aside came = record {
+  image = image;
+  noted = known_in (λ w. notes_of (windows w));
+  owner = owner_found windows;
+  finished = finished;
+  aside = aside;
+  came = came;
+}
+
+-- What is stored beside the present database: what the finished ones have, and what is noted of those that were set aside.
+-- Notes may lag behind a database that was set aside, and behind no other but the present one: what they lack of it isn't
+-- here, and may be stored once more.
+abbrev pub stored_before : Begins → Journal
+stored_before begun = union begun.finished begun.aside
 
 -- what is seen of the files of its database, of a store S, and of the notes N of sequences
 pub record Devices (S C L N : Type 0) : Type 1 where
@@ -97,13 +112,13 @@ module _ {S C L N : Type 0} (begun : Begins) (g : Devices S C L N) (left : Leave
     pub kept : Leads made KeepsStored
     pub stores : Leads made (StoresFromList list given status old new)
 
-  -- If what the files of sequences noted is what the finished databases have, and some of what the present one had, the notes
-  -- are sound at the end, and of the entries that came no two differ and have one key and one digest, then such a step was
-  -- made over the present database's journal.
+  -- If what the files of sequences noted is what the finished databases have, some of what those have that were set aside, and
+  -- some of what the present one had, the notes are sound at the end, and of the entries that came no two differ and have one
+  -- key and one digest, then such a step was made over the present database's journal.
   abbrev pub LeadsNoted : (made : Tables) → ((known : Known) → (came : LogEntry → Type 0) → Journal → Journal → Type 0) → Type 0
   LeadsNoted made Step =
       IsSomeAnd left.files (λ closed. IsSomeAnd left.ledger (λ notes. LeadsIf made begun.image g.database closed
-      (λ before. MayCatchUp begun.noted begun.past before begun.came × g.ledger.sound notes × NoneCollide (g.ledger.came notes))
+      (λ before. MayCatchUp begun.noted (stored_before begun) before begun.came × g.ledger.sound notes × NoneCollide (g.ledger.came notes))
       (Step (g.ledger.known notes) (g.ledger.came notes))))
 
   -- Each sequence that belonged to a machine belongs to it, if the notes are sound at the end. If the disk returned what was
@@ -112,11 +127,12 @@ module _ {S C L N : Type 0} (begun : Begins) (g : Devices S C L N) (left : Leave
     pub stay : g.ledger.sound notes → StayOwned begun.owner (g.ledger.owner notes)
     pub after : g.ledger.clean notes → StayOwnedAfter begun.owner (g.ledger.may_own notes)
 
-  -- An answer to each upload that a list names was printed, and what they acknowledge is stored in the union of the finished
-  -- databases and the present one. What is noted then is what these have. No sequence was taken from its owner.
+  -- An answer to each upload that a list names was printed. What they acknowledge is stored in the union of the finished
+  -- databases and the present one, or was noted of one that was set aside. What is noted then is what these have. No sequence
+  -- was taken from its owner.
   pub record CollectsIntoUnion (made : Tables) (list : List ℕ) (given old new : Option (List ℕ)) (status : Status) : Type 0 where
     pub printed : PrintsFromList list given status old new
-    pub stores : LeadsNoted made (λ known came. StoresNotedFromList begun.past known came list given status old new)
+    pub stores : LeadsNoted made (λ known came. StoresNotedFromList (stored_before begun) known came list given status old new)
     pub owners : IsSomeAnd left.ledger KeepOwners
 
   -- The line of what there is of a journal was printed. If the files are given back, it is that of the journal which they

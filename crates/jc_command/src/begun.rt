@@ -17,7 +17,10 @@ pub trait Begun: Drop {
     ghost windows: { WindowName → List ℕ };
 
     /// The journal of the finished databases.
-    ghost past: { Journal };
+    ghost finished: { Journal };
+
+    /// What is noted of databases that were set aside. Of what else they have nothing is said.
+    ghost aside: { Journal };
 
     /// The entries that came in earlier runs.
     ghost came: { LogEntry → Type 0 };
@@ -28,7 +31,9 @@ impl Begun for Unknown {
 
     ghost windows = { λ _. [] };
 
-    ghost past = { empty };
+    ghost finished = { empty };
+
+    ghost aside = { empty };
 
     ghost came = { λ _. ⊥ };
 }
@@ -38,7 +43,9 @@ impl Begun for Wary {
 
     ghost windows = { λ _. [] };
 
-    ghost past = { empty };
+    ghost finished = { empty };
+
+    ghost aside = { empty };
 
     ghost came = { λ _. ⊥ };
 }
@@ -58,5 +65,7 @@ impl<S: Begun> Arrivals for BegunBy<S> {
 }
 
 impl<S: Begun> Past for BegunBy<S> {
-    ghost journal = { S.past };
+    ghost use Rattle.jc_ledger.specs.Union.{union};
+
+    ghost journal = { union S.finished S.aside };
 }

@@ -153,7 +153,7 @@ pub fn command<'a, Y: Databases, F: OpenFromFiles, S: Begun, I: Read, O: Write, 
 ) -> u8
     ensures status { result ≤ 3 }
     ensures ended { (status : Status) → status ≢ Status.Failed → result ≡ number_of status
-        → EndsWithin (begins_with F.first S.windows S.past S.came)
+        → EndsWithin (begins_with F.first S.windows S.finished S.aside S.came)
         (devices F.in_files ⟦<Sequences<'a, S> as Ledger>⟧) (map string_bytes words.items) (I.remaining input.old)
         (O.contents output.old) (O.contents output.new) (E.contents errors.old) (E.contents errors.new) status }
     // However it ends, this alone was done to files.
@@ -188,7 +188,7 @@ pub fn run_command<
     ensures status { result.status ≤ 3 }
     // Where something failed, it says so only if files come back: what was stored and printed before is there too.
     ensures ended { (status : Status) → (status ≡ Status.Failed → IsSome result.files) → result.status ≡ number_of status
-        → Ends (begins_with F.first S.windows S.past S.came)
+        → Ends (begins_with F.first S.windows S.finished S.aside S.came)
         (devices F.in_files ⟦<N::Notes as Ledger>⟧) (leaves result.files result.ledger) (map string_bytes words.items) (I.remaining input.old)
         (O.contents output.old) (O.contents output.new) (E.contents errors.old) (E.contents errors.new) status }
     // However it ends, this alone was done to files.
@@ -235,7 +235,7 @@ fn answered<
     output: &mut O,
     errors: &mut E,
 ) -> Result<Done<F::Files, N::Notes>, Failure<'w>>
-    ensures ended { IfOk result (λ done. Ends (begins_with F.first S.windows S.past S.came)
+    ensures ended { IfOk result (λ done. Ends (begins_with F.first S.windows S.finished S.aside S.came)
         (devices F.in_files ⟦<N::Notes as Ledger>⟧) (leaves done.files done.ledger) (map string_bytes words.entry.now) (I.remaining input.old)
         (O.contents output.old) (O.contents output.new) (E.contents errors.old) (E.contents errors.new) done.status) }
     ensures stopped { IfErr result (Stops (map string_bytes words.entry.now) (I.remaining input.old) (O.contents output.old)
@@ -269,7 +269,7 @@ fn perform<
     output: &mut O,
     errors: &mut E,
 ) -> Result<Done<F::Files, N::Notes>, Failure<'w>>
-    ensures performed { IfOk result (λ done. Performs (begins_with F.first S.windows S.past S.came)
+    ensures performed { IfOk result (λ done. Performs (begins_with F.first S.windows S.finished S.aside S.came)
         (devices F.in_files ⟦<N::Notes as Ledger>⟧) (leaves done.files done.ledger) request.entry (I.remaining input.old)
         (O.contents output.old) (O.contents output.new) done.status) }
     ensures quiet { IfOk result (λ done. done.status ≡ Status.Success → Keeps (E.contents errors.old) (E.contents errors.new)) }
