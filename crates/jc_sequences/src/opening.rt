@@ -52,17 +52,22 @@ pub fn open_sequences<'a, 'p, F: Found, A: Arrivals>(
     ensures failed { IfErr result (λ failure. (failure ≡ Failure.CannotOpen path.entry) ⊎ (failure ≡ Failure.OutOfMemory)) }
 {
     let rt = folders.runtime;
-    let (windows, owners) = match have_folder(rt, path) {
-        Ok(paths) => paths,
-        Err(error) if error.kind() == io::ErrorKind::OutOfMemory => {
-            return Err(Failure::OutOfMemory);
-        }
-        Err(_) => return Err(Failure::CannotOpen(path)),
-    };
+    let (windows, owners) = paths_of(rt, path)?;
     let windows = DiskWindows::new(rt.alloc(), FileFolder::new(rt, windows));
     let owners = DiskWindows::new(rt.alloc(), FileFolder::new(rt, owners));
     let ledger = FileLedger::new(rt.alloc(), windows, owners, RecordedEntries::new());
     Ok(SteadyOwners::new(ledger))
+}
+
+/// The folder's path, twice, or why it can't be opened.
+fn paths_of<'p>(rt: &HostRuntime, path: &'p str) -> Result<(String, String), Failure<'p>>
+    ensures failed { IfErr result (λ failure. (failure ≡ Failure.CannotOpen path.entry) ⊎ (failure ≡ Failure.OutOfMemory)) }
+{
+    match have_folder(rt, path) {
+        Ok(paths) => Ok(paths),
+        Err(error) if error.kind() == io::ErrorKind::OutOfMemory => Err(Failure::OutOfMemory),
+        Err(_) => Err(Failure::CannotOpen(path)),
+    }
 }
 
 /// Makes the folder if there is none, and answers its path, twice. It is there after a loss of power, too.

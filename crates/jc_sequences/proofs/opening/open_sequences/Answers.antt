@@ -1,4 +1,4 @@
-use Rattle.std.proofs.Common.{List, ℕ, ap, sym, ◌∙◌, rules}
+use Rattle.std.proofs.Common.{List, ℕ, ap, sym, ◌∙◌}
 use Rattle.jc_ledger_files.specs.NotesOf.{notes_of}
 use Rattle.jc_ledger_files.specs.Noted.{noted}
 use Rattle.jc_ledger_files.specs.Owned.{owner_of, owner_window}
@@ -40,6 +40,3 @@ returns-clause-owner g c = λ s.
 
 pub returns-clause-came : goal.returns-clause-came
 returns-clause-came g c = λ e. rw c.new-4.ensures (rw c.new-ledger.ensures.witness (seen_none (g.A.Arrivals.before e) _ e c.new-3.ensures))
-
-pub returns-in-Err-2-clause-failed : goal.returns-in-Err-2-clause-failed
-returns-in-Err-2-clause-failed g c = search rules
