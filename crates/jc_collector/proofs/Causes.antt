@@ -1,10 +1,11 @@
 -- Why a command over a database fails, by the failures of what it does.
 use Rattle.std.proofs.Common.{◌≡◌, ◌⊎◌, inl, inr, ℕ, List, Option, refl, sym, subst}
+use Rattle.std.specs.Prelude.{⊤}
 use Rattle.jc_command_shared.specs.Failure.{status_of}
 use Rattle.jc_command_shared.specs.declared.failure.Failure.{Failure}
 use Rattle.jc_command_shared.specs.declared.failure.Failure.TheVariants.{Bad, BadAnswer, BadDatabaseName, BadExportName, BadFieldName, BadId, BadResume, CannotOpen, OutOfMemory, ReadFailed, SourceChanged, StoreFailed, WordsAreNoText, WriteFailed}
 use Rattle.jc_command_shared.specs.declared.status.Status.TheVariants.{Failed}
-use Rattle.jc_collector.specs.Database.{DatabaseFailsBy, IsOutFailure, MayEndNames, ShowFailsBy, WhyNoJournal, WhyNoTables}
+use Rattle.jc_collector.specs.Database.{DatabaseFailsBy, IsOutFailure, MayEndNames, MayStop, ShowFailsBy, WhyNoJournal, WhyNoTables}
 
 pub no_tables : (path : List ℕ) (failure : Failure) → WhyNoTables failure → WhyNoJournal path failure
 no_tables path (Bad fault) why = why
@@ -37,9 +38,24 @@ by_showing path field digits failure (inl is) = subst (ShowFailsBy path field di
 by_showing path field digits failure (inr (inl is)) = subst (ShowFailsBy path field digits) (sym is) tt
 by_showing path field digits failure (inr (inr is)) = subst (ShowFailsBy path field digits) (sym is) tt
 
-pub by_names : (path : List ℕ) (failure : Failure) → MayEndNames failure → (failure ≡ ReadFailed) ⊎ DatabaseFailsBy path failure
-by_names path failure (inl is) = inl is
-by_names path failure (inr out) = inr (by_database path failure out)
+-- why answering uploads stopped, which had to be read to be known or not
+module _ (AreRead : Type 0) where
+  pub by_stopping : (path : List ℕ) (failure : Failure) → MayStop AreRead failure
+      → (AreRead × (failure ≡ ReadFailed)) ⊎ DatabaseFailsBy path failure
+  by_stopping path failure (inl is) = inl is
+  by_stopping path failure (inr out) = inr (by_database path failure out)
+
+  pub stopped_failed : (failure : Failure) → MayStop AreRead failure → status_of failure ≡ Failed
+  stopped_failed failure (inl is) = subst (λ f. status_of f ≡ Failed) (sym is.1) refl
+  stopped_failed failure (inr out) = failed failure out
+
+pub not_read : (failure : Failure) → MayStop ⊥ failure → IsOutFailure failure
+not_read failure (inl is) = absurd is.0
+not_read failure (inr out) = out
+
+pub may_end_names : (failure : Failure) → MayStop ⊤ failure → MayEndNames failure
+may_end_names failure (inl is) = inl is.1
+may_end_names failure (inr out) = inr out
 
 pub names_failed : (failure : Failure) → MayEndNames failure → status_of failure ≡ Failed
 names_failed failure (inl is) = subst (λ f. status_of f ≡ Failed) (sym is) refl

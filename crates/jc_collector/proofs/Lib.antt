@@ -7,6 +7,9 @@ pub mod Found
 pub mod Older
 pub mod OverFiles
 pub mod Causes
+pub mod WhyUncollected
+pub mod Counted
 pub mod Open
+pub mod AnsweredOver
 pub mod IntoUnion
 pub mod BeginAgain

@@ -1,5 +1,5 @@
 -- The answers of a run over a database that it has open.
-use Rattle.std.proofs.Common.{◌≡◌, ℕ, zero, suc, ◌≤◌, ◌-◌, List, [], ◌∷◌, Option, None, Some, Result, Ok, Err, inl, ⊎_elim, length, take, sym, subst, subst₂, ◌∙◌, append-nil, arith}
+use Rattle.std.proofs.Common.{◌≡◌, ℕ, zero, suc, ◌≤◌, ◌-◌, List, [], ◌∷◌, Option, Result, Ok, Err, inl, ⊎_elim, length, take, sym, subst, subst₂, ◌∙◌, append-nil, arith}
 use Rattle.std.specs.Prelude.{IfOk, IfErr, OnOk, ⊤}
 use Rattle.std.specs.Io.KnownBytes.{Appends}
 use Rattle.std.proofs.lemmas.List.{length-append, take_all}
@@ -13,7 +13,7 @@ use Rattle.jc_collect.specs.Each.{HoldsEach, KeepsEach, StoresEach, held}
 use Rattle.jc_collect.specs.EachLaws.{holds_refused}
 use Rattle.jc_collect.specs.Run.{lines_of_answers}
 use Rattle.jc_collector_answers.specs.Answered.{KeepsFirst, KeepsPrinted}
-use Rattle.jc_collector_answers.specs.Tied.{NamedWith, PrintsFront, PrintsWith}
+use Rattle.jc_collector_answers.specs.Tied.{NamedWith, PrintsFront}
 use Rattle.jc_command_shared.specs.declared.failure.Failure.{Failure}
 use Rattle.jc_command_shared.specs.declared.status.Status.{Status}
 use Rattle.jc_command_args.specs.declared.request.Tables.{Tables}
@@ -22,12 +22,13 @@ use Rattle.jc_store.specs.Crash.{LeavesNoMore, MayLeave}
 use Rattle.jc_store.specs.Meaning.{AreMade, IsSound, KeepsJournal, Meaning, journal_of}
 use Rattle.jc_upload.specs.Answer.{answer_text}
 use Rattle.jc_upload.specs.declared.answer.Answer.{Answer}
-use Rattle.jc_collector.specs.Open.{CleanIn, HasKind, HoldsIn, HoldsOpen, RecoversIn}
+use Rattle.jc_collector.specs.AnsweredOver.{AnswersIn}
+use Rattle.jc_collector.specs.Counted.{PrintsCounted, StoresCounted}
+use Rattle.jc_collector_answers.specs.Kept.{HoldsPrinted}
+use Rattle.jc_collector.specs.Open.{HasKind, HoldsIn, HoldsOpen}
 use Rattle.jc_collector.specs.Kinds.{LeadsIn, OpenedOver, conn_of, journal_in, kind_of, meaning_of}
-use Rattle.jc_collector.specs.OverFiles.{StoresNamed, StoresPrinted}
-use Rattle.jc_collector.specs.PrintedLaws.{named_other, with_other}
+use Rattle.jc_collector.proofs.Counted.{counted_other}
 use Rattle.jc_collector.proofs.Found.{leads_kind}
-use Rattle.jc_collector.proofs.Results.{at_ok}
 
 -- ---- what is printed
 
@@ -43,27 +44,13 @@ front_of_all H answers old new printed holds = record {
   holds = subst H (sym (append-nil answers)) holds;
 }
 
-nothing_more : (known : Option (List ℕ)) → Appends known known []
-nothing_more None = tt
-nothing_more (Some bytes) = sym (append-nil bytes)
+pub front_counted : (Counts : ℕ → Type 0) (H : List Answer → Type 0) (old new : Option (List ℕ)) (status : Status)
+    → PrintsCounted Counts H status old new → PrintsFront H old new
+front_counted Counts H old new status p = front_of_all H p.answers.shown.answers old new p.answers.shown.printed p.answers.holds
 
--- nothing was printed
-pub front_none : (H : List Answer → Type 0) (known : Option (List ℕ)) → H [] → PrintsFront H known known
-front_none H known holds = record { answers = []; more = []; one = omega arith; bytes = 0; printed = nothing_more known; holds = holds }
-
-pub front_with : (H : List Answer → Type 0) (count : ℕ) (r : Result Status Failure) (old new : Option (List ℕ))
-    → IfOk r (λ status. PrintsWith H count status old new) → IfErr r (λ _. PrintsFront H old new) → PrintsFront H old new
-front_with H count (Ok status) old new p q = front_of_all H p.shown.answers old new p.shown.printed p.holds
-front_with H count (Err failure) old new p q = q
-
-pub front_named : (H : List Answer → Type 0) (text : Option (List ℕ)) (r : Result Status Failure) (old new : Option (List ℕ))
-    → IfOk r (λ status. NamedWith H text status old new) → IfErr r (λ _. PrintsFront H old new) → PrintsFront H old new
-front_named H text (Ok status) old new p q = front_of_all H p.shown.printed.answers old new p.shown.printed.printed p.holds
-front_named H text (Err failure) old new p q = q
-
-pub on_err : {T E : Type 0} (r : Result T E) (P : Type 0) → P → IfErr r (λ _. P)
-on_err (Ok x) P p = tt
-on_err (Err e) P p = p
+pub front_named : (H : List Answer → Type 0) (text : Option (List ℕ)) (old new : Option (List ℕ)) (status : Status)
+    → NamedWith H text status old new → PrintsFront H old new
+front_named H text old new status p = front_of_all H p.shown.printed.answers old new p.shown.printed.printed p.holds
 
 -- a value that was passed on
 pub on_ok_of_other : {T E : Type 0} (done answered : Result T E) (P : Type 0) → IfOk done (λ x. answered ≡ Ok x) → OnOk answered P → OnOk done P
@@ -145,31 +132,17 @@ module _ {S C L : Type 0} {g : Ghosts S} {o : InFiles S C L} (made : Tables) (im
     (always : o.clean files → AreMade (meaning_of (kind_of opened)) g (conn_of opened)
     → KeepsAlways (meaning_of (kind_of opened)) o files (journal_in g opened))
     (kind : HasKind g opened made image)
-    (recovers : CleanIn g opened made image (λ _. RecoversIn g opened))
     (status : Status) (old new : Option (List ℕ)) (done : Result Status Failure) (is : done ≡ Ok status)
   where
-    pub leads_with : (count : ℕ)
-        → CleanIn g opened made image (λ before. IfOk done (λ status. PrintsWith (HoldsIn g opened before) count status old new))
-        → LeadsIn made image o files (StoresPrinted count status old new)
-    leads_with count each = leads_kind made image opened kind files sound (StoresPrinted count status old new)
+    pub leads_counted : (Counts : ℕ → Type 0) → AnswersIn g opened made image (PrintsCounted Counts) done old new
+        → LeadsIn made image o files (StoresCounted Counts status old new)
+    leads_counted Counts it = leads_kind made image opened kind files sound (StoresCounted Counts status old new)
         (λ clean before begin.
         let late = sound clean in
-        record {
+        let printed = subst (λ (r : Result Status Failure). HoldsPrinted (PrintsCounted Counts) (HoldsIn g opened before) r old new) is
+        (it.each late.clean before begin) in record {
           found = journal_in g opened;
-          is = with_other (HoldsIn g opened before) (λ answers. StoresEach before answers (journal_in g opened))
-              (λ answers h. h.stored late) count status old new (at_ok done status _ is (each late.clean before begin));
-          keeps = always clean (recovers late.clean before begin).made;
-        })
-
-    pub leads_named : (text : Option (List ℕ))
-        → CleanIn g opened made image (λ before. IfOk done (λ status. NamedWith (HoldsIn g opened before) text status old new))
-        → LeadsIn made image o files (StoresNamed text status old new)
-    leads_named text each = leads_kind made image opened kind files sound (StoresNamed text status old new)
-        (λ clean before begin.
-        let late = sound clean in
-        record {
-          found = journal_in g opened;
-          is = named_other (HoldsIn g opened before) (λ answers. StoresEach before answers (journal_in g opened))
-              (λ answers h. h.stored late) text status old new (at_ok done status _ is (each late.clean before begin));
-          keeps = always clean (recovers late.clean before begin).made;
+          is = counted_other Counts (HoldsIn g opened before) (λ answers. StoresEach before answers (journal_in g opened))
+              (λ answers h. h.stored late) old new status printed;
+          keeps = always clean (it.recovers late.clean before begin).made;
         })

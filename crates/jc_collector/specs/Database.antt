@@ -46,6 +46,10 @@ IsOutFailure failure = (failure ≡ WriteFailed) ⊎ (failure ≡ StoreFailed) �
 abbrev pub MayEndNames : Failure → Type 0
 MayEndNames failure = (failure ≡ ReadFailed) ⊎ IsOutFailure failure
 
+-- Why answering uploads stopped, of which these may have to be read to be known.
+abbrev pub MayStop : (AreRead : Type 0) → Failure → Type 0
+MayStop AreRead failure = (AreRead × (failure ≡ ReadFailed)) ⊎ IsOutFailure failure
+
 -- Why a command over a database fails: its name isn't taken, there is no journal, or a device or memory fails.
 abbrev pub DatabaseFailsBy : (database : List ℕ) → Failure → Type 0
 DatabaseFailsBy database BadDatabaseName = IsBadName database

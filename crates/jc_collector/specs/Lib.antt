@@ -9,6 +9,8 @@ pub mod Earlier
 pub mod OverFiles
 pub mod IntoUnion
 pub mod Open
+pub mod Counted
+pub mod AnsweredOver
 pub mod KindLaws
 pub mod PrintedLaws
 pub mod Unopened

@@ -1,24 +1,16 @@
--- What holds of the answers that were printed, by what else does. (own)
-use Rattle.std.specs.Prelude.{ℕ, List, ◌++◌, Option}
-use Rattle.jc_collector_answers.specs.Tied.{NamedWith, PrintsFront, PrintsWith}
+-- What holds of the answers that were printed, by what came of them. (own)
+use Rattle.std.specs.Prelude.{ℕ, List, Option, Result, Ok, Err, IfOk, IfErr}
+use Rattle.jc_collector_answers.specs.Kept.{HoldsPrinted, Printing}
+use Rattle.jc_collector_answers.specs.Tied.{PrintsFront}
+use Rattle.jc_command_shared.specs.declared.failure.Failure.{Failure}
 use Rattle.jc_command_shared.specs.declared.status.Status.{Status}
 use Rattle.jc_upload.specs.declared.answer.Answer.{Answer}
 
-pub with_other : (H Z : List Answer → Type 0) → ((answers : List Answer) → H answers → Z answers) → (count : ℕ) (status : Status) (old new : Option (List ℕ))
-    → PrintsWith H count status old new → PrintsWith Z count status old new
-with_other H Z each count status old new p = record { shown = p.shown; holds = each p.shown.answers p.holds }
+module _ (Whole : Printing) (Holds : List Answer → Type 0) (old new : Option (List ℕ)) where
+  pub whole : (result : Result Status Failure) → HoldsPrinted Whole Holds result old new → IfOk result (λ status. Whole Holds status old new)
+  whole (Ok status) it = it
+  whole (Err failure) it = tt
 
-pub named_other : (H Z : List Answer → Type 0) → ((answers : List Answer) → H answers → Z answers) → (text : Option (List ℕ)) (status : Status) (old new : Option (List ℕ))
-    → NamedWith H text status old new → NamedWith Z text status old new
-named_other H Z each text status old new p = record { shown = p.shown; holds = each p.shown.printed.answers p.holds }
-
-pub front_other : (H Z : List Answer → Type 0) → ((answers : List Answer) → H answers → Z answers) → (old new : Option (List ℕ))
-    → PrintsFront H old new → PrintsFront Z old new
-front_other H Z each old new p = record {
-  answers = p.answers;
-  more = p.more;
-  one = p.one;
-  bytes = p.bytes;
-  printed = p.printed;
-  holds = each (p.answers ++ p.more) p.holds;
-}
+  pub front : (result : Result Status Failure) → HoldsPrinted Whole Holds result old new → IfErr result (λ _. PrintsFront Holds old new)
+  front (Ok status) it = tt
+  front (Err failure) it = it

@@ -1,23 +1,25 @@
 //! Uploads answered over a database that is opened or made: all that `collect` does before the database is closed.
 
-ghost use Rattle.std.specs.Prelude.{◌≡◌, ℕ, List, Err, Some, IfOk, IfErr, OnOk, length, map, option_map};
+ghost use Rattle.std.specs.Prelude.{◌≡◌, ℕ, List, Some, IfOk, IfErr, length, map, option_map, ⊤};
 ghost use Rattle.std.specs.Io.KnownBytes.{Keeps};
 ghost use Rattle.sqlite.specs.State.{HasCleanDisk};
 ghost use Rattle.sqlite.specs.Held.{state};
 ghost use Rattle.jc_collect.specs.Delivered.{of_delivery};
-ghost use Rattle.jc_collector_answers.specs.Answered.{KeepsFirst, KeepsPrinted, PrintsAnswers};
+ghost use Rattle.jc_collector_answers.specs.Answered.{PrintsAnswers};
 ghost use Rattle.jc_collector_answers.specs.Named.{PrintsNamed};
-ghost use Rattle.jc_collector_answers.specs.Tied.{NamedWith, PrintsFront, PrintsWith};
-ghost use Rattle.jc_collector.specs.Database.{DatabaseFailsBy, IsOutFailure, MayEndNames};
-ghost use Rattle.jc_collector.specs.Open.{Begun, CleanIn, HasKind, HoldsIn, HoldsOpen, LeavesIn, LeavesOpen, Recovers, RecoversIn, StandsIn, StandsOver, WhileClean};
-ghost use Rattle.jc_collector.specs.OverFiles.{CollectsAll, KeepsStored};
+ghost use Rattle.jc_collector_answers.specs.Tied.{NamedWith, PrintsWith};
+ghost use Rattle.jc_collector.specs.AnsweredOver.{AnswersIn, AnswersOver, CollectsIn, CollectsOver};
+ghost use Rattle.jc_collector.specs.Counted.{PrintsCounted};
+ghost use Rattle.jc_collector.specs.Database.{DatabaseFailsBy, IsOutFailure, MayEndNames, MayStop};
+ghost use Rattle.jc_collector.specs.Open.{Begun, HasKind};
 ghost use Rattle.jc_command_shared.specs.Deeds.{ChangesOnly, IsReplacedIf, OpensAndChanges};
 
 use crate::database::{Opened, OpenedFiles, open_or_make};
+use crate::target::Target;
 use crate::then_export::export_after;
+use crate::uploads::{Deliveries, NamedUploads, Uploads};
 use jc_base::ByteStream;
 use jc_collect::Delivery;
-use jc_collector_answers::{NameLines, answer_all, answer_names};
 use jc_command_args::Tables;
 use jc_command_shared::{Failure, Status, System};
 use jc_database::{Databases, OpenFromFiles, StoreInFiles, sound_leaves_journals};
@@ -34,7 +36,6 @@ pub struct Answered<'a, K: Drop> {
 
 /// Takes deliveries up into the journal of a database, which is made if there is none, and prints an answer for each. Then
 /// the journal goes to a file, if one is named.
-#[tactic(auto, using(jc_command_shared::specs::DeedLaws::only_opens, jc_command_shared::specs::DeedLaws::opens_then))]
 pub fn answer_deliveries<'a, Y: Databases, F: OpenFromFiles, R: ByteStream, B: ByteSpace, O: Write>(
     rt: &mut Y,
     start: F::Start,
@@ -45,27 +46,12 @@ pub fn answer_deliveries<'a, Y: Databases, F: OpenFromFiles, R: ByteStream, B: B
     output: &mut O,
 ) -> Result<Answered<'a, OpenedFiles<F>>, Failure<'a>>
     ensures kind { IfOk result (λ run. HasKind F.Store run.keeper tables F.first) }
-    ensures kept { IfOk result (λ run. StandsIn F.Store run.keeper tables F.first KeepsStored) }
+    // What the printed lines acknowledge is stored, and found after a crash.
+    ensures answers { IfOk result (λ run. AnswersIn F.Store run.keeper tables F.first (λ Holds. PrintsWith Holds (length deliveries.old)) run.done
+        (O.contents output.old) (O.contents output.new)) }
+    // What becomes of uploads whose bytes are known.
     ensures collected { (uploads : List (List ℕ)) → map (of_delivery R.remaining B.bytes) deliveries.old ≡ map (λ u. Some u) uploads
-        → IfOk result (λ run. OnOk run.done (StandsIn F.Store run.keeper tables F.first
-        (CollectsAll uploads (O.contents output.old) (O.contents output.new)))) }
-    // What the printed lines acknowledge is stored, and found after a crash, whether the bytes are known or not.
-    ensures each { IfOk result (λ run. CleanIn F.Store run.keeper tables F.first
-        (λ before. IfOk run.done (λ status. PrintsWith (HoldsIn F.Store run.keeper before) (length deliveries.old) status
-        (O.contents output.old) (O.contents output.new)))) }
-    // ... those that were printed before a failure too.
-    ensures each_failed { IfOk result (λ run. CleanIn F.Store run.keeper tables F.first
-        (λ before. IfErr run.done (λ _. PrintsFront (HoldsIn F.Store run.keeper before)
-        (O.contents output.old) (O.contents output.new)))) }
-    // What a crash leaves of uploads whose bytes are known.
-    ensures crash { (uploads : List (List ℕ)) → map (of_delivery R.remaining B.bytes) deliveries.old ≡ map (λ u. Some u) uploads
-        → IfOk result (λ run. CleanIn F.Store run.keeper tables F.first (LeavesIn F.Store run.keeper
-        (λ before found. OnOk run.done (KeepsPrinted uploads before (O.contents output.old) (O.contents output.new) found)))) }
-    ensures crash_unprinted { (uploads : List (List ℕ)) → map (of_delivery R.remaining B.bytes) deliveries.old ≡ map (λ u. Some u) uploads
-        → IfOk result (λ run. CleanIn F.Store run.keeper tables F.first (LeavesIn F.Store run.keeper
-        (λ before found. run.done ≡ Err Failure.WriteFailed
-        → KeepsFirst uploads before (O.contents output.old) (O.contents output.new) found))) }
-    ensures recovers { IfOk result (λ run. CleanIn F.Store run.keeper tables F.first (λ _. RecoversIn F.Store run.keeper)) }
+        → IfOk result (λ run. CollectsIn F.Store run.keeper tables F.first uploads run.done (O.contents output.old) (O.contents output.new)) }
     ensures printed { IfOk result (λ run. IfOk run.done (λ status.
         PrintsAnswers (length deliveries.old) status (O.contents output.old) (O.contents output.new))) }
     ensures stopped { IfOk result (λ run. IfErr run.done IsOutFailure) }
@@ -74,73 +60,16 @@ pub fn answer_deliveries<'a, Y: Databases, F: OpenFromFiles, R: ByteStream, B: B
     ensures touched { OpensAndChanges database.now (IsReplacedIf (option_map (λ name. name.now) then_export.entry))
         (Y.deeds rt.old) (Y.deeds rt.new) }
 {
-    // The checker doesn't cover a `?` here.
-    let opened = match open_or_make::<_, F>(rt, database, start, tables) {
-        Ok(opened) => opened,
-        Err(unopened) => return Err(Failure::from(unopened)),
+    let target = Target {
+        start,
+        database,
+        tables,
+        then_export,
     };
-    match opened {
-        Opened::ByKey(mut keeper) => {
-            let done = answer_over(rt, &mut keeper, then_export, deliveries, output);
-            Ok(Answered {
-                done,
-                keeper: Opened::ByKey(keeper),
-            })
-        }
-        Opened::ByNumber(mut keeper) => {
-            let done = answer_over(rt, &mut keeper, then_export, deliveries, output);
-            Ok(Answered {
-                done,
-                keeper: Opened::ByNumber(keeper),
-            })
-        }
-    }
-}
-
-/// Takes deliveries up into the journal of a keeper, and prints an answer for each. Then the journal goes to a file, if one
-/// is named.
-fn answer_over<'a, Y: System, F: StoreInFiles, L: Listed, R: ByteStream, B: ByteSpace, O: Write>(
-    rt: &mut Y,
-    keeper: &mut TableKeeper<F, L>,
-    then_export: Option<&'a str>,
-    deliveries: &mut [Delivery<R, B>],
-    output: &mut O,
-) -> Result<Status, Failure<'a>>
-    ensures clean { HasCleanDisk (state F.Store keeper.new.conn) → HasCleanDisk (state F.Store keeper.old.conn) }
-    ensures kept { StandsOver L.meaning F.Store keeper.new.conn (Begun L.meaning F.Store keeper.old.conn) KeepsStored }
-    ensures collected { (uploads : List (List ℕ)) → map (of_delivery R.remaining B.bytes) deliveries.old ≡ map (λ u. Some u) uploads
-        → OnOk result (StandsOver L.meaning F.Store keeper.new.conn (Begun L.meaning F.Store keeper.old.conn)
-        (CollectsAll uploads (O.contents output.old) (O.contents output.new))) }
-    // What the printed lines acknowledge is stored, and found after a crash, whether the bytes are known or not.
-    ensures each { WhileClean F.Store keeper.new.conn (Begun L.meaning F.Store keeper.old.conn)
-        (λ before. IfOk result (λ status. PrintsWith (HoldsOpen L.meaning F.Store keeper.new.conn before) (length deliveries.old) status
-        (O.contents output.old) (O.contents output.new))) }
-    // ... those that were printed before a failure too.
-    ensures each_failed { WhileClean F.Store keeper.new.conn (Begun L.meaning F.Store keeper.old.conn)
-        (λ before. IfErr result (λ _. PrintsFront (HoldsOpen L.meaning F.Store keeper.new.conn before)
-        (O.contents output.old) (O.contents output.new))) }
-    // What a crash leaves of uploads whose bytes are known.
-    ensures crash { (uploads : List (List ℕ)) → map (of_delivery R.remaining B.bytes) deliveries.old ≡ map (λ u. Some u) uploads
-        → WhileClean F.Store keeper.new.conn (Begun L.meaning F.Store keeper.old.conn) (LeavesOpen L.meaning F.Store keeper.new.conn
-        (λ before found. OnOk result (KeepsPrinted uploads before (O.contents output.old) (O.contents output.new) found))) }
-    ensures crash_unprinted { (uploads : List (List ℕ)) → map (of_delivery R.remaining B.bytes) deliveries.old ≡ map (λ u. Some u) uploads
-        → WhileClean F.Store keeper.new.conn (Begun L.meaning F.Store keeper.old.conn) (LeavesOpen L.meaning F.Store keeper.new.conn
-        (λ before found. result ≡ Err Failure.WriteFailed
-        → KeepsFirst uploads before (O.contents output.old) (O.contents output.new) found)) }
-    ensures recovers { WhileClean F.Store keeper.new.conn (Begun L.meaning F.Store keeper.old.conn) (λ _. Recovers L.meaning F.Store keeper.new.conn) }
-    ensures printed { IfOk result (λ status.
-        PrintsAnswers (length deliveries.old) status (O.contents output.old) (O.contents output.new)) }
-    ensures stopped { IfErr result IsOutFailure }
-    ensures touched { ChangesOnly (IsReplacedIf (option_map (λ name. name.now) then_export.entry)) (Y.deeds rt.old) (Y.deeds rt.new) }
-{
-    // Does nothing: from its contract the proof has what might have been left before.
-    sound_leaves_journals(keeper);
-    let answered = answer_all(rt.alloc(), keeper, deliveries, output);
-    export_after(rt, keeper, answered, then_export)
+    answer_uploads::<_, F, _, _, _>(rt, target, Deliveries { deliveries }, output, &mut ())
 }
 
 /// The same of the uploads that lines name, each answered before the next name is read.
-#[tactic(auto, using(jc_command_shared::specs::DeedLaws::only_opens, jc_command_shared::specs::DeedLaws::opens_then))]
 pub fn answer_lines<'a, Y: Databases, F: OpenFromFiles, L: BufRead, O: Write, E: Write>(
     rt: &mut Y,
     start: F::Start,
@@ -152,16 +81,9 @@ pub fn answer_lines<'a, Y: Databases, F: OpenFromFiles, L: BufRead, O: Write, E:
     errors: &mut E,
 ) -> Result<Answered<'a, OpenedFiles<F>>, Failure<'a>>
     ensures kind { IfOk result (λ run. HasKind F.Store run.keeper tables F.first) }
-    ensures kept { IfOk result (λ run. StandsIn F.Store run.keeper tables F.first KeepsStored) }
     // What the printed lines acknowledge is stored, and found after a crash.
-    ensures each { IfOk result (λ run. CleanIn F.Store run.keeper tables F.first
-        (λ before. IfOk run.done (λ status. NamedWith (HoldsIn F.Store run.keeper before) (L.remaining names.old) status
-        (O.contents output.old) (O.contents output.new)))) }
-    // ... those that were printed before a failure too.
-    ensures each_failed { IfOk result (λ run. CleanIn F.Store run.keeper tables F.first
-        (λ before. IfErr run.done (λ _. PrintsFront (HoldsIn F.Store run.keeper before)
-        (O.contents output.old) (O.contents output.new)))) }
-    ensures recovers { IfOk result (λ run. CleanIn F.Store run.keeper tables F.first (λ _. RecoversIn F.Store run.keeper)) }
+    ensures answers { IfOk result (λ run. AnswersIn F.Store run.keeper tables F.first (λ Holds. NamedWith Holds (L.remaining names.old)) run.done
+        (O.contents output.old) (O.contents output.new)) }
     ensures printed { IfOk result (λ run. IfOk run.done (λ status.
         PrintsNamed (L.remaining names.old) status (O.contents output.old) (O.contents output.new))) }
     ensures quiet { IfOk result (λ run. IfOk run.done (λ status. status ≡ Status.Success
@@ -172,6 +94,44 @@ pub fn answer_lines<'a, Y: Databases, F: OpenFromFiles, L: BufRead, O: Write, E:
     ensures touched { OpensAndChanges database.now (IsReplacedIf (option_map (λ name. name.now) then_export.entry))
         (Y.deeds rt.old) (Y.deeds rt.new) }
 {
+    let target = Target {
+        start,
+        database,
+        tables,
+        then_export,
+    };
+    answer_uploads::<_, F, _, _, _>(rt, target, NamedUploads { names }, output, errors)
+}
+
+/// Answers uploads over a database, which is made if there is none. Then its journal goes to a file, if one is named.
+#[tactic(auto, using(jc_command_shared::specs::DeedLaws::only_opens, jc_command_shared::specs::DeedLaws::opens_then))]
+pub(crate) fn answer_uploads<'a, Y: Databases, F: OpenFromFiles, E, U: Uploads<E> + Drop, O: Write>(
+    rt: &mut Y,
+    target: Target<'a, F::Start>,
+    uploads: U,
+    output: &mut O,
+    errors: &mut E,
+) -> Result<Answered<'a, OpenedFiles<F>>, Failure<'a>>
+    ensures kind { IfOk result (λ run. HasKind F.Store run.keeper target.entry.tables F.first) }
+    ensures answers { IfOk result (λ run. AnswersIn F.Store run.keeper target.entry.tables F.first (PrintsCounted (U.counts uploads)) run.done
+        (O.contents output.old) (O.contents output.new)) }
+    ensures collected { (known : List (List ℕ)) → U.have uploads known → IfOk result (λ run.
+        CollectsIn F.Store run.keeper target.entry.tables F.first known run.done (O.contents output.old) (O.contents output.new)) }
+    ensures printed { IfOk result (λ run. IfOk run.done (λ status.
+        PrintsCounted (U.counts uploads) (λ _. ⊤) status (O.contents output.old) (O.contents output.new))) }
+    ensures quiet { IfOk result (λ run. IfOk run.done (λ status. status ≡ Status.Success → U.keeps_quiet errors.old errors.new)) }
+    ensures stopped { IfOk result (λ run. IfErr run.done (MayStop U.are_read)) }
+    ensures failed { IfErr result (DatabaseFailsBy target.entry.database.now) }
+    ensures untouched { IfErr result (λ _. Keeps (O.contents output.old) (O.contents output.new)) }
+    ensures touched { OpensAndChanges target.entry.database.now (IsReplacedIf (option_map (λ name. name.now) target.entry.then_export))
+        (Y.deeds rt.old) (Y.deeds rt.new) }
+{
+    let Target {
+        start,
+        database,
+        tables,
+        then_export,
+    } = target;
     // The checker doesn't cover a `?` here.
     let opened = match open_or_make::<_, F>(rt, database, start, tables) {
         Ok(opened) => opened,
@@ -179,14 +139,14 @@ pub fn answer_lines<'a, Y: Databases, F: OpenFromFiles, L: BufRead, O: Write, E:
     };
     match opened {
         Opened::ByKey(mut keeper) => {
-            let done = answer_lines_over(rt, &mut keeper, then_export, names, output, errors);
+            let done = answer_over(rt, &mut keeper, then_export, uploads, output, errors);
             Ok(Answered {
                 done,
                 keeper: Opened::ByKey(keeper),
             })
         }
         Opened::ByNumber(mut keeper) => {
-            let done = answer_lines_over(rt, &mut keeper, then_export, names, output, errors);
+            let done = answer_over(rt, &mut keeper, then_export, uploads, output, errors);
             Ok(Answered {
                 done,
                 keeper: Opened::ByNumber(keeper),
@@ -195,35 +155,29 @@ pub fn answer_lines<'a, Y: Databases, F: OpenFromFiles, L: BufRead, O: Write, E:
     }
 }
 
-/// The same of the uploads that lines name, over a keeper.
-fn answer_lines_over<'a, Y: System, F: StoreInFiles, T: Listed, L: BufRead, O: Write, E: Write>(
+/// The same over a keeper.
+fn answer_over<'a, Y: System, F: StoreInFiles, L: Listed, E, U: Uploads<E>, O: Write>(
     rt: &mut Y,
-    keeper: &mut TableKeeper<F, T>,
+    keeper: &mut TableKeeper<F, L>,
     then_export: Option<&'a str>,
-    names: &mut L,
+    uploads: U,
     output: &mut O,
     errors: &mut E,
 ) -> Result<Status, Failure<'a>>
     ensures clean { HasCleanDisk (state F.Store keeper.new.conn) → HasCleanDisk (state F.Store keeper.old.conn) }
-    ensures kept { StandsOver T.meaning F.Store keeper.new.conn (Begun T.meaning F.Store keeper.old.conn) KeepsStored }
-    // What the printed lines acknowledge is stored, and found after a crash.
-    ensures each { WhileClean F.Store keeper.new.conn (Begun T.meaning F.Store keeper.old.conn)
-        (λ before. IfOk result (λ status. NamedWith (HoldsOpen T.meaning F.Store keeper.new.conn before) (L.remaining names.old) status
-        (O.contents output.old) (O.contents output.new))) }
-    // ... those that were printed before a failure too.
-    ensures each_failed { WhileClean F.Store keeper.new.conn (Begun T.meaning F.Store keeper.old.conn)
-        (λ before. IfErr result (λ _. PrintsFront (HoldsOpen T.meaning F.Store keeper.new.conn before)
-        (O.contents output.old) (O.contents output.new))) }
-    ensures recovers { WhileClean F.Store keeper.new.conn (Begun T.meaning F.Store keeper.old.conn) (λ _. Recovers T.meaning F.Store keeper.new.conn) }
+    ensures answers { AnswersOver L.meaning F.Store keeper.new.conn (Begun L.meaning F.Store keeper.old.conn) (PrintsCounted (U.counts uploads)) result
+        (O.contents output.old) (O.contents output.new) }
+    ensures collected { (known : List (List ℕ)) → U.have uploads known
+        → CollectsOver L.meaning F.Store keeper.new.conn (Begun L.meaning F.Store keeper.old.conn) known result
+        (O.contents output.old) (O.contents output.new) }
     ensures printed { IfOk result (λ status.
-        PrintsNamed (L.remaining names.old) status (O.contents output.old) (O.contents output.new)) }
-    ensures quiet { IfOk result (λ status. status ≡ Status.Success
-        → Keeps (E.contents errors.old) (E.contents errors.new)) }
-    ensures stopped { IfErr result MayEndNames }
+        PrintsCounted (U.counts uploads) (λ _. ⊤) status (O.contents output.old) (O.contents output.new)) }
+    ensures quiet { IfOk result (λ status. status ≡ Status.Success → U.keeps_quiet errors.old errors.new) }
+    ensures stopped { IfErr result (MayStop U.are_read) }
     ensures touched { ChangesOnly (IsReplacedIf (option_map (λ name. name.now) then_export.entry)) (Y.deeds rt.old) (Y.deeds rt.new) }
 {
     // Does nothing: from its contract the proof has what might have been left before.
     sound_leaves_journals(keeper);
-    let answered = answer_names(rt, keeper, names, NameLines::Uploads, output, errors);
+    let answered = uploads.answer(rt, keeper, output, errors);
     export_after(rt, keeper, answered, then_export)
 }

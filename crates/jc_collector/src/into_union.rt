@@ -1,20 +1,16 @@
 //! `collect --sequences`: uploads that a list names, taken up into the union of finished databases and the present one.
 
-ghost use Rattle.std.specs.Prelude.{◌≡◌, ◌≢◌, ◌⊎◌, ◌∷◌, [], IfOk, IfErr, OnOk, option_map};
+ghost use Rattle.std.specs.Prelude.{◌≡◌, ◌≢◌, ◌⊎◌, ◌∷◌, [], IfOk, IfErr, option_map};
 ghost use Rattle.std.specs.Io.KnownBytes.{Keeps as KeepsBytes};
-ghost use Rattle.sqlite.specs.Held.{state};
-ghost use Rattle.sqlite.specs.State.{HasCleanDisk};
 ghost use Rattle.jc_base.specs.Journal.{Journal};
 ghost use Rattle.jc_command_shared.specs.Failure.{status_of};
 ghost use Rattle.jc_collector_answers.specs.Named.{PrintsNamed};
-ghost use Rattle.jc_collector_answers.specs.Tied.{NamedWith, PrintsFront};
+ghost use Rattle.jc_collector_answers.specs.Tied.{NamedWith};
 ghost use Rattle.jc_database.specs.Files.{EndsWith, Keeps};
 ghost use Rattle.jc_ledger.specs.Kept.{NoneCollide};
 ghost use Rattle.jc_ledger.specs.Lagging.{MayCatchUp};
-ghost use Rattle.jc_store.specs.Crash.{MayLeave};
-ghost use Rattle.jc_store.specs.Meaning.{IsSound, journal_of};
-ghost use Rattle.jc_union.specs.Noted.{HoldsNoted};
-ghost use Rattle.jc_union.specs.Opened.{MayOpen};
+ghost use Rattle.jc_store.specs.Meaning.{IsSound};
+ghost use Rattle.jc_union.specs.Answered.{AnswersNoted};
 ghost use Rattle.jc_collector.specs.Database.{DatabaseFailsBy};
 ghost use Rattle.jc_collector.specs.IntoUnion.{LeadsIf, StoresNotedFromList, StoresNotedNames, UnionFailsBy, UnionStopsBy};
 ghost use Rattle.jc_collector.specs.FromList.{PrintsFromList};
@@ -22,6 +18,7 @@ ghost use Rattle.jc_command_shared.specs.Deeds.{ChangesOnly, IsReplacedIf, Opens
 
 use crate::database::{Opened, open_or_make};
 use crate::from_list::list_source;
+use crate::target::Target;
 use crate::then_export::{check_names, export_after};
 use jc_collector_answers::{NameLines, answer_names};
 use jc_command_args::Tables;
@@ -80,17 +77,13 @@ pub fn collect_into_union<
 {
     check_names(rt, database, then_export)?;
     let source = list_source(rt, list, &mut *input)?;
-    join_lines::<_, F, L, P, _, _, _>(
-        rt,
+    let target = Target {
         start,
-        ledger,
         database,
         tables,
         then_export,
-        source,
-        output,
-        errors,
-    )
+    };
+    join_lines::<_, F, L, P, _, _, _>(rt, target, ledger, source, output, errors)
 }
 
 /// Takes up the uploads that the lines of a reader name, which are read through a buffer.
@@ -106,43 +99,30 @@ fn join_lines<
     E: Write,
 >(
     rt: &mut Y,
-    start: F::Start,
+    target: Target<'a, F::Start>,
     ledger: L,
-    database: &'a str,
-    tables: Tables,
-    then_export: Option<&'a str>,
     list: N,
     output: &mut O,
     errors: &mut E,
 ) -> Result<NotedRun<F::Files, L>, Failure<'a>>
     // What the printed lines acknowledge is stored in the union, if what was noted is what the finished databases have, and
     // some of what the present one had. Then what is noted is what they have.
-    ensures each { IfOk result (λ run. LeadsIf tables F.first F.in_files run.files
+    ensures each { IfOk result (λ run. LeadsIf target.entry.tables F.first F.in_files run.files
         (λ before. MayCatchUp (L.known ledger) P.journal before (L.came ledger) × L.sound run.ledger × NoneCollide (L.came run.ledger))
         (StoresNotedNames P.journal (L.known run.ledger) (L.came run.ledger) (N.remaining list) run.status
         (O.contents output.old) (O.contents output.new))) }
     ensures printed { IfOk result (λ run. PrintsNamed (N.remaining list) run.status (O.contents output.old) (O.contents output.new)) }
     ensures quiet { IfOk result (λ run. run.status ≡ Status.Success → KeepsBytes (E.contents errors.old) (E.contents errors.new)) }
-    ensures failed { IfErr result (λ failure. UnionStopsBy failure ⊎ DatabaseFailsBy database.now failure) }
+    ensures failed { IfErr result (λ failure. UnionStopsBy failure ⊎ DatabaseFailsBy target.entry.database.now failure) }
     ensures untouched { IfErr result (λ failure. status_of failure ≢ Status.Failed
         → KeepsBytes (O.contents output.old) (O.contents output.new)) }
-    ensures touched { OpensAndChanges database.now (IsReplacedIf (option_map (λ name. name.now) then_export.entry))
+    ensures touched { OpensAndChanges target.entry.database.now (IsReplacedIf (option_map (λ name. name.now) target.entry.then_export))
         (Y.deeds rt.old) (Y.deeds rt.new) }
 {
     let Ok(mut names) = BufReader::new(rt.alloc(), list) else {
         return Err(Failure::OutOfMemory);
     };
-    join_names::<_, F, L, P, _, _, _>(
-        rt,
-        start,
-        ledger,
-        database,
-        tables,
-        then_export,
-        &mut names,
-        output,
-        errors,
-    )
+    join_names::<_, F, L, P, _, _, _>(rt, target, ledger, &mut names, output, errors)
 }
 
 /// Takes up the uploads that lines name.
@@ -158,29 +138,32 @@ fn join_names<
     E: Write,
 >(
     rt: &mut Y,
-    start: F::Start,
+    target: Target<'a, F::Start>,
     ledger: L,
-    database: &'a str,
-    tables: Tables,
-    then_export: Option<&'a str>,
     names: &mut N,
     output: &mut O,
     errors: &mut E,
 ) -> Result<NotedRun<F::Files, L>, Failure<'a>>
     // What the printed lines acknowledge is stored in the union, if what was noted is what the finished databases have, and
     // some of what the present one had. Then what is noted is what they have.
-    ensures each { IfOk result (λ run. LeadsIf tables F.first F.in_files run.files
+    ensures each { IfOk result (λ run. LeadsIf target.entry.tables F.first F.in_files run.files
         (λ before. MayCatchUp (L.known ledger) P.journal before (L.came ledger) × L.sound run.ledger × NoneCollide (L.came run.ledger))
         (StoresNotedNames P.journal (L.known run.ledger) (L.came run.ledger) (N.remaining names.old) run.status
         (O.contents output.old) (O.contents output.new))) }
     ensures printed { IfOk result (λ run. PrintsNamed (N.remaining names.old) run.status (O.contents output.old) (O.contents output.new)) }
     ensures quiet { IfOk result (λ run. run.status ≡ Status.Success → KeepsBytes (E.contents errors.old) (E.contents errors.new)) }
-    ensures failed { IfErr result (λ failure. UnionStopsBy failure ⊎ DatabaseFailsBy database.now failure) }
+    ensures failed { IfErr result (λ failure. UnionStopsBy failure ⊎ DatabaseFailsBy target.entry.database.now failure) }
     ensures untouched { IfErr result (λ failure. status_of failure ≢ Status.Failed
         → KeepsBytes (O.contents output.old) (O.contents output.new)) }
-    ensures touched { OpensAndChanges database.now (IsReplacedIf (option_map (λ name. name.now) then_export.entry))
+    ensures touched { OpensAndChanges target.entry.database.now (IsReplacedIf (option_map (λ name. name.now) target.entry.then_export))
         (Y.deeds rt.old) (Y.deeds rt.new) }
 {
+    let Target {
+        start,
+        database,
+        tables,
+        then_export,
+    } = target;
     match open_or_make::<_, F>(rt, database, start, tables)? {
         Opened::ByKey(keeper) => join_over::<_, F, SchemaTwo, L, P, _, _, _>(
             rt,
@@ -272,30 +255,8 @@ pub fn join_open<
     errors: &mut E,
 ) -> AnsweredUnion<'a, TableUnion<S, T, L, P>>
     // What the printed lines acknowledge is stored and noted, and found after a crash.
-    ensures each { ⟦<TableUnion<S, T, L, P> as Keeper>⟧.clean result.union
-        → MayOpen T.meaning S.Store present.conn (L.known ledger) P.journal (L.came ledger) → L.sound ledger
-        → IfOk result.answered (λ status. NamedWith
-        (HoldsNoted P.journal (journal_of T.meaning S.Store present.conn) (journal_of T.meaning S.Store result.union.present.conn)
-        (⟦<TableUnion<S, T, L, P> as Keeper>⟧.sound result.union) (L.known result.union.ledger) (L.came result.union.ledger)
-        (MayLeave T.meaning S.Store result.union.present.conn) (L.may_leave result.union.ledger))
-        (N.remaining names.old) status (O.contents output.old) (O.contents output.new)) }
-    // ... what those acknowledge that were printed before a failure, too.
-    ensures each_failed { ⟦<TableUnion<S, T, L, P> as Keeper>⟧.clean result.union
-        → MayOpen T.meaning S.Store present.conn (L.known ledger) P.journal (L.came ledger) → L.sound ledger
-        → IfErr result.answered (λ _. PrintsFront
-        (HoldsNoted P.journal (journal_of T.meaning S.Store present.conn) (journal_of T.meaning S.Store result.union.present.conn)
-        (⟦<TableUnion<S, T, L, P> as Keeper>⟧.sound result.union) (L.known result.union.ledger) (L.came result.union.ledger)
-        (MayLeave T.meaning S.Store result.union.present.conn) (L.may_leave result.union.ledger))
-        (O.contents output.old) (O.contents output.new)) }
-    // Whatever a crash leaves, a union is made of it again.
-    ensures recovers { ⟦<TableUnion<S, T, L, P> as Keeper>⟧.clean result.union
-        → MayOpen T.meaning S.Store present.conn (L.known ledger) P.journal (L.came ledger) → L.sound ledger
-        → ⟦<TableUnion<S, T, L, P> as Keeper>⟧.leaves_journals result.union }
-    ensures made { ⟦<TableUnion<S, T, L, P> as Keeper>⟧.clean result.union
-        → MayOpen T.meaning S.Store present.conn (L.known ledger) P.journal (L.came ledger)
-        → OnOk result.answered (⟦<TableUnion<S, T, L, P> as Keeper>⟧.made result.union) }
-    ensures before { ⟦<TableUnion<S, T, L, P> as Keeper>⟧.sound result.union → IsSound S.Store present.conn × L.sound ledger }
-    ensures clean { ⟦<TableUnion<S, T, L, P> as Keeper>⟧.clean result.union → HasCleanDisk (state S.Store present.conn) × L.clean ledger }
+    ensures answers { AnswersNoted T.meaning S.Store L.Ledger ⟦<TableUnion<S, T, L, P> as Keeper>⟧ P.journal (λ Holds. NamedWith Holds (N.remaining names.old))
+        present.conn ledger result.union result.union.present.conn result.union.ledger result.answered (O.contents output.old) (O.contents output.new) }
     ensures printed { IfOk result.answered (λ status. PrintsNamed (N.remaining names.old) status (O.contents output.old) (O.contents output.new)) }
     ensures quiet { IfOk result.answered (λ status. status ≡ Status.Success → KeepsBytes (E.contents errors.old) (E.contents errors.new)) }
     ensures failed { IfErr result.answered UnionStopsBy }

@@ -14,12 +14,14 @@ mod inspecting;
 mod into_union;
 mod listing;
 mod migrating;
+mod target;
 mod then_export;
 mod unopened;
+mod uploads;
 
 pub use answered::{Answered, answer_deliveries, answer_lines};
 pub use closing::Closed;
-pub use collecting::{collect, collect_deliveries};
+pub use collecting::collect;
 pub use database::{Opened, OpenedFiles, open_or_make};
 pub use from_list::collect_from_list;
 pub use health::{Examined, Health, check};

@@ -1,62 +1,27 @@
--- The keeper is that of one kind, and keeps the journal that the files had in tables of this kind.
-use Rattle.jc_command_args.specs.declared.request.Tables.TheVariants.{ByKey, ByNumber}
-use Rattle.jc_collector.proofs.Found.{begun_found}
+-- There is an answer for each line.
+use Rattle.jc_collector.specs.Database.{MayEndNames}
+use Rattle.jc_collector.proofs.AnsweredOver.{answers_as}
+use Rattle.jc_collector.proofs.Causes.{may_end_names}
+use Rattle.jc_collector.proofs.Counted.{counted_named}
+use Rattle.jc_collector.proofs.Results.{IfErr-each, IfOk-each}
 use Rattle.jc_collector.proofs.answered.answer_lines.Goals as goal
 
-pub returns-in-ByKey-clause-kind : goal.returns-in-ByKey-clause-kind
-returns-in-ByKey-clause-kind g c =
-    let found = rw c.in-ByKey.is at c.in-Ok.ensures.found in
-    λ clean kind before begin. ((found (c.answer_lines_over-done.ensures.clean clean)).1 kind before begin).0
+pub returns-clause-answers : goal.returns-clause-answers
+returns-clause-answers g c =
+    let old = g.O.Write.contents c.args.output.now in
+    let new = g.O.Write.contents c.answer_uploads.new.output in
+    IfOk-each c.answer_uploads.result _ _
+    (λ run it. answers_as _ _ run.done old new _ _ _ (λ Holds status p. counted_named (g.L.Read.remaining c.args.names.now) Holds status old new p) it)
+    c.answer_uploads.ensures.answers
 
-pub returns-in-ByKey-clause-kept : goal.returns-in-ByKey-clause-kept
-returns-in-ByKey-clause-kept g c =
-    let found = rw c.in-ByKey.is at c.in-Ok.ensures.found in
-    let begun = begun_found c.args.tables ByKey g.F.OpenFromFiles.first c.in-ByKey.keeper.conn found in
-    λ sound before begin. c.answer_lines_over-done.ensures.kept sound before (begun before begin)
+pub returns-clause-printed : goal.returns-clause-printed
+returns-clause-printed g c =
+    let old = g.O.Write.contents c.args.output.now in
+    let new = g.O.Write.contents c.answer_uploads.new.output in
+    IfOk-each c.answer_uploads.result _ _
+    (λ run it. IfOk-each run.done _ _ (λ status p. (counted_named (g.L.Read.remaining c.args.names.now) _ status old new p).shown) it)
+    c.answer_uploads.ensures.printed
 
-pub returns-in-ByKey-clause-each : goal.returns-in-ByKey-clause-each
-returns-in-ByKey-clause-each g c =
-    let found = rw c.in-ByKey.is at c.in-Ok.ensures.found in
-    let begun = begun_found c.args.tables ByKey g.F.OpenFromFiles.first c.in-ByKey.keeper.conn found in
-    λ clean before begin. c.answer_lines_over-done.ensures.each clean before (begun before begin)
-
-pub returns-in-ByKey-clause-each_failed : goal.returns-in-ByKey-clause-each_failed
-returns-in-ByKey-clause-each_failed g c =
-    let found = rw c.in-ByKey.is at c.in-Ok.ensures.found in
-    let begun = begun_found c.args.tables ByKey g.F.OpenFromFiles.first c.in-ByKey.keeper.conn found in
-    λ clean before begin. c.answer_lines_over-done.ensures.each_failed clean before (begun before begin)
-
-pub returns-in-ByKey-clause-recovers : goal.returns-in-ByKey-clause-recovers
-returns-in-ByKey-clause-recovers g c =
-    let found = rw c.in-ByKey.is at c.in-Ok.ensures.found in
-    let begun = begun_found c.args.tables ByKey g.F.OpenFromFiles.first c.in-ByKey.keeper.conn found in
-    λ clean before begin. c.answer_lines_over-done.ensures.recovers clean before (begun before begin)
-
-pub returns-in-ByNumber-clause-kind : goal.returns-in-ByNumber-clause-kind
-returns-in-ByNumber-clause-kind g c =
-    let found = rw c.in-ByNumber.is at c.in-Ok.ensures.found in
-    λ clean kind before begin. ((found (c.answer_lines_over-done-in-ByNumber.ensures.clean clean)).1 kind before begin).0
-
-pub returns-in-ByNumber-clause-kept : goal.returns-in-ByNumber-clause-kept
-returns-in-ByNumber-clause-kept g c =
-    let found = rw c.in-ByNumber.is at c.in-Ok.ensures.found in
-    let begun = begun_found c.args.tables ByNumber g.F.OpenFromFiles.first c.in-ByNumber.keeper.conn found in
-    λ sound before begin. c.answer_lines_over-done-in-ByNumber.ensures.kept sound before (begun before begin)
-
-pub returns-in-ByNumber-clause-each : goal.returns-in-ByNumber-clause-each
-returns-in-ByNumber-clause-each g c =
-    let found = rw c.in-ByNumber.is at c.in-Ok.ensures.found in
-    let begun = begun_found c.args.tables ByNumber g.F.OpenFromFiles.first c.in-ByNumber.keeper.conn found in
-    λ clean before begin. c.answer_lines_over-done-in-ByNumber.ensures.each clean before (begun before begin)
-
-pub returns-in-ByNumber-clause-each_failed : goal.returns-in-ByNumber-clause-each_failed
-returns-in-ByNumber-clause-each_failed g c =
-    let found = rw c.in-ByNumber.is at c.in-Ok.ensures.found in
-    let begun = begun_found c.args.tables ByNumber g.F.OpenFromFiles.first c.in-ByNumber.keeper.conn found in
-    λ clean before begin. c.answer_lines_over-done-in-ByNumber.ensures.each_failed clean before (begun before begin)
-
-pub returns-in-ByNumber-clause-recovers : goal.returns-in-ByNumber-clause-recovers
-returns-in-ByNumber-clause-recovers g c =
-    let found = rw c.in-ByNumber.is at c.in-Ok.ensures.found in
-    let begun = begun_found c.args.tables ByNumber g.F.OpenFromFiles.first c.in-ByNumber.keeper.conn found in
-    λ clean before begin. c.answer_lines_over-done-in-ByNumber.ensures.recovers clean before (begun before begin)
+pub returns-clause-stopped : goal.returns-clause-stopped
+returns-clause-stopped g c =
+    IfOk-each c.answer_uploads.result _ _ (λ run it. IfErr-each run.done _ MayEndNames may_end_names it) c.answer_uploads.ensures.stopped

@@ -1,138 +1,96 @@
 -- What was answered stands over the database that was found, and the export behind it changes nothing.
-use Rattle.std.proofs.Common.{inl, inr, refl, ⊎_elim, OnOk, length, subst}
+use Rattle.std.proofs.Common.{inr, OnOk, subst}
 use Rattle.jc_base.specs.Journal.{Journal}
-use Rattle.jc_collector.specs.Database.{IsOutFailure}
-use Rattle.jc_collector.specs.Open.{HoldsOpen}
+use Rattle.jc_collector.specs.Counted.{PrintsCounted}
+use Rattle.jc_collector.specs.Database.{IsOutFailure, MayStop}
 use Rattle.jc_collector.specs.OverFiles.{CollectsAll, KeepsStored}
 use Rattle.jc_collector_answers.specs.Answered.{KeepsFirst, KeepsPrinted}
-use Rattle.jc_collector_answers.specs.Tied.{PrintsFront, PrintsWith}
 use Rattle.jc_command_shared.specs.declared.failure.Failure.TheVariants.{WriteFailed}
-use Rattle.jc_collector.specs.PrintedLaws.{front_other, with_other}
-use Rattle.jc_collector.proofs.Open.{all_first, clean_before, failed_before, front_with, holds_open, less_left, on_err, on_ok_each, on_ok_of_other}
+use Rattle.jc_collector.specs.PrintedLaws.{whole}
+use Rattle.jc_collector.proofs.Counted.{counted_other, printed_behind, printed_other}
+use Rattle.jc_collector.proofs.Open.{all_first, clean_before, failed_before, front_counted, holds_open, less_left, on_ok_each, on_ok_of_other}
 use Rattle.jc_collector.proofs.OverFiles.{stands_over}
-use Rattle.jc_collector.proofs.Results.{IfErr-each, IfOk-each, failure_of_other, on_ok_if, value_of_other}
+use Rattle.jc_collector.proofs.Results.{IfOk-each, failure_of_other, on_ok_if, value_of_other}
 use Rattle.jc_collector.proofs.answered.answer_over.Goals as goal
 
 pub returns-clause-clean : goal.returns-clause-clean
-returns-clause-clean g c = λ clean. c.answer_all-answered.ensures.clean (clean_before c.export_after.ensures.clean clean)
+returns-clause-clean g c = λ clean. c.answer-answered.ensures.kept.was_clean (clean_before c.export_after.ensures.clean clean)
 
-pub returns-clause-kept : goal.returns-clause-kept
-returns-clause-kept g c =
-    let answered = c.answer_all-answered.ensures in
-    let exported = c.export_after.ensures in
-    stands_over g.L.Layout.meaning c.args.keeper.now.conn _ c.export_after.new.keeper.conn answered.before answered.made KeepsStored answered.kept
-    exported.before exported.keeps
-
-pub returns-clause-each : goal.returns-clause-each
-returns-clause-each g c = λ clean before begin.
+pub returns-clause-answers : goal.returns-clause-answers
+returns-clause-answers g c =
+    let m = g.L.Layout.meaning in
     let old = g.O.Write.contents c.args.output.now in
-    let new = g.O.Write.contents c.answer_all-answered.new.output in
-    let answered = c.answer_all-answered.ensures in
+    let new = g.O.Write.contents c.answer-answered.new.output in
+    let first = c.args.keeper.now.conn in
+    let last = c.export_after.new.keeper.conn in
+    let answered = c.answer-answered.ensures in
     let exported = c.export_after.ensures in
-    let mid = clean_before exported.clean clean in
-    let first = begin (answered.clean mid) in
-    let sound = first.0 in
-    let has = first.1 in
-    let holds = holds_open g.L.Layout.meaning c.args.keeper.now.conn _ c.export_after.new.keeper.conn before sound has (c.sound_leaves_journals.ensures.durable sound has.made) (answered.made has.made)
-    exported.before exported.keeps exported.crash clean in
-    value_of_other c.export_after.result c.answer_all-answered.result (λ status. status) _ exported.answered
-    (IfOk-each c.answer_all-answered.result _ (λ status. PrintsWith (HoldsOpen g.L.Layout.meaning g.F.Store c.export_after.new.keeper.conn before) (length c.args.deliveries.now) status old new)
-    (λ status p. with_other _ (HoldsOpen g.L.Layout.meaning g.F.Store c.export_after.new.keeper.conn before) holds (length c.args.deliveries.now) status old new p) (answered.each mid has.made))
-
-pub returns-clause-each_failed : goal.returns-clause-each_failed
-returns-clause-each_failed g c = λ clean before begin.
-    let old = g.O.Write.contents c.args.output.now in
-    let new = g.O.Write.contents c.answer_all-answered.new.output in
-    let answered = c.answer_all-answered.ensures in
-    let exported = c.export_after.ensures in
-    let mid = clean_before exported.clean clean in
-    let first = begin (answered.clean mid) in
-    let sound = first.0 in
-    let has = first.1 in
-    let holds = holds_open g.L.Layout.meaning c.args.keeper.now.conn _ c.export_after.new.keeper.conn before sound has (c.sound_leaves_journals.ensures.durable sound has.made) (answered.made has.made)
-    exported.before exported.keeps exported.crash clean in
-    let Holds = HoldsOpen g.L.Layout.meaning g.F.Store c.export_after.new.keeper.conn before in
-    on_err c.export_after.result (PrintsFront Holds old new)
-    (front_with Holds (length c.args.deliveries.now) c.answer_all-answered.result old new
-    (IfOk-each c.answer_all-answered.result _ (λ status. PrintsWith Holds (length c.args.deliveries.now) status old new)
-    (λ status p. with_other _ Holds holds (length c.args.deliveries.now) status old new p) (answered.each mid has.made))
-    (IfErr-each c.answer_all-answered.result _ (λ _. PrintsFront Holds old new)
-    (λ _ p. front_other _ Holds holds old new p) (answered.each_unprinted mid has.made)))
-
-pub returns-clause-recovers : goal.returns-clause-recovers
-returns-clause-recovers g c = λ clean before begin.
-    let answered = c.answer_all-answered.ensures in
-    let exported = c.export_after.ensures in
-    let mid = clean_before exported.clean clean in
-    let first = begin (answered.clean mid) in
-    let sound = first.0 in
-    let has = first.1 in
-    let made = answered.made has.made in
-    let journals = answered.recovers mid has.made (c.sound_leaves_journals.ensures.journals sound has.made) in record {
-      made = exported.keeps.made made;
-      journals = record { each = λ left may. journals.each left (exported.crash clean left may) };
+    let counts = g.U.Uploads.counts c.args.uploads in record {
+      kept = stands_over m first _ last answered.kept.was_sound answered.kept.stays_made KeepsStored answered.kept.stored exported.before exported.keeps;
+      each = λ clean before begin.
+          let mid = clean_before exported.clean clean in
+          let it = begin (answered.kept.was_clean mid) in
+          let holds = holds_open m first _ last before it.0 it.1 (c.sound_leaves_journals.ensures.durable it.0 it.1.made) (answered.kept.stays_made it.1.made)
+          exported.before exported.keeps exported.crash clean in
+          printed_behind (PrintsCounted counts) _ old new (front_counted counts _ old new) c.export_after.result c.answer-answered.result exported.answered
+          (printed_other counts _ _ holds old new c.answer-answered.result (answered.answers.each mid it.1.made));
+      recovers = λ clean before begin.
+          let mid = clean_before exported.clean clean in
+          let it = begin (answered.kept.was_clean mid) in
+          let journals = answered.kept.recovers mid it.1.made (c.sound_leaves_journals.ensures.journals it.0 it.1.made) in record {
+            made = exported.keeps.made (answered.kept.stays_made it.1.made);
+            journals = record { each = λ left may. journals.each left (exported.crash clean left may) };
+          };
     }
 
 pub returns-clause-collected : goal.returns-clause-collected
-returns-clause-collected g c = λ uploads are.
+returns-clause-collected g c = λ known have.
+    let m = g.L.Layout.meaning in
     let old = g.O.Write.contents c.args.output.now in
-    let new = g.O.Write.contents c.answer_all-answered.new.output in
-    let answered = c.answer_all-answered.ensures in
-    let exported = c.export_after.ensures in
-    on_ok_if c.export_after.result _ (λ status is.
-    stands_over g.L.Layout.meaning c.args.keeper.now.conn _ c.export_after.new.keeper.conn answered.before answered.made (CollectsAll uploads old new)
-    (λ now made. record {
-      first = _;
-      last = _;
-      ran = is _ (on_ok_of_other c.export_after.result c.answer_all-answered.result _ exported.answered (answered.run now made uploads are));
-      journal_before = refl;
-      journal_after = refl;
-      output_before = refl;
-      output_after = refl;
-    })
-    exported.before exported.keeps)
-
-pub returns-clause-crash : goal.returns-clause-crash
-returns-clause-crash g c = λ uploads are clean before begin found may.
-    let old = g.O.Write.contents c.args.output.now in
-    let new = g.O.Write.contents c.answer_all-answered.new.output in
-    let answered = c.answer_all-answered.ensures in
-    let exported = c.export_after.ensures in
-    let mid = clean_before exported.clean clean in
-    let first = begin (answered.clean mid) in
-    let sound = first.0 in
-    let has = first.1 in
-    let there = less_left g.L.Layout.meaning c.args.keeper.now.conn _ c.export_after.new.keeper.conn before sound has (c.sound_leaves_journals.ensures.durable sound has.made) (answered.made has.made)
-    exported.before exported.keeps exported.crash clean found may in
-    on_ok_of_other c.export_after.result c.answer_all-answered.result _ exported.answered
-    (subst (λ (journal : Journal). OnOk c.answer_all-answered.result (KeepsPrinted uploads journal old new found)) has.is
-    (answered.crash mid sound has.made uploads are found there))
-
-pub returns-clause-crash_unprinted : goal.returns-clause-crash_unprinted
-returns-clause-crash_unprinted g c = λ uploads are clean before begin found may.
-    let old = g.O.Write.contents c.args.output.now in
-    let new = g.O.Write.contents c.answer_all-answered.new.output in
-    let answered = c.answer_all-answered.ensures in
-    let exported = c.export_after.ensures in
-    let mid = clean_before exported.clean clean in
-    let first = begin (answered.clean mid) in
-    let sound = first.0 in
-    let has = first.1 in
-    let there = less_left g.L.Layout.meaning c.args.keeper.now.conn _ c.export_after.new.keeper.conn before sound has (c.sound_leaves_journals.ensures.durable sound has.made) (answered.made has.made)
-    exported.before exported.keeps exported.crash clean found may in
-    let printed = subst (λ (journal : Journal). OnOk c.answer_all-answered.result (KeepsPrinted uploads journal old new found)) has.is
-    (answered.crash mid sound has.made uploads are found there) in
-    failed_before c.export_after.result c.answer_all-answered.result WriteFailed (KeepsFirst uploads before old new found) exported.passed_on
-    (on_ok_each c.answer_all-answered.result _ _ (all_first uploads before old new found) printed)
-    (λ failed. subst (λ (journal : Journal). KeepsFirst uploads journal old new found) has.is
-    (answered.crash_unprinted mid sound has.made uploads are found there failed))
+    let new = g.O.Write.contents c.answer-answered.new.output in
+    let first = c.args.keeper.now.conn in
+    let last = c.export_after.new.keeper.conn in
+    let answered = c.answer-answered.ensures in
+    let exported = c.export_after.ensures in record {
+      collected = on_ok_if c.export_after.result _ (λ status is.
+          stands_over m first _ last answered.kept.was_sound answered.kept.stays_made (CollectsAll known old new)
+          (λ now made. is _ (on_ok_of_other c.export_after.result c.answer-answered.result _ exported.answered (answered.collected known have now made)))
+          exported.before exported.keeps);
+      crash = λ clean before begin found may.
+          let mid = clean_before exported.clean clean in
+          let it = begin (answered.kept.was_clean mid) in
+          let there = less_left m first _ last before it.0 it.1 (c.sound_leaves_journals.ensures.durable it.0 it.1.made) (answered.kept.stays_made it.1.made)
+          exported.before exported.keeps exported.crash clean found may in
+          on_ok_of_other c.export_after.result c.answer-answered.result _ exported.answered
+          (subst (λ (journal : Journal). OnOk c.answer-answered.result (KeepsPrinted known journal old new found)) it.1.is
+          (answered.crash known have mid it.0 it.1.made found there));
+      crash_unprinted = λ clean before begin found may.
+          let mid = clean_before exported.clean clean in
+          let it = begin (answered.kept.was_clean mid) in
+          let there = less_left m first _ last before it.0 it.1 (c.sound_leaves_journals.ensures.durable it.0 it.1.made) (answered.kept.stays_made it.1.made)
+          exported.before exported.keeps exported.crash clean found may in
+          let printed = subst (λ (journal : Journal). OnOk c.answer-answered.result (KeepsPrinted known journal old new found)) it.1.is
+          (answered.crash known have mid it.0 it.1.made found there) in
+          failed_before c.export_after.result c.answer-answered.result WriteFailed (KeepsFirst known before old new found) exported.passed_on
+          (on_ok_each c.answer-answered.result _ _ (all_first known before old new found) printed)
+          (λ failed. subst (λ (journal : Journal). KeepsFirst known journal old new found) it.1.is
+          (answered.crash_unprinted known have mid it.0 it.1.made found there failed));
+    }
 
 pub returns-clause-printed : goal.returns-clause-printed
 returns-clause-printed g c =
-    value_of_other c.export_after.result c.answer_all-answered.result (λ status. status) _ c.export_after.ensures.answered c.answer_all-answered.ensures.printed
+    let old = g.O.Write.contents c.args.output.now in
+    let new = g.O.Write.contents c.answer-answered.new.output in
+    let counts = g.U.Uploads.counts c.args.uploads in
+    value_of_other c.export_after.result c.answer-answered.result (λ status. status) _ c.export_after.ensures.answered
+    (IfOk-each c.answer-answered.result _ _ (λ status it. counted_other counts _ _ (λ answers owned. tt) old new status it)
+    (whole (PrintsCounted counts) _ old new c.answer-answered.result c.answer-answered.ensures.answers.owner))
+
+pub returns-clause-quiet : goal.returns-clause-quiet
+returns-clause-quiet g c =
+    value_of_other c.export_after.result c.answer-answered.result (λ status. status) _ c.export_after.ensures.answered c.answer-answered.ensures.quiet
 
 pub returns-clause-stopped : goal.returns-clause-stopped
 returns-clause-stopped g c =
-    failure_of_other c.export_after.result c.answer_all-answered.result IsOutFailure IsOutFailure c.export_after.ensures.failed
-    (IfErr-each c.answer_all-answered.result _ IsOutFailure (λ failure why. ⊎_elim (λ is. inl is) (λ is. inr (inr is)) why) c.answer_all-answered.ensures.failed)
-    (λ failure out. out)
+    failure_of_other c.export_after.result c.answer-answered.result IsOutFailure (MayStop g.U.Uploads.are_read) c.export_after.ensures.failed
+    c.answer-answered.ensures.stopped (λ failure out. inr out)

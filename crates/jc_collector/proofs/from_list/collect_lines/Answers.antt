@@ -1,17 +1,38 @@
--- A buffer that is empty gives what its reader gives.
-use Rattle.std.proofs.Common.{[]}
-use Rattle.std.specs.Io.KnownBytes.{prepend_known}
+-- A buffer that is empty gives what its reader gives, and there is an answer for each line of it.
+use Rattle.std.proofs.Common.{◌≡◌, ℕ, List, Option, subst}
+use Rattle.std.specs.Io.Buffered.{reader_remaining}
+use Rattle.jc_collector_answers.specs.Named.{PrintsNamed}
 use Rattle.jc_collector.specs.OverFiles.{StoresNamed}
+use Rattle.jc_collector.proofs.Counted.{counted_named}
 use Rattle.jc_collector.proofs.OverFiles.{leads_weaker, other_text, prepend_nothing}
-use Rattle.jc_collector.proofs.Results.{IfOk-each}
+use Rattle.jc_collector.proofs.Results.{IfErr-each, IfOk-each}
+use Rattle.jc_collector.proofs.WhyUncollected.{by_lines}
 use Rattle.jc_collector.proofs.from_list.collect_lines.Goals as goal
 
 pub returns-clause-each : goal.returns-clause-each
 returns-clause-each g c =
     let old = g.O.Write.contents c.args.output.now in
-    let new = g.O.Write.contents c.collect_names.new.output in
+    let new = g.O.Write.contents c.collect_uploads.new.output in
     let given = g.L.Read.remaining c.args.list in
-    IfOk-each c.collect_names.result _ _
-    (λ closed leads. leads_weaker c.args.tables g.F.OpenFromFiles.first closed.files (StoresNamed (prepend_known [] given) closed.value old new)
-    (StoresNamed given closed.value old new) (other_text (prepend_known [] given) given (prepend_nothing given) closed.value old new) leads)
-    (rw (c.in-Ok.ensures.capacity, c.in-Ok.ensures.empty, c.in-Ok.ensures.inner) at c.collect_names.ensures.each)
+    let same : reader_remaining g.L.Read.remaining c.in-Ok.names ≡ g.L.Read.remaining c.args.list =
+    rw (c.in-Ok.ensures.capacity, c.in-Ok.ensures.empty, c.in-Ok.ensures.inner) (prepend_nothing (g.L.Read.remaining c.args.list)) in
+    IfOk-each c.collect_uploads.result _ _
+    (λ closed leads. leads_weaker c.args.target.tables g.F.OpenFromFiles.first closed.files _ (StoresNamed given closed.value old new)
+    (λ before after it. other_text (reader_remaining g.L.Read.remaining c.in-Ok.names) given same closed.value old new before after
+    (counted_named (reader_remaining g.L.Read.remaining c.in-Ok.names) _ closed.value old new it)) leads)
+    c.collect_uploads.ensures.each
+
+pub returns-clause-printed : goal.returns-clause-printed
+returns-clause-printed g c =
+    let old = g.O.Write.contents c.args.output.now in
+    let new = g.O.Write.contents c.collect_uploads.new.output in
+    let same : reader_remaining g.L.Read.remaining c.in-Ok.names ≡ g.L.Read.remaining c.args.list =
+    rw (c.in-Ok.ensures.capacity, c.in-Ok.ensures.empty, c.in-Ok.ensures.inner) (prepend_nothing (g.L.Read.remaining c.args.list)) in
+    IfOk-each c.collect_uploads.result _ _
+    (λ closed it. subst (λ (t : Option (List ℕ)). PrintsNamed t closed.value old new) same
+    (counted_named (reader_remaining g.L.Read.remaining c.in-Ok.names) _ closed.value old new it).shown)
+    c.collect_uploads.ensures.printed
+
+pub returns-clause-failed : goal.returns-clause-failed
+returns-clause-failed g c =
+    IfErr-each c.collect_uploads.result _ _ (by_lines c.args.target.database.now) c.collect_uploads.ensures.failed

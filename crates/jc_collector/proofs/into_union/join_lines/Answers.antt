@@ -13,6 +13,6 @@ returns-clause-each g c =
     let given = g.N.Read.remaining c.args.list in
     let past = g.P.Past.journal in
     IfOk-each c.join_names.result _ _
-    (λ run leads. leads_weaker c.args.tables g.F.OpenFromFiles.first run.files _ _ _
+    (λ run leads. leads_weaker c.args.target.tables g.F.OpenFromFiles.first run.files _ _ _
     (other_text past (g.L.Ledger.known run.ledger) (g.L.Ledger.came run.ledger) run.status old new (prepend_known [] given) given (prepend_nothing given)) leads)
     (rw (c.in-Ok.ensures.capacity, c.in-Ok.ensures.empty, c.in-Ok.ensures.inner) at c.join_names.ensures.each)

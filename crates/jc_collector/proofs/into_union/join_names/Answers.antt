@@ -8,7 +8,7 @@ pub returns-in-ByKey-clause-each : goal.returns-in-ByKey-clause-each
 returns-in-ByKey-clause-each g c =
     let found = rw c.in-ByKey.is at c.in_ok-keeper.ensures.found in
     IfOk-both c.join_over.result _ _ _
-    (λ run sound each. leads_found c.args.tables ByKey g.F.OpenFromFiles.first c.in-ByKey.keeper.conn run.files _ _ found
+    (λ run sound each. leads_found c.args.target.tables ByKey g.F.OpenFromFiles.first c.in-ByKey.keeper.conn run.files _ _ found
     (λ clean before holds. sound clean holds.1 holds.2) (λ clean before has holds. each clean before has holds.0 holds.1 holds.2))
     c.join_over.ensures.sound c.join_over.ensures.each
 
@@ -16,6 +16,6 @@ pub returns-in-ByNumber-clause-each : goal.returns-in-ByNumber-clause-each
 returns-in-ByNumber-clause-each g c =
     let found = rw c.in-ByNumber.is at c.in_ok-keeper.ensures.found in
     IfOk-both c.join_over-in-ByNumber.result _ _ _
-    (λ run sound each. leads_found c.args.tables ByNumber g.F.OpenFromFiles.first c.in-ByNumber.keeper.conn run.files _ _ found
+    (λ run sound each. leads_found c.args.target.tables ByNumber g.F.OpenFromFiles.first c.in-ByNumber.keeper.conn run.files _ _ found
     (λ clean before holds. sound clean holds.1 holds.2) (λ clean before has holds. each clean before has holds.0 holds.1 holds.2))
     c.join_over-in-ByNumber.ensures.sound c.join_over-in-ByNumber.ensures.each

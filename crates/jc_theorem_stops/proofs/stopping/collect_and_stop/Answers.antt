@@ -9,7 +9,8 @@ use Rattle.jc_collector.specs.Open.{HoldsIn}
 use Rattle.jc_collector.specs.Kinds.{kind_of}
 use Rattle.jc_theorem_stops.specs.Stopped.{AnyLeft, LeavesEach, LeavesFirst, LeavesPrinted}
 use Rattle.jc_collector.specs.KindLaws.{at_kind}
-use Rattle.jc_collector.specs.PrintedLaws.{front_other, with_other}
+use Rattle.jc_collector.specs.PrintedLaws.{front, whole}
+use Rattle.jc_collector_answers.specs.PrintedLaws.{front_other, many, with_other}
 use Rattle.jc_theorem_stops.proofs.Left.{left_each}
 use Rattle.jc_theorem_stops.proofs.Results.{on_ok_if}
 use Rattle.jc_theorem_stops.proofs.stopping.collect_and_stop.Goals as goal
@@ -28,9 +29,9 @@ returns-clause-each g c = λ clean.
     IfOk-weaker it.done _ (λ status. PrintsWith (λ answers. AnyLeft g.F.StoreInFiles.in_files files (LeavesEach (kind_of it.keeper) before answers)) (length c.args.deliveries.now) status old new)
     (λ status p. with_other (HoldsIn g.F.Store it.keeper before) (λ answers. AnyLeft g.F.StoreInFiles.in_files files (LeavesEach (kind_of it.keeper) before answers))
     (left_each g.F.StoreInFiles.in_files c.args.tables g.F.OpenFromFiles.first it.keeper files c.stop_opened-files.ensures.clean
-    c.stop_opened-files.ensures.left run.recovers clean before begin)
+    c.stop_opened-files.ensures.left run.answers.recovers clean before begin)
     (length c.args.deliveries.now) status old new p)
-    (run.each (c.stop_opened-files.ensures.clean clean) before begin))
+    (whole (many (length c.args.deliveries.now)) (HoldsIn g.F.Store it.keeper before) old new it.done (run.answers.each (c.stop_opened-files.ensures.clean clean) before begin)))
 
 pub returns-clause-each_failed : goal.returns-clause-each_failed
 returns-clause-each_failed g c = λ clean.
@@ -46,9 +47,9 @@ returns-clause-each_failed g c = λ clean.
     IfErr-weaker it.done _ (λ _. PrintsFront (λ answers. AnyLeft g.F.StoreInFiles.in_files files (LeavesEach (kind_of it.keeper) before answers)) old new)
     (λ failure p. front_other (HoldsIn g.F.Store it.keeper before) (λ answers. AnyLeft g.F.StoreInFiles.in_files files (LeavesEach (kind_of it.keeper) before answers))
     (left_each g.F.StoreInFiles.in_files c.args.tables g.F.OpenFromFiles.first it.keeper files c.stop_opened-files.ensures.clean
-    c.stop_opened-files.ensures.left run.recovers clean before begin)
+    c.stop_opened-files.ensures.left run.answers.recovers clean before begin)
     old new p)
-    (run.each_failed (c.stop_opened-files.ensures.clean clean) before begin))
+    (front (many (length c.args.deliveries.now)) (HoldsIn g.F.Store it.keeper before) old new it.done (run.answers.each (c.stop_opened-files.ensures.clean clean) before begin)))
 
 pub returns-clause-printed : goal.returns-clause-printed
 returns-clause-printed g c = λ clean kind before begin uploads are.
@@ -62,10 +63,10 @@ returns-clause-printed g c = λ clean kind before begin uploads are.
     early
     (λ before begin left may. on_ok_if it.done _
     (λ status is. ∥∥₁_map
-    (c.stop_opened-files.ensures.left (run.recovers early before begin).journals clean left may)
+    (c.stop_opened-files.ensures.left (run.answers.recovers early before begin).journals clean left may)
     (λ found. record {
       found = found.0;
-      keeps = is _ (run.crash uploads are early before begin found.0 found.1);
+      keeps = is _ ((run.collected uploads are).crash early before begin found.0 found.1);
       holds = found.2;
     })))
     kind before begin
@@ -82,10 +83,10 @@ returns-clause-unprinted g c = λ clean kind before begin uploads are.
     → ∥ LeavesFirst kind uploads before old new left ∥₁)
     early
     (λ before begin left may failed. ∥∥₁_map
-    (c.stop_opened-files.ensures.left (run.recovers early before begin).journals clean left may)
+    (c.stop_opened-files.ensures.left (run.answers.recovers early before begin).journals clean left may)
     (λ found. record {
       found = found.0;
-      keeps = run.crash_unprinted uploads are early before begin found.0 found.1 failed;
+      keeps = (run.collected uploads are).crash_unprinted early before begin found.0 found.1 failed;
       holds = found.2;
     }))
     kind before begin

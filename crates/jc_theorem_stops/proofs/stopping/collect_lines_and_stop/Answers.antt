@@ -6,7 +6,8 @@ use Rattle.jc_collector.specs.Open.{HoldsIn}
 use Rattle.jc_collector.specs.Kinds.{kind_of}
 use Rattle.jc_theorem_stops.specs.Stopped.{AnyLeft, LeavesEach}
 use Rattle.jc_collector.specs.KindLaws.{at_kind}
-use Rattle.jc_collector.specs.PrintedLaws.{front_other, named_other}
+use Rattle.jc_collector.specs.PrintedLaws.{front, whole}
+use Rattle.jc_collector_answers.specs.PrintedLaws.{front_other, named, named_other}
 use Rattle.jc_theorem_stops.proofs.Left.{left_each}
 use Rattle.jc_theorem_stops.proofs.stopping.collect_lines_and_stop.Goals as goal
 
@@ -24,9 +25,9 @@ returns-clause-each g c = λ clean.
     IfOk-weaker it.done _ (λ status. NamedWith (λ answers. AnyLeft g.F.StoreInFiles.in_files files (LeavesEach (kind_of it.keeper) before answers)) (g.L.Read.remaining c.args.names.now) status old new)
     (λ status p. named_other (HoldsIn g.F.Store it.keeper before) (λ answers. AnyLeft g.F.StoreInFiles.in_files files (LeavesEach (kind_of it.keeper) before answers))
     (left_each g.F.StoreInFiles.in_files c.args.tables g.F.OpenFromFiles.first it.keeper files c.stop_opened-files.ensures.clean
-    c.stop_opened-files.ensures.left run.recovers clean before begin)
+    c.stop_opened-files.ensures.left run.answers.recovers clean before begin)
     (g.L.Read.remaining c.args.names.now) status old new p)
-    (run.each (c.stop_opened-files.ensures.clean clean) before begin))
+    (whole (named (g.L.Read.remaining c.args.names.now)) (HoldsIn g.F.Store it.keeper before) old new it.done (run.answers.each (c.stop_opened-files.ensures.clean clean) before begin)))
 
 pub returns-clause-each_failed : goal.returns-clause-each_failed
 returns-clause-each_failed g c = λ clean.
@@ -42,6 +43,6 @@ returns-clause-each_failed g c = λ clean.
     IfErr-weaker it.done _ (λ _. PrintsFront (λ answers. AnyLeft g.F.StoreInFiles.in_files files (LeavesEach (kind_of it.keeper) before answers)) old new)
     (λ failure p. front_other (HoldsIn g.F.Store it.keeper before) (λ answers. AnyLeft g.F.StoreInFiles.in_files files (LeavesEach (kind_of it.keeper) before answers))
     (left_each g.F.StoreInFiles.in_files c.args.tables g.F.OpenFromFiles.first it.keeper files c.stop_opened-files.ensures.clean
-    c.stop_opened-files.ensures.left run.recovers clean before begin)
+    c.stop_opened-files.ensures.left run.answers.recovers clean before begin)
     old new p)
-    (run.each_failed (c.stop_opened-files.ensures.clean clean) before begin))
+    (front (named (g.L.Read.remaining c.args.names.now)) (HoldsIn g.F.Store it.keeper before) old new it.done (run.answers.each (c.stop_opened-files.ensures.clean clean) before begin)))

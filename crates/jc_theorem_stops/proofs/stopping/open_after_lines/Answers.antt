@@ -6,7 +6,7 @@ use Rattle.sqlite.specs.Recovery.{Image}
 use Rattle.jc_upload.specs.declared.answer.Answer.{Answer}
 use Rattle.jc_collector_answers.specs.Tied.{NamedWith}
 use Rattle.jc_theorem_stops.specs.Stopped.{AnyLeft, FindsEach, LeavesEach}
-use Rattle.jc_collector.specs.PrintedLaws.{named_other}
+use Rattle.jc_collector_answers.specs.PrintedLaws.{named_other}
 use Rattle.jc_theorem_stops.proofs.Left.{found_each}
 use Rattle.jc_theorem_stops.proofs.stopping.open_after_lines.Goals as goal
 

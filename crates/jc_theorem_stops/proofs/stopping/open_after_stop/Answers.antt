@@ -6,7 +6,7 @@ use Rattle.sqlite.specs.Recovery.{Image}
 use Rattle.jc_upload.specs.declared.answer.Answer.{Answer}
 use Rattle.jc_collector_answers.specs.Tied.{PrintsWith}
 use Rattle.jc_theorem_stops.specs.Stopped.{AnyLeft, FindsEach, LeavesEach, LeavesPrinted}
-use Rattle.jc_collector.specs.PrintedLaws.{with_other}
+use Rattle.jc_collector_answers.specs.PrintedLaws.{with_other}
 use Rattle.jc_theorem_stops.proofs.Left.{found_again, found_each}
 use Rattle.jc_theorem_stops.proofs.Results.{on_ok_if}
 use Rattle.jc_theorem_stops.proofs.stopping.open_after_stop.Goals as goal

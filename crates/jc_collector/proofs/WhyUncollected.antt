@@ -1,0 +1,32 @@
+-- Why collecting uploads fails, by why taking up deliveries does, or the uploads that lines name.
+use Rattle.std.proofs.Common.{◌≡◌, ◌⊎◌, inl, inr, ℕ, List}
+use Rattle.std.specs.Prelude.{⊤}
+use Rattle.jc_command_shared.specs.declared.failure.Failure.{Failure}
+use Rattle.jc_command_shared.specs.declared.failure.Failure.TheVariants.{Bad, BadAnswer, BadDatabaseName, BadExportName, BadFieldName, BadId, BadResume, CannotOpen, OutOfMemory, ReadFailed, SourceChanged, StoreFailed, WordsAreNoText, WriteFailed}
+use Rattle.jc_collector.specs.Database.{CollectFailsBy, DatabaseFailsBy}
+
+module _ (database : List ℕ) where
+  pub by_deliveries : (failure : Failure) → (⊥ × (failure ≡ ReadFailed)) ⊎ DatabaseFailsBy database failure → DatabaseFailsBy database failure
+  by_deliveries failure (inl read) = absurd read.0
+  by_deliveries failure (inr why) = why
+
+  pub by_lines : (failure : Failure) → (⊤ × (failure ≡ ReadFailed)) ⊎ DatabaseFailsBy database failure
+      → (failure ≡ ReadFailed) ⊎ DatabaseFailsBy database failure
+  by_lines failure (inl read) = inl read.1
+  by_lines failure (inr why) = inr why
+
+  pub by_collecting : (uploads : List (List ℕ)) (failure : Failure) → DatabaseFailsBy database failure → CollectFailsBy database uploads failure
+  by_collecting uploads (Bad fault) why = why
+  by_collecting uploads SourceChanged why = why
+  by_collecting uploads BadResume why = why
+  by_collecting uploads (BadAnswer line) why = why
+  by_collecting uploads BadId why = why
+  by_collecting uploads BadFieldName why = why
+  by_collecting uploads BadDatabaseName why = why
+  by_collecting uploads BadExportName why = tt
+  by_collecting uploads (CannotOpen at) why = inl why
+  by_collecting uploads ReadFailed why = tt
+  by_collecting uploads WriteFailed why = why
+  by_collecting uploads StoreFailed why = why
+  by_collecting uploads OutOfMemory why = why
+  by_collecting uploads WordsAreNoText why = why
