@@ -27,8 +27,8 @@ LeadsIf made image o files Holds Step =
 
 -- The line of an answer was printed for each line of a text, the status is theirs, and each acknowledged upload is stored in
 -- the union of the finished databases and the present one. What is known is what these have.
--- A database that was set aside counts as finished if all that it has is noted. Otherwise it is none of these, and what it
--- has may be stored once more.
+-- What is noted of a database that was set aside counts as a finished one's. Of what else it has nothing is said: that may be
+-- stored once more.
 pub record StoresNotedNames (past : Journal) (known : Known) (came : LogEntry → Type 0) (text : Option (List ℕ)) (status : Status)
     (old new : Option (List ℕ)) (before after : Journal) : Type 0 where
   pub kept : IsKept known past after came

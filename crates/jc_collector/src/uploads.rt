@@ -41,7 +41,7 @@ pub(crate) trait Uploads<E> {
         output: &mut O,
         errors: &mut E,
     ) -> Result<Status, Failure<'a>>
-        // Nothing that was stored is lost, by a crash neither.
+        // Nothing that was stored is lost, not even by a crash.
         ensures kept { HasKept K.Keeper keeper.old keeper.new }
         // What the printed lines acknowledge is stored, and found after a crash, whether the bytes are known or not.
         ensures answers { AnswersHold K.Keeper (PrintsCounted (counts self)) keeper.old keeper.new result
