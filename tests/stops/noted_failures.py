@@ -29,8 +29,8 @@ def is_note(call: device.Call) -> bool:
     return call.operation in (b"w", b"s") and name.isdigit() and "sequences" in folder.split(os.sep)
 
 
-def is_failure(line: str) -> bool:
-    return line.endswith(" 62 0")
+def is_refused(line: str) -> bool:
+    return not line.startswith("ack ")
 
 
 def failing(noted: NotedRun, number: int, last: int) -> bool:
@@ -47,8 +47,8 @@ def failing(noted: NotedRun, number: int, last: int) -> bool:
     if not calls:
         trial.expect(f"{what}: undisturbed", told, noted.usual)
     if any(map(is_note, calls)):
-        trial.expect(f"{what}: {lines}, all fail from one on", lines == sorted(lines, key=is_failure), True)
-        trial.expect(f"{what}: {lines}, one fails", is_failure(lines[-1]), True)
+        trial.expect(f"{what}: {lines}, none is acknowledged behind it", lines == sorted(lines, key=is_refused), True)
+        trial.expect(f"{what}: {lines}, one fails", any(line.endswith(" 62 0") for line in lines), True)
     may_be = noted.may_be(what, lines)
     # what an earlier run left so, to the byte, was looked at then
     if may_be and trial.is_new(folder, *lines):
