@@ -1,3 +1,4 @@
 mod Calls
 mod Closing
+mod Lending
 mod SeenNone

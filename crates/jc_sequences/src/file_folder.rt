@@ -1,40 +1,38 @@
 //! A folder with a file for each window.
 
-ghost use Rattle.std.specs.Prelude.{◌≡◌, ◌≢◌, ◌≤◌, false};
+ghost use Rattle.std.specs.Prelude.{◌≡◌, ◌≢◌, ◌≤◌};
 ghost use Rattle.jc_keeper.specs.declared.keeper.KeepStop.TheVariants.{ReadFailed, StoreFailed};
 ghost use Rattle.jc_base.specs.Device.{Rose};
-ghost use Rattle.jc_ledger_files.specs.declared.window_name.WindowName.{WindowName};
-ghost use Rattle.jc_ledger_files.specs.Files.{AreClean, IsAsFound, files_leave, files_seen};
+ghost use Rattle.jc_sequences.specs.Opened.{IsFound};
 
 use crate::found_file::FoundFile;
-use crate::open_files::OpenFiles;
-use crate::window_path::{open_window, usable};
+use crate::open_files::{OpenFiles, WindowFile};
 use jc_keeper::KeepStop;
 use jc_ledger_files::{Folder, Found, WindowName};
-use sqlite_disk::Disk;
 use sqlite_std_file::{File, OpenError};
 use std::io;
 
 /// A folder in which each sequence has a folder, and each of its windows a file in that one. `F` stands for what these
 /// files have as they are opened.
+pub type FileFolder<'a, F> = WindowFolder<'a, FoundFile<File, F>, F>;
+
+/// The same over any files of windows.
 #[derive(Drop)]
-pub struct FileFolder<'a, F: Found> {
+pub struct WindowFolder<'a, D: WindowFile<F> + Drop, F: Found> {
     rt: &'a HostRuntime,
     path: String,
-    open: OpenFiles<File, F>,
+    open: OpenFiles<D, F>,
     /// How often a file couldn't be opened, up to 2^64 - 1.
     failures: u64,
 }
 
-impl<'a, F: Found> FileFolder<'a, F> {
+impl<'a, D: WindowFile<F> + Drop, F: Found> WindowFolder<'a, D, F> {
     /// The folder at `path`, which is there. Takes no memory.
-    pub(crate) fn new(rt: &'a HostRuntime, path: String) -> FileFolder<'a, F>
-        ensures found { (w : WindowName) → IsAsFound (F.found w) (files_seen F.found ⟦<FoundFile<File, F> as Disk>⟧.seen result.open.kept.files w)
-            (files_leave F.found ⟦<FoundFile<File, F> as Disk>⟧.may_leave result.open.kept.files w) }
-        ensures clean { AreClean ⟦<FoundFile<File, F> as Disk>⟧.is_clean result.open.kept.files }
-        ensures whole { result.open.is_worn ≡ false }
+    pub(crate) fn new(rt: &'a HostRuntime, path: String) -> WindowFolder<'a, D, F>
+        ensures { IsFound F.found (⟦<WindowFolder<'a, D, F> as Folder<D>>⟧.clean result)
+            (⟦<WindowFolder<'a, D, F> as Folder<D>>⟧.seen result) (⟦<WindowFolder<'a, D, F> as Folder<D>>⟧.may_leave result) }
     {
-        FileFolder {
+        WindowFolder {
             rt,
             path,
             open: OpenFiles::new(rt.alloc()),
@@ -62,42 +60,32 @@ impl<'a, F: Found> FileFolder<'a, F> {
     }
 }
 
-impl<'a, F: Found> Folder<FoundFile<File, F>> for FileFolder<'a, F> {
-    ghost use Rattle.std.specs.Prelude.{◌≡◌, false, refl};
-    ghost use Rattle.std.proofs.Common.{inl};
+impl<'a, D: WindowFile<F> + Drop, F: Found> Folder<D> for WindowFolder<'a, D, F> {
+    ghost use Rattle.std.specs.Prelude.{◌≡◌, false};
     ghost use Rattle.std.specs.BTreeMap.{get};
     ghost use Rattle.jc_base.specs.Journal.{key_cmp};
     ghost use Rattle.jc_ledger_files.specs.Files.{AreClean, files_leave, files_seen, key_named, seen_stays};
 
-    ghost seen = { λ f. files_seen F.found ⟦<FoundFile<File, F> as Disk>⟧.seen f.open.kept.files };
+    ghost seen = { λ f. files_seen F.found D.Disk.seen f.open.kept.files };
 
-    ghost may_leave = { λ f. files_leave F.found ⟦<FoundFile<File, F> as Disk>⟧.may_leave f.open.kept.files };
+    ghost may_leave = { λ f. files_leave F.found D.Disk.may_leave f.open.kept.files };
 
     // Nothing is known of a file that was lost, so nothing is claimed once one was.
-    ghost clean = { λ f. (f.open.is_worn ≡ false) × AreClean ⟦<FoundFile<File, F> as Disk>⟧.is_clean f.open.kept.files };
+    ghost clean = { λ f. (f.open.is_worn ≡ false) × AreClean D.Disk.is_clean f.open.kept.files };
 
     ghost failures = { λ f. f.failures };
 
-    ghost seen_may_stay = { λ f w. seen_stays (F.found w) ⟦<FoundFile<File, F> as Disk>⟧.seen ⟦<FoundFile<File, F> as Disk>⟧.may_leave
-        (λ _. inl refl) (get key_cmp f.open.kept.files (key_named w)) };
+    ghost seen_may_stay = { λ f w. seen_stays (F.found w) D.Disk.seen D.Disk.may_leave
+        D.Disk.seen_may_stay (get key_cmp f.open.kept.files (key_named w)) };
 
-    fn lend(&mut self, name: WindowName) -> Result<FoundFile<File, F>, KeepStop> {
-        match self.open.take(name) {
-            Some(file) => match usable(self.rt, &self.path, name, file) {
-                Ok(file) => Ok(file),
-                Err(error) => {
-                    self.open.is_worn = true;
-                    Err(self.count(error))
-                }
-            },
-            None => match open_window(self.rt, &self.path, name) {
-                Ok(file) => Ok(file),
-                Err(error) => Err(self.count(error)),
-            },
+    fn lend(&mut self, name: WindowName) -> Result<D, KeepStop> {
+        match self.open.lend(self.rt, &self.path, name) {
+            Ok(file) => Ok(file),
+            Err(error) => Err(self.count(error)),
         }
     }
 
-    fn give_back(&mut self, name: WindowName, file: FoundFile<File, F>) {
+    fn give_back(&mut self, name: WindowName, file: D) {
         self.open.put(name, file);
     }
 }

@@ -1,12 +1,14 @@
 //! A window's file that had something when it was opened.
 
-ghost use Rattle.std.specs.Prelude.{◌≡◌, List, ℕ, IsTrue};
-ghost use Rattle.sqlite_disk.specs.Events.{raised, replay};
-ghost use Rattle.jc_sequences.specs.Closed.{StaysAs};
+ghost use Rattle.std.specs.Prelude.{◌≡◌, [], ◌∷◌};
+ghost use Rattle.sqlite_disk.specs.Events.{raised, replay, settled};
 
 use crate::file_record::FileRecord;
+use crate::open_files::WindowFile;
+use crate::window_path::open_file;
 use jc_ledger_files::{Found, WindowName};
 use sqlite_disk::{Disk, Tally, is_no_room};
+use sqlite_std_file::{File, OpenError};
 use std::io;
 use std::marker::PhantomData;
 
@@ -41,9 +43,8 @@ pub struct FoundFile<D: Disk, F: Found> {
 impl<D: Disk, F: Found> FoundFile<D, F> {
     /// The file of this window, opened and synced.
     pub(crate) fn new(disk: D, name: WindowName) -> FoundFile<D, F>
-        ensures seen { ⟦<FoundFile<D, F> as Disk>⟧.seen result ≡ F.found name }
-        ensures crash { (c : List ℕ) → ⟦<FoundFile<D, F> as Disk>⟧.may_leave result c → c ≡ F.found name }
-        ensures usable { IsTrue (⟦<FoundFile<D, F> as Disk>⟧.is_usable result) }
+        ensures name { result.name ≡ name }
+        ensures calls { result.calls.events ≡ settled 0 ∷ [] }
     {
         let mut calls = FileRecord::new();
         calls.note(&[SETTLED, 0, 0, 1], &[]);
@@ -60,27 +61,43 @@ impl<D: Disk, F: Found> FoundFile<D, F> {
             },
         }
     }
-
-    /// Whether it is open.
-    pub(crate) fn is_open(&self) -> bool {
-        self.disk.is_some()
-    }
 }
 
-impl<D: Disk + Drop, F: Found> FoundFile<D, F> {
-    /// Closes it.
-    pub(crate) fn close(&mut self)
-        ensures stays { StaysAs ⟦<FoundFile<D, F> as Disk>⟧.seen ⟦<FoundFile<D, F> as Disk>⟧.may_leave ⟦<FoundFile<D, F> as Disk>⟧.is_clean self.old self.new }
-    {
-        self.disk = None;
+impl<F: Found> WindowFile<F> for FoundFile<File, F> {
+    fn open(
+        rt: &HostRuntime,
+        folder: &str,
+        name: WindowName,
+    ) -> Result<FoundFile<File, F>, OpenError> {
+        match open_file(rt, folder, name) {
+            Ok(disk) => Ok(FoundFile::new(disk, name)),
+            Err(error) => Err(error),
+        }
     }
 
-    /// The same file is opened again, and has what it had.
-    pub(crate) fn open_again(&mut self, disk: D)
-        ensures stays { StaysAs ⟦<FoundFile<D, F> as Disk>⟧.seen ⟦<FoundFile<D, F> as Disk>⟧.may_leave ⟦<FoundFile<D, F> as Disk>⟧.is_clean self.old self.new }
-        ensures usable { ⟦<FoundFile<D, F> as Disk>⟧.is_usable self.new ≡ ⟦<FoundFile<D, F> as Disk>⟧.is_usable self.old }
-    {
-        self.disk = Some(disk);
+    fn reopen(
+        &mut self,
+        rt: &HostRuntime,
+        folder: &str,
+        name: WindowName,
+    ) -> Result<(), OpenError> {
+        if !self.is_usable {
+            return Err(OpenError::Io(io::ErrorKind::Other.into()));
+        }
+        if self.disk.is_some() {
+            return Ok(());
+        }
+        match open_file(rt, folder, name) {
+            Ok(disk) => {
+                self.disk = Some(disk);
+                Ok(())
+            }
+            Err(error) => Err(error),
+        }
+    }
+
+    fn close(&mut self) {
+        self.disk = None;
     }
 }
 
@@ -95,43 +112,31 @@ fn count_if(rises: bool, count: u64) -> u64
 }
 
 fn measure<D: Disk>(disk: &mut Option<D>) -> io::Result<usize> {
-    let Some(disk) = disk else {
-        return Err(io::ErrorKind::Other.into());
-    };
-    if !disk.may_be_used() {
-        return Err(io::ErrorKind::Other.into());
+    match disk {
+        Some(disk) if disk.may_be_used() => disk.len(),
+        _ => Err(io::ErrorKind::Other.into()),
     }
-    disk.len()
 }
 
 fn read<D: Disk>(disk: &mut Option<D>, at: usize, buf: &mut [u8]) -> io::Result<()> {
-    let Some(disk) = disk else {
-        return Err(io::ErrorKind::Other.into());
-    };
-    if !disk.may_be_used() {
-        return Err(io::ErrorKind::Other.into());
+    match disk {
+        Some(disk) if disk.may_be_used() => disk.read_at(at, buf),
+        _ => Err(io::ErrorKind::Other.into()),
     }
-    disk.read_at(at, buf)
 }
 
 fn write<D: Disk>(disk: &mut Option<D>, at: usize, bytes: &[u8]) -> io::Result<()> {
-    let Some(disk) = disk else {
-        return Err(io::ErrorKind::Other.into());
-    };
-    if !disk.may_be_used() {
-        return Err(io::ErrorKind::Other.into());
+    match disk {
+        Some(disk) if disk.may_be_used() => disk.write_at(at, bytes),
+        _ => Err(io::ErrorKind::Other.into()),
     }
-    disk.write_at(at, bytes)
 }
 
 fn flush<D: Disk>(disk: &mut Option<D>) -> io::Result<()> {
-    let Some(disk) = disk else {
-        return Err(io::ErrorKind::Other.into());
-    };
-    if !disk.may_be_used() {
-        return Err(io::ErrorKind::Other.into());
+    match disk {
+        Some(disk) if disk.may_be_used() => disk.sync(),
+        _ => Err(io::ErrorKind::Other.into()),
     }
-    disk.sync()
 }
 
 impl<D: Disk, F: Found> Disk for FoundFile<D, F> {

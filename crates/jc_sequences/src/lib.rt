@@ -8,7 +8,8 @@ mod open_files;
 mod opening;
 mod window_path;
 
-pub use file_folder::FileFolder;
+pub use file_folder::{FileFolder, WindowFolder};
 pub use file_record::FileRecord;
 pub use found_file::FoundFile;
+pub use open_files::WindowFile;
 pub use opening::{FileSequences, Folders, open_sequences};

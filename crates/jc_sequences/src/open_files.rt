@@ -1,33 +1,52 @@
 //! The files of windows that are kept open.
 
-ghost use Rattle.std.specs.Prelude.{◌≡◌, ◌<◌, false, true, IfNone, IfSome, IsTrue, MatchOption, vec_len};
+ghost use Rattle.std.specs.Prelude.{◌≡◌, ◌<◌, false, true, List, ℕ, IfNone, IfOk, IfSome, IsTrue, MatchOption, MatchResult, OnErr, OnOk, vec_len};
 ghost use Rattle.jc_ledger_files.specs.declared.window_name.WindowName.{WindowName};
 ghost use Rattle.jc_ledger_files.specs.Files.{AreClean, IsAsFound, files_leave, files_seen};
 ghost use Rattle.jc_ledger_files.specs.Lent.{AllStay, IsBack, IsLent, OthersStay};
+ghost use Rattle.jc_sequences.specs.Closed.{StaysAs};
 
-use crate::found_file::FoundFile;
 use jc_ledger_files::{Found, KeptFiles, WindowName};
 use sqlite_disk::Disk;
+use sqlite_std_file::OpenError;
 use std::alloc::Global;
 
 /// How many files are kept open at most.
 const MOST_FILES: usize = 64;
 
+/// The file of a window, which is opened, closed while it is kept, and opened again.
+pub trait WindowFile<F: Found>: Disk + Sized {
+    /// Opens the file, or makes it.
+    fn open(rt: &HostRuntime, folder: &str, name: WindowName) -> Result<Self, OpenError>
+        ensures seen { IfOk result (λ file. Self.Disk.seen file ≡ F.found name) }
+        ensures crash { IfOk result (λ file. (c : List ℕ) → Self.Disk.may_leave file c → c ≡ F.found name) }
+        ensures usable { IfOk result (λ file. IsTrue (Self.Disk.is_usable file)) };
+
+    /// Opens it again if it was closed meanwhile. Fails if it may not be used any more.
+    fn reopen(&mut self, rt: &HostRuntime, folder: &str, name: WindowName) -> Result<(), OpenError>
+        ensures stays { OnOk result (StaysAs Self.Disk.seen Self.Disk.may_leave Self.Disk.is_clean self.old self.new) }
+        ensures usable { OnOk result (IsTrue (Self.Disk.is_usable self.new)) };
+
+    /// Closes it. What it has stays known.
+    fn close(&mut self)
+        ensures stays { StaysAs Self.Disk.seen Self.Disk.may_leave Self.Disk.is_clean self.old self.new };
+}
+
 /// Files, of which some are kept open: the names of these, in the order of last use.
 #[derive(Drop)]
-pub(crate) struct OpenFiles<D: Disk + Drop, F: Found> {
-    pub kept: KeptFiles<FoundFile<D, F>, F>,
+pub(crate) struct OpenFiles<D: WindowFile<F> + Drop, F: Found> {
+    pub kept: KeptFiles<D, F>,
     pub names: Vec<WindowName>,
     /// A file was lost.
     pub is_worn: bool,
 }
 
-impl<D: Disk + Drop, F: Found> OpenFiles<D, F> {
+impl<D: WindowFile<F> + Drop, F: Found> OpenFiles<D, F> {
     /// None is open. Takes no memory.
     pub(crate) fn new(alloc: Global) -> OpenFiles<D, F>
-        ensures found { (w : WindowName) → IsAsFound (F.found w) (files_seen F.found ⟦<FoundFile<D, F> as Disk>⟧.seen result.kept.files w)
-            (files_leave F.found ⟦<FoundFile<D, F> as Disk>⟧.may_leave result.kept.files w) }
-        ensures clean { AreClean ⟦<FoundFile<D, F> as Disk>⟧.is_clean result.kept.files }
+        ensures found { (w : WindowName) → IsAsFound (F.found w) (files_seen F.found D.Disk.seen result.kept.files w)
+            (files_leave F.found D.Disk.may_leave result.kept.files w) }
+        ensures clean { AreClean D.Disk.is_clean result.kept.files }
         ensures whole { result.is_worn ≡ false }
     {
         OpenFiles {
@@ -37,18 +56,48 @@ impl<D: Disk + Drop, F: Found> OpenFiles<D, F> {
         }
     }
 
+    /// Lends the file of a window, open: one that was kept, or else the one that is opened.
+    pub(crate) fn lend(
+        &mut self,
+        rt: &HostRuntime,
+        folder: &str,
+        name: WindowName,
+    ) -> Result<D, OpenError>
+        ensures file { IfOk result (λ file. IsLent (D.Disk.seen file) (D.Disk.may_leave file)
+            (files_seen F.found D.Disk.seen self.old.kept.files name) (files_leave F.found D.Disk.may_leave self.old.kept.files name)) }
+        ensures usable { IfOk result (λ file. IsTrue (D.Disk.is_usable file)) }
+        ensures others { OthersStay name (files_seen F.found D.Disk.seen self.old.kept.files) (files_seen F.found D.Disk.seen self.new.kept.files)
+            (files_leave F.found D.Disk.may_leave self.old.kept.files) (files_leave F.found D.Disk.may_leave self.new.kept.files) }
+        ensures refused { OnErr result (self.new.is_worn ≡ false → AllStay (files_seen F.found D.Disk.seen self.old.kept.files) (files_seen F.found D.Disk.seen self.new.kept.files)
+            (files_leave F.found D.Disk.may_leave self.old.kept.files) (files_leave F.found D.Disk.may_leave self.new.kept.files)) }
+        ensures clean { self.new.is_worn ≡ false → AreClean D.Disk.is_clean self.new.kept.files
+            → MatchResult result (λ file. IsTrue (D.Disk.is_clean file) → AreClean D.Disk.is_clean self.old.kept.files) (λ _. AreClean D.Disk.is_clean self.old.kept.files) }
+        ensures worn { self.new.is_worn ≡ false → self.old.is_worn ≡ false }
+    {
+        match self.take(name) {
+            Some(mut file) => match file.reopen(rt, folder, name) {
+                Ok(()) => Ok(file),
+                Err(error) => {
+                    self.is_worn = true;
+                    Err(error)
+                }
+            },
+            None => D::open(rt, folder, name),
+        }
+    }
+
     /// Takes out the file of a window, open or closed, if it was ever kept.
-    pub(crate) fn take(&mut self, name: WindowName) -> Option<FoundFile<D, F>>
-        ensures file { IfSome result (λ file. IsLent (⟦<FoundFile<D, F> as Disk>⟧.seen file) (⟦<FoundFile<D, F> as Disk>⟧.may_leave file)
-            (files_seen F.found ⟦<FoundFile<D, F> as Disk>⟧.seen self.old.kept.files name) (files_leave F.found ⟦<FoundFile<D, F> as Disk>⟧.may_leave self.old.kept.files name)) }
-        ensures none { IfNone result (IsAsFound (F.found name) (files_seen F.found ⟦<FoundFile<D, F> as Disk>⟧.seen self.old.kept.files name)
-            (files_leave F.found ⟦<FoundFile<D, F> as Disk>⟧.may_leave self.old.kept.files name)) }
-        ensures others { OthersStay name (files_seen F.found ⟦<FoundFile<D, F> as Disk>⟧.seen self.old.kept.files) (files_seen F.found ⟦<FoundFile<D, F> as Disk>⟧.seen self.new.kept.files)
-            (files_leave F.found ⟦<FoundFile<D, F> as Disk>⟧.may_leave self.old.kept.files) (files_leave F.found ⟦<FoundFile<D, F> as Disk>⟧.may_leave self.new.kept.files) }
-        ensures all { IfNone result (AllStay (files_seen F.found ⟦<FoundFile<D, F> as Disk>⟧.seen self.old.kept.files) (files_seen F.found ⟦<FoundFile<D, F> as Disk>⟧.seen self.new.kept.files)
-            (files_leave F.found ⟦<FoundFile<D, F> as Disk>⟧.may_leave self.old.kept.files) (files_leave F.found ⟦<FoundFile<D, F> as Disk>⟧.may_leave self.new.kept.files)) }
-        ensures clean { AreClean ⟦<FoundFile<D, F> as Disk>⟧.is_clean self.new.kept.files → MatchOption result (AreClean ⟦<FoundFile<D, F> as Disk>⟧.is_clean self.old.kept.files)
-            (λ file. IsTrue (⟦<FoundFile<D, F> as Disk>⟧.is_clean file) → AreClean ⟦<FoundFile<D, F> as Disk>⟧.is_clean self.old.kept.files) }
+    fn take(&mut self, name: WindowName) -> Option<D>
+        ensures file { IfSome result (λ file. IsLent (D.Disk.seen file) (D.Disk.may_leave file)
+            (files_seen F.found D.Disk.seen self.old.kept.files name) (files_leave F.found D.Disk.may_leave self.old.kept.files name)) }
+        ensures none { IfNone result (IsAsFound (F.found name) (files_seen F.found D.Disk.seen self.old.kept.files name)
+            (files_leave F.found D.Disk.may_leave self.old.kept.files name)) }
+        ensures others { OthersStay name (files_seen F.found D.Disk.seen self.old.kept.files) (files_seen F.found D.Disk.seen self.new.kept.files)
+            (files_leave F.found D.Disk.may_leave self.old.kept.files) (files_leave F.found D.Disk.may_leave self.new.kept.files) }
+        ensures all { IfNone result (AllStay (files_seen F.found D.Disk.seen self.old.kept.files) (files_seen F.found D.Disk.seen self.new.kept.files)
+            (files_leave F.found D.Disk.may_leave self.old.kept.files) (files_leave F.found D.Disk.may_leave self.new.kept.files)) }
+        ensures clean { AreClean D.Disk.is_clean self.new.kept.files → MatchOption result (AreClean D.Disk.is_clean self.old.kept.files)
+            (λ file. IsTrue (D.Disk.is_clean file) → AreClean D.Disk.is_clean self.old.kept.files) }
         ensures worn { self.new.is_worn ≡ self.old.is_worn }
     {
         self.names.retain(|open| *open != name);
@@ -56,14 +105,14 @@ impl<D: Disk + Drop, F: Found> OpenFiles<D, F> {
     }
 
     /// Keeps a file open. If there are as many as there may be, the one is closed that wasn't used for longest.
-    pub(crate) fn put(&mut self, name: WindowName, file: FoundFile<D, F>)
-        ensures file { self.new.is_worn ≡ false → IsBack name (⟦<FoundFile<D, F> as Disk>⟧.seen file) (⟦<FoundFile<D, F> as Disk>⟧.may_leave file)
-            (files_seen F.found ⟦<FoundFile<D, F> as Disk>⟧.seen self.new.kept.files) (files_leave F.found ⟦<FoundFile<D, F> as Disk>⟧.may_leave self.new.kept.files) }
+    pub(crate) fn put(&mut self, name: WindowName, file: D)
+        ensures file { self.new.is_worn ≡ false → IsBack name (D.Disk.seen file) (D.Disk.may_leave file)
+            (files_seen F.found D.Disk.seen self.new.kept.files) (files_leave F.found D.Disk.may_leave self.new.kept.files) }
         ensures others { self.new.is_worn ≡ false → OthersStay name
-            (files_seen F.found ⟦<FoundFile<D, F> as Disk>⟧.seen self.old.kept.files) (files_seen F.found ⟦<FoundFile<D, F> as Disk>⟧.seen self.new.kept.files)
-            (files_leave F.found ⟦<FoundFile<D, F> as Disk>⟧.may_leave self.old.kept.files) (files_leave F.found ⟦<FoundFile<D, F> as Disk>⟧.may_leave self.new.kept.files) }
-        ensures clean { self.new.is_worn ≡ false → AreClean ⟦<FoundFile<D, F> as Disk>⟧.is_clean self.new.kept.files
-            → IsTrue (⟦<FoundFile<D, F> as Disk>⟧.is_clean file) × AreClean ⟦<FoundFile<D, F> as Disk>⟧.is_clean self.old.kept.files }
+            (files_seen F.found D.Disk.seen self.old.kept.files) (files_seen F.found D.Disk.seen self.new.kept.files)
+            (files_leave F.found D.Disk.may_leave self.old.kept.files) (files_leave F.found D.Disk.may_leave self.new.kept.files) }
+        ensures clean { self.new.is_worn ≡ false → AreClean D.Disk.is_clean self.new.kept.files
+            → IsTrue (D.Disk.is_clean file) × AreClean D.Disk.is_clean self.old.kept.files }
         ensures worn { self.new.is_worn ≡ false → self.old.is_worn ≡ false }
     {
         self.make_room();
@@ -73,9 +122,9 @@ impl<D: Disk + Drop, F: Found> OpenFiles<D, F> {
 
     /// Closes the file that wasn't used for longest, if there are as many open as there may be. What it has stays known.
     fn make_room(&mut self)
-        ensures all { self.new.is_worn ≡ false → AllStay (files_seen F.found ⟦<FoundFile<D, F> as Disk>⟧.seen self.old.kept.files) (files_seen F.found ⟦<FoundFile<D, F> as Disk>⟧.seen self.new.kept.files)
-            (files_leave F.found ⟦<FoundFile<D, F> as Disk>⟧.may_leave self.old.kept.files) (files_leave F.found ⟦<FoundFile<D, F> as Disk>⟧.may_leave self.new.kept.files) }
-        ensures clean { self.new.is_worn ≡ false → AreClean ⟦<FoundFile<D, F> as Disk>⟧.is_clean self.new.kept.files → AreClean ⟦<FoundFile<D, F> as Disk>⟧.is_clean self.old.kept.files }
+        ensures all { self.new.is_worn ≡ false → AllStay (files_seen F.found D.Disk.seen self.old.kept.files) (files_seen F.found D.Disk.seen self.new.kept.files)
+            (files_leave F.found D.Disk.may_leave self.old.kept.files) (files_leave F.found D.Disk.may_leave self.new.kept.files) }
+        ensures clean { self.new.is_worn ≡ false → AreClean D.Disk.is_clean self.new.kept.files → AreClean D.Disk.is_clean self.old.kept.files }
         ensures worn { self.new.is_worn ≡ false → self.old.is_worn ≡ false }
     {
         if self.names.len() >= MOST_FILES {
@@ -95,9 +144,9 @@ impl<D: Disk + Drop, F: Found> OpenFiles<D, F> {
 
     fn close_oldest(&mut self)
         requires { 0 < vec_len self.old.names }
-        ensures all { self.new.is_worn ≡ false → AllStay (files_seen F.found ⟦<FoundFile<D, F> as Disk>⟧.seen self.old.kept.files) (files_seen F.found ⟦<FoundFile<D, F> as Disk>⟧.seen self.new.kept.files)
-            (files_leave F.found ⟦<FoundFile<D, F> as Disk>⟧.may_leave self.old.kept.files) (files_leave F.found ⟦<FoundFile<D, F> as Disk>⟧.may_leave self.new.kept.files) }
-        ensures clean { self.new.is_worn ≡ false → AreClean ⟦<FoundFile<D, F> as Disk>⟧.is_clean self.new.kept.files → AreClean ⟦<FoundFile<D, F> as Disk>⟧.is_clean self.old.kept.files }
+        ensures all { self.new.is_worn ≡ false → AllStay (files_seen F.found D.Disk.seen self.old.kept.files) (files_seen F.found D.Disk.seen self.new.kept.files)
+            (files_leave F.found D.Disk.may_leave self.old.kept.files) (files_leave F.found D.Disk.may_leave self.new.kept.files) }
+        ensures clean { self.new.is_worn ≡ false → AreClean D.Disk.is_clean self.new.kept.files → AreClean D.Disk.is_clean self.old.kept.files }
         ensures worn { self.new.is_worn ≡ false → self.old.is_worn ≡ false }
     {
         let oldest = self.names.remove(0);
@@ -111,14 +160,14 @@ impl<D: Disk + Drop, F: Found> OpenFiles<D, F> {
     }
 
     /// Keeps a file, open or closed.
-    fn keep(&mut self, name: WindowName, file: FoundFile<D, F>)
-        ensures file { self.new.is_worn ≡ false → IsBack name (⟦<FoundFile<D, F> as Disk>⟧.seen file) (⟦<FoundFile<D, F> as Disk>⟧.may_leave file)
-            (files_seen F.found ⟦<FoundFile<D, F> as Disk>⟧.seen self.new.kept.files) (files_leave F.found ⟦<FoundFile<D, F> as Disk>⟧.may_leave self.new.kept.files) }
+    fn keep(&mut self, name: WindowName, file: D)
+        ensures file { self.new.is_worn ≡ false → IsBack name (D.Disk.seen file) (D.Disk.may_leave file)
+            (files_seen F.found D.Disk.seen self.new.kept.files) (files_leave F.found D.Disk.may_leave self.new.kept.files) }
         ensures others { self.new.is_worn ≡ false → OthersStay name
-            (files_seen F.found ⟦<FoundFile<D, F> as Disk>⟧.seen self.old.kept.files) (files_seen F.found ⟦<FoundFile<D, F> as Disk>⟧.seen self.new.kept.files)
-            (files_leave F.found ⟦<FoundFile<D, F> as Disk>⟧.may_leave self.old.kept.files) (files_leave F.found ⟦<FoundFile<D, F> as Disk>⟧.may_leave self.new.kept.files) }
-        ensures clean { self.new.is_worn ≡ false → AreClean ⟦<FoundFile<D, F> as Disk>⟧.is_clean self.new.kept.files
-            → IsTrue (⟦<FoundFile<D, F> as Disk>⟧.is_clean file) × AreClean ⟦<FoundFile<D, F> as Disk>⟧.is_clean self.old.kept.files }
+            (files_seen F.found D.Disk.seen self.old.kept.files) (files_seen F.found D.Disk.seen self.new.kept.files)
+            (files_leave F.found D.Disk.may_leave self.old.kept.files) (files_leave F.found D.Disk.may_leave self.new.kept.files) }
+        ensures clean { self.new.is_worn ≡ false → AreClean D.Disk.is_clean self.new.kept.files
+            → IsTrue (D.Disk.is_clean file) × AreClean D.Disk.is_clean self.old.kept.files }
         ensures worn { self.new.is_worn ≡ false → self.old.is_worn ≡ false }
     {
         if self.kept.has(name) {

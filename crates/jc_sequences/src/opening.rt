@@ -7,14 +7,20 @@ ghost use Rattle.jc_base.specs.LogEntry.{LogEntry};
 ghost use Rattle.jc_ledger_files.specs.NotesOf.{notes_of};
 ghost use Rattle.jc_ledger_files.specs.Owned.{owner_found};
 ghost use Rattle.jc_ledger_files.specs.Windows.{known_in};
+ghost use Rattle.jc_sequences.specs.Opened.{IsFound};
 
-use crate::file_folder::FileFolder;
+use crate::file_folder::{FileFolder, WindowFolder};
 use crate::found_file::FoundFile;
+use crate::open_files::WindowFile;
 use crate::window_path::{make_folder, sync_folder};
 use jc_command_shared::Failure;
 use jc_ledger::Ledger;
-use jc_ledger_files::{Arrivals, DiskWindows, FileLedger, Found, RecordedEntries, SteadyOwners};
+use jc_ledger_files::{
+    Arrivals, DiskWindows, FileLedger, Folder, Found, RecordedEntries, SteadyOwners,
+};
+use sqlite_disk::Disk;
 use sqlite_std_file::File;
+use std::alloc::Global;
 use std::{fs, io};
 
 /// The notes of sequences in the files of a folder.
@@ -52,11 +58,49 @@ pub fn open_sequences<'a, 'p, F: Found, A: Arrivals>(
     ensures failed { IfErr result (λ failure. (failure ≡ Failure.CannotOpen path.entry) ⊎ (failure ≡ Failure.OutOfMemory)) }
 {
     let rt = folders.runtime;
-    let (windows, owners) = paths_of(rt, path)?;
-    let windows = DiskWindows::new(rt.alloc(), FileFolder::new(rt, windows));
-    let owners = DiskWindows::new(rt.alloc(), FileFolder::new(rt, owners));
-    let ledger = FileLedger::new(rt.alloc(), windows, owners, RecordedEntries::new());
-    Ok(SteadyOwners::new(ledger))
+    match paths_of(rt, path) {
+        Ok((windows, owners)) => Ok(sequences_in::<FoundFile<File, F>, F, A>(rt, windows, owners)),
+        Err(failure) => Err(failure),
+    }
+}
+
+type NotesOver<D, W, F, A> = SteadyOwners<FileLedger<DiskWindows<D, W>, RecordedEntries<A>>, F>;
+
+/// The notes of sequences in the folders at these paths: of all entries, and of owners.
+fn sequences_in<'a, D: WindowFile<F> + Drop, F: Found, A: Arrivals>(
+    rt: &'a HostRuntime,
+    windows: String,
+    owners: String,
+) -> NotesOver<D, WindowFolder<'a, D, F>, F, A>
+    ensures sound { ⟦<NotesOver<D, WindowFolder<'a, D, F>, F, A> as Ledger>⟧.sound result }
+    ensures known { (k : Key) → ⟦<NotesOver<D, WindowFolder<'a, D, F>, F, A> as Ledger>⟧.known result k ≡ known_in (λ w. notes_of (F.found w)) k }
+    ensures owner { (s : Id128) → ⟦<NotesOver<D, WindowFolder<'a, D, F>, F, A> as Ledger>⟧.owner result s ≡ owner_found F.found s }
+    ensures came { (e : LogEntry) → ⟦<NotesOver<D, WindowFolder<'a, D, F>, F, A> as Ledger>⟧.came result e ↔ A.before e }
+{
+    sequences_over(
+        rt.alloc(),
+        WindowFolder::<D, F>::new(rt, windows),
+        WindowFolder::<D, F>::new(rt, owners),
+    )
+}
+
+/// The same of two folders whose files have what they had as they were opened.
+fn sequences_over<D: Disk, W: Folder<D>, F: Found, A: Arrivals>(
+    alloc: Global,
+    windows: W,
+    owners: W,
+) -> NotesOver<D, W, F, A>
+    requires windows { IsFound F.found (W.clean windows) (W.seen windows) (W.may_leave windows) }
+    requires owners { IsFound F.found (W.clean owners) (W.seen owners) (W.may_leave owners) }
+    ensures sound { ⟦<NotesOver<D, W, F, A> as Ledger>⟧.sound result }
+    ensures known { (k : Key) → ⟦<NotesOver<D, W, F, A> as Ledger>⟧.known result k ≡ known_in (λ w. notes_of (F.found w)) k }
+    ensures owner { (s : Id128) → ⟦<NotesOver<D, W, F, A> as Ledger>⟧.owner result s ≡ owner_found F.found s }
+    ensures came { (e : LogEntry) → ⟦<NotesOver<D, W, F, A> as Ledger>⟧.came result e ↔ A.before e }
+{
+    let windows = DiskWindows::new(alloc, windows);
+    let owners = DiskWindows::new(alloc, owners);
+    let ledger = FileLedger::new(alloc, windows, owners, RecordedEntries::new());
+    SteadyOwners::new(ledger)
 }
 
 /// The folder's path, twice, or why it can't be opened.
@@ -73,13 +117,17 @@ fn paths_of<'p>(rt: &HostRuntime, path: &'p str) -> Result<(String, String), Fai
 /// Makes the folder if there is none, and answers its path, twice. It is there after a loss of power, too.
 fn have_folder(rt: &HostRuntime, path: &str) -> io::Result<(String, String)> {
     if !is_folder(rt, path) {
-        make_folder(rt, path)?;
-        let parent = format!(in rt.alloc(); "{path}/..")?;
-        sync_folder(rt, &parent)?;
+        make_lasting(rt, path)?;
     }
     let windows = format!(in rt.alloc(); "{path}")?;
     let owners = format!(in rt.alloc(); "{path}")?;
     Ok((windows, owners))
+}
+
+fn make_lasting(rt: &HostRuntime, path: &str) -> io::Result<()> {
+    make_folder(rt, path)?;
+    let parent = format!(in rt.alloc(); "{path}/..")?;
+    sync_folder(rt, &parent)
 }
 
 fn is_folder(rt: &HostRuntime, path: &str) -> bool {

@@ -1,12 +1,9 @@
 //! Where the file of a window lies.
 
-ghost use Rattle.std.specs.Prelude.{◌≡◌, List, ℕ, IfOk, IsTrue};
-ghost use Rattle.jc_sequences.specs.Closed.{StaysAs};
-
-use crate::found_file::FoundFile;
-use jc_ledger_files::{Found, WindowName};
-use sqlite_disk::{Disk, Files};
+use jc_ledger_files::WindowName;
+use sqlite_disk::Files;
 use sqlite_std_file::{File, OpenError, Unknown, open};
+use std::alloc::Global;
 use std::fs::{DirBuilder, OpenFile};
 use std::os::unix::fs::DirBuilderExt;
 use std::{fs, io};
@@ -26,50 +23,40 @@ pub(crate) fn sync_folder(rt: &HostRuntime, path: &str) -> io::Result<()> {
 
 /// Opens the file of a window, `FOLDER/SEQUENCE/NUMBER`, or makes it. It is locked until it is dropped. What was made here
 /// is there after a loss of power.
-pub(crate) fn open_window<F: Found>(
+pub(crate) fn open_file(
     rt: &HostRuntime,
     folder: &str,
     name: WindowName,
-) -> Result<FoundFile<File, F>, OpenError>
-    ensures seen { IfOk result (λ file. ⟦<FoundFile<File, F> as Disk>⟧.seen file ≡ F.found name) }
-    ensures crash { IfOk result (λ file. (c : List ℕ) → ⟦<FoundFile<File, F> as Disk>⟧.may_leave file c → c ≡ F.found name) }
-    ensures usable { IfOk result (λ file. IsTrue (⟦<FoundFile<File, F> as Disk>⟧.is_usable file)) }
-{
-    let file = open_file(rt, folder, name)?;
-    Ok(FoundFile::new(file, name))
+) -> Result<File, OpenError> {
+    match path_of(rt, folder, name) {
+        Ok(path) => open_at(rt, &path),
+        Err(error) => Err(error.into()),
+    }
 }
 
-/// The file of a window, open: if it was closed meanwhile, it is opened again. Fails if it may not be used any more.
-pub(crate) fn usable<F: Found>(
-    rt: &HostRuntime,
-    folder: &str,
-    name: WindowName,
-    mut file: FoundFile<File, F>,
-) -> Result<FoundFile<File, F>, OpenError>
-    ensures stays { IfOk result (StaysAs ⟦<FoundFile<File, F> as Disk>⟧.seen ⟦<FoundFile<File, F> as Disk>⟧.may_leave ⟦<FoundFile<File, F> as Disk>⟧.is_clean file) }
-    ensures usable { IfOk result (λ file. IsTrue (⟦<FoundFile<File, F> as Disk>⟧.is_usable file)) }
-{
-    if !file.may_be_used() {
-        return Err(OpenError::Io(io::ErrorKind::Other.into()));
-    }
-    if !file.is_open() {
-        file.open_again(open_file(rt, folder, name)?);
-    }
-    Ok(file)
-}
-
-fn open_file(rt: &HostRuntime, folder: &str, name: WindowName) -> Result<File, OpenError> {
-    let alloc = rt.alloc();
-    let digits = hex::encode(alloc, name.sequence.as_bytes())?;
-    let sequence = format!(in alloc; "{folder}/{digits}")?;
-    make_folder(rt, &sequence)?;
-    sync_folder(rt, folder)?;
+/// The path of a window's file, in a folder that is there after a loss of power, too.
+fn path_of(rt: &HostRuntime, folder: &str, name: WindowName) -> io::Result<String> {
+    let sequence = folder_of(rt.alloc(), folder, name)?;
+    have_folder(rt, folder, &sequence)?;
     let number = name.window;
-    let path = format!(in alloc; "{sequence}/{number}")?;
-    let Files { log, db } = open(rt, &path, Unknown)?;
+    Ok(format!(in rt.alloc(); "{sequence}/{number}")?)
+}
+
+fn folder_of(alloc: Global, folder: &str, name: WindowName) -> io::Result<String> {
+    let digits = hex::encode(alloc, name.sequence.as_bytes())?;
+    Ok(format!(in alloc; "{folder}/{digits}")?)
+}
+
+fn have_folder(rt: &HostRuntime, parent: &str, path: &str) -> io::Result<()> {
+    make_folder(rt, path)?;
+    sync_folder(rt, parent)
+}
+
+fn open_at(rt: &HostRuntime, path: &str) -> Result<File, OpenError> {
+    let beside = format!(in rt.alloc(); "{path}-wal")?;
+    let Files { log, db } = open(rt, path, Unknown)?;
     drop(log);
     // The file is locked, so nobody else uses the log of this name, which nothing is written to.
-    let beside = format!(in alloc; "{path}-wal")?;
     let _ = fs::remove_file(rt, &beside);
     Ok(db)
 }

@@ -1,5 +1,5 @@
 use Rattle.std.proofs.Common.{rules}
-use Rattle.jc_sequences.proofs.file_folder.FileFolderFolderFoundFileFile.give_back.Goals as goal
+use Rattle.jc_sequences.proofs.file_folder.WindowFolderFolder.give_back.Goals as goal
 
 pub returns-clause-clean : goal.returns-clause-clean
 returns-clause-clean g c = λ clean.
@@ -8,3 +8,6 @@ returns-clause-clean g c = λ clean.
 
 pub returns-clause-file : goal.returns-clause-file
 returns-clause-file g c = search rules
+
+pub returns-clause-others : goal.returns-clause-others
+returns-clause-others g c = λ clean. c.put.ensures.others clean.0
