@@ -8,9 +8,6 @@ use Rattle.jc_base.specs.Pair.{Pair, weight}
 use Rattle.jc_collect.specs.Bounds.{AreWithin, IsLeft, field_count, value_bytes}
 use Rattle.jc_collect.specs.declared.bounds.Bounds.{Bounds}
 
-pub all_left : (bounds : Bounds) → IsLeft bounds [] bounds
-all_left bounds = record { number = omega arith; fields = omega arith; bytes = omega arith }
-
 pub none_within : (bounds : Bounds) → AreWithin bounds []
 none_within bounds = record { number = omega arith; fields = omega arith; bytes = omega arith }
 

@@ -14,7 +14,7 @@ use Rattle.jc_base.specs.Reading.{Reading, reading}
 use Rattle.jc_base.specs.Source.{Gives}
 use Rattle.jc_base.specs.declared.source.Stop.{Stop}
 use Rattle.jc_base.specs.declared.source.Step.{Step}
-use Rattle.jc_base.specs.declared.source.Step.TheVariants.{Entry, End as Finished, Bad as Faulty}
+use Rattle.jc_base.specs.declared.source.Step.TheVariants.{Entry, Bad as Faulty}
 use Rattle.jc_stream.specs.Streaming.{ReadsKnown}
 use Rattle.jc_file.specs.FileReading.{IsFileReading}
 use Rattle.jc_upload.specs.declared.head.Kind.{Kind}
@@ -25,7 +25,7 @@ use Rattle.jc_upload.specs.Head.{IsHeadFault, head_text}
 use Rattle.jc_upload.specs.Says.{BodySays, HasHead, SaysBehind, reading_under}
 use Rattle.jc_upload.proofs.Excerpts.{key_last}
 use Rattle.jc_collect.specs.Bounds.{AreWithin, IsLeft}
-use Rattle.jc_collect.specs.Inspected.{FormatEnding, HasBody, HasFormatCode, IsInspected, IsRead, IsReadTo, SaysBodyOf, inspected_by, inspected_of, inspected_unread, last_key}
+use Rattle.jc_collect.specs.Inspected.{HasBody, IsInspected, IsRead, IsReadTo, SaysBodyOf, inspected_by, inspected_of, inspected_unread, last_key}
 use Rattle.jc_collect.specs.declared.bounds.Bounds.{Bounds}
 use Rattle.jc_collect.specs.Begun.{BeginsUpload}
 use Rattle.jc_collect.specs.declared.head.Unread.{Unread}
@@ -34,7 +34,7 @@ use Rattle.jc_collect.specs.declared.inspect.Body.{Body}
 use Rattle.jc_collect.specs.declared.inspect.BodyEnding.{BodyEnding}
 use Rattle.jc_collect.specs.declared.inspect.BodyEnding.TheVariants.{Ended, OverBounds}
 use Rattle.jc_collect.specs.declared.inspect.Inspected.{Inspected}
-use Rattle.jc_collect.proofs.Bounding.{all_left, left_behind, none_within, passes_behind, within}
+use Rattle.jc_collect.proofs.Bounding.{left_behind, none_within, passes_behind, within}
 use Rattle.jc_collect.proofs.Bodies.{gathered}
 
 -- ---- the entries of a source
@@ -54,11 +54,6 @@ abbrev pub GivesOn : Bounds → Option Reading → ℕ → Option Key → (room 
 GivesOn bounds None count last room now = ⊤
 GivesOn bounds (Some whole) count last room None = ⊥
 GivesOn bounds (Some whole) count last room (Some now) = HasGiven bounds whole count last room now
-
-pub none_given : (bounds : Bounds) (whole : Option Reading) → GivesOn bounds whole 0 None bounds whole
-none_given bounds None = tt
-none_given bounds (Some whole) =
-    record { given = []; follows = refl; counted = refl; key = refl; ended = refl; left = all_left bounds }
 
 -- one more entry
 next_given : (bounds : Bounds) (whole was now : Reading) (count : ℕ) (last : Option Key) (room less : Bounds) (e : LogEntry)
@@ -122,15 +117,6 @@ all_given bounds whole was count last room ending has none ended =
       ended = sym ended ∙ has.ended;
       within = subst (AreWithin bounds) (sym all) (within bounds room has.given has.left);
     }
-
-pub end_given : (bounds : Bounds) (whole was now : Option Reading) (count : ℕ) (last : Option Key) (room : Bounds) (left : ℕ)
-    → GivesOn bounds whole count last room was → Gives was now (Ok (Finished left))
-    → HasBody bounds whole (record { count = count; last = last; ending = Ended (End left) })
-end_given bounds None was now count last room left has gives = tt
-end_given bounds (Some whole) None now count last room left has gives = absurd has
-end_given bounds (Some whole) (Some was) None count last room left has gives = absurd gives
-end_given bounds (Some whole) (Some was) (Some now) count last room left has gives =
-    all_given bounds whole was count last room (End left) has gives.0 gives.1
 
 pub fault_given : (bounds : Bounds) (whole was now : Option Reading) (count : ℕ) (last : Option Key) (room : Bounds) (fault : Fault)
     → GivesOn bounds whole count last room was → Gives was now (Ok (Faulty fault))
@@ -234,15 +220,3 @@ pub unread_says : (limits : Limits) (bounds : Bounds) (upload : List ℕ) (befor
 unread_says limits bounds upload before behind unread result known begins is_unread =
     subst (λ (r : Result Inspected Stop). IfOk r (IsInspected limits bounds upload)) (sym is_unread)
     (unreadable limits bounds upload before behind unread known begins)
-
--- a fault that is answered is one of an upload
-pub body_format : (head : UploadHead) (count : ℕ) (last : Option Key) (ending : BodyEnding) → FormatEnding ending
-    → HasFormatCode (inspected_by head count last ending)
-body_format head count last (Ended (End left)) format = tt
-body_format head count last (Ended (Bad fault)) format = format
-body_format head count last OverBounds format = tt
-
-pub unread_format : (before behind : Option (List ℕ)) (unread : Unread) → BeginsUpload before behind (Err unread)
-    → IfOk (inspected_unread unread) HasFormatCode
-unread_format before behind ReadFailed begins = tt
-unread_format before behind (Unreadable fault) begins = begins.0

@@ -4,7 +4,7 @@ use Rattle.std.specs.List.{slice_get, slice_index}
 use Rattle.std.specs.Io.KnownBytes.{Appends}
 use Rattle.std.proofs.KnownBytes.{Appends-nil, Appends-trans}
 use Rattle.std.proofs.lemmas.Grind.{flat_map-append}
-use Rattle.std.proofs.lemmas.List.{length-take-le, take_all}
+use Rattle.std.proofs.lemmas.List.{length-take-le}
 use Rattle.std.proofs.lemmas.Option.{slice_get_within}
 use Rattle.jc_base.specs.declared.fault.Code.TheVariants.{ReadFailed, StoreFailed}
 use Rattle.jc_base.specs.declared.limits.Limits.{Limits}
@@ -18,7 +18,7 @@ use Rattle.jc_upload.specs.declared.answer.Answer.TheVariants.{Ack, No}
 use Rattle.jc_collect.specs.Position.{Collects, FailsUnread, HasCode, HasCause, HasGivenFewer}
 use Rattle.jc_collect.specs.Run.{Seen, seen, left_at, Collected, RunsToEnd, StopsAt, lines_of_answers}
 use Rattle.jc_collect.proofs.CollectedMore.{collected_none, collected_more}
-use Rattle.jc_collect.proofs.Lists.{get_set_other, index_set_other, index_set, index_map, take_more, known_at, same_length}
+use Rattle.jc_collect.proofs.Lists.{get_set_other, index_set_other, index_set, index_map, take_more, known_at}
 use Rattle.jc_collect.proofs.OneMore.{SaysOnce}
 
 -- A delivery loses nothing that is stored.
@@ -61,15 +61,6 @@ module _ {D : Type 0} (Premise : Type 0) (known_of : D → Option (List ℕ)) (f
     kept = λ p e h. h;
     ran = λ p uploads same. record { answers = []; collected = collected_none limits before; lines = Appends-nil before.written };
   }
-
-  -- all were collected
-  pub under_way_all : (before now : Seen) (done : ℕ) (present : List D) → length first ≤ done
-      → UnderWay Premise known_of limits first before done present now
-      → Premise → (uploads : List (List ℕ)) → map known_of first ≡ map (λ u. Some u) uploads → RunsToEnd limits uploads before now
-  under_way_all before now done present all way p uploads same =
-      subst (λ (us : List (List ℕ)). RunsToEnd limits us before now)
-      (take_all done uploads (omega (arith, all, same_length known_of first uploads same)))
-      (way.ran p uploads same)
 
   module _ (before : Seen) (present : List D) (done : ℕ) (was now : D) (journal left : Journal) (stores stores_now : ℕ)
       (written written_now : Option (List ℕ)) (answer : Answer)

@@ -77,8 +77,5 @@ module _ {S : Type 0} (g : Ghosts S) (opened : OpenedOver S) where
   abbrev pub RecoversIn : Type 0
   RecoversIn = Recovers (meaning_of (kind_of opened)) g (conn_of opened)
 
-  abbrev pub LeavesIn : (Journal → Journal → Type 0) → Journal → Type 0
-  LeavesIn Kept before = LeavesOpen (meaning_of (kind_of opened)) g (conn_of opened) Kept before
-
   abbrev pub HoldsIn : (before : Journal) → List Answer → Type 0
   HoldsIn before answers = HoldsOpen (meaning_of (kind_of opened)) g (conn_of opened) before answers

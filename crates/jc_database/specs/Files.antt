@@ -74,10 +74,6 @@ module _ (m : Meaning) where
 abbrev pub LeadsOver : (m n : Meaning) → {S C L : Type 0} → Image → InFiles S C L → C → (Journal → Journal → Type 0) → Type 0
 LeadsOver m n first o files Step = o.clean files → (before : Journal) → BeginsWith m first before → EndsWith n o files (Step before)
 
--- The tables stay those of one meaning.
-abbrev pub LeadsTo : Meaning → {S C L : Type 0} → Image → InFiles S C L → C → (Journal → Journal → Type 0) → Type 0
-LeadsTo m first o files Step = LeadsOver m m first o files Step
-
 -- ---- a connection
 
 -- Its tables are made, and have this journal.

@@ -1,5 +1,5 @@
 -- What holds of uploads and answers stays so: the machines keep their sources and entries, and the journal grows.
-use Rattle.std.proofs.Common.{◌≡◌, ◌⊎◌, ℕ, ◌+◌, ◌≤◌, List, [], ◌++◌, Some, length, set, take, drop, refl, sym, ap, subst, ◌∙◌, inl, inr, ⊎_elim, arith, length-append, append_assoc, append-nil}
+use Rattle.std.proofs.Common.{◌≡◌, ◌⊎◌, ℕ, ◌+◌, ◌≤◌, List, [], ◌++◌, Some, length, set, take, drop, sym, ap, subst, ◌∙◌, inl, inr, ⊎_elim, arith, length-append, append_assoc}
 use Rattle.std.specs.List.{slice_get, All, Contains}
 use Rattle.std.proofs.lemmas.List.{drop-append-le}
 use Rattle.std.proofs.lemmas.List.Elements.{All-weaker}
@@ -20,9 +20,6 @@ pub record Comes (old new : MachineState) : Type 0 where
   pub same : source_of new ≡ source_of old
   pub more : List LogEntry
   pub whole : new.entries ≡ old.entries ++ more
-
-pub comes_itself : (machine : MachineState) → Comes machine machine
-comes_itself machine = record { same = refl; more = []; whole = sym (append-nil machine.entries) }
 
 -- ---- uploads
 

@@ -1,9 +1,8 @@
 -- What a connection has committed is what its store has.
-use Rattle.std.proofs.Common.{◌≡◌, sym, subst, arith}
+use Rattle.std.proofs.Common.{subst, arith}
 use Rattle.std.proofs.lemmas.Result.{IfErr-weaker, IfOk-weaker}
 use Rattle.sqlite_rules.proofs.ViewLemmas.{still_quiet}
 use Rattle.sqlite.specs.Closing.{HoldsAlone}
-use Rattle.sqlite.specs.View.{IsClean}
 use Rattle.jc_database.specs.Files.{IsSoundStore}
 use Rattle.jc_database.proofs.closing.close_connection.Goals as goal
 

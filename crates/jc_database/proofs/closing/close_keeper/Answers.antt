@@ -4,7 +4,6 @@ use Rattle.std.proofs.lemmas.Result.{IfErr-weaker, IfOk-weaker}
 use Rattle.sqlite.specs.State.{HasCleanDisk}
 use Rattle.sqlite.specs.Effect.{IsDatabase}
 use Rattle.sqlite.specs.Held.{Held, state}
-use Rattle.sqlite.specs.Tree.{Trees}
 use Rattle.jc_database.specs.Files.{IsCopied, IsGivenBack}
 use Rattle.jc_database.proofs.Left.{durable_left, journal_left, keeps_always, was_sound}
 use Rattle.jc_database.proofs.closing.close_keeper.Goals as goal

@@ -1,5 +1,5 @@
 -- The last commit is in the files. If the close fails, a crash leaves what it might have left before.
-use Rattle.std.proofs.Common.{◌≡◌, IsTrue, sym, ap, subst, ◌∙◌, arith}
+use Rattle.std.proofs.Common.{◌≡◌, IsTrue, ap, subst, ◌∙◌, arith}
 use Rattle.sqlite_wal.proofs.StateLemmas.{open_from}
 use Rattle.sqlite_trees.specs.View.{View, IsClean}
 use Rattle.sqlite_trees.proofs.Doubt.{clean_of as sure, no_doubt}
