@@ -18,6 +18,7 @@ deleted before its days were over.
 import argparse
 import collections
 import contextlib
+import fcntl
 import glob
 import os
 import shutil
@@ -50,6 +51,8 @@ COLLECTORS={collectors}
 EXPORTS={exports}
 """
 BROKEN = ("Traceback", "Error:")
+# How long what a killed run began may go on, in seconds.
+LEFT_SECONDS = 60.0
 # How many rounds a world has.
 ROUNDS = 40
 
@@ -236,6 +239,19 @@ class World(Trial):
         if kind == "once" and self.collectors == 1:
             self.look_at_turns(waiting)
 
+    def wait_for_the_left(self) -> None:
+        """What a killed run began goes on to its end without it, by itself, and nothing is stored meanwhile: it has the
+        lock still. On a slow disk that takes a while."""
+        end, is_free = time.monotonic() + LEFT_SECONDS, not os.path.exists(os.path.join(self.collector, "lock"))
+        while not is_free and time.monotonic() < end:
+            with open(os.path.join(self.collector, "lock"), "rb") as lock:
+                try:
+                    fcntl.flock(lock, fcntl.LOCK_EX | fcntl.LOCK_NB)
+                    is_free = True
+                except BlockingIOError:
+                    time.sleep(0.02)
+        self.expect("what a killed run began ends", is_free, True)
+
     def waiting(self) -> list[tuple[str, str]]:
         """The machine and the source of each upload that waits and that nothing is left of from an earlier run."""
         names = {part: sorted(name for _, _, names in os.walk(os.path.join(self.collector, part)) for name in names
@@ -331,6 +347,7 @@ class World(Trial):
         """The collector's disk is lost, and a backup put back. Machines send again what they have."""
         if not self.whole_backups:
             return
+        self.wait_for_the_left()
         folder = self.dice.choice(sorted(self.whole_backups))
         shutil.rmtree(self.collector)
         told = self.call("collect-incoming", ["--restore", folder, self.conf])
@@ -349,6 +366,7 @@ class World(Trial):
 
     def rename(self) -> None:
         """A machine gets another name."""
+        self.wait_for_the_left()
         old = self.dice.choice(list(self.machines))
         new = f"machine-{self.counts['other names']}"
         told = self.call("collect-incoming", ["--rename", old, new, self.conf])
@@ -401,6 +419,7 @@ class World(Trial):
 
     def calm(self) -> None:
         """All that the sources have is sent."""
+        self.wait_for_the_left()
         for _ in range(12):
             sent = 0
             self.take_answers()
