@@ -31,6 +31,15 @@ expect() {
     rm -f "$errors_file"
 }
 
+# as_user COMMAND..: the command as a user whose rights count; if the superuser tries, it is as nobody.
+as_user() {
+    if [[ $(id -u) -ne 0 ]]; then
+        "$@"
+    else
+        setpriv --reuid=65534 --regid=65534 --clear-groups "$@"
+    fi
+}
+
 # new_folder: an empty folder, `$folder`, until the script ends.
 new_folder() {
     folder=$(mktemp -d)

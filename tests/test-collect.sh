@@ -112,14 +112,7 @@ else
     echo "there is no stock sqlite3 of 3.37 or later: databases of other programs aren't tried"
 fi
 
-# files that this user may not read or write; if the superuser tries, it is as nobody
-as_user() {
-    if [[ $(id -u) -ne 0 ]]; then
-        "$@"
-    else
-        setpriv --reuid=65534 --regid=65534 --clear-groups "$@"
-    fi
-}
+# files that this user may not read or write
 cp "$PROGRAM" "$folder/program"
 chmod 755 "$folder/program"
 if as_user "$folder/program" --version > "$folder/told" 2>&1; then

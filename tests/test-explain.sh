@@ -65,14 +65,7 @@ explains 3 "" "cannot open $db" "$db is in use by another program: *" check "$db
 exec 9>&-
 wait
 
-# who may read and write; if the superuser tries, it is as nobody
-as_user() {
-    if [[ $(id -u) -ne 0 ]]; then
-        "$@"
-    else
-        setpriv --reuid=65534 --regid=65534 --clear-groups "$@"
-    fi
-}
+# who may read and write
 cp "$PROGRAM" "$folder/program"
 chmod 755 "$folder" "$folder/program"
 if as_user "$folder/program" --version > "$folder/told" 2>&1; then

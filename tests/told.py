@@ -2,8 +2,6 @@
 from __future__ import annotations
 
 import re
-import sys
-from collections.abc import Sequence
 
 
 class Told:
@@ -50,12 +48,3 @@ class Told:
 
 def report_of(line: int, said: bytes, wanted: bytes) -> str:
     return f"line {line}: {repr(said)[2:-1]} and not {repr(wanted)[2:-1]}"
-
-
-def counted(reports: Sequence[str]) -> int:
-    """The status of a script of rows, by a report of each, which is empty if the row is as it has to be."""
-    failed = [report for report in reports if report]
-    for report in failed:
-        print(f"FAILED: {report}", file=sys.stderr)
-    print(f"{len(reports) - len(failed)} passed, {len(failed)} failed")
-    return 1 if failed else 0

@@ -6,7 +6,8 @@
 files_in_memory
 memory_in_large_pages
 export CALLS=${CALLS:-crates/jc_test_calls/out/jc_test_calls}
-export PROGRAM PYTHONPATH=tests:tests/collect:tests/hostile:tests/schedules:tests/stops PYTHONDONTWRITEBYTECODE=1
+export PYTHONPATH=tests:tests/collect:tests/hostile:tests/schedules:tests/shared:tests/stops
+export PROGRAM PYTHONDONTWRITEBYTECODE=1
 
 # trials FOLDER PART..: the parts of a folder of tests/, one after the other.
 trials() {

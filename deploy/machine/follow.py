@@ -8,14 +8,13 @@ each minute.
 from __future__ import annotations
 
 import os
-import select
-import signal
 import time
 
 from machine.collector import RemoteCollector
 from machine.journal import Journal, Listing
 from machine.report import FAILED, Report
 from machine.settings import Settings
+from shared.stopping import Stopping
 
 TYPE_CHECKING = False
 if TYPE_CHECKING:
@@ -113,22 +112,12 @@ class Following:
         self.settings, self.report = settings, FollowReport(report)
         self.journal = KeptJournal(settings.namespace, lock)
         self.collector = RemoteCollector(settings, self.report, lock)
-        self.stops = False
-        self.woken, self.waker = os.pipe2(os.O_NONBLOCK | os.O_CLOEXEC)
         self.back_off = 0.0
-
-    def listen(self) -> None:
-        def stop(*_: object) -> None:
-            self.stops = True
-
-        signal.set_wakeup_fd(self.waker, warn_on_full_buffer=False)
-        signal.signal(signal.SIGTERM, stop)
-        signal.signal(signal.SIGINT, stop)
+        self.stopping = Stopping()
 
     def run(self, one: Callable[[Journal, RemoteCollector], None]) -> None:
         """Has `one` run again and again."""
-        self.listen()
-        while not self.stops:
+        while not self.stopping.is_asked:
             self.report.begin()
             # What comes while this run reads is new for the next one.
             self.journal.note()
@@ -142,8 +131,8 @@ class Following:
         failed = self.report.status >= FAILED
         self.back_off = min(max(2 * self.back_off, FIRST_BACK_OFF), MOST_BACK_OFF) if failed else 0.0
         least = max(self.settings.follow_seconds, self.back_off)
-        while not self.stops:
+        while not self.stopping.is_asked:
             waited = time.monotonic() - begin
             if waited >= max(least, MOST_SECONDS) or (waited >= least and self.journal.has_new()):
                 return
-            select.select([self.woken], [], [], LOOK_SECONDS if waited >= least else least - waited)
+            self.stopping.wait(LOOK_SECONDS if waited >= least else least - waited)

@@ -6,8 +6,6 @@ this ssh has none of its own to make; one that doesn't is as it would be without
 from __future__ import annotations
 
 import os
-import select
-import signal
 import time
 
 from machine.collector import command
@@ -16,6 +14,7 @@ from machine.settings import Settings, read
 from shared import files
 from shared.processes import Overdue, Process
 from shared.settings import Wrong
+from shared.stopping import Stopping
 
 # So often it is looked whether the connection is still the one that is wanted.
 LOOK_SECONDS = 5.0
@@ -34,24 +33,14 @@ class Keeper:
 
     def __init__(self, config: str, settings: Settings) -> None:
         self.config, self.settings = config, settings
-        self.stops = False
-        self.woken, self.waker = os.pipe2(os.O_NONBLOCK | os.O_CLOEXEC)
         # Within so long the next one is tried after one that couldn't be made.
         self.again = AGAIN_SECONDS
+        self.stopping = Stopping()
 
     def run(self) -> None:
-        self.listen()
-        while not self.stops and self.settings.keep_connection:
+        while not self.stopping.is_asked and self.settings.keep_connection:
             self.end_what_is_left()
             self.keep()
-
-    def listen(self) -> None:
-        def stop(*_: object) -> None:
-            self.stops = True
-
-        signal.set_wakeup_fd(self.waker, warn_on_full_buffer=False)
-        signal.signal(signal.SIGTERM, stop)
-        signal.signal(signal.SIGINT, stop)
 
     def end_what_is_left(self) -> None:
         """Ends what a process that was killed has left: its ssh, and its socket."""
@@ -69,7 +58,7 @@ class Keeper:
             ssh = Process(command(self.settings, socket, KEEPS, []), nothing.fileno(), nothing.fileno())
         ended = os.pidfd_open(ssh.pid)
         while True:
-            is_over, is_there = self.wait(LOOK_SECONDS, ended), os.path.exists(socket)
+            is_over, is_there = self.stopping.wait(LOOK_SECONDS, ended), os.path.exists(socket)
             is_old = time.monotonic() - begin > MOST_SECONDS or (has_stood and not is_there)
             if is_over or is_old or not self.is_wanted(socket):
                 break
@@ -86,7 +75,7 @@ class Keeper:
 
     def is_wanted(self, socket: str) -> bool:
         """Whether the connection is still one by the settings. Settings that can't be are as if they hadn't changed."""
-        if self.stops:
+        if self.stopping.is_asked:
             return False
         try:
             self.settings = read(self.config)
@@ -98,13 +87,8 @@ class Keeper:
         """Waits after a connection was lost, or couldn't be made."""
         self.again = AGAIN_SECONDS if has_stood else min(2 * self.again, MOST_AGAIN_SECONDS)
         share = int.from_bytes(os.urandom(4), "big") / (1 << 32)
-        if not self.stops:
-            self.wait(self.again * share)
-
-    def wait(self, seconds: float, *ended: int) -> bool:
-        """Waits for so long, or until it is told to stop, or a process ends; whether one has."""
-        ready, _, _ = select.select([self.woken, *ended], [], [], seconds)
-        return any(file in ready for file in ended)
+        if not self.stopping.is_asked:
+            self.stopping.wait(self.again * share)
 
 
 def end(ssh: Process, seconds: float) -> None:

@@ -8,8 +8,6 @@ from __future__ import annotations
 
 import json
 import os
-import select
-import signal
 import sqlite3
 import time
 from collections.abc import Callable, Iterable, Iterator
@@ -26,6 +24,7 @@ from reading.recent import Upload
 from reading.sources import Source, Sources
 from reading.spans import Span
 from shared import files
+from shared.stopping import Stopping
 
 if TYPE_CHECKING:
     from reading.searching import Search
@@ -174,23 +173,6 @@ def nothing(*_: int) -> None:
     """How far a search is isn't told."""
 
 
-class Stopping:
-    """SIGTERM and SIGINT end a follower after what it shows, so that it knows what was shown."""
-
-    def __init__(self) -> None:
-        self.is_asked = False
-        self.woken, waker = os.pipe2(os.O_NONBLOCK | os.O_CLOEXEC)
-        signal.set_wakeup_fd(waker, warn_on_full_buffer=False)
-        for each in (signal.SIGTERM, signal.SIGINT):
-            signal.signal(each, self.ask)
-
-    def ask(self, *_: object) -> None:
-        self.is_asked = True
-
-    def wait(self, seconds: float) -> None:
-        select.select([self.woken], [], [], seconds)
-
-
 def run(search: Search, finder: Finder, found: Sources) -> int:
     """Shows the last entries, and then those that come, until it is told to stop; the status."""
     words, reader = search.words, finder.reader
@@ -205,6 +187,7 @@ def run(search: Search, finder: Finder, found: Sources) -> int:
         chosen = machines.known(search.folder).choose(words.all("machine"))
         return Reader(some, replace(reader.conditions, machines=chosen), reader.form, ())
 
+    # It ends after what it shows, so that it knows what was shown.
     stopping = Stopping()
     state = words.last("state")
     follower = Follower(search.folder, make, search.tell_bad, Path(state) if state else None)

@@ -13,6 +13,7 @@ from pathlib import Path
 
 import preload
 from mistakes import unlike
+from row_scripts import counted, scripts_in
 from script import LACKING, reports
 
 HERE = Path(__file__).resolve().parent
@@ -26,18 +27,13 @@ def wrong(scripts: Sequence[Path], library: str, skipped: list[str]) -> Iterator
 
 
 def main(names: list[str]) -> int:
-    scripts = [HERE / f"{name}.rows" for name in names] or sorted(HERE.glob("*.rows"))
     skipped: list[str] = []
     with tempfile.TemporaryDirectory() as folder:
         library = "" if LACKING["room"] else preload.built(str(HERE / "room.c"), folder)
-        told = [*unlike(library, skipped), *wrong(scripts, library, skipped)]
-    failed = [report for report in told if report]
-    for report in failed:
-        print(f"FAILED: {report}", file=sys.stderr)
+        told = [*unlike(library, skipped), *wrong(scripts_in(HERE, names), library, skipped)]
     for why in sorted(set(skipped)):
         print(f"skipped: there is {why}, so {skipped.count(why)} cases of commands aren't tried")
-    print(f"{len(told) - len(failed)} passed, {len(failed)} failed")
-    return 1 if failed else 0
+    return counted(told)
 
 
 if __name__ == "__main__":

@@ -12,7 +12,6 @@ import signal
 import subprocess
 import sys
 import time
-from collections.abc import Callable
 
 from collector_case import HERE, SOURCE, Case, entries, noticed, source, tried, upload
 from trial_rows import Row, Rows
@@ -40,19 +39,10 @@ class Service:
         self.row.expect("SIGTERM", self.process.returncode, 0)
         return noticed(said.decode())
 
-    def wait_for(self, what: Callable[[], object]) -> None:
-        """Waits until something is so."""
-        end = time.monotonic() + 300
-        while time.monotonic() < end:
-            if what():
-                return
-            time.sleep(0.05)
-        self.row.expect("waited in vain", True, False)
-
     def store(self, given: bytes, ack: str, machine: str = "web") -> None:
         """An upload comes, and is answered so."""
         self.case.receive(given, machine)
-        self.wait_for(lambda: any(line.startswith(ack) for line in self.case.answers(machine)))
+        self.row.wait_for(lambda: any(line.startswith(ack) for line in self.case.answers(machine)))
 
 
 def lose(case: Case) -> None:
@@ -109,11 +99,11 @@ def what_comes_while_it_is_made(row: Row, case: Case) -> None:
     making = subprocess.Popen([f"{case.library}/collect-incoming", "--backup", backup, case.conf],
                               env=case.environment(), stderr=subprocess.PIPE)
     # by then it waits for the service to finish the database
-    service.wait_for(lambda: glob.glob(f"{backup}/state-1"))
+    row.wait_for(lambda: glob.glob(f"{backup}/state-1"))
     time.sleep(0.5)
     case.receive(upload(entries(6, 9), start=5))
     service.process.send_signal(signal.SIGCONT)
-    service.wait_for(lambda: case.answers()[0].startswith(f"ack {SOURCE} 5 4 "))
+    row.wait_for(lambda: case.answers()[0].startswith(f"ack {SOURCE} 5 4 "))
     _, told = making.communicate(timeout=300)
     row.expect("backup", (making.returncode, told), (0, b""))
     service.store(upload(entries(10, 12), start=9), f"ack {SOURCE} 9 3 ")
@@ -158,7 +148,7 @@ def without_the_service(row: Row, case: Case) -> None:
     service.store(upload(entries(1, 5)), f"ack {SOURCE} 0 5 ")
     service.process.kill()
     service.process.communicate()
-    service.wait_for(lambda: not subprocess.run(["flock", "--nonblock", case.path("lock"), "true"]).returncode)
+    row.wait_for(lambda: not subprocess.run(["flock", "--nonblock", case.path("lock"), "true"]).returncode)
     status, said = case.collect("--backup", backup)
     row.expect("backup", (status, "isn't finished, and isn't in the backup" in said), (1, True))
     lose(case)
@@ -230,7 +220,7 @@ def over_newer_state(row: Row, case: Case) -> None:
 def beside_the_service(row: Row, case: Case) -> None:
     """A backup is put back, and a machine renamed, only while no service runs; and a backup isn't in the folder."""
     service = Service(row, case)
-    service.wait_for(lambda: os.path.exists(case.path("kept")))
+    row.wait_for(lambda: os.path.exists(case.path("kept")))
     for words in (("--restore", f"{case.base}/backup"), ("--rename", "web", "www")):
         status, said = case.collect(*words)
         row.expect(words[0], (status, "the service runs; stop it first" in said), (75, True))

@@ -30,6 +30,13 @@ OWN = (0, "", 1)
 DOES_NOT_WORK = "send: the connection that is kept doesn't work; this run has one of its own\n"
 
 
+def run_waits(row: Row, both: Kept) -> None:
+    """A run waits as long as ssh waits for a connection, and then has one of its own."""
+    begin = time.monotonic()
+    row.same("a run", both.run()[:2], (0, DOES_NOT_WORK))
+    row.same("seconds", 20 <= time.monotonic() - begin < 60, True)
+
+
 def all_stored(row: Row, both: Kept) -> None:
     stored, wanted = both.all_stored()
     row.same("stored", stored, wanted)
@@ -42,13 +49,11 @@ def runs_use_it(row: Row, kind: type[Kept]) -> None:
         both.collector.start()
         keeper = both.kept()
         for number in range(3):
-            both.grow()
-            row.same(f"run {number}", both.run(), WELL)
+            row.same(f"run {number}", both.run_with_more(), WELL)
         row.same("connections", both.connections(), 1)
         row.same("a check has its own", both.run("--check"), OWN)
         row.same("SIGTERM", (both.end(keeper), both.sockets(), both.said()), (0, [], ""))
-        both.grow()
-        row.same("without it", both.run(), OWN)
+        row.same("without it", both.run_with_more(), OWN)
         all_stored(row, both)
 
 
@@ -57,8 +62,7 @@ def nobody_keeps_it(row: Row, kind: type[Kept]) -> None:
     with kind(LIBRARY) as both:
         both.collector.start()
         for _ in range(2):
-            both.grow()
-            row.same("a run", both.run(), OWN)
+            row.same("a run", both.run_with_more(), OWN)
         all_stored(row, both)
 
 
@@ -72,13 +76,11 @@ def it_is_dead(row: Row, kind: type[Kept]) -> None:
         both.end(keeper, signal.SIGKILL)
         os.kill(ssh, signal.SIGKILL)
         row.same("the socket", len(both.sockets()), 1)
-        both.grow()
-        status, said, connections = both.run()
+        status, said, connections = both.run_with_more()
         row.same("a run", (status, "Connection refused" in said, connections), (0, True, 1))
         both.kept()
         wait_for(lambda: both.connections() == 3)
-        both.grow()
-        row.same("kept again", both.run(), WELL)
+        row.same("kept again", both.run_with_more(), WELL)
         all_stored(row, both)
 
 
@@ -90,13 +92,11 @@ def its_keeper_is_killed(row: Row, kind: type[Kept]) -> None:
         keeper = both.kept()
         ssh = both.ssh_of(keeper)
         both.end(keeper, signal.SIGKILL)
-        both.grow()
-        row.same("a run", both.run(), WELL)
+        row.same("a run", both.run_with_more(), WELL)
         both.begin()
         wait_for(lambda: state_of(ssh) in "Z-")
         wait_for(lambda: both.connections() == 2 and both.sockets())
-        both.grow()
-        row.same("kept again", both.run(), WELL)
+        row.same("kept again", both.run_with_more(), WELL)
         all_stored(row, both)
 
 
@@ -116,12 +116,9 @@ def it_hangs(row: Row, kind: type[Kept]) -> None:
         ssh = both.ssh_of(both.kept())
         both.grow()
         os.kill(ssh, signal.SIGSTOP)
-        begin = time.monotonic()
-        row.same("a run", both.run()[:2], (0, DOES_NOT_WORK))
-        row.same("seconds", 20 <= time.monotonic() - begin < 60, True)
+        run_waits(row, both)
         wait_for(lambda: state_of(ssh) in "Z-" and both.sockets())
-        both.grow()
-        row.same("kept again", both.run(), WELL)
+        row.same("kept again", both.run_with_more(), WELL)
         all_stored(row, both)
 
 
@@ -136,8 +133,7 @@ def other_settings(row: Row, kind: type[Kept]) -> None:
             before, both.machine.settings[name] = both.sockets(), value
             row.same(f"{name}: a run", both.run(), OWN)
             wait_for(lambda old=before: both.sockets() not in ([], old))
-            both.grow()
-            row.same(f"{name}: the next one", both.run(), WELL)
+            row.same(f"{name}: the next one", both.run_with_more(), WELL)
         before = both.sockets()
         both.machine.settings["STREAM_BYTES"] = "x"
         both.machine.write_settings()
@@ -164,8 +160,7 @@ def two_at_once(row: Row, kind: type[Kept]) -> None:
                               stdin=subprocess.PIPE, stdout=subprocess.PIPE) as other:
             assert other.stdout and other.stdin
             row.same("the other session", other.stdout.readline(), b"session 1\n")
-            both.grow()
-            status, said, connections = both.run()
+            status, said, connections = both.run_with_more()
             row.same("a run", (status, "Session open refused by peer" in said, connections), (0, True, 1))
             other.stdin.close()
         row.same("the next one", both.run(), WELL)
@@ -234,8 +229,7 @@ def a_long_path(row: Row, kind: type[Kept]) -> None:
         both.collector.start()
         both.kept()
         for _ in range(2):
-            both.grow()
-            row.same("a run", both.run(), WELL)
+            row.same("a run", both.run_with_more(), WELL)
         all_stored(row, both)
 
 
@@ -276,8 +270,7 @@ def no_collector(row: Row, kind: type[Kept]) -> None:
     with kind(LIBRARY) as both:
         take_away(both)
         both.begin()
-        both.grow()
-        status, said, _ = both.run()
+        status, said, _ = both.run_with_more()
         row.same("a run", (status, said.count("send: no answers came")), (3, 1))
         give_back(both)
         both.collector.start()
@@ -311,8 +304,7 @@ def collector_is_begun_again(row: Row, kind: type[Real]) -> None:
         both.kept()
         both.cut()
         both.sshd.start()
-        both.grow()
-        row.same("a run", both.run()[0], 0)
+        row.same("a run", both.run_with_more()[0], 0)
         wait_for(both.sockets)
         row.same("kept again", both.run(), WELL)
         known = both.sshd.known_hosts.read_bytes()
@@ -332,8 +324,7 @@ def its_key_is_taken_away(row: Row, kind: type[Real]) -> None:
         both.kept()
         (both.sshd.folder / "authorized_keys").write_bytes(b"")
         row.same("a check", (both.run("--check")[0], both.run("--check")[2]), (3, 0))
-        both.grow()
-        row.same("a run", both.run(), WELL)
+        row.same("a run", both.run_with_more(), WELL)
         for process in both.served():
             os.kill(process, signal.SIGTERM)
         wait_for(lambda: not both.sockets())
@@ -352,12 +343,9 @@ def nothing_comes_any_more(row: Row, kind: type[Real]) -> None:
         stopped = both.served()
         for process in stopped:
             os.kill(process, signal.SIGSTOP)
-        begin = time.monotonic()
-        row.same("a run", both.run()[:2], (0, DOES_NOT_WORK))
-        row.same("seconds", 20 <= time.monotonic() - begin < 60, True)
+        run_waits(row, both)
         wait_for(both.sockets)
-        both.grow()
-        row.same("kept again", both.run(), WELL)
+        row.same("kept again", both.run_with_more(), WELL)
         all_stored(row, both)
         for process in stopped:
             os.kill(process, signal.SIGKILL)

@@ -11,7 +11,6 @@ import signal
 import subprocess
 import sys
 import time
-from collections.abc import Callable
 
 from collector_case import Case, entries, noticed, source, tried, upload
 from trial_rows import Row, Rows
@@ -19,6 +18,8 @@ from trial_rows import Row, Rows
 ROWS: Rows = Rows()
 WEB, MAIL = source(1), source(2)
 OTHER = "30" * 16
+# So long an upload may take until the program has it, and until it is stored.
+SECONDS = 20
 # A program that stores as the real one does, but for what the lines of `plan` say of the names that it gets, each in
 # its turn. `asked` has the names as they came.
 STAND_IN = """#!/usr/bin/python3 -BS
@@ -79,16 +80,10 @@ class Both:
         self.service = subprocess.Popen([f"{self.case.library}/collect-incoming", *words, self.case.conf],
                                         env=self.case.environment(), stderr=subprocess.PIPE)
 
-    def wait_for(self, what: Callable[[], object]) -> None:
-        for _ in range(400):
-            if what():
-                return
-            time.sleep(0.05)
-        self.row.expect("waited in vain", True, False)
-
     def wait_until_read(self) -> None:
         """web's upload is with the program, and mail's is the next one."""
-        self.wait_for(lambda: self.asked() == ["web"] and glob.glob(self.case.path("batch", "*", "*@mail@*")))
+        mail = self.case.path("batch", "*", "*@mail@*")
+        self.row.wait_for(lambda: self.asked() == ["web"] and glob.glob(mail), SECONDS)
 
     def asked(self) -> list[str]:
         """The machines whose uploads the program got."""
@@ -147,8 +142,8 @@ def kept_meanwhile(row: Row, case: Case) -> None:
     """The answer to one is there while the next one is stored."""
     both = Both(row, case, "store", "hold")
     both.begin("--once")
-    both.wait_for(lambda: both.asked() == ["web", "mail"])
-    both.wait_for(lambda: both.acked("web") == 3)
+    row.wait_for(lambda: both.asked() == ["web", "mail"], SECONDS)
+    row.wait_for(lambda: both.acked("web") == 3, SECONDS)
     row.expect("acknowledged of mail", both.acked("mail"), 2)
     both.go()
     row.expect("what it says", both.end(), "")
@@ -189,7 +184,7 @@ def killed_while_the_next_is_stored(row: Row, case: Case) -> None:
     """The first is acknowledged, if its answer was kept."""
     both = Both(row, case, "store", "hold")
     both.begin()
-    both.wait_for(lambda: both.acked("web") == 3)
+    row.wait_for(lambda: both.acked("web") == 3, SECONDS)
     both.service.kill()
     both.end()
     row.expect("of the database", both.waiting("batch"), ["mail"])
@@ -281,7 +276,7 @@ def answer_cannot_be_kept(row: Row, case: Case) -> None:
     line = said.readline().decode()
     while "the round failed" not in line:
         line = said.readline().decode()
-    both.wait_for(lambda: both.asked()[:2] == ["web", "mail"])
+    row.wait_for(lambda: both.asked()[:2] == ["web", "mail"], SECONDS)
     row.expect("acknowledged", (both.acked("web"), both.acked("mail")), (0, 2))
     row.expect("of the database", both.waiting("batch"), ["mail", "web"])
     os.rmdir(case.path("sources", "web", f"{WEB}.new"))

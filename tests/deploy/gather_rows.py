@@ -97,8 +97,7 @@ def journal_set_back(row: Row, machine: Machine) -> None:
         machine.send()
         machine.journal.set_back(entries)
         machine.journal.grow(added)
-        status, said = machine.send()
-        row.expect("status", (status, "was set back" in said), (1, True))
+        row.tells("status", machine.send(), 1, "was set back")
     machine.journal.rotate()
     row.expect("the next run", machine.send()[0], 0)
     row.expect("what didn't go out", machine.journal.keys() - set(machine.entries_sent()), set())
@@ -118,8 +117,7 @@ def written_to_again(row: Row, machine: Machine) -> None:
     machine.journal.files, machine.journal.present = [file], {"system": file}
     machine.journal.set_back(6)
     machine.journal.grow(2)
-    status, said = machine.send()
-    row.expect("status", (status, "was set back" in said), (1, True))
+    row.tells("status", machine.send(), 1, "was set back")
     row.expect("what didn't go out", machine.journal.keys() - set(machine.entries_sent()), set())
 
 
@@ -131,8 +129,7 @@ def lost_end(row: Row, machine: Machine) -> None:
     machine.answers(machine.collect())
     lost = machine.journal.keys()
     machine.journal.set_back(6)
-    status, said = machine.send()
-    row.expect("status", (status, "was set back" in said), (1, True))
+    row.tells("status", machine.send(), 1, "was set back")
     machine.journal.new_sequence()
     machine.journal.grow(4)
     row.expect("the next run", machine.send()[0], 0)
@@ -233,8 +230,7 @@ def removed_before(row: Row, machine: Machine) -> None:
     machine.journal.rotate()
     machine.journal.vacuum(2)
     machine.journal.grow(1)
-    status, said = machine.send()
-    row.expect("a gap", (status, "a gap" in said, ";i=8;" in said), (1, True, True))
+    row.tells("a gap", machine.send(), 1, "a gap", ";i=8;")
     row.expect("the next run", machine.send()[0], 0)
     row.all_stored(machine)
 
@@ -251,8 +247,7 @@ def removed_beside_another(row: Row, machine: Machine) -> None:
     machine.journal.add("four")
     machine.journal.write()
     machine.journal.vacuum(1)
-    status, said = machine.send()
-    row.expect("a gap", (status, "a gap" in said), (1, True))
+    row.tells("a gap", machine.send(), 1, "a gap")
     row.all_stored(machine)
 
 
@@ -337,8 +332,7 @@ def another_user(row: Row, machine: Machine) -> None:
     told = subprocess.run(["sh", "-c", command], env=as_nobody, capture_output=True, text=True, check=False)
     row.expect("the command", (told.returncode, told.stderr.count("\n"), "sent 3 entries" in told.stderr), (0, 1, True))
     row.expect("whose folder it is", os.stat(machine.folder).st_uid, 65534)
-    status, said = machine.send()
-    row.expect("with the folder", (status, f"{machine.folder} belongs to nobody" in said), (2, True))
+    row.tells("with the folder", machine.send(), 2, f"{machine.folder} belongs to nobody")
     row.all_stored(machine)
     # what an earlier version left as root
     os.chown(f"{machine.folder}/gathered", 0, 0)
@@ -367,8 +361,7 @@ def steps(row: Row, machine: Machine) -> None:
     for _ in range(500):
         machine.journal.add("1000*x")
     machine.journal.write()
-    status, said = machine.send(UPLOAD_STATUS="255")
-    row.expect("status", (status, "paused" in said), (3, True))
+    row.tells("status", machine.send(UPLOAD_STATUS="255"), 3, "paused")
     size = sum(os.path.getsize(os.path.join(top, name)) for top, _, names in os.walk(machine.folder) for name in names)
     row.expect(f"within an entry of the bound: {size}", size < 103_000, True)
     for _ in range(20):

@@ -103,6 +103,11 @@ class Kept:
         status, said = self.machine.send(*words)
         return status, said, self.connections() - before
 
+    def run_with_more(self) -> tuple[int, str, int]:
+        """A run when the journal has grown."""
+        self.grow()
+        return self.run()
+
     def grow(self, count: int = 2) -> None:
         self.machine.journal.grow(count)
 

@@ -12,7 +12,7 @@ import sys
 import time
 
 from collector_case import SEQUENCE, SOURCE, Case, entries, source, tried, upload
-from service_rows import begin, left_with_an_upload, stop, wait_for
+from service_rows import begin, left_with_an_upload, stop
 from trial_rows import Row, Rows
 
 ROWS: Rows = Rows()
@@ -65,7 +65,7 @@ def made_anew(row: Row, case: Case) -> None:
 def beside_the_service(row: Row, case: Case) -> None:
     """Notes aren't made anew while the service runs."""
     service = begin(case)
-    wait_for(row, lambda: os.path.exists(case.path("kept")))
+    row.wait_for(lambda: os.path.exists(case.path("kept")))
     status, said = case.collect("--notes-anew")
     row.expect("told", (status, "the service runs; stop it first" in said), (75, True))
     stop(row, case, service)
@@ -271,7 +271,7 @@ def clones_and_several_collectors(row: Row, case: Case) -> None:
             sequence = source(number // 2)
             sent[name] |= {(sequence, each) for each in range(first, last + 1)}
             case.receive(upload(entries(first, last, sequence), start=first - 1, name=source(number + 1)), name)
-        wait_for(row, lambda: not any("waits" in line for name in names for line in case.answers(name)))
+        row.wait_for(lambda: not any("waits" in line for name in names for line in case.answers(name)))
     said = stop(row, case, service)
     row.expect("failures", [line for line in said.splitlines() if " 71 0: the sequence " not in line], [])
     own = [name for name in names if case.answers(name)[0].startswith("ack ")]
@@ -288,7 +288,7 @@ def long_and_short_of_one_machine(row: Row, case: Case) -> None:
     for count in (5, 300) * 4:
         case.receive(upload(entries(first, first + count - 1), start=first - 1))
         first += count
-        wait_for(row, lambda: case.answers() and "waits" not in case.answers()[-1])
+        row.wait_for(lambda: case.answers() and "waits" not in case.answers()[-1])
     row.expect("what it says", stop(row, case, service), "")
     row.expect("stored", (case.numbers(), len(case.names())), (list(range(1, first)), 2))
 
@@ -315,7 +315,7 @@ def notes_that_another_process_has(row: Row, case: Case) -> None:
     row.expect("meanwhile", (case.answers()[0], case.answers()[-1]), (f"ack {SOURCE} 0 5 5 0", f"waits {SOURCE}"))
     other.stdin.close()
     other.wait()
-    wait_for(row, lambda: case.answers()[0].startswith(f"ack {SOURCE} 5 7 "))
+    row.wait_for(lambda: case.answers()[0].startswith(f"ack {SOURCE} 5 7 "))
     stop(row, case, service)
     # what the other process stored is noted, in a database that isn't the collector's
     row.expect("stored", (case.answers()[0], case.numbers()), (f"ack {SOURCE} 5 7 3 0", [1, 2, 3, 4, 5, 10, 11, 12]))

@@ -13,7 +13,7 @@ import time
 
 from collector_case import SEQUENCE, SOURCE, Case, entries, tried, upload
 from owners_rows import MAIL, NUMBER, OTHER, THIRD, WINDOW, file_of, mails, note, owners, set_owner
-from service_rows import begin, heard, stop, wait_for
+from service_rows import begin, heard, stop
 from trial_rows import Row, Rows
 
 ROWS: Rows = Rows()
@@ -51,11 +51,11 @@ def folder_while_the_service_runs(row: Row, case: Case) -> None:
     was put aside."""
     case.store(upload(entries(1, 5)))
     service = begin(case)
-    wait_for(row, lambda: open(case.path("lock"), "rb").read() == b"%d\n" % service.pid)
+    row.wait_for(lambda: open(case.path("lock"), "rb").read() == b"%d\n" % service.pid)
     os.unlink(file_of(case))
     os.mkdir(file_of(case))
     case.receive(upload(entries(4, 9), start=3))
-    wait_for(row, lambda: case.answers()[0].startswith(f"ack {SOURCE} 3 6 "))
+    row.wait_for(lambda: case.answers()[0].startswith(f"ack {SOURCE} 3 6 "))
     said = stop(row, case, service)
     row.expect("told", f"{WINDOW}.damaged" in said, True)
     row.expect("stored", (owners(case), case.numbers()), ({SEQUENCE: "web"}, list(range(1, 10))))
@@ -145,7 +145,7 @@ def killed_while_it_stores(row: Row, case: Case) -> None:
             first = 1 + 200 * turn
             case.receive(upload(entries(first, first + 199, text=text), start=first - 1, name=name), machine)
         service = begin(case)
-        wait_for(row, lambda: os.path.exists(case.path("kept")))
+        row.wait_for(lambda: os.path.exists(case.path("kept")))
         time.sleep(0.1 * turn)
         service.kill()
         service.wait()

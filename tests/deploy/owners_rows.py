@@ -14,7 +14,7 @@ from ack_rows import journal_file
 from backup_rows import STEP, lose, preload, stops
 from collector_case import HERE, SEQUENCE, SOURCE, Case, entries, file_upload, source, tried, upload
 from notes_rows import windows
-from service_rows import begin, stop, wait_for
+from service_rows import begin, stop
 from trial_rows import Row, Rows
 
 ROWS: Rows = Rows()
@@ -144,7 +144,7 @@ def several_at_once(row: Row, case: Case) -> None:
         sent[name] = [entry for each in reversed(others) for entry in entries(1, 3, each, name)]
         case.receive(upload(sent[name], name=source(number + 1)), name)
     for name in names:
-        wait_for(row, lambda: case.answers(name) and "waits" not in case.answers(name)[-1])
+        row.wait_for(lambda: case.answers(name) and "waits" not in case.answers(name)[-1])
     stop(row, case, service)
     acked = [name for name in names if case.answers(name)[0].startswith("ack ")]
     row.expect("who has them", (len(acked) > 0, set(owners(case).values())), (True, set(acked)))
@@ -173,7 +173,7 @@ def released(row: Row, case: Case) -> None:
     row.expect("the one before", case.store(upload(entries(8, 9), start=5))[0], 1)
     row.expect("what it is told", case.answers()[0], f"no {SOURCE} 5 71 0")
     service = begin(case)
-    wait_for(row, lambda: open(case.path("lock"), "rb").read() == b"%d\n" % service.pid)
+    row.wait_for(lambda: open(case.path("lock"), "rb").read() == b"%d\n" % service.pid)
     status, said = case.collect("--release", OTHER)
     row.expect("beside the service", (status, "the service runs; stop it first" in said), (75, True))
     stop(row, case, service)

@@ -42,8 +42,7 @@ def set_back(row: Row, machine: Machine) -> None:
     machine.journal.new_sequence()
     machine.journal.grow(5)
     machine.answers(lost)
-    status, said = machine.send()
-    row.expect("status", (status, "set back or copied" in said), (1, True))
+    row.tells("status", machine.send(), 1, "set back or copied")
     machine.send()
     row.all_stored(machine)
 
@@ -69,12 +68,10 @@ def check(row: Row, machine: Machine) -> None:
     machine.journal.grow(3)
     row.expect("well", (machine.send("--check"), os.path.exists(machine.folder)), ((0, ""), False))
     machine.settings["UPLOADS"] = "x"
-    status, said = machine.send("--check")
-    row.expect("settings", (status, "UPLOADS" in said), (2, True))
+    row.tells("settings", machine.send("--check"), 2, "UPLOADS")
     del machine.settings["UPLOADS"]
     machine.install("ssh", "#!/bin/sh\necho 'ssh: connect to host here port 22: Connection refused' >&2\nexit 255\n")
-    status, said = machine.send("--check")
-    row.expect("connection", (status, "Connection refused" in said, "here doesn't answer" in said), (3, True, True))
+    row.tells("connection", machine.send("--check"), 3, "Connection refused", "here doesn't answer")
     row.expect("what is sent", (machine.files(), os.path.exists(machine.folder)), ([], False))
 
 
@@ -85,8 +82,7 @@ def set_back_within_a_boot(row: Row, machine: Machine) -> None:
     machine.journal.grow(9)
     machine.answers(lost)
     before = len(machine.files())
-    status, said = machine.send()
-    row.expect("status", (status, "set back or copied" in said), (1, True))
+    row.tells("status", machine.send(), 1, "set back or copied")
     machine.send()
     sent = {entry[1] for name in machine.files()[before:] for entry in read(body(name))}
     row.expect("what is sent again", sent, set(range(5, 14)))
@@ -169,8 +165,7 @@ def full_disk_when_a_stream_is_split(row: Row, machine: Machine) -> None:
     machine.journal.grow(2)
     machine.send()
     machine.answers(f"no {refused} 0 60 1\n" + machine.collect(machine.files()[-1]) + machine.last())
-    status, said = machine.send(file_bytes=100)
-    row.expect("a full disk", (status, "File too large" in said, "forked: " in said), (3, True, True))
+    row.tells("a full disk", machine.send(file_bytes=100), 3, "File too large", "forked: ")
     before = len(machine.files())
     row.expect("the next run", machine.send(), (0, ""))
     sent = [entry for name in machine.files()[before:] for entry in read(body(name))]
@@ -190,8 +185,7 @@ def full_disk_when_the_rest_is_written(row: Row, machine: Machine) -> None:
     machine.settings["STREAM_BYTES"] = 100_000
     machine.answers(f"no {refused} 0 60 1\n")
     for _ in range(2):
-        status, said = machine.send(file_bytes=1_500)
-        row.expect("a full disk", (status, "File too large" in said), (3, True))
+        row.tells("a full disk", machine.send(file_bytes=1_500), 3, "File too large")
     before = len(machine.files())
     row.expect("the next run", machine.send(), (0, ""))
     sent = [entry for name in machine.files()[before:] for entry in read(body(name))]
@@ -206,8 +200,7 @@ def stream_without_an_id(row: Row, machine: Machine) -> None:
     machine.journal.grow(3)
     machine.send()
     os.unlink(f"{machine.folder}/streams/00000001/id")
-    status, said = machine.send()
-    row.expect("told", (status, "streams/00000001/id isn't there" in said), (1, True))
+    row.tells("told", machine.send(), 1, "streams/00000001/id isn't there")
     row.expect("the next run", machine.send(), (0, ""))
     row.expect("what goes out", machine.upload()[1:], (0, 3))
 
@@ -220,8 +213,7 @@ def another_key(row: Row, machine: Machine) -> None:
     source, _, count = machine.upload()
     other = "f" * 32
     machine.answers(f"ack {source} 0 {count} {count} 0\nlast {source} {count} {other} 17\n")
-    status, said = machine.send()
-    row.expect("status", (status, f"{other} 17" in said), (1, True))
+    row.tells("status", machine.send(), 1, f"{other} 17")
     machine.send()
     again = machine.upload()
     row.expect("what goes out", (again[0] != source, *again[1:]), (True, 0, 1100))
@@ -237,8 +229,7 @@ def acknowledged_key(row: Row, machine: Machine) -> None:
     machine.answers(answer)
     row.expect("status", machine.send(), (0, ""))
     machine.answers(f"{answer.splitlines()[0]}\nlast {source} {count} {'f' * 32} 17\n")
-    status, said = machine.send()
-    row.expect("status", (status, "set back or copied" in said), (1, True))
+    row.tells("status", machine.send(), 1, "set back or copied")
 
 
 @ROWS.row
@@ -277,8 +268,7 @@ def answers_by_position(row: Row, machine: Machine) -> None:
     machine.send()
     source = machine.upload()[0]
     machine.answers(f"no {source} 4 61 0\n{machine.collect()}{machine.last()}")
-    status, said = machine.send()
-    row.expect("status", (status, "was refused" in said), (1, True))
+    row.tells("status", machine.send(), 1, "was refused")
     with open(f"{machine.folder}/streams/00000001/resume", encoding="ascii") as file:
         row.expect("the position", file.read().split()[1], "4")
 
@@ -416,8 +406,7 @@ def not_taken(row: Row, machine: Machine) -> None:
     machine.journal.write()
     with_link(machine, 60_000)
     for _ in range(2):
-        status, said = machine.send(UPLOAD_STATUS="1", UPLOAD_SAYS=TOO_LARGE)
-        row.expect("status", (status, "didn't take the upload" in said), (1, True))
+        row.tells("status", machine.send(UPLOAD_STATUS="1", UPLOAD_SAYS=TOO_LARGE), 1, "didn't take the upload")
     for name in machine.files():
         os.remove(name)
     row.expect("status", machine.send()[0], 0)

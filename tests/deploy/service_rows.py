@@ -13,11 +13,9 @@ import time
 from collections.abc import Callable
 
 from collector_case import SOURCE, Case, entries, noticed, source, tried, upload
-from trial_rows import Row, Rows
+from trial_rows import PATIENCE, Row, Rows
 
 ROWS: Rows = Rows()
-# Nothing takes so long, on the slowest machine.
-PATIENCE = 300
 UNIT = os.path.join("..", "systemd", "system", "journal-collect-incoming.service")
 
 
@@ -31,16 +29,6 @@ def heard(case: Case) -> str:
     """What it has said."""
     with open(f"{case.base}/said", encoding="utf-8") as file:
         return noticed(file.read())
-
-
-def wait_for(row: Row, what: Callable[[], object]) -> None:
-    """Waits until something is so."""
-    end = time.monotonic() + PATIENCE
-    while time.monotonic() < end:
-        if what():
-            return
-        time.sleep(0.05)
-    row.expect("waited in vain", True, False)
 
 
 def stop(row: Row, case: Case, service: subprocess.Popen[bytes], then: Callable[[], object] = lambda: None) -> str:
@@ -118,14 +106,14 @@ def name_of_one_that_is_moved(row: Row, case: Case) -> None:
     case.set(DATABASE_NAME="d", DATABASE_SECONDS=1000)
     case.receive(upload(entries(1, 5)))
     service = begin(case)
-    wait_for(row, case.names)
+    row.wait_for(case.names)
     service.send_signal(signal.SIGHUP)
-    wait_for(row, lambda: os.path.exists(case.path("databases", "d.db.sha256")))
+    row.wait_for(lambda: os.path.exists(case.path("databases", "d.db.sha256")))
     row.expect("told", case.collect("--moved", "d"), (0, ""))
     for path in glob.glob(case.path("databases", "d.*")):
         os.rename(path, f"{case.base}/{os.path.basename(path)}")
     case.receive(upload(entries(6, 9), start=5))
-    wait_for(row, case.names)
+    row.wait_for(case.names)
     row.expect("names", case.names(), ["d-2"])
     stop(row, case, service)
     for path in glob.glob(case.path("databases", "*")):
@@ -142,7 +130,7 @@ def full_disk_is_told(row: Row, case: Case) -> None:
     status, told = case.collect()
     row.expect("once", (status, told.startswith(said), "FREE_BYTES is 1000000000000000" in told), (1, True, True))
     service = begin(case)
-    wait_for(row, lambda: open(case.path("lock"), "rb").read() == b"%d\n" % service.pid)
+    row.wait_for(lambda: open(case.path("lock"), "rb").read() == b"%d\n" % service.pid)
     for _ in range(5):
         service.send_signal(signal.SIGHUP)
         time.sleep(0.1)
@@ -197,7 +185,7 @@ fi
     for number in range(1, 20):
         case.receive(upload(entries(1, 2, source(number)), name=source(number)))
     service = begin(case)
-    wait_for(row, lambda: os.path.exists(f"{case.base}/storing"))
+    row.wait_for(lambda: os.path.exists(f"{case.base}/storing"))
     row.expect("what it says", stop(row, case, service, then=lambda: open(f"{case.base}/go", "wb").close()), "")
     told = case.answers()
     row.expect("answers", {line.split()[0] for line in told} >= {"ack", "waits"}, True)
@@ -216,7 +204,7 @@ def stop_while_what_was_left_is_taken_up(row: Row, case: Case) -> None:
     for name in os.listdir(case.path("incoming")):
         os.rename(case.path("incoming", name), case.path("batch", "d", name))
     service = begin(case)
-    wait_for(row, lambda: len(glob.glob(case.path("batch", "d", "*"))) < 19)
+    row.wait_for(lambda: len(glob.glob(case.path("batch", "d", "*"))) < 19)
     stop(row, case, service)
     case.collect()
     case.collect()
@@ -268,8 +256,8 @@ def full_disk_counts_as_a_try(row: Row, case: Case) -> None:
     os.link(f"{case.base}/d.db", case.path("databases", "d.db"))
     break_program(case)
     service = begin_hurried(case)
-    wait_for(row, lambda: os.path.exists(case.path("databases", "d.db.sha256")))
-    wait_for(row, lambda: case.answers()[0].startswith(f"ack {SOURCE} 0 4 "))
+    row.wait_for(lambda: os.path.exists(case.path("databases", "d.db.sha256")))
+    row.wait_for(lambda: case.answers()[0].startswith(f"ack {SOURCE} 0 4 "))
     said = stop(row, case, service)
     row.expect("told", (said.count("d.db failed, and is tried again"), said.count("d.db can be opened again")), (2, 1))
     row.expect("what is set aside", os.path.exists(case.path("databases", "d.db.refused")), False)
@@ -295,7 +283,7 @@ def no_room(row: Row, case: Case, free: int, text: str) -> None:
     case.free = free
     break_program(case)
     service = begin_hurried(case)
-    wait_for(row, lambda: "databases/d.db isn't finished yet" in heard(case))
+    row.wait_for(lambda: "databases/d.db isn't finished yet" in heard(case))
     # some of its rounds go by
     time.sleep(1)
     row.expect("set aside", os.path.exists(case.path("databases", "d.db.refused")), False)

@@ -55,8 +55,7 @@ def since_over_midnight(row: Row, machine: Machine) -> None:
     for setting, hours in (("today", 20), ("-14h", 14)):
         machine.folder = machine.settings["FOLDER"] = f"{machine.base}/{setting}"
         machine.settings.update(SINCE=setting, FOLDER_BYTES=3_000, UPLOADS=1)
-        status, said = machine.send(NOW=str(midnight + hours * 3_600))
-        row.expect(f"{setting}: status", (status, "paused" in said), (1, True))
+        row.tells(f"{setting}: status", machine.send(NOW=str(midnight + hours * 3_600)), 1, "paused")
         machine.settings.update(FOLDER_BYTES=10**9, UPLOADS=8, SINCE="" if setting == "today" else "today")
         for now in (midnight + DAY + 3_600, midnight + 9 * DAY, midnight - 99 * DAY):
             machine.answers(machine.collect())
@@ -122,8 +121,7 @@ def since_is_no_time(row: Row, machine: Machine) -> None:
     os.symlink("/bin/sh", f"{machine.base}/bin/sh")
     os.symlink("/bin/cat", f"{machine.base}/bin/cat")
     machine.settings["SINCE"] = "today"
-    status, said = machine.send(PATH=f"{machine.base}/bin")
-    row.expect("status", (status, "there is no systemd-analyze" in said), (2, True))
+    row.tells("status", machine.send(PATH=f"{machine.base}/bin"), 2, "there is no systemd-analyze")
     row.expect("what is left", (os.listdir(f"{machine.folder}/streams"), has_begun(machine)), ([], False))
     machine.settings["SINCE"] = "@1000000000.5"
     row.expect("status", machine.send(PATH=f"{machine.base}/bin"), (0, ""))

@@ -2,11 +2,14 @@
 import os
 import shutil
 import sys
+import time
 from collections.abc import Callable, Iterator, Sequence
 from typing import Generic, NoReturn, TypeVar
 
 from one_machine import Machine
 
+# Nothing takes so long, on the slowest machine.
+PATIENCE = 300
 Kind = TypeVar("Kind", bound=Machine)
 Variant = TypeVar("Variant")
 
@@ -19,6 +22,19 @@ class Row:
         if got != wanted:
             self.mistakes += 1
             print(f"{self.name}: {what}: {str(got)[:600]}, not {str(wanted)[:300]}", file=sys.stderr)
+
+    def tells(self, what: str, told: tuple[int, str], status: int, *parts: str) -> None:
+        """A run ended with this status, and said each of these."""
+        self.expect(what, (told[0], *(part for part in parts if part in told[1])), (status, *parts))
+
+    def wait_for(self, what: Callable[[], object], seconds: float = PATIENCE) -> None:
+        """Waits until something is so."""
+        end = time.monotonic() + seconds
+        while time.monotonic() < end:
+            if what():
+                return
+            time.sleep(0.05)
+        self.expect("waited in vain", True, False)
 
     def all_stored(self, machine: Machine) -> None:
         """Each entry of the journal came in an upload, and nothing else did."""

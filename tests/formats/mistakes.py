@@ -2,8 +2,8 @@
 from __future__ import annotations
 
 from collections.abc import Iterator
-from itertools import zip_longest
 
+import row_scripts
 from samples import E1
 from script import reports
 
@@ -84,14 +84,6 @@ head head:1:0 set:16:0 => first 1 0
 
 def unlike() -> Iterator[str]:
     """How the reports of wrong scripts aren't those that they have to be, one by one; empty if they are."""
-    lines: list[str] = []
-    wanted: list[str] = []
-    for line in REPORTED.splitlines():
-        if line.startswith("    "):
-            wanted.append(f"line {len(lines)}: " + line.strip().replace("(the entry)", repr(E1)[2:-1]))
-        else:
-            lines.append(line)
-    for script, whole in (("\n".join(lines), wanted), ("# no rows", ["no rows"])):
-        told = [report for report in reports(script) if report]
-        for report, one in zip_longest(told, whole, fillvalue=""):
-            yield "" if one and report.startswith(one) else f"mistakes.py: {report!r} and not {one!r}"
+    script, fronts = row_scripts.parted(REPORTED.replace("(the entry)", repr(E1)[2:-1]))
+    for text, wanted in ((script, fronts), ("# no rows", ["no rows"])):
+        yield from row_scripts.unlike(filter(None, reports(text)), wanted)

@@ -5,28 +5,17 @@ usage: python3 rows.py [NAME..]
 """
 from __future__ import annotations
 
-import os
 import sys
-from collections.abc import Iterator, Sequence
 from pathlib import Path
 
-from mistakes import unlike
+import mistakes
+from row_scripts import counted, scripts_in, wrong
 from script import reports
-from told import counted
-
-HERE = Path(__file__).resolve().parent
-
-
-def wrong(scripts: Sequence[Path]) -> Iterator[str]:
-    """How each row is wrong, and where; empty if it is as it has to be."""
-    for path in scripts:
-        for report in reports(path.read_text(encoding="utf-8")):
-            yield report and f"{os.path.relpath(path)}, {report}"
 
 
 def main(names: list[str]) -> int:
-    scripts = [HERE / f"{name}.rows" for name in names] or sorted(HERE.glob("*.rows"))
-    return counted([*unlike(), *wrong(scripts)])
+    scripts = scripts_in(Path(__file__).resolve().parent, names)
+    return counted([*mistakes.unlike(), *wrong(scripts, lambda _, text: reports(text))])
 
 
 if __name__ == "__main__":

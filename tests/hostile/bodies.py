@@ -16,9 +16,11 @@ import model
 import samples
 import uploads
 import vectors
+from content_files import ContentFiles
+from export_streams import binary
 from model import ARRAY, ENTRY, HEADER, Bad, Journal, JournalFile, Limits, reading
 from trial import Trial
-from vectors import M, Vector, binary
+from vectors import M, Vector
 
 CALLS = os.path.abspath(os.environ["CALLS"])
 LEAST = Limits(64, 64, 8, 1024, 208)
@@ -72,9 +74,8 @@ class Calls:
 
     def __init__(self, trial: Trial) -> None:
         self.trial = trial
-        self.folder = trial.folder()
+        self.files = ContentFiles(trial.folder())
         self.words = [CALLS]
-        self.paths: dict[bytes, str] = {}
         self.judges: list[tuple[str, str | tuple[int, int]]] = []
         self.journal = Journal()
 
@@ -86,15 +87,8 @@ class Calls:
 
     def add(self, what: str, word: str, data: bytes, *wanted: str | tuple[int, int]) -> None:
         """A word on some bytes. Each line is a text, or a bound of what may be asked."""
-        self.words += [word, self.path_of(data)]
+        self.words += [word, self.files.put(data)]
         self.judges += [(f"{what}: {word}", line) for line in wanted]
-
-    def path_of(self, data: bytes) -> str:
-        if data not in self.paths:
-            self.paths[data] = os.path.join(self.folder, str(len(self.paths)))
-            with open(self.paths[data], "wb") as file:
-                file.write(data)
-        return self.paths[data]
 
     def read(self, what: str, kind: str, body: bytes) -> None:
         """A body by itself, in several ways."""
@@ -119,7 +113,7 @@ class Calls:
     def run(self) -> int:
         """Runs all that was added; answers how many lines were looked at."""
         told = subprocess.run(self.words, stdout=subprocess.PIPE, stderr=subprocess.PIPE, check=False, timeout=600)
-        shutil.rmtree(self.folder)
+        shutil.rmtree(self.files.folder)
         self.trial.expect("the end of the program", (told.returncode, told.stderr), (0, b""))
         lines = told.stdout.decode().splitlines()
         self.trial.expect("how many lines", len(lines), len(self.judges))

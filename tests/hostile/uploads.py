@@ -13,6 +13,7 @@ from concurrent.futures import Executor, ThreadPoolExecutor
 
 import samples
 import vectors
+from export_streams import binary
 from model import Journal, inspected, reading
 from trial import Trial, as_output, run, status_of
 
@@ -107,7 +108,7 @@ def fronts(trial: Trial) -> int:
     """Each front of five uploads, each into a journal in which nothing is stored before it. Two of them are to be
     whole."""
     source = samples.SOURCE.hex()
-    nested = vectors.M.replace(b"SEQNUM=1\n", b"SEQNUM=2\n") + vectors.binary(b"MESSAGE", samples.E1) + b"\n"
+    nested = vectors.M.replace(b"SEQNUM=1\n", b"SEQNUM=2\n") + binary(b"MESSAGE", samples.E1) + b"\n"
     file = samples.head(2) + samples.FILE
     of_stream = lambda length: f"ack {source} 0 0 0 {length - 48}"
     of_file = lambda length: f"no {source} 0 " + (f"30 {length - 48}" if length < 256 else "38 96")
@@ -179,7 +180,7 @@ def harmed_file(dice: random.Random) -> bytes:
 
 def harmed_stream(dice: random.Random) -> bytes:
     """A stream with one to four edits: bytes and lines put in, taken out, changed and exchanged."""
-    nested = vectors.M + vectors.binary(b"MESSAGE", samples.E1) + vectors.binary(b"A", b"\xff") + b"\n"
+    nested = vectors.M + binary(b"MESSAGE", samples.E1) + binary(b"A", b"\xff") + b"\n"
     data = dice.choice((samples.E1 + samples.E2, nested, b"\n" + samples.E3 + nested.replace(b"SEQNUM=1", b"SEQNUM=4")))
     for _ in range(dice.randint(1, 4)):
         place = dice.randrange(len(data) + 1)

@@ -4,6 +4,7 @@ from __future__ import annotations
 import struct
 from collections.abc import Iterator
 
+from export_streams import binary
 from samples import E1, E2, FILE, edited
 
 META = [b"__REALTIME_TIMESTAMP=1000000\n", b"__MONOTONIC_TIMESTAMP=5\n", b"__SEQNUM=1\n",
@@ -18,10 +19,6 @@ Vector = tuple[bytes, str]
 def meta(place: int, line: bytes) -> bytes:
     """The four lines with another one at a place."""
     return b"".join(META[:place]) + line + b"".join(META[place + 1:])
-
-
-def binary(name: bytes, value: bytes, length: int | None = None) -> bytes:
-    return name + b"\n" + struct.pack("<Q", len(value) if length is None else length) + value + b"\n"
 
 
 def whole(upload: bytes, count: int) -> bytes:

@@ -9,26 +9,12 @@ import tempfile
 from collections.abc import Callable, Iterable, Iterator, Sequence
 from dataclasses import dataclass, field
 
+from content_files import ContentFiles
 from told import Told, report_of
 
 CALLS = os.path.abspath(os.environ["CALLS"])
 # More reads and writes than there are.
 NEVER = 2**64 - 1
-
-
-class Files:
-    """Files in a folder, one for each content."""
-
-    def __init__(self, folder: str) -> None:
-        self.folder = folder
-        self.paths: dict[bytes, str] = {}
-
-    def put(self, data: bytes) -> str:
-        if data not in self.paths:
-            self.paths[data] = os.path.join(self.folder, str(len(self.paths)))
-            with open(self.paths[data], "wb") as file:
-                file.write(data)
-        return self.paths[data]
 
 
 @dataclass
@@ -56,7 +42,7 @@ class Journal:
     word: str = "journal"
     before: Sequence[bytes] = ()
 
-    def called(self, files: Files, end: str) -> list[str]:
+    def called(self, files: ContentFiles, end: str) -> list[str]:
         """The words that have the program take the steps, and then print a line."""
         things = list(dict.fromkeys(thing for step in self.steps for thing in step.things))
         texts = (step.text.format(*map(things.index, step.things)) for step in self.steps if step.text)
@@ -90,10 +76,10 @@ def outputs(journals: Iterable[Journal]) -> Iterator[bytes | str]:
     """What the program prints of each journal, or how it fails. Those of the same limits are made by one run."""
     for limits, alike in itertools.groupby(journals, lambda journal: journal.limits):
         with tempfile.TemporaryDirectory() as folder:
-            yield from _outputs(["limits", limits] if limits else [], list(alike), Files(folder))
+            yield from _outputs(["limits", limits] if limits else [], list(alike), ContentFiles(folder))
 
 
-def _outputs(front: list[str], journals: Sequence[Journal], files: Files) -> Iterator[bytes | str]:
+def _outputs(front: list[str], journals: Sequence[Journal], files: ContentFiles) -> Iterator[bytes | str]:
     """The same of journals that are made together; if the program fails so, of each by itself."""
     ends = [f"== the end of journal {number} ==" for number in range(len(journals))]
     words = [word for journal, end in zip(journals, ends) for word in journal.called(files, end)]

@@ -2,8 +2,8 @@
 from __future__ import annotations
 
 from collections.abc import Iterator
-from itertools import zip_longest
 
+import row_scripts
 from made import reports_of
 from samples import E1, SOURCE
 
@@ -151,12 +151,5 @@ def firsts(name: str, script: str) -> list[str]:
 def unlike() -> Iterator[str]:
     """How the reports of wrong scripts aren't those that they have to be, one by one; empty if they are."""
     for name, text in REPORTED.items():
-        lines: list[str] = []
-        wanted: list[str] = []
-        for line in text.splitlines():
-            if line.startswith("    "):
-                wanted.append(f"line {len(lines)}: " + meant(line[4:]))
-            else:
-                lines.append(line)
-        for report, front in zip_longest(firsts(name, "\n".join(lines)), wanted, fillvalue=""):
-            yield "" if front and report.startswith(front) else f"mistakes.py: {report!r} and not {front!r}"
+        script, fronts = row_scripts.parted(text)
+        yield from row_scripts.unlike(firsts(name, script), map(meant, fronts))

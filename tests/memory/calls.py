@@ -18,6 +18,7 @@ from typing import Any, NamedTuple
 import refusal
 import samples
 import vectors
+from export_streams import binary
 from model import Journal, read_stream, reading
 from trial import Trial
 
@@ -158,7 +159,7 @@ def cases(trial: Trial) -> Iterator[Case]:
     row, rest = samples.stream(samples.E1), samples.stream(samples.E2, samples.E3)
     conflict, file = samples.stream(samples.E2, samples.E3, samples.H1), samples.head(2) + samples.FILE
     cut = samples.stream(samples.E2, b"=x")
-    nested = vectors.M + vectors.binary(b"MESSAGE", samples.E1) + b"A=1\nA=2\nA=1\n\n"
+    nested = vectors.M + binary(b"MESSAGE", samples.E1) + b"A=1\nA=2\nA=1\n\n"
     many = vectors.one_field_again(7)[0]
     for word in ("space", "stream", "run"):
         after = [(word, row), (word, conflict), *KEYS, (word, cut), *KEYS, (word, rest), (word, rest), *KEYS]

@@ -138,9 +138,9 @@ def what_is_not_believed(row: Row, place: Place) -> None:
 def hostile(row: Row, place: Place) -> None:
     """What is no id of a boot isn't listed, and fills no file; a name of a machine is on one line."""
     searched = Searched(place.library, place.folder / "hostile")
-    host = binary("_HOSTNAME", b"mail\nforged")
+    host = binary(b"_HOSTNAME", b"mail\nforged")
     searched.finished("2025-12-01T12-00", tuple(
-        entry(number, TIME + number, "c", binary("_BOOT_ID", boot), host, "_MACHINE_ID=\x1b[31m")
+        entry(number, TIME + number, "c", binary(b"_BOOT_ID", boot), host, "_MACHINE_ID=\x1b[31m")
         for number, boot in enumerate(
             (b"\x1b[2J" + b"1" * 28, b"1\n 0 forged", b"", b"2" * 100_000, b"A" * 32, b"3" * 32), 1)))
     told = searched.find("--list-boots", "--utc")

@@ -2,12 +2,16 @@
 import os
 import shutil
 import sqlite3
+import sys
 from collections.abc import Callable, Iterable
 from pathlib import Path
 from unittest import mock
 
 from collected import finish, run
 from programs import Done, call, load
+
+sys.path.append(str(Path(__file__).resolve().parent.parent / "shared"))
+from export_streams import binary  # noqa: E402
 
 TIME = 1_764_590_400_000_000  # 2025-12-01 12:00:00 UTC
 
@@ -18,11 +22,6 @@ def entry(number: int | str, time: int, sequence: str, *fields: bytes | str) -> 
             f"__SEQNUM_ID={sequence * 32}\n").encode()
     lines = [field if isinstance(field, bytes) else os.fsencode(field) + b"\n" for field in fields]
     return head + b"".join(lines) + b"\n"
-
-
-def binary(name: str, value: bytes) -> bytes:
-    """A field in the spelling with a length."""
-    return name.encode() + b"\n" + len(value).to_bytes(8, "little") + value + b"\n"
 
 
 FIRST = (
@@ -40,7 +39,7 @@ THIRD = (
     entry(4, TIME + 10_000_000, "a", "MESSAGE=a4", "_HOSTNAME=web", "_UID=0", "OBJECT_SYSTEMD_UNIT=ssh.service",
           "_SYSTEMD_SLICE=system.slice"))
 HOSTILE = (
-    entry(1, TIME, "c", binary("MESSAGE", b"x\nDec 01 root: all ok"), "_HOSTNAME=\x1b[2Jweb",
+    entry(1, TIME, "c", binary(b"MESSAGE", b"x\nDec 01 root: all ok"), "_HOSTNAME=\x1b[2Jweb",
           "SYSLOG_IDENTIFIER=two\twords", "A=1", "A=2", b"B=\xff\n"),
     entry(2, TIME + 1, "c", "MESSAGE=\x1b]0;title\x07", b"_HOSTNAME=\xff\n", "SYSLOG_IDENTIFIER=%s", "_PID=-1"),
     entry(3, (1 << 63) - 1, "c", "MESSAGE=far"),

@@ -22,7 +22,7 @@ NOT_FOR_PEOPLE = [chr(number) for number in (0x61c, 0x200e, 0x200f, *range(0x202
 HEAD = "Dec 01 2025 12:00:00 web x: "
 COLOURED = (entry(1, TIME, "c", "PRIORITY=3", "_HOSTNAME=web", "SYSLOG_IDENTIFIER=x", "MESSAGE=red"),
             entry(2, TIME + 1, "c", "PRIORITY=4", "_HOSTNAME=web", "SYSLOG_IDENTIFIER=x",
-                  binary("MESSAGE", b"\x1b[32myellow\x1b[0m")),
+                  binary(b"MESSAGE", b"\x1b[32myellow\x1b[0m")),
             entry(3, TIME + 2, "c", "PRIORITY=6", "_HOSTNAME=web", "SYSLOG_IDENTIFIER=x", "MESSAGE=plain"))
 
 
@@ -35,13 +35,13 @@ class Place:
             Searched(library, folder / name) for name in ("signs", "large", "colours", "simple"))
         self.signs.finished("signs", tuple(
             entry(number, TIME + number, "c", "_HOSTNAME=web", "SYSLOG_IDENTIFIER=x",
-                  binary("MESSAGE", f"a{sign}b".encode()))
+                  binary(b"MESSAGE", f"a{sign}b".encode()))
             for number, sign in enumerate([*SHOWN_BY_NOBODY, *NOT_FOR_PEOPLE], 1)))
         self.large.finished("large", (
-            entry(1, TIME, "c", binary("SYSLOG_IDENTIFIER", b"i" * 100_000), binary("_HOSTNAME", b"h" * 100_000),
-                  binary("MESSAGE", b"x\n" * 100_000)),
-            entry(2, TIME + 1, "c", "_HOSTNAME=web", "SYSLOG_IDENTIFIER=x", binary("MESSAGE", b"y" * 8_000_000)),
-            entry(3, TIME + 2, "c", "_HOSTNAME=web", "SYSLOG_IDENTIFIER=x", binary("MESSAGE", b"\xff" * 8_000_000)),
+            entry(1, TIME, "c", binary(b"SYSLOG_IDENTIFIER", b"i" * 100_000), binary(b"_HOSTNAME", b"h" * 100_000),
+                  binary(b"MESSAGE", b"x\n" * 100_000)),
+            entry(2, TIME + 1, "c", "_HOSTNAME=web", "SYSLOG_IDENTIFIER=x", binary(b"MESSAGE", b"y" * 8_000_000)),
+            entry(3, TIME + 2, "c", "_HOSTNAME=web", "SYSLOG_IDENTIFIER=x", binary(b"MESSAGE", b"\xff" * 8_000_000)),
             entry(4, TIME + 3, "c", "_HOSTNAME=web", "SYSLOG_IDENTIFIER=x", "MESSAGE=behind it")))
         self.colours.finished("colours", COLOURED)
         self.simple.finished("simple", FIRST)

@@ -168,7 +168,7 @@ def texts_in_pages(row: Row, place: Copies) -> None:
     searched = Searched(place.library, place.folder / "pages")
     lengths = range(3_900, 8_400, 5)
     searched.finished("long", tuple(
-        entry(number, TIME + number, "a", binary("MESSAGE", b"x" * length + b"needle in it"))
+        entry(number, TIME + number, "a", binary(b"MESSAGE", b"x" * length + b"needle in it"))
         for number, length in enumerate(lengths, 1)))
     row.same("all of them", len(searched.find("--word=needle in", "-o", "json").output.splitlines()), len(lengths))
     row.same("none", opened(place.first, "--word=needle"), ([], []))

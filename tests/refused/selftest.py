@@ -14,6 +14,17 @@ from judging import Outcome, judge
 from lemmas import unfolded_in, with_lemmas_open
 from verdicts import Report
 
+# A function with two promises. It has four names, since edits leave different goals of it open.
+ZERO = """\
+pub fn NAME(number: u64) -> u64
+    ensures low { result ≤ number }
+    ensures none { result ≡ 0 }
+{
+    let NAME = 0;
+    NAME
+}
+
+"""
 LIBRARY = """\
 //! Small functions, each with a contract.
 #![tactic(auto)]
@@ -56,38 +67,7 @@ pub fn lower(one: u64, other: u64) -> u64
     if one < other { one } else { other }
 }
 
-pub fn least(number: u64) -> u64
-    ensures low { result ≤ number }
-    ensures none { result ≡ 0 }
-{
-    let least = 0;
-    least
-}
-
-pub fn first(number: u64) -> u64
-    ensures low { result ≤ number }
-    ensures none { result ≡ 0 }
-{
-    let first = 0;
-    first
-}
-
-pub fn none(number: u64) -> u64
-    ensures low { result ≤ number }
-    ensures none { result ≡ 0 }
-{
-    let none = 0;
-    none
-}
-
-pub fn about(number: u64) -> u64
-    ensures low { result ≤ number }
-    ensures none { result ≡ 0 }
-{
-    let about = 0;
-    about
-}
-
+""" + "".join(ZERO.replace("NAME", name) for name in ("least", "first", "none", "about")) + """\
 pub struct Kept {
     number: u64,
 }

@@ -33,6 +33,6 @@ def fields_of(text: bytes) -> Iterator[dict[bytes, bytes]]:
     return map(dict, pairs_of(io.BytesIO(text)))
 
 
-def binary(name: bytes, value: bytes, length: int | None = None) -> bytes:
-    """A field in the spelling with a length: that of its value, or another one."""
-    return name + b"\n" + (len(value) if length is None else length).to_bytes(8, "little") + value + b"\n"
+def binary(name: bytes, value: bytes) -> bytes:
+    """A field in the spelling with a length."""
+    return name + b"\n" + len(value).to_bytes(8, "little") + value + b"\n"

@@ -5,10 +5,13 @@ from __future__ import annotations
 import os
 import struct
 from collections.abc import Callable, Iterator, Sequence
+from concurrent.futures import Executor, ThreadPoolExecutor
+from contextlib import contextmanager
 from random import Random
 from typing import NamedTuple
 
 import preload
+from trial import Trial
 
 HEAD = struct.Struct("<ccqQQ")
 SECTOR = 512
@@ -28,6 +31,14 @@ class Call(NamedTuple):
 def built(folder: str) -> str:
     """The library, compiled into a folder."""
     return preload.built(os.path.join(os.path.dirname(os.path.abspath(__file__)), "device.c"), folder)
+
+
+@contextmanager
+def trial_of(name: str) -> Iterator[tuple[Trial, Executor]]:
+    """A script's trials over the device, and a thread for each processor."""
+    with Trial(name) as trial, ThreadPoolExecutor(os.cpu_count()) as pool:
+        trial.library = built(trial.base)
+        yield trial, pool
 
 
 def run(

@@ -15,14 +15,13 @@ from __future__ import annotations
 import os
 import shutil
 from collections.abc import Iterable, Iterator, Sequence
-from concurrent.futures import Executor, ThreadPoolExecutor
+from concurrent.futures import Executor
 from random import Random
 
 import device
 from collecting import Collecting
 from migrating import Migrating
 from scenarios import scenarios
-from trial import Trial
 from upwards import NEVER
 
 # How often power is lost at one place, each time with other changes kept.
@@ -114,8 +113,7 @@ def sweep(scenario: Collecting | Migrating, pool: Executor) -> int:
 
 
 def main() -> None:
-    with Trial("losses") as trial, ThreadPoolExecutor(os.cpu_count()) as pool:
-        trial.library = device.built(trial.base)
+    with device.trial_of("losses") as (trial, pool):
         trial.finish(f"{sum(sweep(scenario, pool) for scenario in scenarios(trial))} losses of power")
 
 

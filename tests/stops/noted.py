@@ -15,7 +15,7 @@ import os
 import shutil
 import signal
 from collections.abc import Iterator, Sequence
-from concurrent.futures import Executor, ThreadPoolExecutor
+from concurrent.futures import Executor
 from random import Random
 from typing import NamedTuple
 
@@ -232,8 +232,7 @@ def courses(trial: Trial) -> Iterator[Course]:
 
 
 def main() -> None:
-    with Trial("noted") as trial, ThreadPoolExecutor(os.cpu_count()) as pool:
-        trial.library = device.built(trial.base)
+    with device.trial_of("noted") as (trial, pool):
         trial.finish(f"{sum(course.sweep(pool) for course in courses(trial))} losses of power")
 
 

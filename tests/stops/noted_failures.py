@@ -10,13 +10,12 @@ from __future__ import annotations
 import os
 import re
 import shutil
-from concurrent.futures import ThreadPoolExecutor
 
 import device
 import samples
 from noted_run import NotedRun
 from owned import Brought
-from trial import PROGRAM, Trial, status_of
+from trial import PROGRAM, status_of
 from upwards import NEVER, upwards
 
 # What a run says that couldn't go on, and of uploads, a database or notes that it couldn't open.
@@ -60,8 +59,7 @@ def failing(noted: NotedRun, number: int, last: int) -> bool:
 def main() -> None:
     one, rest = samples.stream(samples.E1), samples.stream(samples.E2, samples.E3)
     uploads = [Brought("web", one), Brought("mail", samples.stream(samples.entry_text(4))), Brought("web", rest)]
-    with Trial("noted failures") as trial, ThreadPoolExecutor(os.cpu_count()) as pool:
-        trial.library = device.built(trial.base)
+    with device.trial_of("noted failures") as (trial, pool):
         noted = NotedRun(trial, "collect --sequences", uploads)
         alone = upwards(pool, lambda number: failing(noted, number, number))
         later = upwards(pool, lambda number: failing(noted, number, NEVER))

@@ -10,7 +10,7 @@ from __future__ import annotations
 import os
 import shutil
 from collections.abc import Iterator, Sequence
-from concurrent.futures import Executor, ThreadPoolExecutor
+from concurrent.futures import Executor
 
 import device
 import samples
@@ -73,8 +73,7 @@ class Rotten(Collecting):
 
 
 def main() -> None:
-    with Trial("rotten") as trial, ThreadPoolExecutor(os.cpu_count()) as pool:
-        trial.library = device.built(trial.base)
+    with device.trial_of("rotten") as (trial, pool):
         databases = [Rotten(trial, name, words, is_closed)
                      for name, words in (("by key", WORDS), ("by number", BY_NUMBER)) for is_closed in (True, False)]
         trial.finish(f"{sum(database.sweep(pool) for database in databases)} bytes that can't be read")

@@ -12,7 +12,7 @@ from __future__ import annotations
 import os
 import shutil
 import signal
-from concurrent.futures import Executor, ThreadPoolExecutor
+from concurrent.futures import Executor
 
 import device
 import samples
@@ -110,8 +110,7 @@ class Acks:
 
 
 def main() -> None:
-    with Trial("stops") as trial, ThreadPoolExecutor(os.cpu_count()) as pool:
-        trial.library = device.built(trial.base)
+    with device.trial_of("stops") as (trial, pool):
         tried = sum(sweep(trial, pool, scenario) for scenario in scenarios(trial))
         tried += Acks(trial).sweep(pool) + Exporting(trial).sweep(pool)
         trial.finish(f"{tried} runs")
