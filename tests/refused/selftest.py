@@ -182,6 +182,7 @@ Edits = dict[str, tuple[str, str, str]]
 
 # For each edit: the text that is there once, what takes its place, and how the report on it must begin.
 EDITS: Edits = {
+    "about-both": ("let about = 0;", "let about = number;", ANOTHER + "returns-clause-none"),
     "about-no-goal": ("let about = 0;", "let about = 4;", PASSED),
     "about-one": ("let about = 0;", "let about = 1;", REFUSED + "returns-clause-none"),
     "about-the-next": ("let about = 0;", "if number < 3 { return 3; } let about = 0;", ANOTHER + "returns-then-"),
@@ -213,6 +214,7 @@ EDITS: Edits = {
 
 # The goals that edits are about, and those that they leave open.
 GOALS = {
+    "about-both": "goal: returns-clause-low\ngoal: returns-clause-none\n",
     "about-no-goal": "goal: returns-clause-high\n",
     "about-one": "goal: returns-clause-none\n",
     "about-the-next": "goal: returns-clause-low\n",

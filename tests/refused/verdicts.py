@@ -108,7 +108,7 @@ class Report:
         if goals and not set(edit.about) <= set(goals):
             return Ruling(Kind.ANOTHER, goals)
         if goals:
-            is_refused = any(PROMISE.match(it) for it in edit.about or goals)
+            is_refused = all(map(PROMISE.match, edit.about)) if edit.about else any(map(PROMISE.match, goals))
             return Ruling(Kind.REFUSED if is_refused else Kind.UNTELLING, goals)
         if hidden_by := self._unproved(_ticked(" ".join(CALLED.findall(found[0])))):
             return Ruling(Kind.HIDDEN, hidden_by=hidden_by)
