@@ -1,5 +1,6 @@
 //! Sources over a device that fails once.
 
+use super::same::same;
 use jc_base::{Ending, Limits, Stop};
 use jc_file::faulty::FailSpace;
 use jc_file::{FileEntries, SliceSpace};
@@ -20,13 +21,18 @@ fn a_read_that_fails_is_reported_wherever_it_comes(rt: HostRuntime) -> Result<()
         let given = all_entries(alloc, &mut FileEntries::new(alloc, space, limits));
         match given {
             Ok((entries, ending)) => {
-                assert_eq!(rt; entries.len(), 1);
-                assert_eq!(rt; ending, Ending::End { left: 0 });
-                assert_eq!(rt; counted, Ok((1, Ending::End { left: 0 })));
+                same(&rt, "the end", &ending, &Ending::End { left: 0 });
+                same(
+                    &rt,
+                    "counted",
+                    &counted,
+                    &Ok((entries.len() as u64, ending)),
+                );
+                assert!(rt; entries.len() == 1);
             }
             Err(stop) => {
-                assert_eq!(rt; stop, Stop::ReadFailed);
-                assert_eq!(rt; counted, Err(Stop::ReadFailed));
+                same(&rt, "counted", &counted, &Err(stop));
+                assert!(rt; matches!(stop, Stop::ReadFailed));
                 last_failure = passes;
             }
         }

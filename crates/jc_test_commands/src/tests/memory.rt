@@ -6,7 +6,6 @@ use super::stored::check_stored;
 use jc_base::{Limits, OutOfMemory, VecSink};
 use jc_collect::{Delivery, RunEnd};
 use jc_keeper::KeepStop;
-use jc_schema_three::SchemaThree;
 use jc_schema_two::SchemaTwo;
 use jc_store::Layout;
 use jc_test_samples::answer_lines;
@@ -79,25 +78,16 @@ fn collect_twice<L: Layout>(
     check_stored(rt, &mut keeper.into_keeper(), "ENTRY ENTRY_2 ENTRY_3")
 }
 
-fn collect_three<'a>(
-    rt: &(impl Abort + AllocGlobal),
-    first: &'a [u8],
-    conflict: &'a [u8],
-    rest: &'a [u8],
-) -> Result<(), Fail> {
-    let uploads = [
-        Delivery::Stream(first),
-        Delivery::Space(conflict),
-        Delivery::Stream(rest),
-    ];
-    collect_twice::<SchemaTwo>(rt, &uploads)?;
-    collect_twice::<SchemaThree>(rt, &uploads)
-}
-
+/// Into tables of one kind. The program's rows collect into both.
 #[test]
 fn uploads_are_collected_in_memory(rt: HostRuntime) -> Result<(), Fail> {
     let first = bytes_of(rt.alloc(), "head:1:0 ENTRY")?;
     let conflict = bytes_of(rt.alloc(), "head:1:0 ENTRY_2 ENTRY_3 CHANGED_ENTRY")?;
     let rest = bytes_of(rt.alloc(), "head:1:0 ENTRY_2 ENTRY_3")?;
-    collect_three(&rt, &first, &conflict, &rest)
+    let uploads = [
+        Delivery::Stream(first.as_slice()),
+        Delivery::Space(conflict.as_slice()),
+        Delivery::Stream(rest.as_slice()),
+    ];
+    collect_twice::<SchemaTwo>(&rt, &uploads)
 }

@@ -13,10 +13,7 @@ use jc_database::{OpenFromFiles, OverFiles, StoreInFiles, over_files};
 use jc_file::SliceSpace;
 use jc_ledger::{Ledger, MapLedger};
 use jc_store::{Listed, TableKeeper};
-use jc_theorem_stops::{
-    Stopped, collect_and_stop, collect_into_union_and_stop, collect_lines_and_stop,
-    open_after_lines, open_after_stop,
-};
+use jc_theorem_stops::{Stopped, collect_into_union_and_stop, open_after_lines, open_after_stop};
 use jc_union::{NotedRun, collect_noted};
 use sqlite::{Alter, Unknown};
 use std::alloc::Global;
@@ -52,12 +49,10 @@ impl<'a> OverFiles for Stopping<'a> {
 
     fn over<F: OpenFromFiles>(self, start: F::Start) -> Told {
         match self.run {
-            Run::Deliveries => deliveries_stop::<F>(self, start),
-            Run::Lines => lines_stop::<F>(self, start),
             Run::Union => union_stops::<F>(self, start),
             Run::Noted => union_ends::<F>(self, start),
             Run::Show => shows::<F>(self, start),
-            Run::DeliveriesAndNext | Run::LinesAndNext => {
+            Run::Deliveries | Run::Lines => {
                 over_files(Next::<'a, F> { run: self, start }, Unknown)
             }
         }
@@ -79,7 +74,7 @@ impl<'a, F: OpenFromFiles> OverFiles for Next<'a, F> {
     fn over<G: OpenFromFiles>(self, next: G::Start) -> Told {
         let Next { run, start } = self;
         match run.run {
-            Run::LinesAndNext => lines_and_next::<F, G>(run, start, next),
+            Run::Lines => lines_and_next::<F, G>(run, start, next),
             _ => deliveries_and_next::<F, G>(run, start, next),
         }
     }
@@ -94,48 +89,6 @@ fn deliveries_of(alloc: Global, uploads: &[Vec<u8>]) -> io::Result<Vec<Upload<'_
 }
 
 // The calls stand alone, so that no more than one function has their contracts to bear.
-
-fn deliveries_stop<F: OpenFromFiles>(run: Stopping<'_>, start: F::Start) -> Told {
-    let mut output = Output::new(run.rt.alloc(), run.flushes);
-    let mut host = Host::new(run.rt);
-    let came = match deliveries_of(run.rt.alloc(), run.uploads) {
-        Ok(mut deliveries) => ended(collect_and_stop::<_, F, _, _, _>(
-            &mut host,
-            start,
-            run.path,
-            run.tables,
-            None,
-            &mut deliveries,
-            &mut output,
-        )),
-        Err(_) => Came::Failed,
-    };
-    Told {
-        came,
-        output: output.kept,
-    }
-}
-
-fn lines_stop<F: OpenFromFiles>(run: Stopping<'_>, start: F::Start) -> Told {
-    let mut output = Output::new(run.rt.alloc(), run.flushes);
-    let mut errors = Vec::new(run.rt.alloc());
-    let mut names = run.names;
-    let mut host = Host::new(run.rt);
-    let came = ended(collect_lines_and_stop::<_, F, _, _, _>(
-        &mut host,
-        start,
-        run.path,
-        run.tables,
-        None,
-        &mut names,
-        &mut output,
-        &mut errors,
-    ));
-    Told {
-        came,
-        output: output.kept,
-    }
-}
 
 fn union_stops<F: OpenFromFiles>(run: Stopping<'_>, start: F::Start) -> Told {
     let mut output = Output::new(run.rt.alloc(), run.flushes);
@@ -293,13 +246,6 @@ fn ended_and_found<F: OpenFromFiles, G: Alter + Drop, L: Drop>(
     }
 }
 
-fn ended<F: OpenFromFiles>(run: Result<Stopped<'_, F>, Failure<'_>>) -> Came {
-    match run {
-        Ok(stopped) => stopped_with(stopped.answered),
-        Err(_) => Came::Failed,
-    }
-}
-
 fn stopped_with(answered: Result<Status, Failure<'_>>) -> Came {
     match answered {
         Ok(Status::Success) => Came::Stopped,
@@ -315,14 +261,15 @@ fn ended_well<C: Drop, L: Ledger + Drop>(run: Result<NotedRun<C, L>, Failure<'_>
     }
 }
 
-/// What the next run found after this came of the one before.
+/// What came of a run, or what the next one found after it if it was stopped.
 fn found_after<F: Alter + Drop, L: Drop>(
     came: Came,
     next: Result<OpenedFiles<F>, Unopened<'_, L>>,
 ) -> Came {
-    match count_of(next) {
-        Some(count) if came == Came::Stopped => Came::Found(count),
-        _ => Came::Failed,
+    match (came, count_of(next)) {
+        (Came::Stopped, Some(count)) => Came::Found(count),
+        (Came::Stopped, None) => Came::Failed,
+        (other, _) => other,
     }
 }
 

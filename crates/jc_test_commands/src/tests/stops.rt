@@ -18,18 +18,14 @@ use std::{fs, io};
 /// Which run is made, and where it is stopped.
 #[derive(Clone, Copy)]
 pub(super) enum Run {
-    /// One over deliveries.
+    /// One over deliveries. Then the next run opens the database.
     Deliveries,
-    /// One over the uploads that lines name.
+    /// One over the uploads that lines name, and then the next run.
     Lines,
     /// One over such uploads into a union, of which no database is finished, with notes in memory.
     Union,
     /// One over deliveries into such a union, which isn't stopped.
     Noted,
-    /// The first of these. Then the next run opens the database.
-    DeliveriesAndNext,
-    /// The second one, and then the next run.
-    LinesAndNext,
     /// One that shows the entries, which isn't stopped.
     Show,
 }
@@ -42,10 +38,10 @@ pub(super) enum Came {
     Unwritten,
     /// It went up to where it was stopped.
     Stopped,
+    /// It did, and the next run found so many entries.
+    Found(u64),
     /// It came to its end.
     Ended,
-    /// And the next run found so many entries.
-    Found(u64),
 }
 
 /// A run, the pieces of its uploads, how often its output can be flushed, what comes of it, and the lines that it prints.
@@ -67,7 +63,7 @@ const ROWS: [Row; 14] = [
         database: "db",
         uploads: &["head:1:0 ENTRY"],
         flushes: ALWAYS,
-        comes: Came::Stopped,
+        comes: Came::Found(1),
         prints: &["ack S 0 1 1 0"],
     },
     Row {
@@ -76,12 +72,12 @@ const ROWS: [Row; 14] = [
         database: "db",
         uploads: &["head:1:0 ENTRY", "head:1:0 ENTRY_2"],
         flushes: ALWAYS,
-        comes: Came::Stopped,
+        comes: Came::Found(2),
         prints: &["ack S 0 1 0 0", "ack S 0 1 1 0"],
     },
     Row {
-        of: "deliveries, and the next run",
-        run: Run::DeliveriesAndNext,
+        of: "deliveries behind lines",
+        run: Run::Deliveries,
         database: "db",
         uploads: &["head:1:0 ENTRY_2", "head:1:0 ENTRY_3"],
         flushes: ALWAYS,
@@ -89,8 +85,8 @@ const ROWS: [Row; 14] = [
         prints: &["ack S 0 1 0 0", "ack S 0 1 1 0"],
     },
     Row {
-        of: "lines, and the next run",
-        run: Run::LinesAndNext,
+        of: "lines once more",
+        run: Run::Lines,
         database: "db",
         uploads: &["head:1:0 ENTRY", "head:1:0 ENTRY_2"],
         flushes: ALWAYS,
@@ -154,7 +150,7 @@ const ROWS: [Row; 14] = [
     },
     Row {
         of: "answers that are all flushed",
-        run: Run::DeliveriesAndNext,
+        run: Run::Deliveries,
         database: "flush.db",
         uploads: &["head:1:0 ENTRY_2", "head:1:0 ENTRY_3"],
         flushes: 2,
@@ -167,7 +163,7 @@ const ROWS: [Row; 14] = [
         database: "shown.db",
         uploads: &["head:1:0 ENTRY"],
         flushes: ALWAYS,
-        comes: Came::Stopped,
+        comes: Came::Found(1),
         prints: &["ack S 0 1 1 0"],
     },
     Row {
