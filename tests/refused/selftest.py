@@ -226,7 +226,8 @@ GOALS = {
     "one-left-open": "open: returns-clause-low\n",
 }
 
-# Edits that can't be read, beside one that can: if a check can't be read, its halves are tried.
+# Edits that can't be read, beside one that can: if a check can't be read, its halves are tried. The first half has those
+# that can.
 UNREADABLE: Edits = {
     "another-answer": EDITS["another-answer"],
     "name-of-nothing": ("self.number = number;", "self.number = nobody;", UNREAD),
@@ -235,7 +236,8 @@ UNREADABLE: Edits = {
 
 ONE = {"another-answer": EDITS["another-answer"]}
 # Of a library that isn't built the other goals aren't known, and so aren't left open.
-NOT_BUILT = {**ONE, "about-one": (*EDITS["about-one"][:2], REFUSED + "returns-clause-low, returns-clause-none")}
+ABOUT_ONE = (*EDITS["about-one"][:2], REFUSED + "returns-clause-low, returns-clause-none")
+NOT_BUILT = {**UNREADABLE, "about-one": ABOUT_ONE}
 PROVED = "without its edits it is proved"
 # An edit of a function whose answer cites a lemma that is gone, beside another.
 TWICE_IS = """\
@@ -342,7 +344,6 @@ def main() -> int:
         failures += small.failures("not built", LIBRARY, NOT_BUILT, PROVED)
         small.build(LIBRARY)
         failures += small.failures("as it is", LIBRARY, EDITS, PROVED)
-        failures += small.failures("built", LIBRARY, UNREADABLE, PROVED)
         _write(os.path.join(small.folder, "proofs", "Lemmas.antt"), PROOFS["proofs/Lemmas.antt"].replace(TWICE_IS, ""))
         failures += small.failures("changed since it was built", WRONG, GONE, "without its edits it is NOT PROVED")
     for it in failures:
