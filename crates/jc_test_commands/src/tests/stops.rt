@@ -192,11 +192,16 @@ fn what_the_next_run_has(rt: HostRuntime) -> Result<(), Fail> {
     check_rows(&rt, &told_of_rows(&rt, "by-number", Tables::ByNumber)?)
 }
 
+/// The rows, of which nothing is known where they are used: what names them has all of them to prove with.
+fn rows() -> &'static [Row] {
+    &ROWS
+}
+
 /// What came of the rows' runs.
 fn told_of_rows(rt: &HostRuntime, name: &str, tables: Tables) -> io::Result<Vec<Told>> {
     let folder = new_folder(rt, name)?;
     let mut told = Vec::new(rt.alloc());
-    for row in &ROWS {
+    for row in rows() {
         told.push(stop(rt, folder.as_str(), tables, row)?)?;
     }
     fs::remove_dir_all(rt, folder.as_str())?;
@@ -204,7 +209,7 @@ fn told_of_rows(rt: &HostRuntime, name: &str, tables: Tables) -> io::Result<Vec<
 }
 
 fn check_rows(rt: &(impl Abort + AllocGlobal), told: &[Told]) -> Result<(), Fail> {
-    for (row, told) in ROWS.iter().zip(told) {
+    for (row, told) in rows().iter().zip(told) {
         check_row(rt, row, told)?;
     }
     Ok(())

@@ -101,16 +101,33 @@ fn check_databases(rt: &(impl Abort + AllocGlobal), mut union: Second) -> Result
     check_stored(rt, &mut union.present, "ENTRY_3")
 }
 
+/// A world in which that happened. What calls this has nothing of what a world is to prove with, nor has what calls
+/// `after_the_turn`: of a world over a union each step takes seconds.
+fn grown<K: Keeper + Drop>(
+    rt: &(impl Abort + AllocGlobal),
+    mut world: World<K>,
+) -> Result<World<K>, Fail> {
+    take(rt, &mut world, &before_the_turn(rt.alloc())?)?;
+    Ok(world)
+}
+
+/// What happens behind the turn; the keeper as it is then.
+fn after_the_turn<K: Keeper + Drop>(
+    rt: &(impl Abort + AllocGlobal),
+    mut world: World<K>,
+) -> Result<K, Fail> {
+    check_point(rt, &world, 0, 1)?;
+    take(rt, &mut world, &BEHIND_THE_TURN)?;
+    check_lengths(rt, world.uploads())?;
+    let wanted = ["ack S 0 2 2 0", "ack S 2 1 1 0"];
+    same_answers(rt, "answers", world.answers(), &wanted)?;
+    Ok(world.into_keeper())
+}
+
 /// A machine's entries lie in both databases, and an answer that was given over the first one moves its resume point on.
 #[test]
 fn a_world_that_turns(rt: HostRuntime) -> Result<(), Fail> {
-    let mut world = first_world(rt.alloc())?;
-    take(&rt, &mut world, &before_the_turn(rt.alloc())?)?;
-    let mut world = turned(rt.alloc(), world);
-    check_point(&rt, &world, 0, 1)?;
-    take(&rt, &mut world, &BEHIND_THE_TURN)?;
-    check_lengths(&rt, world.uploads())?;
-    let wanted = ["ack S 0 2 2 0", "ack S 2 1 1 0"];
-    same_answers(&rt, "answers", world.answers(), &wanted)?;
-    check_databases(&rt, world.into_keeper())
+    let world = grown(&rt, first_world(rt.alloc())?)?;
+    let union = after_the_turn(&rt, turned(rt.alloc(), world))?;
+    check_databases(&rt, union)
 }

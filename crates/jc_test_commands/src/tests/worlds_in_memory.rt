@@ -24,15 +24,18 @@ fn world_of<L: Layout>(
     }
 }
 
+/// Four events, and one of a machine that isn't there.
+fn events(alloc: Global) -> Result<Vec<Event>, Fail> {
+    let mut all = Vec::new(alloc);
+    for event in [Event::Make(0, 1), Event::Deliver(0, 48), Event::Hand(0), Event::Make(1, 1)] {
+        all.push(event)?;
+    }
+    all.push(Event::Alien(bytes_of(alloc, r#""JCUPLD01""#)?))?;
+    Ok(all)
+}
+
 fn check_world<L: Layout>(rt: &(impl Abort + AllocGlobal)) -> Result<(), Fail> {
-    let events = [
-        Event::Make(0, 1),
-        Event::Deliver(0, 48),
-        Event::Hand(0),
-        Event::Make(1, 1),
-        Event::Alien(bytes_of(rt.alloc(), r#""JCUPLD01""#)?),
-    ];
-    let (progress, world) = world_of::<L>(rt.alloc(), &events)?;
+    let (progress, world) = world_of::<L>(rt.alloc(), &events(rt.alloc())?)?;
     assert!(rt; progress.taken == 5 && progress.refusal.is_none());
     same_answers(
         rt,
