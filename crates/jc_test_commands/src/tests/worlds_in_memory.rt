@@ -27,7 +27,12 @@ fn world_of<L: Layout>(
 /// Four events, and one of a machine that isn't there.
 fn events(alloc: Global) -> Result<Vec<Event>, Fail> {
     let mut all = Vec::new(alloc);
-    for event in [Event::Make(0, 1), Event::Deliver(0, 48), Event::Hand(0), Event::Make(1, 1)] {
+    for event in [
+        Event::Make(0, 1),
+        Event::Deliver(0, 48),
+        Event::Hand(0),
+        Event::Make(1, 1),
+    ] {
         all.push(event)?;
     }
     all.push(Event::Alien(bytes_of(alloc, r#""JCUPLD01""#)?))?;
