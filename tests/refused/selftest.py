@@ -226,8 +226,8 @@ GOALS = {
     "one-left-open": "open: returns-clause-low\n",
 }
 
-# Edits that can't be read, beside one that can: if a check can't be read, its halves are tried. The first half has those
-# that can.
+# Edits that can't be read, beside one that can: if a check can't be read, its halves are tried. The first half has
+# those that can.
 UNREADABLE: Edits = {
     "another-answer": EDITS["another-answer"],
     "name-of-nothing": ("self.number = number;", "self.number = nobody;", UNREAD),
