@@ -6,6 +6,7 @@ use super::stored::check_stored;
 use jc_base::{Limits, OutOfMemory, VecSink};
 use jc_collect::{Delivery, RunEnd};
 use jc_keeper::KeepStop;
+use jc_schema_three::SchemaThree;
 use jc_schema_two::SchemaTwo;
 use jc_store::Layout;
 use jc_test_samples::answer_lines;
@@ -78,7 +79,6 @@ fn collect_twice<L: Layout>(
     check_stored(rt, &mut keeper.into_keeper(), "ENTRY ENTRY_2 ENTRY_3")
 }
 
-/// Into tables of one kind. The program's rows collect into both.
 #[test]
 fn uploads_are_collected_in_memory(rt: HostRuntime) -> Result<(), Fail> {
     let first = bytes_of(rt.alloc(), "head:1:0 ENTRY")?;
@@ -89,5 +89,6 @@ fn uploads_are_collected_in_memory(rt: HostRuntime) -> Result<(), Fail> {
         Delivery::Space(conflict.as_slice()),
         Delivery::Stream(rest.as_slice()),
     ];
-    collect_twice::<SchemaTwo>(&rt, &uploads)
+    collect_twice::<SchemaTwo>(&rt, &uploads)?;
+    collect_twice::<SchemaThree>(&rt, &uploads)
 }

@@ -4,6 +4,7 @@ use super::pieces::bytes_of;
 use super::same::same_answers;
 use jc_base::{Id128, Limits};
 use jc_schema_three::SchemaThree;
+use jc_schema_two::SchemaTwo;
 use jc_store::Layout;
 use jc_test_samples::SOURCE_ID;
 use jc_theorem_database::{MemoryKeeper, world_after};
@@ -53,5 +54,6 @@ fn check_world<L: Layout>(rt: &(impl Abort + AllocGlobal)) -> Result<(), Fail> {
 /// A run takes every event, also one that names no machine.
 #[test]
 fn a_world_in_memory(rt: HostRuntime) -> Result<(), Fail> {
+    check_world::<SchemaTwo>(&rt)?;
     check_world::<SchemaThree>(&rt)
 }
