@@ -14,7 +14,7 @@ use Rattle.jc_database.specs.Files.{EndsWith, InFiles, Keeps, KeepsAlways}
 use Rattle.jc_ledger.specs.Kept.{IsKept}
 use Rattle.jc_ledger.specs.Known.{Known}
 use Rattle.jc_store.specs.Meaning.{IsSound, Meaning}
-use Rattle.jc_union.specs.Noted.{WhyNoUnion}
+use Rattle.jc_collector.specs.Noted.{WhyNoUnion}
 use Rattle.jc_collector.specs.Database.{DatabaseFailsBy, MayEndNames}
 use Rattle.jc_collector.specs.IntoUnion.{LeadsIf, StoresNotedFromList, StoresNotedNames, UnionFailsBy, UnionStopsBy}
 use Rattle.jc_collector.specs.Kinds.{meaning_of}

@@ -13,3 +13,7 @@ pub mod Open
 pub mod AnsweredOver
 pub mod IntoUnion
 pub mod BeginAgain
+pub mod Asked
+pub mod CatchingUp
+pub mod Given
+pub mod Listed

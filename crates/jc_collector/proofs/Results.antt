@@ -1,7 +1,10 @@
 -- What is said of a result by what is said of another one.
 use Rattle.std.proofs.Common.{◌≡◌, ◌⊎◌, inl, inr, None, Ok, Err, Option, Result, Some, refl, subst, sym}
-use Rattle.std.specs.Prelude.{IfOk, IfErr, IfSome, OnOk}
+use Rattle.std.specs.Prelude.{IfOk, IfErr, IfSome, MatchResult, OnOk}
 use Rattle.std.specs.Result.{result_ok}
+use Rattle.jc_keeper.specs.declared.keeper.KeepStop.{KeepStop}
+use Rattle.jc_collector.specs.declared.into_union.opening.OpenStop.{OpenStop}
+use Rattle.jc_collector.specs.declared.into_union.opening.OpenStop.TheVariants.{Stopped}
 
 pub IfOk-each : {T E : Type 0} (r : Result T E) (P Q : T → Type 0) → ((x : T) → P x → Q x) → IfOk r P → IfOk r Q
 IfOk-each (Ok x) P Q each p = each x p
@@ -62,3 +65,28 @@ if_some_each (Some x) P Q each p = each x p
 pub of_some : {T E : Type 0} (r : Result T E) (x : T) (P : T → Type 0) → Some x ≡ result_ok r → IfOk r P → P x
 of_some (Ok y) x P is p = subst (λ (o : Option _). IfSome o P) (sym is) p
 of_some (Err e) x P is p = cc
+
+pub on_each : {T E : Type 0} (r : Result T E) (P : Type 0) (Q : Type 0) → OnOk r P → (P → OnOk r Q) → OnOk r Q
+on_each (Ok x) P Q p each = each p
+on_each (Err e) P Q p each = tt
+
+pub ok_each : {T E : Type 0} (r : Result T E) (P : Type 0) (Q : T → Type 0) → OnOk r P → (P → IfOk r Q) → IfOk r Q
+ok_each (Ok x) P Q p each = each p
+ok_each (Err e) P Q p each = tt
+
+-- what follows from what a success says as long as this holds
+pub on_ok_while : {T E : Type 0} (r : Result T E) (While Kept : Type 0) (Why : E → Type 0) (Z : Type 0) → (While → MatchResult r (λ _. Kept) Why)
+    → ((While → Kept) → Z) → OnOk r Z
+on_ok_while (Ok x) While Kept Why Z holds each = each holds
+on_ok_while (Err e) While Kept Why Z holds each = tt
+
+pub if_err_of : {T E : Type 0} (r : Result T E) (P : T → Type 0) (Why : E → Type 0) → MatchResult r P Why → IfErr r Why
+if_err_of (Ok x) P Why holds = tt
+if_err_of (Err e) P Why holds = holds
+
+-- if the text is there, and the union is opened, then both are sound
+pub both_sound : {A B : Type 0} (text : Result A KeepStop) (opened : Result B OpenStop) (P Q Z : Type 0)
+    → IfErr text (λ stop. opened ≡ Err (Stopped stop)) → OnOk text P → OnOk opened Q → (P → Q → Z) → OnOk opened Z
+both_sound (Ok a) (Ok b) P Q Z is p q both = both p q
+both_sound {B = B} (Err stop) (Ok b) P Q Z is p q both = absurd (let none : ⊥ = cc in none)
+both_sound text (Err why) P Q Z is p q both = tt

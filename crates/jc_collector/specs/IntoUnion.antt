@@ -13,7 +13,7 @@ use Rattle.jc_database.specs.Files.{EndsWith, InFiles}
 use Rattle.jc_ledger.specs.Kept.{IsKept}
 use Rattle.jc_ledger.specs.Known.{Known}
 use Rattle.jc_ledger.specs.Union.{union}
-use Rattle.jc_union.specs.Noted.{NotedFailsBy}
+use Rattle.jc_collector.specs.Noted.{NotedFailsBy}
 use Rattle.jc_collector.specs.Database.{CollectFailsBy}
 use Rattle.jc_collector.specs.Kinds.{BeginsIn, meaning_of}
 

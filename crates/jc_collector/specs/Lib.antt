@@ -14,3 +14,8 @@ pub mod AnsweredOver
 pub mod KindLaws
 pub mod PrintedLaws
 pub mod Unopened
+pub mod Noted
+pub mod Noting
+pub mod UnionAnswered
+pub mod UnionLaws
+pub mod UnionOpened

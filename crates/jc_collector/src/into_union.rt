@@ -10,16 +10,23 @@ ghost use Rattle.jc_database.specs.Files.{EndsWith, Keeps};
 ghost use Rattle.jc_ledger.specs.Kept.{NoneCollide};
 ghost use Rattle.jc_ledger.specs.Lagging.{MayCatchUp};
 ghost use Rattle.jc_store.specs.Meaning.{IsSound};
-ghost use Rattle.jc_union.specs.Answered.{AnswersNoted};
+ghost use Rattle.jc_collector.specs.UnionAnswered.{AnswersNoted};
 ghost use Rattle.jc_collector.specs.Database.{DatabaseFailsBy};
 ghost use Rattle.jc_collector.specs.IntoUnion.{LeadsIf, StoresNotedFromList, StoresNotedNames, UnionFailsBy, UnionStopsBy};
 ghost use Rattle.jc_collector.specs.FromList.{PrintsFromList};
 ghost use Rattle.jc_command_shared.specs.Deeds.{ChangesOnly, IsReplacedIf, OpensAndChanges};
 
+mod closing;
+mod listing;
+mod noting;
+mod opening;
+
+use self::closing::{close_union, why_no_union};
 use crate::database::{Opened, open_or_make};
 use crate::from_list::list_source;
 use crate::target::Target;
 use crate::then_export::{check_names, export_after};
+pub use closing::{AnsweredUnion, NotedRun};
 use jc_collector_answers::{NameLines, answer_names};
 use jc_command_args::Tables;
 use jc_command_shared::{Failure, Status, System};
@@ -29,9 +36,7 @@ use jc_ledger::{Ledger, Past};
 use jc_schema_three::SchemaThree;
 use jc_schema_two::SchemaTwo;
 use jc_store::{Listed, TableKeeper};
-use jc_union::{
-    AnsweredUnion, NotedRun, OpenedUnion, TableUnion, close_union, open_union, why_no_union,
-};
+pub use opening::{OpenStop, OpenedUnion, TableUnion, open_union};
 use sqlite::Alter;
 use std::io::{BufRead, BufReader, Read, Write};
 

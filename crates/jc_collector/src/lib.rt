@@ -26,7 +26,10 @@ pub use database::{Opened, OpenedFiles, open_or_make};
 pub use from_list::collect_from_list;
 pub use health::{Examined, Health, check};
 pub use inspecting::inspect;
-pub use into_union::{collect_into_union, join_open};
+pub use into_union::{
+    AnsweredUnion, NotedRun, OpenStop, OpenedUnion, TableUnion, collect_into_union, join_open,
+    open_union,
+};
 pub use listing::{export, show};
 pub use migrating::migrate;
 pub use unopened::Unopened;

@@ -13,8 +13,8 @@ use crate::note_folders::{NoteFolders, Sequences};
 use clap::error::ErrorKind;
 use jc_collect::Bounds;
 use jc_collector::{
-    Closed, Examined, check, collect, collect_from_list, collect_into_union, export, inspect,
-    migrate, show,
+    Closed, Examined, NotedRun, check, collect, collect_from_list, collect_into_union, export,
+    inspect, migrate, show,
 };
 use jc_command_args::{CODES, Request, parse};
 use jc_command_shared::{Failure, Status, printed};
@@ -22,7 +22,6 @@ use jc_database::{Databases, OpenFromFiles};
 use jc_ledger::Ledger;
 use jc_sender::{ack, upload, verify};
 use jc_sequences::Folders;
-use jc_union::NotedRun;
 use std::io::{Read, Write};
 
 /// What a run ended with: its status, and the files of its database, closed, if it had one open, with the notes of

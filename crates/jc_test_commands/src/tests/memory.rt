@@ -10,7 +10,7 @@ use jc_schema_three::SchemaThree;
 use jc_schema_two::SchemaTwo;
 use jc_store::Layout;
 use jc_test_samples::answer_lines;
-use jc_theorem_database::{MemoryKeeper, Upload, collect, collect_anew};
+use jc_theorems::{MemoryKeeper, Upload, collect, collect_anew};
 use std::alloc::Global;
 use std::process::Abort;
 use std::test::Fail;

@@ -6,15 +6,13 @@ use super::output::Output;
 use super::stops::{Came, Run};
 use jc_base::FromRead;
 use jc_collect::Delivery;
-use jc_collector::{Closed, Opened, OpenedFiles, Unopened, open_or_make, show};
+use jc_collector::{Closed, Opened, OpenedFiles, Unopened, show};
 use jc_command_args::Tables;
 use jc_command_shared::{Failure, Host, Status};
-use jc_database::{OpenFromFiles, OverFiles, StoreInFiles, over_files};
+use jc_database::{OpenFromFiles, OverFiles, over_files};
 use jc_file::SliceSpace;
-use jc_ledger::{Ledger, MapLedger};
-use jc_store::{Listed, TableKeeper};
-use jc_theorem_stops::{Stopped, collect_into_union_and_stop, open_after_lines, open_after_stop};
-use jc_union::{NotedRun, collect_noted};
+use jc_ledger::MapLedger;
+use jc_theorems::{Stopped, collect_into_union_and_stop, open_after_lines, open_after_stop};
 use sqlite::{Alter, Unknown};
 use std::alloc::Global;
 use std::io;
@@ -50,7 +48,6 @@ impl<'a> OverFiles for Stopping<'a> {
     fn over<F: OpenFromFiles>(self, start: F::Start) -> Told {
         match self.run {
             Run::Union => union_stops::<F>(self, start),
-            Run::Noted => union_ends::<F>(self, start),
             Run::Show => shows::<F>(self, start),
             Run::Deliveries | Run::Lines => {
                 over_files(Next::<'a, F> { run: self, start }, Unknown)
@@ -107,48 +104,6 @@ fn union_stops<F: OpenFromFiles>(run: Stopping<'_>, start: F::Start) -> Told {
         &mut errors,
     ) {
         Ok(stopped) => stopped_with(stopped.answered),
-        Err(_) => Came::Failed,
-    };
-    Told {
-        came,
-        output: output.kept,
-    }
-}
-
-fn union_ends<F: OpenFromFiles>(run: Stopping<'_>, start: F::Start) -> Told {
-    let mut host = Host::new(run.rt);
-    noted_in(
-        run,
-        open_or_make::<_, F>(&mut host, run.path, start, run.tables),
-    )
-}
-
-/// What comes of a run over deliveries into the union of the journal that was opened alone, if one was.
-fn noted_in<F: StoreInFiles, L: Drop>(
-    run: Stopping<'_>,
-    opened: Result<OpenedFiles<F>, Unopened<'_, L>>,
-) -> Told {
-    match opened {
-        Ok(Opened::ByKey(keeper)) => noted(run, keeper),
-        Ok(Opened::ByNumber(keeper)) => noted(run, keeper),
-        Err(_) => Told {
-            came: Came::Failed,
-            output: Vec::new(run.rt.alloc()),
-        },
-    }
-}
-
-fn noted<F: StoreInFiles, T: Listed + Drop>(run: Stopping<'_>, keeper: TableKeeper<F, T>) -> Told {
-    let alloc = run.rt.alloc();
-    let mut output = Output::new(alloc, run.flushes);
-    let came = match deliveries_of(alloc, run.uploads) {
-        Ok(mut deliveries) => ended_well(collect_noted::<F, T, MapLedger, Brand, _, _, _>(
-            alloc,
-            keeper,
-            MapLedger::new(alloc),
-            &mut deliveries,
-            &mut output,
-        )),
         Err(_) => Came::Failed,
     };
     Told {
@@ -250,13 +205,6 @@ fn stopped_with(answered: Result<Status, Failure<'_>>) -> Came {
     match answered {
         Ok(Status::Success) => Came::Stopped,
         Err(Failure::WriteFailed) => Came::Unwritten,
-        _ => Came::Failed,
-    }
-}
-
-fn ended_well<C: Drop, L: Ledger + Drop>(run: Result<NotedRun<C, L>, Failure<'_>>) -> Came {
-    match run {
-        Ok(ended) if ended.status == Status::Success => Came::Ended,
         _ => Came::Failed,
     }
 }

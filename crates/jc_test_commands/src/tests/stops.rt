@@ -1,5 +1,5 @@
 //! Runs that are stopped before they close their database, over tables of either kind: what they acknowledge, and what
-//! the next run finds. And some that come to their end: one into a union, and one that lists a journal.
+//! the next run finds. And some that come to their end, which list a journal.
 
 use super::folder::{new_folder, path_in};
 use super::output::ALWAYS;
@@ -24,8 +24,6 @@ pub(super) enum Run {
     Lines,
     /// One over such uploads into a union, of which no database is finished, with notes in memory.
     Union,
-    /// One over deliveries into such a union, which isn't stopped.
-    Noted,
     /// One that shows the entries, which isn't stopped.
     Show,
 }
@@ -103,12 +101,12 @@ const ROWS: [Row; 14] = [
         prints: &["ack S 0 1 1 0", "ack S 0 1 1 0"],
     },
     Row {
-        of: "deliveries into a union that has some",
-        run: Run::Noted,
+        of: "lines into a union that has some",
+        run: Run::Union,
         database: "union.db",
         uploads: &["head:1:0 ENTRY_2", "head:1:0 ENTRY_3"],
         flushes: ALWAYS,
-        comes: Came::Ended,
+        comes: Came::Stopped,
         prints: &["ack S 0 1 0 0", "ack S 0 1 1 0"],
     },
     // An answer counts as printed once it is flushed: nothing is taken up behind one that isn't.

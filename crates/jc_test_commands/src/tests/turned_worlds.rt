@@ -8,7 +8,7 @@ use jc_export::read_all;
 use jc_keeper::{Keeper, MapKeeper};
 use jc_ledger::{Behind, EmptyShelf, MapLedger, UnionKeeper};
 use jc_test_samples::SOURCE_ID;
-use jc_theorem_database::turn_world;
+use jc_theorems::turn_world;
 use jc_world::{Event, World};
 use std::alloc::Global;
 use std::process::Abort;

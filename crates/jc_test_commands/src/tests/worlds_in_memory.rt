@@ -7,7 +7,7 @@ use jc_schema_three::SchemaThree;
 use jc_schema_two::SchemaTwo;
 use jc_store::Layout;
 use jc_test_samples::SOURCE_ID;
-use jc_theorem_database::{MemoryKeeper, world_after};
+use jc_theorems::{MemoryKeeper, world_after};
 use jc_world::{Event, Progress, World};
 use std::alloc::Global;
 use std::process::Abort;

@@ -5,7 +5,7 @@ use Rattle.std.specs.Prelude.{⊤}
 use Rattle.jc_ledger.specs.Kept.{NoneCollide}
 use Rattle.jc_store.specs.Crash.{MayLeave}
 use Rattle.jc_store.specs.Meaning.{IsSound, journal_of}
-use Rattle.jc_union.specs.HoldingLaws.{holds_nothing, holds_through, no_union}
+use Rattle.jc_collector.specs.UnionLaws.{holds_nothing, holds_through, no_union}
 use Rattle.jc_collector.specs.Database.{IsOutFailure, MayEndNames}
 use Rattle.jc_collector.specs.IntoUnion.{UnionStopsBy}
 use Rattle.jc_collector_answers.specs.PrintedLaws.{front_none, named, text_other}

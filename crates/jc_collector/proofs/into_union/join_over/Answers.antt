@@ -9,7 +9,7 @@ use Rattle.jc_ledger.specs.Kept.{IsKept, NoneCollide}
 use Rattle.jc_ledger.specs.Lagging.{MayCatchUp}
 use Rattle.jc_ledger.specs.Union.{union}
 use Rattle.jc_store.specs.Meaning.{IsSound, journal_of}
-use Rattle.jc_union.specs.Opened.{MayOpen}
+use Rattle.jc_collector.specs.UnionOpened.{MayOpen}
 use Rattle.jc_collector.specs.IntoUnion.{UnionStopsBy}
 use Rattle.jc_collector.specs.PrintedLaws.{whole}
 use Rattle.jc_collector_answers.specs.PrintedLaws.{named}

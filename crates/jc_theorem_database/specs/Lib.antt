@@ -1,2 +1,0 @@
-pub mod InMemory
-pub mod InWorld

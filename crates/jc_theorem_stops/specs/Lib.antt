@@ -1,2 +1,0 @@
-pub mod Stopped
-pub mod StoppedUnion

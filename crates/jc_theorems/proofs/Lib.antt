@@ -1,0 +1,3 @@
+pub mod NoFailures
+pub mod Results
+pub mod Left

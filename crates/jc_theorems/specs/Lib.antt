@@ -1,0 +1,4 @@
+pub mod InMemory
+pub mod InWorld
+pub mod Stopped
+pub mod StoppedUnion

@@ -1,0 +1,155 @@
+//! A run over a union of databases that is stopped.
+
+ghost use Rattle.std.specs.Prelude.{IfOk, IfErr, option_map};
+ghost use Rattle.sqlite.specs.State.{HasCleanDisk};
+ghost use Rattle.sqlite.specs.Held.{state};
+ghost use Rattle.sqlite.specs.View.{IsClean};
+ghost use Rattle.jc_collector_answers.specs.Tied.{NamedWith, PrintsFront};
+ghost use Rattle.jc_command_shared.specs.Deeds.{ChangesOnly, IsReplacedIf, OpensAndChanges};
+ghost use Rattle.jc_database.specs.Files.{AreLawful};
+ghost use Rattle.jc_ledger.specs.Kept.{NoneCollide};
+ghost use Rattle.jc_ledger.specs.Lagging.{MayCatchUp};
+ghost use Rattle.jc_store.specs.Meaning.{journal_of};
+ghost use Rattle.jc_collector.specs.UnionOpened.{MayOpen};
+ghost use Rattle.jc_collector.specs.Kinds.{meaning_of};
+ghost use Rattle.jc_theorems.specs.Stopped.{AnyLeft};
+ghost use Rattle.jc_theorems.specs.StoppedUnion.{LeavesNoted, WhenNoted};
+
+use crate::stopping::let_go;
+use jc_collector::{AnsweredUnion, Opened, join_open, open_or_make};
+use jc_command_args::Tables;
+use jc_command_shared::{Failure, Status, System};
+use jc_database::{Databases, OpenFromFiles, StoreInFiles, stop_keeper};
+use jc_ledger::{Ledger, Past, UnionKeeper};
+use jc_schema_three::SchemaThree;
+use jc_schema_two::SchemaTwo;
+use jc_store::{Listed, TableKeeper};
+use std::io::{BufRead, Write};
+use std::snapshot::Snapshot;
+
+/// What a run over a union had answered when it was stopped, and what it left of the files of its present database and of
+/// the notes, which proofs alone see.
+#[derive(Drop)]
+pub struct StoppedUnion<'a, S, L: Ledger> {
+    pub answered: Result<Status, Failure<'a>>,
+    pub files: Snapshot<S>,
+    pub ledger: Snapshot<L>,
+}
+
+/// Does what `collect --sequences` does of the uploads that lines name up to where it closes its present database, and then
+/// is stopped: what a crash may leave of the files and of the notes is what it may leave at this moment.
+#[tactic(auto, using(jc_command_shared::specs::DeedLaws::only_opens, jc_command_shared::specs::DeedLaws::opens_then))]
+pub fn collect_into_union_and_stop<
+    'a,
+    Y: Databases,
+    F: OpenFromFiles,
+    L: Ledger + Drop,
+    P: Past,
+    N: BufRead,
+    O: Write,
+    E: Write,
+>(
+    rt: &mut Y,
+    start: F::Start,
+    ledger: L,
+    database: &'a str,
+    tables: Tables,
+    then_export: Option<&'a str>,
+    names: &mut N,
+    output: &mut O,
+    errors: &mut E,
+) -> Result<StoppedUnion<'a, F, L>, Failure<'a>>
+    // If what was noted is what the finished databases have, and some of what the present one had: what the printed lines
+    // acknowledge is stored in the union, whatever a crash leaves, and it may be caught up again.
+    ensures each { IfOk result (λ run. WhenNoted F.Store tables F.first run.files.value
+        (λ before. MayCatchUp (L.known ledger) P.journal before (L.came ledger) × L.sound ledger × L.clean run.ledger.value × NoneCollide (L.came run.ledger.value))
+        (λ kind before. IfOk run.answered (λ status. NamedWith (λ answers. AnyLeft F.in_files run.files.value
+        (LeavesNoted (meaning_of kind) P.journal before (L.came run.ledger.value) (L.may_leave run.ledger.value) answers))
+        (N.remaining names.old) status (O.contents output.old) (O.contents output.new)))) }
+    // ... what those acknowledge that were printed before a failure, too.
+    ensures each_failed { IfOk result (λ run. WhenNoted F.Store tables F.first run.files.value
+        (λ before. MayCatchUp (L.known ledger) P.journal before (L.came ledger) × L.sound ledger × L.clean run.ledger.value × NoneCollide (L.came run.ledger.value))
+        (λ kind before. IfErr run.answered (λ _. PrintsFront (λ answers. AnyLeft F.in_files run.files.value
+        (LeavesNoted (meaning_of kind) P.journal before (L.came run.ledger.value) (L.may_leave run.ledger.value) answers))
+        (O.contents output.old) (O.contents output.new)))) }
+    ensures touched { OpensAndChanges database.now (IsReplacedIf (option_map (λ name. name.now) then_export.entry))
+        (Y.deeds rt.old) (Y.deeds rt.new) }
+{
+    match open_or_make(rt, database, start, tables)? {
+        Opened::ByKey(keeper) => Ok(stop_over::<_, F, SchemaTwo, L, P, _, _, _>(
+            rt,
+            keeper,
+            ledger,
+            then_export,
+            names,
+            output,
+            errors,
+        )),
+        Opened::ByNumber(keeper) => Ok(stop_over::<_, F, SchemaThree, L, P, _, _, _>(
+            rt,
+            keeper,
+            ledger,
+            then_export,
+            names,
+            output,
+            errors,
+        )),
+    }
+}
+
+/// The same over the keeper of the present database, which was opened.
+fn stop_over<
+    'a,
+    Y: System,
+    F: StoreInFiles,
+    T: Listed + Drop,
+    L: Ledger + Drop,
+    P: Past,
+    N: BufRead,
+    O: Write,
+    E: Write,
+>(
+    rt: &mut Y,
+    present: TableKeeper<F, T>,
+    ledger: L,
+    then_export: Option<&'a str>,
+    names: &mut N,
+    output: &mut O,
+    errors: &mut E,
+) -> StoppedUnion<'a, F, L>
+    ensures each { AreLawful T.meaning → IsClean (F.Store.view result.files.value) → L.clean result.ledger.value → NoneCollide (L.came result.ledger.value)
+        → MayOpen T.meaning F.Store present.conn (L.known ledger) P.journal (L.came ledger) → L.sound ledger
+        → IfOk result.answered (λ status. NamedWith (λ answers. AnyLeft F.in_files result.files.value
+        (LeavesNoted T.meaning P.journal (journal_of T.meaning F.Store present.conn) (L.came result.ledger.value) (L.may_leave result.ledger.value) answers))
+        (N.remaining names.old) status (O.contents output.old) (O.contents output.new)) }
+    ensures each_failed { AreLawful T.meaning → IsClean (F.Store.view result.files.value) → L.clean result.ledger.value → NoneCollide (L.came result.ledger.value)
+        → MayOpen T.meaning F.Store present.conn (L.known ledger) P.journal (L.came ledger) → L.sound ledger
+        → IfErr result.answered (λ _. PrintsFront (λ answers. AnyLeft F.in_files result.files.value
+        (LeavesNoted T.meaning P.journal (journal_of T.meaning F.Store present.conn) (L.came result.ledger.value) (L.may_leave result.ledger.value) answers))
+        (O.contents output.old) (O.contents output.new)) }
+    ensures clean { IsClean (F.Store.view result.files.value) → L.clean result.ledger.value → NoneCollide (L.came result.ledger.value)
+        → HasCleanDisk (state F.Store present.conn) }
+    ensures touched { ChangesOnly (IsReplacedIf (option_map (λ name. name.now) then_export.entry)) (Y.deeds rt.old) (Y.deeds rt.new) }
+{
+    let AnsweredUnion { answered, union } = join_open::<_, F, T, L, P, _, _, _>(
+        rt,
+        present,
+        ledger,
+        then_export,
+        names,
+        output,
+        errors,
+    );
+    let UnionKeeper {
+        present,
+        ledger,
+        shelf: _,
+        machine: _,
+        alloc: _,
+    } = union;
+    StoppedUnion {
+        answered,
+        files: let_go(stop_keeper(present)),
+        ledger: let_go(ledger),
+    }
+}
