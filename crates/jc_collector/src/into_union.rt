@@ -44,7 +44,6 @@ use std::io::{BufRead, BufReader, Read, Write};
 /// one, which is made if there is none, and prints an answer for each line. The export and the status are as
 /// `collect_from_list` has them, and so is the list, but that a line may name the machine before a tab. It fails besides with
 /// a fault if an entry of the present database isn't the one that is noted, or is over the limits.
-#[tactic(auto, using(jc_command_shared::specs::DeedLaws::does_nothing))]
 pub fn collect_into_union<
     'a,
     Y: Databases,
@@ -131,7 +130,6 @@ fn join_lines<
 }
 
 /// Takes up the uploads that lines name.
-#[tactic(auto, using(jc_command_shared::specs::DeedLaws::only_opens, jc_command_shared::specs::DeedLaws::opens_then))]
 fn join_names<
     'a,
     Y: Databases,
