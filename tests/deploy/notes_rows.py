@@ -315,7 +315,7 @@ def notes_that_another_process_has(row: Row, case: Case) -> None:
     row.expect("meanwhile", (case.answers()[0], case.answers()[-1]), (f"ack {SOURCE} 0 5 5 0", f"waits {SOURCE}"))
     other.stdin.close()
     other.wait()
-    row.wait_for(lambda: case.answers()[0].startswith(f"ack {SOURCE} 5 7 "))
+    row.wait_for(lambda: case.answers()[0].startswith(f"ack {SOURCE} 5 7 "), every=1)
     stop(row, case, service)
     # what the other process stored is noted, in a database that isn't the collector's
     row.expect("stored", (case.answers()[0], case.numbers()), (f"ack {SOURCE} 5 7 3 0", [1, 2, 3, 4, 5, 10, 11, 12]))

@@ -27,13 +27,14 @@ class Row:
         """A run ended with this status, and said each of these."""
         self.expect(what, (told[0], *(part for part in parts if part in told[1])), (status, *parts))
 
-    def wait_for(self, what: Callable[[], object], seconds: float = PATIENCE) -> None:
-        """Waits until something is so."""
+    def wait_for(self, what: Callable[[], object], seconds: float = PATIENCE, every: float = 0.05) -> None:
+        """Waits until something is so, and looks every so many seconds: seldom, if it takes long and a program is to be
+        asked."""
         end = time.monotonic() + seconds
         while time.monotonic() < end:
             if what():
                 return
-            time.sleep(0.05)
+            time.sleep(every)
         self.expect("waited in vain", True, False)
 
     def all_stored(self, machine: Machine) -> None:
