@@ -10,6 +10,7 @@ notes lag behind, and what the next run reads may be in the system's cache alone
 """
 from __future__ import annotations
 
+import functools
 import itertools
 import os
 import shutil
@@ -23,7 +24,7 @@ import device
 import folders
 import samples
 from make import Machine
-from model import read_stream
+from model import Entry, read_stream
 from owned import Brought, OwnedJournal, as_lines, notes_of, stranger
 from trial import PROGRAM, Trial, as_output, run, status_of
 
@@ -55,6 +56,13 @@ class Loss(NamedTuple):
     content: folders.Content
 
 
+class Again(NamedTuple):
+    """Uploads that are sent again, their files, and what a run over them may tell."""
+    names: list[str]
+    uploads: list[Brought]
+    may_be: list[tuple[bytes, str, int]]
+
+
 class Course:
     """Runs one after the other, in each of which, or in the last ones, power may be lost."""
 
@@ -75,6 +83,9 @@ class Course:
         self.strangers = {sequence: stranger(sequence) for sequence in self.journals[-1].owners}
         put = trial.put([brought.upload for brought in self.strangers.values()])
         self.of_strangers = dict(zip(self.strangers, put))
+        # by how many uploads were acknowledged
+        self.again = [self.sent_again(acknowledged) for acknowledged in range(len(self.journals))]
+        self.complete = self.journals[-1].stored.in_order(), self.journals[-1].noted()
         self.databases = sorted({each.database for each in runs})
         self.finished = {}
         self.calls = []
@@ -88,6 +99,14 @@ class Course:
     def may_answer(self, acknowledged: int, uploads: Sequence[Brought]) -> list[list[str]]:
         """The lines that answer these uploads once others were acknowledged; the next one may be stored, too."""
         return [journal.copy().take_all(uploads) for journal in self.journals[acknowledged:acknowledged + 2]]
+
+    def sent_again(self, acknowledged: int) -> Again:
+        """All uploads, behind those of strangers whose sequences are known to be others', and before the rest."""
+        first, last = sorted(self.journals[acknowledged].owners), sorted(self.strangers)
+        uploads = [*map(self.strangers.__getitem__, first), *self.uploads, *map(self.strangers.__getitem__, last)]
+        names = [*map(self.of_strangers.__getitem__, first), *self.names, *map(self.of_strangers.__getitem__, last)]
+        answers = self.may_answer(acknowledged, uploads)
+        return Again(names, uploads, [(as_output(lines), "", status_of(lines)) for lines in answers])
 
     def record(self) -> None:
         """Takes the runs, and keeps their calls, with how many uploads are acknowledged behind each."""
@@ -151,28 +170,22 @@ class Course:
     def judge(self, loss: Loss) -> None:
         root = os.path.join(self.trial.folder(), "root")
         folders.write(loss.content, root)
-        first = sorted(self.journals[loss.acknowledged].owners)
-        last = sorted(self.strangers)
-        uploads = [*map(self.strangers.get, first), *self.uploads, *map(self.strangers.get, last)]
-        names = [*map(self.of_strangers.get, first), *self.names, *map(self.of_strangers.get, last)]
-        told = run(*self.words(root, loss.database, names, uploads))
-        may_be = [(as_output(lines), "", status_of(lines)) for lines in self.may_answer(loss.acknowledged, uploads)]
-        self.trial.expect(f"{loss.what}: {told}, all sent again", told in may_be, True)
+        again = self.again[loss.acknowledged]
+        told = run(*self.words(root, loss.database, again.names, again.uploads))
+        self.trial.expect(f"{loss.what}: {told}, all sent again", told in again.may_be, True)
         self.hold(loss, root)
         shutil.rmtree(os.path.dirname(root))
 
     def hold(self, loss: Loss, root: str) -> None:
         """Each entry stands in one database, and all is noted."""
-        stored = []
+        stored: list[Entry] = []
         for database in filter(lambda database: database <= loss.database, self.databases):
             output, *end = self.exported(loss, root, database)
             self.trial.expect(f"{loss.what}: the end of export {database}", end, ["", 0])
-            stored += read_stream(output)
-        complete = self.journals[-1]
-        self.trial.expect(f"{loss.what}: what is stored", sorted(stored, key=lambda entry: entry.key),
-                          complete.stored.in_order())
-        noted = notes_of(os.path.join(root, "sequences"))
-        self.trial.expect(f"{loss.what}: what is noted", noted, complete.noted())
+            stored += entries_of(output)
+        entries, notes = self.complete
+        self.trial.expect(f"{loss.what}: what is stored", sorted(stored, key=lambda entry: entry.key), entries)
+        self.trial.expect(f"{loss.what}: what is noted", notes_of(os.path.join(root, "sequences")), notes)
 
     def exported(self, loss: Loss, root: str, database: str) -> tuple[bytes, str, int]:
         """What is exported; of a finished database that was exported as it is, what that was."""
@@ -191,6 +204,12 @@ class Course:
             count += len(batch)
         print(f"noted: {self.name}: {count} losses of power", flush=True)
         return count
+
+
+@functools.cache
+def entries_of(output: bytes) -> tuple[Entry, ...]:
+    """What an export reads as."""
+    return tuple(read_stream(output))
 
 
 def losses_at(tree: folders.Folder) -> int:
