@@ -313,7 +313,7 @@ pub same_start : {known noted : Known} {past now : Journal} {came comes : LogEnt
 same_start alike too lag = record {
   noted = lag.noted;
   kept = record {
-    noted = λ k. alike k ∙ lag.kept.noted k;
+    noted = λ k key. alike k ∙ lag.kept.noted k key;
     apart = lag.kept.apart;
     have_come = λ e stored. too e (lag.kept.have_come e stored);
   };
