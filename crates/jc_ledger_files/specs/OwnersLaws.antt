@@ -1,5 +1,5 @@
 -- Notes of owners do no harm to what is known of a journal. (own)
-use Rattle.std.specs.Prelude.{◌≡◌, ◌^◌, ◌<◌, ◌/◌, ℕ, Bool, true, false, if◌then◌else◌, List, nat_eq, nat_lt}
+use Rattle.std.specs.Prelude.{◌≡◌, ◌^◌, ◌<◌, ℕ, Bool, true, false, if◌then◌else◌, List, nat_eq, nat_lt}
 use Rattle.std.proofs.Common.{ap, ◌∙◌, refl, arith}
 use Rattle.std.proofs.Math.Nat.{div-lt_iff_lt-mul}
 use Rattle.std.proofs.lemmas.Bool.{ltb-false, ltb-true, ne_eqb}

@@ -1,0 +1,7 @@
+mod Unions
+mod Lists
+mod Standing
+mod Stepping
+mod Course
+mod OneMore
+mod WorkedSteps

@@ -1,0 +1,4 @@
+pub mod Between
+pub mod Steps
+pub mod Stands
+pub mod Worked

@@ -1,0 +1,113 @@
+-- What comes between: runs, turns, and what goes for its age. (own)
+use Rattle.std.specs.Prelude.{◌≡◌, ◌||◌, ◌&&◌, Bool, not, if◌then◌else◌, is_some, List, [], ◌∷◌, None}
+use Rattle.std.specs.List.{Contains}
+use Rattle.std.specs.FinMap.{empty, get, retain_keys}
+use Rattle.jc_base.specs.declared.id.Id128.{Id128}
+use Rattle.jc_base.specs.declared.id.Key.{Key}
+use Rattle.jc_base.specs.Journal.{Journal}
+use Rattle.jc_base.specs.LogEntry.{LogEntry}
+use Rattle.jc_collect.specs.Each.{KeepsEach, StoresEach}
+use Rattle.jc_ledger.specs.Kept.{IsKept, NoneCollide}
+use Rattle.jc_ledger.specs.Lagging.{LagsBehind}
+use Rattle.jc_ledger.specs.Owners.{StayOwned}
+use Rattle.jc_ledger.specs.Union.{union}
+use Rattle.jc_ledger_files.specs.declared.window_name.WindowName.{WindowName}
+use Rattle.jc_ledger_files.specs.Owned.{owner_window}
+use Rattle.jc_ledger_files.specs.Windows.{window_of}
+use Rattle.jc_upload.specs.declared.answer.Answer.{Answer}
+use Rattle.jc_runs.specs.Between.{Between, Fate, MayBegin, database, journals_of}
+
+pub data Step : Type 0 where
+  -- A run printed the lines of these answers and ended, and no failure had shut the notes.
+  Ends : List Answer → Step
+  -- It printed these and was stopped, or failed: a crash, a kill, a device.
+  Stops : List Answer → Step
+  -- Another database, which is empty, became the present one: this became of the one before.
+  Turns : Fate → Step
+  -- Databases went for their age, or whatever became of them.
+  Expires : Step
+  -- Windows of notes went for their age.
+  Forgets : (WindowName → Bool) → Step
+
+-- the answers whose lines were printed
+abbrev pub answers_of : Step → List Answer
+answers_of (Ends answers) = answers
+answers_of (Stops answers) = answers
+answers_of (Turns fate) = []
+answers_of Expires = []
+answers_of (Forgets went) = []
+
+-- ---- runs
+
+-- A run does nothing to earlier databases, and to what is noted of them. It takes no sequence from its owner.
+pub record LeavesEarlier (b c : Between) : Type 0 where
+  pub earlier : c.earlier ≡ b.earlier
+  pub past : c.past ≡ b.past
+  pub forgotten : c.forgotten ≡ b.forgotten
+  pub released : c.released ≡ b.released
+  pub comes : (e : LogEntry) → Contains b.came e → Contains c.came e
+  pub owners : StayOwned b.owner c.owner
+
+-- What its answers acknowledge is stored in the union of what is noted of the earlier databases and the present one, all of
+-- which is noted, if what it supposes holds.
+pub record EndsRun (answers : List Answer) (b c : Between) : Type 0 where
+  pub leaves : LeavesEarlier b c
+  pub kept : MayBegin b → NoneCollide (Contains c.came) → IsKept c.known b.past c.now (Contains c.came)
+  pub stored : MayBegin b → NoneCollide (Contains c.came) → StoresEach (union b.past b.now) answers (union b.past c.now)
+
+-- What its answers acknowledge is stored so, with one more upload at most, and some of it is noted.
+pub record StopsRun (answers : List Answer) (b c : Between) : Type 0 where
+  pub leaves : LeavesEarlier b c
+  pub lags : MayBegin b → NoneCollide (Contains c.came) → MayBegin c
+  pub stored : MayBegin b → NoneCollide (Contains c.came) → KeepsEach (union b.past b.now) answers (union b.past c.now)
+
+-- ---- turns, and what goes for its age
+
+-- The present database has had its turn. Of what it has this is noted, which is all of it behind a run that ended.
+pub record Turn (fate : Fate) (b c : Between) : Type 0 where
+  pub noted : Journal
+  pub kept : IsKept b.known b.past noted (Contains b.came)
+  pub lags : LagsBehind b.past noted b.now
+  pub known : c.known ≡ b.known
+  pub owner : c.owner ≡ b.owner
+  pub earlier : c.earlier ≡ database fate b.now ∷ b.earlier
+  pub past : c.past ≡ union b.past noted
+  pub now : c.now ≡ empty
+  pub came : c.came ≡ b.came
+  pub forgotten : (k : Key) → c.forgotten k ≡ (b.forgotten k || (is_some (get b.now k) && not (is_some (get noted k))))
+  pub released : c.released ≡ b.released
+
+-- Whatever becomes of earlier databases, what is noted of them stays.
+pub record Expiry (b c : Between) : Type 0 where
+  pub known : c.known ≡ b.known
+  pub owner : c.owner ≡ b.owner
+  pub earlier : journals_of c.earlier ≡ journals_of b.earlier
+  pub past : c.past ≡ b.past
+  pub now : c.now ≡ b.now
+  pub came : c.came ≡ b.came
+  pub forgotten : c.forgotten ≡ b.forgotten
+  pub released : c.released ≡ b.released
+
+-- Windows of notes went, those of entries, of owners, or both. Nothing else changed.
+pub record Forgetting (went : WindowName → Bool) (b c : Between) : Type 0 where
+  pub known : (k : Key) → c.known k ≡ (if went (window_of k) then None else b.known k)
+  pub owner : (s : Id128) → c.owner s ≡ (if went (owner_window s) then None else b.owner s)
+  pub earlier : c.earlier ≡ b.earlier
+  pub past : c.past ≡ retain_keys b.past (λ k. not (went (window_of k)))
+  pub now : c.now ≡ b.now
+  pub came : c.came ≡ b.came
+  pub forgotten : (k : Key) → c.forgotten k ≡ (b.forgotten k || went (window_of k))
+  pub released : (s : Id128) → c.released s ≡ (b.released s || went (owner_window s))
+
+-- ---- one after the other
+
+abbrev pub Leads : Step → (before after : Between) → Type 0
+Leads (Ends answers) b c = EndsRun answers b c
+Leads (Stops answers) b c = StopsRun answers b c
+Leads (Turns fate) b c = Turn fate b c
+Leads Expires b c = Expiry b c
+Leads (Forgets went) b c = Forgetting went b c
+
+abbrev pub LeadsOn : (first : Between) → List Step → (last : Between) → Type 0
+LeadsOn b [] last = last ≡ b
+LeadsOn b (step ∷ steps) last = (c : Between) × Leads step b c × LeadsOn c steps last

@@ -1,0 +1,30 @@
+//! What holds after any list of runs.
+
+ghost use Rattle.std.specs.Prelude.{◌≡◌, List};
+ghost use Rattle.std.specs.List.{Contains};
+ghost use Rattle.jc_base.specs.declared.id.Key.{Key};
+ghost use Rattle.jc_base.specs.LogEntry.{IsKey};
+ghost use Rattle.jc_ledger.specs.Kept.{IsKept, NoneCollide};
+ghost use Rattle.jc_runs.specs.Between.{Between, Fate, nothing};
+ghost use Rattle.jc_runs.specs.Stands.{Keeps, Stands};
+ghost use Rattle.jc_runs.specs.Steps.{LeadsOn, Step, Turn};
+ghost use Rattle.jc_runs.specs.Worked.{IsWorked};
+
+use jc_collect::acknowledged_stored;
+use jc_ledger::union_laws;
+
+/// What is acknowledged is kept, once, and owners stay, whatever runs end or are stopped, databases take turns, are set aside
+/// or go for their age, and windows of notes go, in any order. Does nothing.
+pub fn runs_keep()
+    // At first there is nothing, and a run may begin.
+    ensures begins { Stands nothing }
+    ensures keeps { (b c : Between) (steps : List Step) → LeadsOn b steps c → NoneCollide (Contains c.came) → Stands b → Keeps b steps c }
+    // Behind a run that ended a turn leaves no note unmade.
+    ensures turns { (fate : Fate) (b c : Between) → Turn fate b c → IsKept b.known b.past b.now (Contains b.came)
+        → (k : Key) → IsKey k → c.forgotten k ≡ b.forgotten k }
+    // There are such lists.
+    ensures worked { (c : Between) × IsWorked c }
+{
+    acknowledged_stored();
+    union_laws();
+}
