@@ -176,23 +176,32 @@ import kit
 print(next(it for it in kit.rt().rtlib.crates_below(os.getcwd()) if it.name == "low").stamp(), end="")
 END
 checks 0 "aside mid top"
-# a program before its proofs: what rt try links, and takes away again, is kept; the proved one is taken if it is newer
-# than all sources
+# a program before its proofs: the module that rt try makes is taken once it is whole, and compiled; the proved one is
+# taken if it is newer than all sources
+cat > "$folder/module" << 'END'
+target triple = "x86_64-unknown-linux-gnu"
+@said = private constant [6 x i8] c"tried\00"
+declare i32 @puts(ptr)
+define i32 @main() {
+    %done = call i32 @puts(ptr @said)
+    ret i32 0
+}
+END
+head -c 8192 /dev/zero | tr '\0' ';' >> "$folder/module"
 cat > "$folder/try" << END
 #!/bin/bash
 echo "\$*" >> "$folder/tried"
 [[ ! -e nothing ]] || exit 0
 [[ ! -e changing ]] || { sleep 0.1; touch src/main.rt; }
-mkdir "\$TMPDIR/native"
-cd "\$TMPDIR/native" || exit
-install -m 755 /dev/null another
-install -m 755 /dev/null program.tmp
-sleep 0.5
-printf '#!/bin/sh\necho tried\n' > program.tmp
-mv program.tmp program
-sleep 0.5
-rm -r "\$TMPDIR/native"
 [[ ! -e $folder/tree/crates/shown/failing ]] || { echo "it fails"; exit 3; }
+mkdir -p "\$TMPDIR/native/0" "\$TMPDIR/native/1"
+cd "\$TMPDIR/native" || exit
+touch 0/module.bc 0/module.o
+head -c 5000 "$folder/module" > 1/module.bc
+sleep 0.2
+cp "$folder/module" 1/module.bc
+touch 1/module.o.tmp
+exec sleep 60
 END
 chmod 755 "$folder/try"
 mkdir -p crates/shown/src crates/shown/out
@@ -201,7 +210,7 @@ find crates crates.txt -exec touch -d '1 minute ago' {} +
 trial() {
     "$python" -ESB "$tools/trial.py" "$@"
 }
-told="shown is built before its proofs, which takes some 3 minutes; make proves it"
+told="shown is built before its proofs, which takes some 5 minutes; make proves it"
 # nothing is built yet, so it has to ask the toolchain
 expect 1 "" "~'$folder/other/rt version' says 'rattle-kit-12a logic 0', and wanted is *" \
     env PATH="$folder/other:$PATH" "$python" -ESB "$tools/trial.py" shown
@@ -229,12 +238,12 @@ expect 0 "build/trial/shown" "$told" trial shown
 rm crates/shown/changing
 touch crates/shown/failing
 expect 1 "" "~$told
-rt try ended with status 3, and said:
+rt try made no program, and said:
 it fails*" trial shown
 rm crates/shown/failing
 touch crates/shown/nothing
 expect 1 "" "~$told
-rt try ended with status 0, and said:*" trial shown
+rt try made no program, and said:*" trial shown
 [[ $(ls build/trial) == shown ]] || differs "left in build/trial: $(ls build/trial)"
 expect 0 "tried" "" build/trial/shown
 expect 1 "" "there is no program low: crates/low/src/main.rt isn't there" trial low
