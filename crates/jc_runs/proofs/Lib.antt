@@ -5,3 +5,4 @@ mod Stepping
 mod Course
 mod OneMore
 mod WorkedSteps
+mod Following

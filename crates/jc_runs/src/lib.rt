@@ -3,5 +3,7 @@
 #![tactic(auto)]
 
 mod law;
+mod next;
 
 pub use law::runs_keep;
+pub use next::next_run;

@@ -1,0 +1,79 @@
+-- What a run leaves is what the next one finds.
+use Rattle.std.proofs.Common.{◌≡◌, ◌∙◌, ℕ, List, Option, refl, ap, subst}
+use Rattle.std.specs.List.{Contains}
+use Rattle.jc_base.specs.declared.id.Id128.{Id128}
+use Rattle.jc_base.specs.declared.id.Key.{Key}
+use Rattle.jc_base.specs.Journal.{Journal}
+use Rattle.jc_base.specs.LogEntry.{IsKey, LogEntry}
+use Rattle.jc_collect.specs.Each.{KeepsEach, StoresEach}
+use Rattle.jc_command.specs.Run.{Begins}
+use Rattle.jc_command_args.specs.declared.request.Tables.{Tables}
+use Rattle.jc_ledger.specs.declared.owner.MachineDigest.{MachineDigest}
+use Rattle.jc_ledger.specs.Kept.{ComesToo, IsKept}
+use Rattle.jc_ledger.specs.Known.{Known}
+use Rattle.jc_ledger.specs.Lagging.{MayCatchUp}
+use Rattle.jc_ledger.specs.Owners.{StayOwned, StayOwnedAfter}
+use Rattle.jc_ledger.specs.Union.{union}
+use Rattle.jc_ledger_files.specs.declared.window_name.WindowName.{WindowName}
+use Rattle.jc_ledger_files.specs.NotesOf.{notes_of}
+use Rattle.jc_ledger_files.specs.Owned.{owner_found}
+use Rattle.jc_ledger_files.specs.Windows.{known_in}
+use Rattle.jc_upload.specs.declared.answer.Answer.{Answer}
+use Rattle.jc_runs.specs.Between.{Between}
+use Rattle.jc_runs.specs.Next.{BeganWith, behind}
+use Rattle.jc_runs.specs.Steps.{EndsRun, LeavesEarlier, StopsRun}
+
+-- what is known alike, of the same past, when more had come
+pub begins_alike : {known found : Known} {past later now : Journal} {came comes : LogEntry → Type 0} → past ≡ later
+    → ((k : Key) → IsKey k → found k ≡ known k) → ComesToo came comes → MayCatchUp known past now came → MayCatchUp found later now comes
+begins_alike {found = found} {now = now} {comes = comes} same alike more lag = subst (λ (m : Journal). MayCatchUp found m now comes) same (record {
+  noted = lag.noted;
+  kept = record {
+    noted = λ k key. alike k key ∙ lag.kept.noted k key;
+    apart = lag.kept.apart;
+    have_come = λ e stored. more e (lag.kept.have_come e stored);
+  };
+  lags = lag.lags;
+})
+
+pub kept_alike : {known found : Known} {past later now : Journal} {came comes : LogEntry → Type 0} → past ≡ later
+    → ((k : Key) → IsKey k → found k ≡ known k) → ComesToo came comes → IsKept known past now came → IsKept found later now comes
+kept_alike {found = found} {now = now} {comes = comes} same alike more kept = subst (λ (m : Journal). IsKept found m now comes) same (record {
+  noted = λ k key. alike k key ∙ kept.noted k key;
+  apart = kept.apart;
+  have_come = λ e stored. more e (kept.have_come e stored);
+})
+
+-- whoever else might own a sequence after a stop, its owner does
+pub leaves_earlier : (made kind : Tables) (begun : Begins) (b : Between) (now : Journal) (windows : WindowName → List ℕ) (came : List LogEntry)
+    (may_own : Id128 → Option MachineDigest → Type 0) → BeganWith made kind begun b → StayOwnedAfter begun.owner may_own
+    → ((s : Id128) → may_own s (owner_found windows s)) → ((e : LogEntry) → Contains b.came e → Contains came e)
+    → LeavesEarlier b (behind b now windows came)
+leaves_earlier made kind begun b now windows came may_own began stay owners comes = record {
+  earlier = refl;
+  past = refl;
+  forgotten = refl;
+  released = refl;
+  comes = comes;
+  owners = λ s machine owns. stay s (owner_found windows s) (owners s) machine (began.owner s ∙ owns);
+}
+
+pub end_step : (answers : List Answer) (b : Between) (past now : Journal) (windows : WindowName → List ℕ) (came : List LogEntry) (known : Known) (comes : LogEntry → Type 0)
+    → past ≡ b.past → LeavesEarlier b (behind b now windows came) → ((k : Key) → IsKey k → known_in (λ w. notes_of (windows w)) k ≡ known k)
+    → ComesToo comes (Contains came) → IsKept known past now comes → StoresEach (union past b.now) answers (union past now)
+    → EndsRun answers b (behind b now windows came)
+end_step answers b past now windows came known comes same leaves alike more kept stored = record {
+  leaves = leaves;
+  kept = λ begins none. kept_alike same alike more kept;
+  stored = λ begins none. subst (λ (m : Journal). StoresEach (union m b.now) answers (union m now)) same stored;
+}
+
+pub stop_step : (answers : List Answer) (b : Between) (past now : Journal) (windows : WindowName → List ℕ) (came : List LogEntry) (known : Known) (comes : LogEntry → Type 0)
+    → past ≡ b.past → LeavesEarlier b (behind b now windows came) → ((k : Key) → IsKey k → known_in (λ w. notes_of (windows w)) k ≡ known k)
+    → ComesToo comes (Contains came) → MayCatchUp known past now comes → KeepsEach (union past b.now) answers (union past now)
+    → StopsRun answers b (behind b now windows came)
+stop_step answers b past now windows came known comes same leaves alike more lags stored = record {
+  leaves = leaves;
+  lags = λ begins none. begins_alike same alike more lags;
+  stored = λ begins none. subst (λ (m : Journal). KeepsEach (union m b.now) answers (union m now)) same stored;
+}

@@ -1,0 +1,46 @@
+use Rattle.std.proofs.Common.{◌∙◌, inl, refl, sym}
+use Rattle.jc_runs.proofs.Following.{begins_alike, end_step, leaves_earlier, stop_step}
+use Rattle.jc_runs.proofs.next.next_run.Goals as goal
+
+pub returns-clause-ended : goal.returns-clause-ended
+returns-clause-ended g c =
+    λ made kind list given old new status b windows image came does clean sound began begins found.
+    let ends = does.stores clean kind b.now began.holds (
+      begins_alike (sym began.past) began.noted began.came begins,
+      sound,
+      λ e f here there. found.apart e f (found.have_come e here) (found.have_come f there),
+    ) in
+    let left = c.show_files.ensures.known windows found.files_left in
+    let leaves = leaves_earlier made kind _ b ends.found windows came _ began
+    (does.owners.after (g.met.N.Notes.Ledger.clean_if_sound c.args.notes.now sound))
+    (c.show_files.ensures.owners windows found.files_left) found.had_come in
+    record {
+      now = ends.found;
+      holds = ends.keeps.left image found.image_left;
+      is = record {
+        text = ends.is.text;
+        input = ends.is.input;
+        step = record {
+          shown = ends.is.stored.stored.shown;
+          holds = end_step _ b _ ends.found windows came _ _ began.past leaves
+              (λ k key. left.1.1 k key ∙ g.met.N.Notes.Ledger.durable c.args.notes.now left.0 sound left.1.0 k)
+              found.have_come ends.is.stored.kept ends.is.stored.stored.holds;
+        };
+      };
+    }
+
+pub returns-clause-stopped : goal.returns-clause-stopped
+returns-clause-stopped g c =
+    λ made kind answers b windows image came stops clean began found.
+    let left = c.show_files.ensures.known windows found.files_left in
+    let leaves = leaves_earlier made kind _ b stops.found windows came _ began (c.show_steady.ensures.stay_after clean)
+    (c.show_files.ensures.owners windows found.files_left) found.had_come in
+    record {
+      now = stops.found;
+      holds = stops.holds;
+      is = stop_step answers b _ stops.found windows came left.0 _ began.past leaves left.1.1 found.have_come (stops.lags left.0 left.1.0) stops.keeps;
+    }
+
+pub returns-clause-begins : goal.returns-clause-begins
+returns-clause-begins g c = λ made kind b now finished aside windows image came holds same.
+    record { holds = inl holds; noted = λ k key. refl; owner = λ s. refl; past = same; came = λ e has. has }

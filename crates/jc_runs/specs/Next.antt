@@ -1,0 +1,86 @@
+-- What the next run finds of one of `collect --sequences`. (own)
+use Rattle.std.specs.Prelude.{ℕ, ◌≡◌, List, Option, Some, codes}
+use Rattle.std.specs.List.{Contains}
+use Rattle.sqlite.specs.Recovery.{Image}
+use Rattle.jc_base.specs.declared.id.Id128.{Id128}
+use Rattle.jc_base.specs.declared.id.Key.{Key}
+use Rattle.jc_base.specs.Journal.{Journal}
+use Rattle.jc_base.specs.LogEntry.{IsKey, LogEntry}
+use Rattle.jc_collector.specs.Kinds.{BeginsIn, meaning_of}
+use Rattle.jc_collector_answers.specs.Tied.{NamedWith}
+use Rattle.jc_command.specs.Run.{Begins, CollectsIntoUnion, Devices, begins_with, leaves, stored_before}
+use Rattle.jc_command_args.specs.declared.request.Tables.{Tables}
+use Rattle.jc_command_shared.specs.declared.status.Status.{Status}
+use Rattle.jc_database.specs.Files.{HoldsJournal}
+use Rattle.jc_ledger.specs.Kept.{NoneCollide}
+use Rattle.jc_ledger.specs.Union.{union}
+use Rattle.jc_ledger_files.specs.declared.window_name.WindowName.{WindowName}
+use Rattle.jc_ledger_files.specs.NotesOf.{notes_of}
+use Rattle.jc_ledger_files.specs.Owned.{owner_found}
+use Rattle.jc_ledger_files.specs.Windows.{known_in}
+use Rattle.jc_theorems.specs.StoppedUnion.{LeavesNoted}
+use Rattle.jc_upload.specs.declared.answer.Answer.{Answer}
+use Rattle.jc_runs.specs.Between.{Between, MayBegin}
+use Rattle.jc_runs.specs.Steps.{EndsRun, StopsRun}
+
+-- A run began with this: its database's files had what the present database has, in tables of this kind, or nothing yet, and
+-- the files of notes told what is known of entries' keys.
+pub record BeganWith (made kind : Tables) (begun : Begins) (b : Between) : Type 0 where
+  pub holds : BeginsIn made kind begun.image b.now
+  pub noted : (k : Key) → IsKey k → begun.noted k ≡ b.known k
+  pub owner : (s : Id128) → begun.owner s ≡ b.owner s
+  pub past : stored_before begun ≡ b.past
+  pub came : (e : LogEntry) → Contains b.came e → begun.came e
+
+-- what there is behind a run that left this journal, and these files of notes, when these entries had come
+abbrev pub behind : Between → (now : Journal) → (windows : WindowName → List ℕ) → (came : List LogEntry) → Between
+behind b now windows came = record b { known = known_in (λ w. notes_of (windows w)); owner = owner_found windows; now = now; came = came }
+
+-- The next run finds files such as were left. These entries came so far, and no two of them collide.
+pub record IsFound (files : WindowName → List ℕ → Type 0) (images : Image → Type 0) (comes : LogEntry → Type 0) (b : Between)
+    (windows : WindowName → List ℕ) (image : Image) (came : List LogEntry) : Type 0 where
+  pub files_left : (w : WindowName) → files w (windows w)
+  pub image_left : images image
+  pub had_come : (e : LogEntry) → Contains b.came e → Contains came e
+  pub have_come : (e : LogEntry) → comes e → Contains came e
+  pub apart : NoneCollide (Contains came)
+
+-- The files of its database have a journal, and so the step was made.
+pub record NextFinds (kind : Tables) (b : Between) (windows : WindowName → List ℕ) (image : Image) (came : List LogEntry) (Is : Between → Type 0)
+    : Type 0 where
+  pub now : Journal
+  pub holds : HoldsJournal (meaning_of kind) image now
+  pub is : Is (behind b now windows came)
+
+-- A run printed the lines of answers, and what they say is a step of a run that ended.
+pub record PrintsEnd (list : List ℕ) (given : Option (List ℕ)) (status : Status) (old new : Option (List ℕ)) (b c : Between) : Type 0 where
+  pub text : Option (List ℕ)
+  pub input : list ≡ codes "-" → text ≡ given
+  pub step : NamedWith (λ answers. EndsRun answers b c) text status old new
+
+-- With what a run left the next one begins, whichever tables it would make.
+abbrev pub NextBegins : Type 0
+NextBegins =
+    (made kind : Tables) (b : Between) (now finished aside : Journal) (windows : WindowName → List ℕ) (image : Image) (came : List LogEntry)
+    → HoldsJournal (meaning_of kind) image now → union finished aside ≡ b.past
+    → BeganWith made kind (begins_with image windows finished aside (Contains came)) (behind b now windows came)
+
+module _ {S C L N : Type 0} (begun : Begins) (g : Devices S C L N) (files_leave : N → WindowName → List ℕ → Type 0) (notes : N) where
+  -- What a run promises that ended with these files, closed, and these notes, sound, is a step.
+  abbrev pub EndLeadsOn : C → Type 0
+  EndLeadsOn files =
+      (made kind : Tables) (list : List ℕ) (given old new : Option (List ℕ)) (status : Status) (b : Between)
+      (windows : WindowName → List ℕ) (image : Image) (came : List LogEntry)
+      → CollectsIntoUnion begun g (leaves (Some files) (Some notes)) made list given old new status
+      → g.database.clean files → g.ledger.sound notes → BeganWith made kind begun b → MayBegin b
+      → IsFound (files_leave notes) (g.database.outcomes files) (g.ledger.came notes) b windows image came
+      → NextFinds kind b windows image came (PrintsEnd list given status old new b)
+
+  -- So is what one promises that was stopped, of whatever the stop left of its database's files.
+  abbrev pub StopLeadsOn : Type 0
+  StopLeadsOn =
+      (made kind : Tables) (answers : List Answer) (b : Between) (windows : WindowName → List ℕ) (image : Image) (came : List LogEntry)
+      → LeavesNoted (meaning_of kind) (stored_before begun) b.now (g.ledger.came notes) (g.ledger.may_leave notes) answers image
+      → g.ledger.clean notes → BeganWith made kind begun b
+      → IsFound (files_leave notes) (λ left. left ≡ image) (g.ledger.came notes) b windows image came
+      → NextFinds kind b windows image came (StopsRun answers b)

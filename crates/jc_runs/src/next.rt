@@ -1,0 +1,25 @@
+//! What the next run finds.
+
+ghost use Rattle.jc_command.specs.Run.{begins_with, devices};
+ghost use Rattle.jc_runs.specs.Next.{EndLeadsOn, NextBegins, StopLeadsOn};
+
+use jc_command::{Begun, NoteFolders};
+use jc_database::OpenFromFiles;
+use jc_ledger::Ledger;
+use jc_ledger_files::LedgerInFiles;
+
+/// What `run_command` says of a run of `collect --sequences` is a step of a run that ended, and what
+/// `collect_into_union_and_stop` says is one of a run that was stopped, of whatever the next run finds in the files of notes
+/// and in those of the database. Does nothing.
+pub fn next_run<F: OpenFromFiles, S: Begun, N: NoteFolders<S>>(files: &F::Files, notes: &N::Notes)
+where
+    N::Notes: LedgerInFiles,
+    ensures ended { EndLeadsOn (begins_with F.first S.windows S.finished S.aside S.came) (devices F.in_files ⟦<N::Notes as Ledger>⟧)
+        N.Notes.files_leave notes.now files.now }
+    ensures stopped { StopLeadsOn (begins_with F.first S.windows S.finished S.aside S.came) (devices F.in_files ⟦<N::Notes as Ledger>⟧)
+        N.Notes.files_leave notes.now }
+    ensures begins { NextBegins }
+{
+    notes.show_files();
+    N::show_steady(notes);
+}
