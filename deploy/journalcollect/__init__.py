@@ -1,0 +1,1 @@
+"""What stands around the program journal-collect: machines that send, the collector's service, reading, forwarding."""

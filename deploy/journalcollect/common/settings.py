@@ -1,0 +1,67 @@
+"""Settings: lines NAME=VALUE in the files `*.conf` of a folder. A later file, by its name, has the last word.
+
+The settings of a program are a frozen dataclass, which has each under its name in small letters, with its type (`str`,
+`bool`, `int` or `float`) and its default.
+"""
+import dataclasses
+import os
+from collections.abc import Iterator
+from pathlib import Path
+from typing import Any, TypeVar
+
+FOLDER = Path(os.environ.get("JOURNAL_COLLECT_SETTINGS", "/etc/journal-collect"))
+
+S = TypeVar("S")
+
+
+class Wrong(ValueError):
+    """The settings can't be taken, and why."""
+
+
+def read(folder: Path, kind: type[S]) -> S:
+    """The settings of a folder's files, which needn't be there: what they don't set has its default."""
+    types = {field.name: field.type for field in dataclasses.fields(kind)}
+    values: dict[str, Any] = {}
+    for path in sorted(folder.glob("*.conf")):
+        for number, name, value in assignments(path):
+            if name != name.upper() or name.lower() not in types:
+                raise Wrong(f"{path}: line {number}: {name} is no setting")
+            try:
+                values[name.lower()] = converted(value, types[name.lower()])
+            except ValueError as fault:
+                raise Wrong(f"{path}: line {number}: {name} {fault}: {value}") from None
+    return kind(**values)
+
+
+def assignments(path: Path) -> Iterator[tuple[int, str, str]]:
+    """The number of each line that sets something, the name and the value. Empty lines and those with `#` set nothing."""
+    try:
+        lines = path.read_text(encoding="utf-8").splitlines()
+    except (OSError, UnicodeDecodeError) as error:
+        raise Wrong(f"{path} can't be read: {error}") from error
+    for number, line in enumerate(lines, 1):
+        text = line.strip()
+        if not text or text.startswith("#"):
+            continue
+        name, equals, value = text.partition("=")
+        if not equals or name != name.strip():
+            raise Wrong(f"{path}: line {number} isn't NAME=VALUE: {text}")
+        yield number, name, value.strip()
+
+
+def converted(value: str, kind: object) -> str | bool | int | float:
+    """The value of a setting of this type; a ValueError that says what it isn't."""
+    if kind is bool:
+        if value not in ("yes", "no"):
+            raise ValueError("isn't yes or no")
+        return value == "yes"
+    if kind is int:
+        if not value.isascii() or not value.isdigit() or len(value) > 18:
+            raise ValueError("isn't a whole number")
+        return int(value)
+    if kind is float:
+        whole, _, part = value.partition(".")
+        if not (whole + part).isascii() or not whole.isdigit() or not (part or "0").isdigit() or len(value) > 18:
+            raise ValueError("isn't a number")
+        return float(value)
+    return value
