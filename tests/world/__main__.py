@@ -1,0 +1,118 @@
+"""Machines, a collector and one hostile machine, in rounds of random events, and a judge of what came of it.
+
+usage: python3 tests/world [--rounds ROUNDS] [--seed SEED] [--only EVENT,..] [--keep]
+
+Everything runs as it is installed, by its public commands: journal-collect-send with its service, the collector's
+service, and journal-collect-admin; PROGRAM names the proved program. Journals are real journal files. Each computer has
+a disk of its own, so power is lost by what had reached the disk. In the end faults cease, machines send what they have,
+and: what `journal-collect acknowledged` said is stored is in one database, with its key and content; nothing is stored
+twice; what a journal has is stored. It takes root, loop devices and systemd-journal-remote.
+"""
+from __future__ import annotations
+
+import argparse
+import os
+import random
+import shutil
+import sys
+import tempfile
+import time
+from pathlib import Path
+
+sys.path.append(str(Path(__file__).resolve().parents[1]))
+from computers import Machine  # noqa: E402
+from disks import can_mount  # noqa: E402
+from events import World  # noqa: E402
+from journals import REMOTE  # noqa: E402
+from judge import Entry, Judge, acknowledged  # noqa: E402
+
+PATIENCE = 120.0
+
+
+def calm(world: World) -> list[str]:
+    """Faults cease, and all that journals have goes out. What doesn't come to rest is told."""
+    world.end_hostile()
+    for computer in world.computers():
+        computer.disk.free()
+        world.set_clock(computer, 0)
+    wrong = []
+    for machine in world.machines:
+        machine.heal()
+        machine.stop()
+        machine.journal.end()
+    for machine in world.machines:
+        if tail := not_at_rest(world, machine):
+            wrong.append(f"{machine.name} doesn't come to rest: {tail}")
+    if status := world.collector.stop():
+        wrong.append(f"the service ended with {status}")
+    return wrong
+
+
+def not_at_rest(world: World, machine: Machine) -> str:
+    end = time.monotonic() + PATIENCE
+    while True:
+        world.collector.start()
+        told = machine.once()
+        if told.returncode == 0:
+            return ""
+        if time.monotonic() > end:
+            return (told.stdout + told.stderr)[-300:].decode(errors="replace")
+        time.sleep(0.5)
+
+
+def lost(world: World) -> set[Entry]:
+    """What may be missing: acknowledged before the collector was set back, and in no journal any more, or under another
+    key since."""
+    there = {message for machine in world.machines for message in machine.journal.messages()}
+    return {entry for entry in world.at_risk if entry.message not in there}
+
+
+def judged(world: World, rounds: int) -> list[str]:
+    for number in range(rounds):
+        world.round()
+    wrong = calm(world)
+    judge = Judge(world.collector, world.machines)
+    wrong += judge.judge(lost(world))
+    wrong += [f"{computer.folder.name}: it failed: {computer.said[computer.said.index('Traceback'):][:1500]}"
+              for computer in world.computers() if "Traceback" in computer.said]
+    count = sum(len(acknowledged(machine)) for machine in world.machines)
+    events = ", ".join(f"{name} {count}" for name, count in sorted(world.counts.items()))
+    print(f"{rounds} rounds: {events}; {count} entries acknowledged, {len(judge.stored)} stored")
+    return wrong
+
+
+def main() -> int:
+    parser = argparse.ArgumentParser(description=__doc__, formatter_class=argparse.RawDescriptionHelpFormatter)
+    parser.add_argument("--rounds", type=int, default=60)
+    parser.add_argument("--seed", type=int, default=random.randrange(1 << 32))
+    parser.add_argument("--only", default="")
+    parser.add_argument("--keep", action="store_true")
+    asked = parser.parse_args()
+    folder = Path(tempfile.mkdtemp(prefix="world-"))
+    if not REMOTE.exists() or os.geteuid() or not can_mount(folder):
+        print("skipped: the world takes root, loop devices and systemd-journal-remote")
+        return 0
+    print(f"world: --seed {asked.seed}", flush=True)
+    world = World(folder, asked.seed)
+    if asked.only:
+        world.events = [event for event in world.events if event.__name__ in asked.only.split(",")]
+    wrong = ["it didn't come to its end"]
+    try:
+        wrong = judged(world, asked.rounds)
+    finally:
+        world.end_hostile()
+        for computer in world.computers():
+            computer.disk.kill()
+        for each in wrong:
+            print(f"WRONG: {each}")
+        if asked.keep:
+            print(f"it is kept in {folder}")
+        else:
+            for computer in world.computers():
+                computer.disk.remove()
+            shutil.rmtree(folder)
+    return 1 if wrong else 0
+
+
+if __name__ == "__main__":
+    sys.exit(main())

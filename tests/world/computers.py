@@ -1,0 +1,155 @@
+"""A machine and the collector, by their public commands alone. Each is a disk with processes."""
+from __future__ import annotations
+
+import os
+import random
+import signal
+import subprocess
+from collections.abc import Iterator
+from pathlib import Path
+
+from disks import Disk, end_session
+from journals import Journal
+
+HERE = Path(__file__).resolve().parent
+PROGRAMS = Path(os.environ.get("PROGRAMS", HERE.parents[1] / "deploy" / "programs"))
+PROGRAM = Path(os.environ["PROGRAM"])
+# `acknowledged` of a machine is what counts: an upload for which it ends with 0 is kept beside the world.
+WITNESS = """#!/bin/sh
+[ "$1" = acknowledged ] || exec {program} "$@"
+shift
+for upload in "$@"; do
+    case $upload in -*) ;; *) break ;; esac
+done
+cp "$upload" {ledger}/new.$$
+{program} acknowledged "$@"
+status=$?
+if [ $status = 0 ]; then mv {ledger}/new.$$ "$(mktemp {ledger}/XXXXXXXX)"; else rm {ledger}/new.$$; fi
+exit $status
+"""
+
+
+class Computer:
+    """What machine and collector share: settings, a service, calls, and what they said."""
+
+    service = ""
+    conf = ""
+
+    def __init__(self, folder: Path, disk: Disk, settings: dict[str, object], environment: dict[str, str]) -> None:
+        self.folder, self.disk = folder, disk
+        self.environment = {**os.environ, "JOURNAL_COLLECT": str(PROGRAM),
+                            "JOURNAL_COLLECT_SETTINGS": str(folder / "etc"), **environment}
+        self.process: subprocess.Popen[bytes] | None = None
+        (folder / "etc" / self.conf).mkdir(parents=True)
+        self.write(settings)
+
+    def write(self, settings: dict[str, object]) -> None:
+        text = "".join(f"{name}={value}\n" for name, value in settings.items())
+        (self.folder / "etc" / self.conf / "50-world.conf").write_text(text)
+
+    @property
+    def data(self) -> Path:
+        return self.disk.at / "data"
+
+    @property
+    def said(self) -> str:
+        path = self.folder / "said"
+        return path.read_text(errors="replace") if path.exists() else ""
+
+    def start(self) -> None:
+        """Begins the service, unless it runs."""
+        if self.is_running():
+            return
+        with (self.folder / "said").open("ab") as said:
+            self.process = subprocess.Popen(
+                [PROGRAMS / self.service], env=self.environment, stdin=subprocess.DEVNULL, stdout=said, stderr=said,
+                start_new_session=True)
+        self.disk.processes.append(self.process)
+
+    def is_running(self) -> bool:
+        return bool(self.process and self.process in self.disk.processes and self.process.poll() is None)
+
+    def stop(self, number: signal.Signals = signal.SIGTERM) -> int | None:
+        """As systemd stops it: the signal goes to the service alone, and what is left of it is killed then."""
+        if not self.process or self.process not in self.disk.processes:
+            return None
+        self.process.send_signal(number)
+        status = self.process.wait(timeout=120)
+        end_session(self.process, signal.SIGKILL)
+        self.disk.processes.remove(self.process)
+        return status
+
+    def kill_a_child(self, dice: random.Random) -> None:
+        """Any program that the service runs, however deep below it."""
+        if self.process and (found := list(children(self.process.pid))):
+            try:
+                os.kill(dice.choice(found), signal.SIGKILL)
+            except ProcessLookupError:
+                pass
+
+    def call(self, program: str, *words: str | Path, seconds: float = 300) -> subprocess.CompletedProcess[bytes]:
+        """A command; what it says is among what the computer said."""
+        told = subprocess.run([PROGRAMS / program, *words], env=self.environment, stdin=subprocess.DEVNULL,
+                              capture_output=True, check=False, timeout=seconds)
+        with (self.folder / "said").open("ab") as said:
+            said.write(told.stdout + told.stderr)
+        return told
+
+
+class Collector(Computer):
+    service, conf = "journal-collect-service", "collector.conf.d"
+
+    def __init__(self, folder: Path, disk: Disk, environment: dict[str, str]) -> None:
+        self.keys = folder / "keys"
+        self.keys.mkdir()
+        super().__init__(folder, disk, {
+            "FOLDER": disk.at / "data", "KEYS": self.keys, "DATABASE_SECONDS": 5, "DATABASE_BYTES": 300_000,
+            "FREE_BYTES": 1_000_000}, environment)
+
+    def admit(self, name: str) -> None:
+        (self.keys / f"{name}.pub").write_text(f"ssh-ed25519 AAAAC3NzaC1lZDI1NTE5AAAAI{name} {name}\n")
+
+    def socket(self, name: str) -> Path:
+        return self.data / "sockets" / name
+
+
+class Machine(Computer):
+    service, conf = "journal-collect-send", "machine.conf.d"
+
+    def __init__(self, folder: Path, disk: Disk, name: str, collector: Collector, dice: random.Random) -> None:
+        self.name, self.collector = name, collector
+        self.ledger, self.fault = folder / "ledger", folder / "fault"
+        self.ledger.mkdir()
+        (folder / "journal-collect").write_text(WITNESS.format(program=PROGRAM, ledger=self.ledger))
+        (folder / "journal-collect").chmod(0o755)
+        self.heal()
+        super().__init__(folder, disk, self.settings(folder, disk), {"JOURNAL_COLLECT": str(folder / "journal-collect")})
+        self.journal = Journal(disk, name, dice)
+
+    def settings(self, folder: Path, disk: Disk) -> dict[str, object]:
+        return {"FOLDER": disk.at / "data", "JOURNALS": disk.at / "journal", "COLLECTOR": "logs.example.org",
+                "CONNECT": f"{HERE / 'link.py'} {self.collector.socket(self.name)} {folder / 'fault'}",
+                "EVERY_SECONDS": 1, "IDLE_SECONDS": 3, "FOLDER_BYTES": 3_000_000}
+
+    def rename(self, name: str) -> None:
+        self.name = name
+        self.write(self.settings(self.folder, self.disk))
+
+    def break_link(self, word: str, number: int) -> None:
+        self.fault.write_text(f"{word} {number}\n")
+
+    def heal(self) -> None:
+        self.break_link("whole", 0)
+
+    def once(self) -> subprocess.CompletedProcess[bytes]:
+        return self.call("journal-collect-send", "--once")
+
+
+def children(process: int) -> Iterator[int]:
+    for path in Path(f"/proc/{process}/task").glob("*/children"):
+        try:
+            for child in map(int, path.read_text().split()):
+                yield child
+                yield from children(child)
+        except OSError:
+            continue

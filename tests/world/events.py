@@ -1,0 +1,262 @@
+"""What happens in the world: each method whose name begins with `machine_` or `collector_` is one event."""
+from __future__ import annotations
+
+import random
+import shutil
+import signal
+import subprocess
+import sys
+import time
+from collections import Counter
+from collections.abc import Callable
+from pathlib import Path
+
+import preload
+from computers import HERE, Collector, Machine
+from disks import Disk, end_session
+from judge import Entry, acknowledged
+
+NAMES = ("web", "mail", "db-1")
+MOST_MACHINES = 6
+DAY = 86_400
+
+
+class World:
+    """Machines, the collector, a hostile machine, and what was taken away from them."""
+
+    def __init__(self, folder: Path, seed: int) -> None:
+        self.folder, self.dice = folder, random.Random(seed)
+        self.library = preload.built(str(HERE / "clock.c"), str(folder)) if shutil.which("rt") else ""
+        home = self.at("collector")
+        self.collector = Collector(home, Disk(home / "disk"), self.clock_of(home))
+        self.machines = [self.machine(name) for name in NAMES]
+        self.collector.admit("evil")
+        self.hostile: subprocess.Popen[bytes] | None = None
+        self.snapshots: dict[object, Path] = {}
+        self.backups: list[Path] = []
+        self.at_risk: set[Entry] = set()
+        self.counts: Counter[str] = Counter()
+        self.events: list[Callable[[], None]] = [
+            getattr(self, name) for name in sorted(dir(self)) if name.startswith(("machine_", "collector_"))]
+
+    def at(self, name: str) -> Path:
+        path = self.folder / f"{len(list(self.folder.iterdir()))}-{name}"
+        path.mkdir()
+        return path
+
+    def clock_of(self, home: Path) -> dict[str, str]:
+        return {"LD_PRELOAD": self.library, "CLOCK_FILE": str(home / "clock")} if self.library else {}
+
+    def machine(self, name: str, image: Path | None = None) -> Machine:
+        home = self.at(name)
+        machine = Machine(home, Disk(home / "disk", image), name, self.collector, self.dice)
+        machine.environment.update(self.clock_of(home))
+        self.collector.admit(name)
+        return machine
+
+    def any(self) -> Machine:
+        return self.dice.choice(self.machines)
+
+    def computers(self) -> list[Machine | Collector]:
+        return [self.collector, *self.machines]
+
+    def go_on(self) -> None:
+        """Journals grow, and what ended is begun again, as systemd does."""
+        for machine in self.machines:
+            if self.dice.random() < 0.7:
+                machine.journal.grow(self.dice.choice((1, 3, 20, 100)))
+        for computer in self.computers():
+            computer.start()
+
+    def round(self) -> None:
+        self.go_on()
+        time.sleep(self.dice.choice((0.05, 0.2, 0.5, 1.0)))
+        event = self.dice.choice(self.events)
+        self.counts[event.__name__] += 1
+        event()
+        for computer in self.computers():
+            if self.dice.random() < 0.3:
+                computer.disk.free()
+        if self.dice.random() < 0.3:
+            self.any().heal()
+
+    # Machines
+
+    def machine_killed(self) -> None:
+        machine = self.any()
+        if machine.process:
+            machine.stop(signal.SIGKILL)
+
+    def machine_child_killed(self) -> None:
+        self.any().kill_a_child(self.dice)
+
+    def machine_stopped(self) -> None:
+        self.any().stop()
+
+    def machine_loses_power(self) -> None:
+        self.any().disk.lose_power()
+
+    def machine_disk_full(self) -> None:
+        self.any().disk.fill(self.dice.choice((0, 4_096, 100_000)))
+
+    def machine_no_inodes(self) -> None:
+        self.any().disk.take_inodes(self.dice.choice((0, 1, 2)))
+
+    def machine_link(self) -> None:
+        word = self.dice.choice(("refused", "cut", "deaf", "open", "slow"))
+        number = {"slow": 30_000, "deaf": self.dice.randrange(200)}.get(word, self.dice.randrange(100_000))
+        self.any().break_link(word, number)
+
+    def machine_clock(self) -> None:
+        self.set_clock(self.any(), self.dice.choice((0, 60, -60, DAY, -3 * DAY, 40 * DAY)))
+
+    def machine_snapshot(self) -> None:
+        machine = self.any()
+        self.snapshots[machine] = machine.folder / "snapshot"
+        machine.disk.snapshot(self.snapshots[machine])
+
+    def machine_set_back(self) -> None:
+        machine = self.any()
+        if machine in self.snapshots:
+            machine.disk.set_back(self.snapshots[machine])
+
+    def machine_cloned(self) -> None:
+        """With a key of its own, or with the same one."""
+        machine = self.any()
+        if machine in self.snapshots and len(self.machines) < MOST_MACHINES:
+            name = self.dice.choice((machine.name, f"clone-{len(self.machines)}"))
+            clone = self.machine(name, self.snapshots[machine])
+            clone.journal.name, clone.journal.time = f"clone-{len(self.machines)}", machine.journal.time
+            self.machines.append(clone)
+
+    def machine_loses_places(self) -> None:
+        machine = self.any()
+        machine.stop(signal.SIGKILL)
+        self.take_away(machine.data, "places.sqlite")
+
+    def machine_rotates(self) -> None:
+        self.any().journal.rotate()
+
+    def machine_vacuums(self) -> None:
+        self.any().journal.vacuum()
+
+    def machine_journal_clock(self) -> None:
+        self.any().journal.set_clock(self.dice.choice((-DAY, -1, DAY)) * 1_000_000)
+
+    # The collector
+
+    def collector_killed(self) -> None:
+        self.collector.stop(signal.SIGKILL)
+
+    def collector_child_killed(self) -> None:
+        self.collector.kill_a_child(self.dice)
+
+    def collector_stopped(self) -> None:
+        self.collector.stop()
+
+    def collector_finishes(self) -> None:
+        if self.collector.is_running() and self.collector.process:
+            self.collector.process.send_signal(signal.SIGHUP)
+
+    def collector_loses_power(self) -> None:
+        self.collector.disk.lose_power()
+
+    def collector_disk_full(self) -> None:
+        self.collector.disk.fill(self.dice.choice((0, 8_192, 300_000, 2_000_000)))
+
+    def collector_no_inodes(self) -> None:
+        self.collector.disk.take_inodes(self.dice.choice((0, 1, 5)))
+
+    def collector_clock(self) -> None:
+        self.set_clock(self.collector, self.dice.choice((0, 60, -60, DAY, -3 * DAY, 400 * DAY)))
+
+    def collector_snapshot(self) -> None:
+        self.snapshots[self.collector] = self.collector.folder / "snapshot"
+        self.collector.disk.snapshot(self.snapshots[self.collector])
+
+    def collector_set_back(self) -> None:
+        """What was acknowledged since is there again only as far as journals have it, which the judge holds it to."""
+        if self.collector in self.snapshots:
+            self.risk()
+            self.collector.disk.set_back(self.snapshots[self.collector])
+
+    def collector_backup(self) -> None:
+        folder = self.collector.folder / f"backup-{len(self.backups)}"
+        if self.collector.call("journal-collect-admin", "backup", folder).returncode == 0:
+            self.backups.append(folder)
+
+    def collector_restored(self) -> None:
+        """All of its folder is lost, and a backup is put back."""
+        if self.backups:
+            self.risk()
+            self.collector.stop(signal.SIGKILL)
+            shutil.rmtree(self.collector.data)
+            self.collector.disk.free()
+            told = self.collector.call("journal-collect-admin", "restore", self.backups[-1])
+            assert told.returncode == 0, told.stderr.decode()
+
+    def collector_renames(self) -> None:
+        """The administrator gives a machine another name, and its key goes with it."""
+        old = self.any().name
+        new = f"{old.partition('.')[0]}.{self.counts['collector_renames']}"
+        self.collector.stop()
+        if self.collector.call("journal-collect-admin", "rename", old, new).returncode == 0:
+            for machine in self.machines:
+                if machine.name == old:
+                    machine.rename(new)
+        self.collector.start()
+
+    def collector_loses_notes(self) -> None:
+        self.collector.stop(signal.SIGKILL)
+        if found := sorted(path for path in (self.collector.data / "sequences").rglob("*") if path.is_file()):
+            path = self.dice.choice(found)
+            self.take_away(path.parent, path.name)
+
+    def collector_loses_state(self) -> None:
+        self.collector.stop(signal.SIGKILL)
+        self.take_away(self.collector.data, "state.sqlite")
+
+    def collector_database_damaged(self) -> None:
+        """The present one is overwritten: what was acknowledged of it is made anew of `recent`."""
+        self.collector.stop(signal.SIGKILL)
+        databases = self.collector.data / "databases"
+        for path in databases.glob("*.db"):
+            if not path.with_name(path.name + ".sha256").exists():
+                path.write_bytes(b"x" * path.stat().st_size)
+
+    def collector_hostile(self) -> None:
+        self.end_hostile()
+        words = [str(self.collector.socket("evil")), str(self.dice.random()), *(str(each.ledger) for each in self.machines)]
+        self.hostile = subprocess.Popen([sys.executable, "-B", HERE / "hostile.py", *words], start_new_session=True,
+                                        stderr=subprocess.DEVNULL)
+
+    def end_hostile(self) -> None:
+        if self.hostile:
+            end_session(self.hostile, signal.SIGKILL)
+        self.hostile = None
+
+    # What events share
+
+    def take_away(self, folder: Path, name: str) -> None:
+        """A file with what belongs to it is gone, or was cut, or has something else in it."""
+        path = folder / name
+        if not path.exists():
+            return
+        match self.dice.choice(("gone", "cut", "overwritten")):
+            case "gone":
+                for each in folder.glob(f"{name}*"):
+                    each.unlink()
+            case "cut":
+                path.write_bytes(path.read_bytes()[:self.dice.randrange(path.stat().st_size + 1)])
+            case _:
+                path.write_bytes(self.dice.randbytes(path.stat().st_size))
+
+    def set_clock(self, computer: Machine | Collector, seconds: int) -> None:
+        """The program's clocks are wrong by so much from now on."""
+        new = computer.folder / "clock.new"
+        new.write_text(f"{seconds} 0 0\n")
+        new.replace(computer.folder / "clock")
+
+    def risk(self) -> None:
+        for machine in self.machines:
+            self.at_risk |= acknowledged(machine)
