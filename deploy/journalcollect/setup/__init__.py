@@ -1,0 +1,1 @@
+"""Sets up a collector and its machines: users, folders, sshd, keys and services."""

@@ -1,0 +1,170 @@
+"""`journal-collect-join HOST`: this machine sends its journal to the collector HOST. Called again it changes nothing.
+
+It makes a key, learns the collector's host keys, writes the settings, has the key admitted, and starts the service. The
+host keys are vouched for by the administrator's own ssh (--via), by a file (--host-keys), or by you, who compares them.
+"""
+import argparse
+import pwd
+import shutil
+import socket
+import sys
+import time
+from collections.abc import Sequence
+from pathlib import Path
+
+from journalcollect.common import names, settings
+from journalcollect.setup import keys
+from journalcollect.setup.deeds import Deeds, Stopped, as_root, fail, is_true, output, told
+
+USER = "journal-collect-send"
+SERVICE = "journal-collect-send.service"
+SEND = Path(__file__).resolve().parents[2] / "programs" / "journal-collect-send"
+PATIENCE = 60.0
+
+
+def main(words: Sequence[str] | None = None) -> int:
+    parser = argparse.ArgumentParser(prog="journal-collect-join", description=__doc__,
+                                     formatter_class=argparse.RawDescriptionHelpFormatter)
+    parser.add_argument("host", metavar="HOST", help="the collector's name")
+    parser.add_argument("--name", help="the machine's name at the collector (its own name)")
+    parser.add_argument("--via", metavar="USER@HOST", help="a login at the collector, as root: it admits the key, too")
+    parser.add_argument("--host-keys", metavar="FILE", help="a file with the collector's public host keys")
+    parser.add_argument("--port", type=int, default=22, help="where the collector's sshd listens (22)")
+    parser.add_argument("--new-key", action="store_true", help="make another key in place of the one that is there")
+    parser.add_argument("--dry-run", action="store_true", help="say what would be done, and do nothing")
+    asked = parser.parse_args(words)
+    try:
+        as_root()
+        return Joining(asked, settings.FOLDER).join()
+    except (Stopped, OSError, settings.Wrong) as error:
+        return fail("journal-collect-join", error)
+
+
+class Joining:
+    def __init__(self, asked: argparse.Namespace, etc: Path) -> None:
+        self.host: str = asked.host
+        self.port: int = asked.port
+        self.via: str | None = asked.via
+        self.host_keys: str | None = asked.host_keys
+        self.wants_new_key: bool = asked.new_key
+        self.deeds = Deeds(asked.dry_run)
+        self.etc, self.key, self.known = etc, etc / "key", etc / "known_hosts"
+        self.name: str = asked.name or self.known_name() or socket.gethostname()
+        if not names.is_machine(self.name):
+            raise Stopped(f"{self.name} can't be a machine's name: say another one by --name")
+
+    def join(self) -> int:
+        self.deeds.users()
+        self.make_key()
+        is_new = self.learn_host_keys()
+        is_new |= self.write_settings()
+        if self.via and (is_new or not self.reaches()):
+            self.be_admitted(self.via)
+        if is_new and is_true("systemctl", "is-active", "systemd-journald.service"):
+            # it keeps as many files as the package has it keep
+            self.deeds.call("restarts systemd-journald.service", "systemctl", "restart", "systemd-journald.service")
+        self.deeds.runs(SERVICE, is_new)
+        if self.deeds.is_rehearsal:
+            return 0
+        return self.tell()
+
+    def known_name(self) -> str:
+        """The name under which this machine joined before is the comment of its key."""
+        words = self.public_key().split()
+        return words[2] if len(words) == 3 and names.is_machine(words[2]) else ""
+
+    def public_key(self) -> str:
+        path = self.key.with_name("key.pub")
+        return path.read_text().strip() if path.exists() else ""
+
+    def make_key(self) -> None:
+        if self.key.exists() and not self.wants_new_key and self.known_name() == self.name:
+            return
+        self.deeds.say(f"makes {self.key}, the key of {self.name}")
+        if not self.deeds.is_rehearsal:
+            self.etc.mkdir(exist_ok=True)
+            for path in (self.key, self.key.with_name("key.pub")):
+                path.unlink(missing_ok=True)
+            output("ssh-keygen", "-q", "-t", "ed25519", "-N", "", "-C", self.name, "-f", self.key)
+            shutil.chown(self.key, pwd.getpwnam(USER).pw_uid)
+
+    # The collector's host keys
+
+    def learn_host_keys(self) -> bool:
+        """They are asked for anew by --via and --host-keys, and else only where none are known."""
+        where = self.host if self.port == 22 else f"[{self.host}]:{self.port}"
+        if self.host_keys:
+            found = Path(self.host_keys).read_text()
+        elif self.via:
+            found = output("ssh", "-o", "StrictHostKeyChecking=yes", self.via, "cat /etc/ssh/ssh_host_*_key.pub")
+        elif is_true("ssh-keygen", "-F", where, "-f", self.known):
+            return False
+        else:
+            found = self.compared(output("ssh-keyscan", "-p", str(self.port), self.host))
+        lines = [f"{where} {text}" for text in sorted(map(key_of, found.splitlines())) if text]
+        if not lines:
+            raise Stopped(f"{self.host_keys or self.via or self.host} has no host keys")
+        return self.deeds.write(self.known, "\n".join(lines) + "\n")
+
+    def compared(self, scanned: str) -> str:
+        """Whoever is at the terminal compares what came with what `journal-collect-admin setup` prints."""
+        if not scanned.strip():
+            raise Stopped(f"no sshd answers at {self.host}, port {self.port}")
+        print(f"{self.host} has these host keys; journal-collect-admin setup prints them there:")
+        print(output("ssh-keygen", "-l", "-f", "-", given=scanned.encode()), end="", flush=True)
+        if self.deeds.is_rehearsal:
+            return scanned
+        try:
+            answer = input("Are they the same? (yes) ")
+        except EOFError:
+            answer = ""
+        if answer.strip() != "yes":
+            raise Stopped("not joined: nobody vouches for the host keys; compare them, or say --via or --host-keys")
+        return scanned
+
+    def write_settings(self) -> bool:
+        port = f"PORT={self.port}\n" if self.port != 22 else ""
+        return self.deeds.write(self.etc / "machine.conf.d" / "10-join.conf", f"COLLECTOR={self.host}\n{port}")
+
+    # The collector
+
+    def be_admitted(self, via: str) -> None:
+        self.deeds.call(f"has its key admitted by {via}", "ssh", "-o", "StrictHostKeyChecking=yes", via,
+                        f"journal-collect-admin admit {self.name}", given=self.public_key().encode() + b"\n")
+
+    def reaches(self) -> bool:
+        """Whether the collector takes this machine's key and greets."""
+        return self.known.exists() and is_true("runuser", "-u", USER, "--", SEND, "--check")
+
+    def tell(self) -> int:
+        """The last line: it sends, or what is to be done."""
+        end = time.monotonic() + (PATIENCE if self.via else 5.0)
+        while not self.reaches():
+            if time.monotonic() > end:
+                return self.tell_what_to_do()
+            time.sleep(1.0)
+        if not self.deeds.count:
+            print("nothing was to do")
+        print(f"{self.name} sends to {self.host}")
+        return 0
+
+    def tell_what_to_do(self) -> int:
+        try:
+            output("runuser", "-u", USER, "--", SEND, "--check")
+        except Stopped as error:
+            print(f"{self.host} doesn't take the machine's key yet: {error}", file=sys.stderr)
+        print(f"on {self.host}, as root:\n  echo '{self.public_key()}' | journal-collect-admin admit {self.name}")
+        print(f"then {self.name} sends by itself; journal-collect-status says how it stands")
+        return 1
+
+
+def key_of(line: str) -> str:
+    """The kind and the bytes of a public key, whether ssh-keygen wrote the line or ssh-keyscan."""
+    for text in (line.strip(), line.strip().partition(" ")[2]):
+        if found := keys.KEY.fullmatch(text):
+            return found[1]
+    return ""
+
+
+if __name__ == "__main__":
+    sys.exit(main())
