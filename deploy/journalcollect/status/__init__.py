@@ -1,0 +1,1 @@
+"""How the collecting of journals stands on a computer, and what to do."""

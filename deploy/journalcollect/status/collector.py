@@ -1,0 +1,197 @@
+"""How the collector stands: its service, its machines, its databases, its disk, and what it told of."""
+from dataclasses import asdict, dataclass, field
+from pathlib import Path
+from typing import Any
+
+from journalcollect.collector import settings as collector_settings
+from journalcollect.common import files, settings
+from journalcollect.setup import keys
+from journalcollect.status import looking, words
+from journalcollect.status.findings import Findings
+
+SERVICE, MAKER = "journal-collect.service", "journal-collect-files.service"
+SSHD = Path("/etc/ssh/sshd_config.d/journal-collect.conf")
+HOUR, DAY = 3600.0, 86400.0
+# A machine whose journal grows is seen within a minute; a quiet one logs something within hours.
+SILENT_SECONDS, SKEW_SECONDS, LEAST_DAYS, BEHIND_SECONDS = 2 * HOUR, 60.0, 7.0, HOUR
+REBUILD = "journal-collect-admin check; then put back a backup, or: journal-collect-admin rebuild"
+
+
+@dataclass
+class Machine:
+    """A machine that has a key. Times are seconds since 1970, 0 for never."""
+    name: str
+    seen: float = 0.0
+    stored: float = 0.0
+    entries: int = 0
+    refused: int = 0
+    skew: float = 0.0
+
+
+@dataclass
+class Collector:
+    """All that is known of it."""
+    folder: str = ""
+    service: str = "unknown"
+    machines: list[Machine] = field(default_factory=list)
+    databases: dict[str, int] = field(default_factory=dict)
+    entries: int = 0
+    bytes: int = 0
+    bytes_a_day: float | None = None
+    free_bytes: int = 0
+    days_left: float | None = None
+    waiting_for_files: int = 0
+
+    def as_json(self) -> dict[str, Any]:
+        return asdict(self)
+
+
+def is_set_up(etc: Path) -> bool:
+    return (etc / "authorized_keys").exists() or Path(collector_settings.Settings().folder, "state.sqlite").exists()
+
+
+def look(now: float, findings: Findings) -> Collector:
+    try:
+        chosen = collector_settings.read()
+    except settings.Wrong as fault:
+        findings.wrong("settings", "collector", str(fault), f"change it below {settings.FOLDER}/collector.conf.d")
+        return Collector()
+    found, folder = Collector(chosen.folder), Path(chosen.folder)
+    look_at_service(found, folder, findings)
+    look_at_machines(found, folder, Path(chosen.keys), now, findings)
+    look_at_databases(found, folder, now, findings)
+    look_at_disk(found, folder, chosen, now, findings)
+    look_at_what_was_told(found, folder, now, findings)
+    return found
+
+
+def look_at_service(found: Collector, folder: Path, findings: Findings) -> None:
+    unit = looking.unit(SERVICE)
+    if unit:
+        found.service = "runs" if unit.runs else "doesn't run"
+    if not folder.is_dir():
+        findings.failed("folder", "collector", f"there is no {folder}", "journal-collect-admin setup")
+    if unit and not unit.runs:
+        findings.failed("service", "collector", f"{SERVICE} doesn't run",
+                        f"systemctl enable --now {SERVICE}; journalctl -u {SERVICE} says why it ended")
+    elif unit and unit.enabled != "enabled":
+        findings.look("service", "collector", f"{SERVICE} isn't started with the computer", f"systemctl enable {SERVICE}")
+    if unit and not SSHD.exists():
+        findings.failed("sshd", "collector", f"sshd doesn't take machines' keys: there is no {SSHD}",
+                        "journal-collect-admin setup")
+    for name in ("ssh.service", "ssh.socket"):
+        if (sshd := looking.unit(name)) and sshd.runs:
+            return
+    if unit:
+        findings.failed("sshd", "collector", "sshd doesn't run, so no machine can send", "systemctl enable --now ssh.service")
+
+
+def look_at_machines(found: Collector, folder: Path, there: Path, now: float, findings: Findings) -> None:
+    """Those that have a key: a retired one is none."""
+    known = {str(row["name"]): row for row in looking.rows(
+        folder / "state.sqlite", "SELECT name, seen, stored, entries, refused, skew FROM machine")}
+    for name in keys.machines(there.parent):
+        found.machines.append(Machine(**known.get(name) or {"name": name}))
+    admitted = settings_text(there.parent / "authorized_keys")
+    for machine in found.machines:
+        if f"/{machine.name}\",restrict" not in admitted:
+            findings.failed("key", machine.name, f"{there / machine.name}.pub is no key that sshd takes",
+                            f"journal-collect-admin admit {machine.name} < KEY.pub")
+        judge_machine(machine, now, findings)
+
+
+def settings_text(path: Path) -> str:
+    try:
+        return path.read_text(errors="replace")
+    except OSError:
+        return ""
+
+
+def judge_machine(machine: Machine, now: float, findings: Findings) -> None:
+    name = machine.name
+    if not machine.seen:
+        findings.look("never", name, "it never called", f"on {name}: journal-collect-status; no more a machine: "
+                      f"journal-collect-admin retire {name}")
+    elif now - machine.seen > SILENT_SECONDS:
+        findings.look("silent", name, f"it called {words.ago(machine.seen, now)} for the last time",
+                      f"on {name}: journal-collect-status; gone for good: journal-collect-admin retire {name}")
+    elif now - machine.stored > DAY:
+        findings.look("old", name, f"its last new entry came {words.ago(machine.stored, now)}, though it calls",
+                      f"on {name}: journal-collect-status")
+    if machine.seen and abs(machine.skew) > SKEW_SECONDS:
+        side = "ahead" if machine.skew > 0 else "behind"
+        findings.look("clock", name, f"its clock is {words.span(abs(machine.skew))} {side} of this one",
+                      "timedatectl on both says which is wrong; timedatectl set-ntp yes mends it")
+
+
+def look_at_databases(found: Collector, folder: Path, now: float, findings: Findings) -> None:
+    rows = looking.rows(folder / "state.sqlite",
+                        "SELECT name, standing, finished, entries, bytes FROM database")
+    for row in rows:
+        standing = str(row["standing"])
+        found.databases[standing] = found.databases.get(standing, 0) + 1
+        if standing in ("missing", "quarantined"):
+            text = "it is gone, and nobody said so" if standing == "missing" else "it can't be opened, and is set aside"
+            findings.look(standing, str(row["name"]), text, REBUILD)
+    finished = [row for row in rows if row["standing"] == "finished"]
+    found.entries = sum(number(row["entries"]) for row in finished)
+    found.bytes = sum(number(row["bytes"]) for row in finished)
+    recent = [row for row in finished if now - 7 * DAY < number(row["finished"]) <= now]
+    if recent and (days := (now - min(number(row["finished"]) for row in recent)) / DAY) > 0.25:
+        found.bytes_a_day = sum(number(row["bytes"]) for row in recent) / days
+    done = files_made(folder)
+    waiting = [number(row["finished"]) for row in finished if row["name"] not in done]
+    found.waiting_for_files = len(waiting)
+    if waiting and now - min(waiting) > BEHIND_SECONDS:
+        findings.look("behind", "collector", f"{len(waiting)} databases wait for their journal files, the oldest for "
+                      f"{words.span(now - min(waiting))}", f"systemctl start {MAKER}; journalctl -u {MAKER} says why")
+
+
+def number(value: Any) -> Any:
+    return value or 0
+
+
+def files_made(folder: Path) -> set[str]:
+    from journalcollect.reading.made import made
+    return made(folder)
+
+
+def look_at_disk(found: Collector, folder: Path, chosen: collector_settings.Settings, now: float,
+                 findings: Findings) -> None:
+    """At the rate of the last week. What goes after KEEP_DAYS makes room for as much as comes then."""
+    if not folder.is_dir():
+        return
+    found.free_bytes, free_files = files.free(folder)
+    room = found.free_bytes - chosen.free_bytes
+    remedy = "make room, or lower KEEP_DAYS or KEEP_BYTES in collector.conf.d and restart the service"
+    if room <= 0 or free_files <= collector_settings.FREE_FILES:
+        findings.failed("disk", "collector", f"{words.size(found.free_bytes)} and {free_files} files are free, and below "
+                        f"{words.size(chosen.free_bytes)} and {collector_settings.FREE_FILES} nothing is stored", remedy)
+    elif found.bytes_a_day and found.bytes_a_day * chosen.keep_days - found.bytes > room:
+        found.days_left = room / found.bytes_a_day
+        if found.days_left < LEAST_DAYS:
+            findings.look("disk", "collector", f"at this rate the disk is full in {found.days_left:.1f} days", remedy)
+
+
+def look_at_what_was_told(found: Collector, folder: Path, now: float, findings: Findings) -> None:
+    """What the service told of within a day, unless it is about a machine that has no key any more."""
+    there = {machine.name for machine in found.machines}
+    for row in looking.rows(folder / "state.sqlite", "SELECT cause, text, first, last, count FROM told"):
+        name, _, about = str(row["cause"]).partition(" ")
+        if now - number(row["last"]) < DAY and (not about or about in there or name == "database"):
+            findings.look(name, about or "collector", f"{row['text']} ({row['count']} times, last "
+                          f"{words.ago(number(row['last']), now)})", f"journalctl -u {SERVICE} has more")
+
+
+def lines(found: Collector, now: float) -> list[tuple[str, str]]:
+    """What people are shown of it, each with its name."""
+    rate = f", {words.size(found.bytes_a_day)} a day" if found.bytes_a_day else ""
+    left = f", full in {found.days_left:.0f} days" if found.days_left is not None else ""
+    standing = ", ".join(f"{count} {name}" for name, count in sorted(found.databases.items())) or "none finished yet"
+    told = [("collector", found.folder), ("service", found.service),
+            ("databases", f"{standing}; {found.entries} entries, {words.size(found.bytes)}"),
+            ("disk", f"{words.size(found.free_bytes)} free{rate}{left}"),
+            ("journal files", f"{found.waiting_for_files} databases wait" if found.waiting_for_files else "all made")]
+    told += [(machine.name, f"called {words.ago(machine.seen, now)}, last new entry {words.ago(machine.stored, now)}, "
+              f"{machine.entries} entries") for machine in found.machines]
+    return told
