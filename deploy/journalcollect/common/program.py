@@ -66,3 +66,81 @@ def acknowledged(upload: Path, answers: str) -> Acknowledged | Refused | Unanswe
             return Unanswered()
     raise Failed(f"journal-collect acknowledged {upload}: status {ended.returncode}: "
                  f"{ended.stderr.decode(errors='replace').strip()}")
+
+
+# What the collector asks ----------------------------------------------------------------------------------------------
+
+
+def collecting(sequences: Path, database: Path, most_windows: int, names: str = "-") -> list[str | Path]:
+    """The call that stores the uploads that are named in a file, by lines `MACHINE<tab>PATH`, and answers each."""
+    return [path(), "collect", "--sequences", sequences, "--tables", "3", "--most-windows", str(most_windows),
+            "--files-from", names, database]
+
+
+def has_note(sequences: Path, sequence: str, number: int) -> bool:
+    """Whether an entry is noted as stored."""
+    return said("notes", "--sequences", sequences, "has", given=f"{sequence} {number}\n".encode()).strip() == "noted"
+
+
+def forget_after(sequences: Path, windows: Iterable[tuple[str, int, int]]) -> None:
+    """Of each window of a sequence only the first so many notes stay. Nobody may store meanwhile."""
+    lines = "".join(f"{sequence} {window} {count}\n" for sequence, window, count in windows)
+    said("notes", "--sequences", sequences, "forget-after", given=lines.encode())
+
+
+def owners(sequences: Path) -> dict[str, str]:
+    """Of each sequence that is a machine's, the SHA-256 digest of the machine's name."""
+    return dict(line.split(" ") for line in said("owners", "--sequences", sequences).splitlines())
+
+
+def rename_owner(sequences: Path, old: str, new: str) -> None:
+    """What was a machine's is its own under another name. Nobody may store meanwhile."""
+    said("owners", "--sequences", sequences, "--rename", old, new)
+
+
+def release(sequences: Path, sequence: str) -> None:
+    """A sequence is nobody's, and then the machine's that brings a new entry of it. Nobody may store meanwhile."""
+    said("owners", "--sequences", sequences, "--release", sequence)
+
+
+def differs(sequences: Path, database: Path) -> str | None:
+    """How a database differs from its notes; None if it doesn't."""
+    ended = run("check", "--sequences", sequences, database)
+    return None if ended.returncode == OK else (ended.stdout + ended.stderr).decode(errors="replace").strip()
+
+
+def touched(upload: int) -> int:
+    """How many files of notes an upload touches, which is in an open file; 0 if it has a fault."""
+    ended = subprocess.run([path(), "inspect", "/dev/stdin"], stdin=upload, capture_output=True, check=False)
+    words = ended.stdout.split()
+    return int(words[7]) if ended.returncode == OK else 0
+
+
+class Bad(Exception):
+    """The program can't take what is at this place of a stream, and the code that says why."""
+
+    def __init__(self, code: int, place: int) -> None:
+        super().__init__(f"bad {code} {place}")
+        self.code, self.place = code, place
+
+
+def upload(stream: Path, source: str, out: int) -> None:
+    """Writes all of an export stream to an open file, as an upload that is to be whole; a Bad if it has a fault."""
+    nothing = stream.with_name(stream.name + ".resume")
+    ended = subprocess.run([path(), "upload", "--source", source, "--resume", nothing, "--limit", str(2**63 - 1), "--whole",
+                            "export", stream], stdout=out, stderr=subprocess.PIPE, check=False)
+    raise_if_bad(ended.stderr, ended.returncode)
+
+
+def look_at(upload: Path) -> None:
+    """Returns if the program can take an upload as far as that doesn't depend on what is stored; otherwise a Bad."""
+    ended = run("inspect", upload)
+    raise_if_bad(ended.stdout, ended.returncode)
+
+
+def raise_if_bad(said: bytes, status: int) -> None:
+    word, code, place, *_ = said.split() + [b""] * 3
+    if status == REFUSED and word == b"bad" and code.isdigit() and place.isdigit():
+        raise Bad(int(code), int(place))
+    if status:
+        raise Failed(f"journal-collect: status {status}: {said.decode(errors='replace').strip()}")

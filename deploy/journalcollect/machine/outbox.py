@@ -1,0 +1,183 @@
+"""The outbox: uploads that are whole, and never change until they are acknowledged.
+
+outbox/N.upload, where N is when it was made, in microseconds, or a greater number: a name is never given twice. The
+program writes them, so it alone decides what an upload looks like, and none gets here that it couldn't read. An upload
+is on the disk before it has its name, and has its name on the disk before `put` returns.
+"""
+import os
+import time
+from collections.abc import Iterable
+from dataclasses import dataclass
+from io import BytesIO
+from itertools import groupby
+from pathlib import Path
+
+from journalcollect.common import files, program
+from journalcollect.common.export_stream import Unfit
+from journalcollect.machine.fit import entries
+from journalcollect.machine.refused import Refused
+from journalcollect.machine.shortened import Shortened, is_shortened
+
+HEADER_BYTES, WINDOW = 48, 4_096
+# So many files of notes an upload touches at most: the collector takes no more.
+MOST_WINDOWS = 16
+
+
+@dataclass
+class Piece:
+    """An entry as it goes out."""
+    sequence: str
+    number: int
+    text: bytes
+
+    @classmethod
+    def of(cls, entry: Shortened, sequence: str, number: int, is_other: bool) -> "Piece":
+        return cls(sequence, number, b"".join(entry.text(sequence.encode() if is_other else None)))
+
+    @property
+    def name(self) -> str:
+        return f"{self.sequence[:32]}-{self.number}.export".replace("/", "_")
+
+    def entry(self) -> Shortened:
+        return next(entries(BytesIO(self.text), Shortened))
+
+    def under(self, sequence: str) -> "Piece":
+        """The same entry in another sequence."""
+        return self if sequence == self.sequence else self.of(self.entry(), sequence, self.number, True)
+
+    def shortened(self) -> "Piece | None":
+        """What goes out in its place where it is too large; None if that is what it is."""
+        entry = self.entry()
+        if is_shortened(entry):
+            return None
+        entry.shorten()
+        return self.of(entry, self.sequence, self.number, False)
+
+
+def pieces_in(data: bytes) -> tuple[list[Piece], bytes]:
+    """The entries of an upload, as far as they can be followed, and the rest."""
+    pieces, end = list[Piece](), HEADER_BYTES
+    body = BytesIO(data)
+    body.seek(end)
+    try:
+        for entry in entries(body, Shortened):
+            sequence, number = entry.key()
+            text = data[end:HEADER_BYTES + entry.end]
+            pieces.append(Piece(sequence.decode("ascii"), int(number), text))
+            end = HEADER_BYTES + entry.end
+    except (Unfit, ValueError):
+        pass
+    return pieces, data[end:]
+
+
+class Outbox:
+    def __init__(self, folder: Path, refused: Refused) -> None:
+        self.folder, self.refused = folder / "outbox", refused
+        self.folder.mkdir(exist_ok=True)
+        self.sizes: dict[int, int] = {}
+        self.look()
+
+    def look(self) -> None:
+        """Which uploads there are."""
+        self.sizes = {int(each.stem): files.size(each) for each in self.folder.iterdir()
+                      if each.suffix == ".upload" and each.stem.isascii() and each.stem.isdigit()}
+
+    def path(self, number: int) -> Path:
+        return self.folder / f"{number}.upload"
+
+    @property
+    def bytes(self) -> int:
+        return sum(self.sizes.values())
+
+    def put(self, pieces: list[Piece]) -> list[int]:
+        """Makes an upload of some entries of one sequence. One that the program can't take is kept for a person, and the
+        others go out. The numbers of what was made: none, or one."""
+        stream, new = self.folder / "stream", self.folder / "new"
+        pieces = list(pieces)
+        while pieces:
+            with open(stream, "wb") as file:
+                file.writelines(piece.text for piece in pieces)
+            try:
+                with open(new, "wb") as out:
+                    program.upload(stream, os.urandom(16).hex(), out.fileno())
+                    os.fsync(out.fileno())
+            except program.Bad as bad:
+                self.leave_out(pieces, bad)
+                continue
+            number = max(time.time_ns() // 1_000, max(self.sizes, default=0) + 1)
+            size = files.size(new)
+            files.move(new, self.path(number))
+            self.sizes[number] = size
+            return [number]
+        return []
+
+    def leave_out(self, pieces: list[Piece], bad: program.Bad) -> None:
+        """Takes the entry with this byte of the stream out of them."""
+        end = 0
+        for at, piece in enumerate(pieces):
+            end += len(piece.text)
+            if bad.place < end or at == len(pieces) - 1:
+                self.refused.put(piece.name, piece.text, f"an entry can't be taken (code {bad.code})")
+                del pieces[at]
+                return
+
+    def pieces(self, number: int) -> list[Piece]:
+        """The entries of an upload. What can't be followed of it, as after damage, is kept for a person."""
+        pieces, rest = pieces_in(self.path(number).read_bytes())
+        if rest:
+            self.refused.put(f"{number}.damaged", rest, f"the end of {self.path(number)} is damaged, and `--again` sends "
+                             "what the journal has of it")
+        return pieces
+
+    def replace(self, number: int, groups: Iterable[list[Piece]]) -> None:
+        """Others take an upload's place, one for each group and sequence: whatever stops it, it is there or they are."""
+        for group in groups:
+            for _, pieces in groupby(group, lambda piece: piece.sequence):
+                self.put(list(pieces))
+        self.remove(number)
+
+    def halve(self, number: int, pieces: list[Piece]) -> None:
+        """Two uploads of about the same size take its place; it has more than one entry."""
+        half, at, size = sum(len(piece.text) for piece in pieces) // 2, 1, len(pieces[0].text)
+        while at < len(pieces) - 1 and size < half:
+            at, size = at + 1, size + len(pieces[at].text)
+        self.replace(number, [pieces[:at], pieces[at:]])
+
+    def cut(self, number: int, most: int) -> None:
+        """Uploads of at most so many bytes, or of one entry, take its place."""
+        self.replace(number, parted(self.pieces(number), most))
+
+    def remove(self, number: int) -> None:
+        self.path(number).unlink(missing_ok=True)
+        self.sizes.pop(number, None)
+
+
+class Making:
+    """The entries of an upload that is being made: one sequence, within a size and a number of files of notes."""
+
+    def __init__(self, most: int) -> None:
+        self.most = most
+        self.pieces: list[Piece] = []
+        self.windows: set[int] = set()
+        self.size = HEADER_BYTES
+
+    def fits(self, piece: Piece) -> bool:
+        """The entry may go out with these: the first one always."""
+        return not self.pieces or (
+            self.pieces[0].sequence == piece.sequence and self.size + len(piece.text) <= self.most
+            and len(self.windows | {piece.number // WINDOW}) <= MOST_WINDOWS)
+
+    def add(self, piece: Piece) -> None:
+        self.pieces.append(piece)
+        self.windows.add(piece.number // WINDOW)
+        self.size += len(piece.text)
+
+
+def parted(pieces: list[Piece], most: int) -> list[list[Piece]]:
+    """The same in order, each part as one upload may have."""
+    parts = [Making(most)]
+    for piece in pieces:
+        if not parts[-1].fits(piece):
+            parts.append(Making(most))
+        parts[-1].add(piece)
+    return [part.pieces for part in parts]

@@ -1,0 +1,99 @@
+"""What becomes of an upload that the collector doesn't take: an entry holds up itself alone.
+
+- 61, 62, 63: the collector failed. The upload goes out again later.
+- 6: it passes a bound with an entry. It goes on in two parts, split there.
+- 60, 71: an entry's key is taken, or its sequence is another machine's: this machine was set back, or is a clone. What
+  its sequence has from there on goes out under another id.
+- Any other code points to a byte. If the text is damaged here, or this comes again, the entry with that byte is kept for
+  a person, or goes out with less if it is too large; the others go on.
+- `smaller`, `never`: it is halved, down to the entry that is meant.
+"""
+from journalcollect.common import program
+from journalcollect.common.protocol import Answer
+from journalcollect.machine.outbox import Outbox, Piece
+from journalcollect.machine.places import Places
+from journalcollect.machine.refused import Refused
+from journalcollect.machine.report import LOOK, Report
+
+FAILURES, OVER_BOUNDS, CONFLICT, NOT_THE_OWNER, TOO_LARGE = (61, 62, 63), 6, 60, 71, (11, 12, 14, 15)
+# An entry whose text is whole here is believed to be at fault once the collector said so as often.
+BELIEVED = 2
+
+
+class Refusals:
+    def __init__(self, places: Places, outbox: Outbox, refused: Refused, report: Report) -> None:
+        self.places, self.outbox, self.refused, self.report = places, outbox, refused, report
+
+    def take(self, number: int, answer: Answer, tries: int) -> bool:
+        """An upload was refused, for so many times; whether something was done about it that lets it go out again."""
+        if answer.code in FAILURES:
+            return False
+        pieces = self.outbox.pieces(number)
+        if answer.code == OVER_BOUNDS and 0 < answer.place < len(pieces):
+            self.outbox.replace(number, [pieces[:answer.place], pieces[answer.place:]])
+        elif answer.code == OVER_BOUNDS:
+            self.halve(number, pieces, "it passes a bound of the collector")
+        elif answer.code in (CONFLICT, NOT_THE_OWNER) and answer.place < len(pieces):
+            self.take_conflict(number, pieces, answer)
+        else:
+            return self.take_byte(number, answer, pieces, tries)
+        return True
+
+    def take_conflict(self, number: int, pieces: list[Piece], answer: Answer) -> None:
+        """The upload stays: before it goes out, it is put under the ids that its entries have then. Of a sequence that is
+        another machine's nothing is taken. Two entries with one number part first."""
+        piece, code = pieces[answer.place], answer.code
+        if any(each.number == piece.number for each in pieces[:answer.place]):
+            self.outbox.replace(number, [pieces[:answer.place], pieces[answer.place:]])
+        elif self.places.forked(piece.sequence, piece.number) == piece.sequence:
+            first = piece.number if code == CONFLICT else 0
+            new = self.places.fork(piece.sequence, first)
+            self.report.say(LOOK, f"forked: {piece.sequence} goes on as {new} from entry {first} (code {code}): this machine "
+                            "was set back or cloned, or another one has its journal")
+
+    def go_on_forked(self, number: int) -> bool:
+        """Puts an upload's entries under the ids in which their sequences go on; whether any has another one now."""
+        if not self.places.forks:
+            return False
+        pieces = self.outbox.pieces(number)
+        forked = [piece.under(self.places.forked(piece.sequence, piece.number)) for piece in pieces]
+        if forked != pieces:
+            self.outbox.replace(number, [forked])
+        return forked != pieces
+
+    def take_byte(self, number: int, answer: Answer, pieces: list[Piece], tries: int) -> bool:
+        """The collector can't take what is at a byte. A bit that is lost on the way isn't the entry's fault."""
+        code, place = answer.code, answer.place
+        try:
+            program.look_at(self.outbox.path(number))
+            if tries < BELIEVED:
+                return False
+        except program.Bad as bad:
+            code, place = bad.code, bad.place
+        end, kept = 0, list[Piece]()
+        for piece in pieces:
+            begin, end = end, end + len(piece.text)
+            kept += [piece] if not begin <= place < end or code < OVER_BOUNDS else self.without(piece, code)
+        self.outbox.replace(number, [kept])
+        return True
+
+    def without(self, piece: Piece, code: int) -> list[Piece]:
+        """What goes out of an entry that can't be taken as it is."""
+        less = piece.shortened() if code in TOO_LARGE else None
+        self.refused.put(piece.name, piece.text, f"an entry was refused (code {code})" if less is None else
+                         f"an entry is too large for the collector (code {code}), and goes out with less")
+        return [less] if less else []
+
+    def mend(self, number: int) -> None:
+        """An upload that isn't one any more, as after damage, is made anew of what can be followed of it."""
+        self.outbox.replace(number, [self.outbox.pieces(number)])
+
+    def halve(self, number: int, pieces: list[Piece], why: str) -> None:
+        """It goes on in two parts; a single entry goes out with less, and then not at all."""
+        if len(pieces) > 1:
+            self.outbox.halve(number, pieces)
+            return
+        less = [each for each in (piece.shortened() for piece in pieces) if each]
+        for piece in pieces:
+            self.refused.put(piece.name, piece.text, f"an entry isn't taken{', and goes out with less' * bool(less)}: {why}")
+        self.outbox.replace(number, [less])

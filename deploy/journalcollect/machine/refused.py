@@ -1,0 +1,57 @@
+"""What a person may want to look at: the folder `refused`, which has the texts of entries that weren't stored as they
+are, each in a file SEQUENCE-NUMBER.export. It takes a part of what the machine's folder may."""
+from pathlib import Path
+
+from journalcollect.common import files
+from journalcollect.machine.report import LOOK, Report
+
+PART = 8
+
+
+class Refused:
+    def __init__(self, folder: Path, folder_bytes: int, report: Report) -> None:
+        self.folder, self.most, self.report = folder / "refused", folder_bytes // PART, report
+        self.folder.mkdir(exist_ok=True)
+
+    @property
+    def room(self) -> int:
+        return self.most - sum(files.size(each) for each in self.folder.iterdir() if each.name != "new")
+
+    def put(self, name: str, text: bytes, why: str) -> None:
+        """Keeps a text for a person, and says why."""
+        if len(text) > self.room:
+            self.report.say(LOOK, f"{why}; its text isn't kept, for {self.folder} is full: {name}")
+            return
+        files.replace(self.folder / name, text)
+        self.report.say(LOOK, f"{why}; its text is in {self.folder}/{name}, and the others go on")
+
+
+class Whole:
+    """The whole text of an entry over a limit, as it comes; LEAVE_OUT_LARGE=no keeps it beside what goes out."""
+
+    def __init__(self, refused: Refused) -> None:
+        self.refused, self.new = refused, refused.folder / "new"
+        self.begin()
+
+    def begin(self) -> None:
+        """Nothing is kept of an entry yet."""
+        self.new.unlink(missing_ok=True)
+        self.left: int | None = None
+
+    def write(self, piece: bytes) -> None:
+        self.left = (self.refused.room if self.left is None else self.left) - len(piece)
+        if self.left >= 0:
+            with open(self.new, "ab") as file:
+                file.write(piece)
+
+    def keep(self, name: str) -> str:
+        """The entry is whole; what is said of it."""
+        if self.left is None:
+            return ""
+        is_kept = self.left >= 0
+        if is_kept:
+            self.write(b"\n")
+            files.sync(self.new)
+            files.move(self.new, self.refused.folder / name)
+        self.begin()
+        return f"; its text is in {self.refused.folder}/{name}" if is_kept else "; its text isn't kept: there is no room"

@@ -1,0 +1,165 @@
+"""Sending: the outbox goes out, an upload at a time, and the answer to each comes before the next one goes.
+
+The newest upload goes first and then the oldest: what was just logged is wanted soon, and doesn't wait behind a backlog;
+what is old would otherwise be the longest without a second copy. Order is free, since each entry is stored by its key.
+An upload that was in vain twice lets all others go first, and rests, each time for twice as long.
+"""
+import hashlib
+import random
+import time
+
+from journalcollect.common import program
+from journalcollect.common.protocol import LONGEST_LINE, Answer, Greeting, Had, Known, Put, Reply, Upload, Verdict
+from journalcollect.machine.link import Link, Lost
+from journalcollect.machine.outbox import Outbox, pieces_in
+from journalcollect.machine.places import LONGEST_REST, Places
+from journalcollect.machine.refusals import Refusals
+from journalcollect.machine.report import FAILED, LOOK, Report
+from journalcollect.machine.settings import Settings
+
+# An upload whose connection is lost as often in a row is halved, down to so many bytes.
+CUTS, LEAST_BYTES = 2, 4 << 10
+# One that is through in so many seconds is small enough for the link.
+FAST_SECONDS = 2.0
+FIRST_PAUSE, LONGEST_PAUSE = 5.0, 60.0
+# The collector notes for longer than this what it stored, whatever it keeps.
+HAD_SECONDS = 7 * 86_400
+SKEW_SECONDS = 60
+
+
+class Sending:
+    def __init__(self, settings: Settings, report: Report, places: Places, outbox: Outbox, refusals: Refusals) -> None:
+        self.settings, self.report, self.places, self.outbox = settings, report, places, outbox
+        self.refusals, self.link = refusals, Link(settings)
+        self.pause, self.resumes = 0.0, 0.0
+        self.uploads = 0
+
+    def next(self) -> int | None:
+        """The upload that goes out next, if one is to go out now."""
+        if not self.outbox.sizes or time.monotonic() < self.resumes or not (self.settings.collector or self.settings.connect):
+            return None
+        tries, now, newest = self.places.tries(), time.time(), max(self.outbox.sizes)
+        rested = [number for number in self.outbox.sizes
+                  if not now < tries.get(number, (0, 0.0))[1] <= now + LONGEST_REST]
+        return min(rested, key=lambda number: (tries.get(number, (0, 0.0))[0] // CUTS, number != newest, number)) \
+            if rested else None
+
+    def send_next(self) -> bool:
+        """Sends an upload, if one is to go out now."""
+        number = self.next()
+        if number is not None:
+            self.send(number)
+        return number is not None
+
+    def send(self, number: int) -> None:
+        bound = self.places.number("bound") or self.settings.upload_bytes
+        try:
+            data = self.outbox.path(number).read_bytes()
+        except FileNotFoundError:
+            self.outbox.look()                      # somebody took it away
+            return
+        if len(data) > 2 * bound and len(pieces_in(data)[0]) > 1:
+            self.outbox.cut(number, bound)
+            return
+        if self.refusals.go_on_forked(number):
+            return
+        begin = time.monotonic()
+        try:
+            if not self.link.is_open and not self.greet(self.link.open()):
+                return
+            reply = self.link.ask(Upload(len(data), hashlib.sha256(data).hexdigest(), time.time_ns() // 1_000), data)
+        except Lost as lost:
+            self.lost(number, len(data), lost)
+            return
+        self.uploads += 1
+        self.places.set(answered=int(time.time()), cuts=0)
+        if self.take(number, data, reply) and time.monotonic() - begin < FAST_SECONDS and len(data) * 2 > bound:
+            self.places.set(bound=min(2 * bound, self.settings.upload_bytes))
+
+    def greet(self, greeting: Greeting) -> bool:
+        """What the collector says first, and whether it has what it acknowledged last."""
+        skew = (greeting.realtime - time.time_ns() // 1_000) // 1_000_000
+        self.places.set(skew=skew, answered=int(time.time()))
+        if abs(skew) > SKEW_SECONDS:
+            self.report.say(LOOK, f"this machine's clock is {abs(skew)} s {'behind' if skew > 0 else 'ahead of'} the collector's")
+        if greeting.head:
+            self.places.see_head(greeting.head)
+        sequence, number, noted = (self.places.value("had").split() + ["0"] * 3)[:3]
+        if not number.isdigit() or not noted.isdigit() or not 0 <= time.time() - int(noted) < HAD_SECONDS:
+            return True
+        if self.link.ask(Had(sequence, int(number))) is not Known.LOST:
+            return True
+        self.report.say(LOOK, "the collector lost what it had acknowledged: what the journal still has goes out once more")
+        self.places.forget_all()
+        return True
+
+    def take(self, number: int, data: bytes, reply: Reply) -> bool:
+        """What an answer means to an upload; whether it is acknowledged."""
+        match reply:
+            case Answer(line):
+                return self.take_answer(number, data, line)
+            case Put(Verdict.LATER, why):
+                self.rest(number, f"the collector takes nothing now: {why}")
+            case Put(_, why):
+                self.refusals.halve(number, self.outbox.pieces(number), why)
+        return False
+
+    def take_answer(self, number: int, data: bytes, lines: str) -> bool:
+        """What some lines of the program mean to an upload; whether it is acknowledged. That alone deletes it."""
+        try:
+            means = program.acknowledged(self.outbox.path(number), lines)
+        except program.Failed:
+            self.refusals.mend(number)
+            raise
+        match means:
+            case program.Acknowledged():
+                self.acknowledge(number, data)
+                return True
+            case program.Refused(line):
+                answer = Answer(line)
+                tries = self.places.tries().get(number, (0, 0.0))[0] + 1
+                if not self.refusals.take(number, answer, tries):
+                    self.rest(number, f"the collector refuses an upload (code {answer.code})")
+            case program.Unanswered() if self.link.is_open:
+                self.link.close()
+                self.rest(number, "the collector answers to another upload")
+        return False
+
+    def take_answers(self, lines: str) -> None:
+        """What answers that were brought by hand mean to what waits."""
+        for number in sorted(self.outbox.sizes):
+            self.take_answer(number, self.outbox.path(number).read_bytes(), lines)
+
+    def acknowledge(self, number: int, data: bytes) -> None:
+        pieces, _ = pieces_in(data)
+        if pieces:
+            self.places.set(had=f"{pieces[-1].sequence} {pieces[-1].number} {int(time.time())}")
+        self.outbox.remove(number)
+        self.places.forget_tries(number)
+        self.places.set(acknowledged=int(time.time()), trouble="")
+        self.pause = 0.0
+
+    def lost(self, number: int, size: int, lost: Lost) -> None:
+        """No answer came. What the link didn't carry twice in a row has too many bytes for it."""
+        if lost.went_out > LONGEST_LINE:
+            cuts = self.places.number("cuts") + 1
+            self.places.set(cuts=cuts % CUTS)
+            if cuts >= CUTS:
+                self.places.set(bound=max(LEAST_BYTES, min(size, self.settings.upload_bytes) // 2))
+            self.rest(number, str(lost), FAILED)
+            if cuts >= CUTS and size > LEAST_BYTES and len(pieces := self.outbox.pieces(number)) > 1:
+                self.outbox.halve(number, pieces)
+        else:
+            self.wait(str(lost), FAILED)
+
+    def rest(self, number: int, why: str, status: int = LOOK) -> None:
+        self.places.tried(number, FIRST_PAUSE)
+        self.wait(why, status)
+
+    def wait(self, why: str, status: int) -> None:
+        """Nothing goes out for a while, each time for twice as long; machines that wait for one collector don't all come
+        back at once."""
+        self.report.say(status, why)
+        self.places.set(trouble=why)
+        self.pause = min(max(2 * self.pause, FIRST_PAUSE), LONGEST_PAUSE)
+        self.resumes = time.monotonic() + self.pause * random.uniform(0.75, 1)
