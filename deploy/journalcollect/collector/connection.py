@@ -1,0 +1,118 @@
+"""One connection of a machine: what it asks is answered, one after the other."""
+import hashlib
+import os
+import socket
+import threading
+import time
+from dataclasses import dataclass
+
+from ..common import files, program, protocol
+from ..common.protocol import Answer, Had, Known, NotALine, Put, Upload, Verdict
+from . import head
+from .gate import Gate
+from .state import log
+from .store import Store
+from .turns import Waiting
+
+# Seconds without a byte within an upload, and between requests; bytes a second that come at least.
+IDLE, REST, RATE = 90.0, 3600.0, 1_000
+PIECE = 1 << 16
+# What is too large is read to its end, so that it can be answered, if it is no larger than this.
+READ_TO_END = 256 << 20
+
+
+@dataclass
+class Came:
+    """An upload as it came."""
+    handle: int
+    size: int
+    digest: str = ""
+    refusal: Put | None = None
+
+
+class Connection(threading.Thread):
+    """A thread for each connection, which ends with it."""
+
+    def __init__(self, one: socket.socket, machine: str, store: Store, gate: Gate) -> None:
+        super().__init__(name=machine, daemon=True)
+        self.one, self.machine, self.store, self.gate = one, machine, store, gate
+        self.rest = b""
+
+    def run(self) -> None:
+        try:
+            with self.one, self.gate.entered(self.machine, self.one):
+                self.one.settimeout(IDLE)
+                self.say(protocol.Greeting(time.time_ns() // 1000, head.latest(self.store)))
+                while line := self.line():
+                    self.say(self.reply(protocol.request(line)))
+        except (OSError, NotALine):
+            pass                                       # it was cut, or is no machine of ours: what it sent comes again
+        except Exception as error:
+            log(f"{self.machine}: {type(error).__name__}: {error}")
+
+    def say(self, line: protocol.Greeting | protocol.Reply) -> None:
+        self.one.sendall(protocol.encoded(line))
+
+    def line(self) -> str | None:
+        """The next line; None at the end."""
+        self.one.settimeout(REST)
+        while b"\n" not in self.rest:
+            piece = self.one.recv(protocol.LONGEST_LINE)
+            if not piece or len(self.rest) > protocol.LONGEST_LINE:
+                return None
+            self.rest += piece
+        line, _, self.rest = self.rest.partition(b"\n")
+        return protocol.decoded(line + b"\n")
+
+    def reply(self, request: Had | Upload) -> protocol.Reply:
+        if isinstance(request, Had):
+            return self.known(request)
+        self.gate.told_time(self.machine, request.realtime / 1e6)
+        return self.upload(request)
+
+    def known(self, key: Had) -> Known:
+        """Whether an entry that was acknowledged is known still."""
+        if program.has_note(self.store.folder.sequences, key.sequence, key.number):
+            return Known.HAD
+        self.store.state.tell(f"lost {self.machine}", f"{self.machine}: entry {key.number} of {key.sequence} was acknowledged,"
+                              " and isn't here: what its journal still has comes once more")
+        return Known.LOST
+
+    def upload(self, told: Upload) -> Answer | Put:
+        """Takes an upload, and has it stored, if no bound is in the way."""
+        if told.size > READ_TO_END:
+            raise NotALine(str(told))
+        with files.unnamed(self.store.folder.recent) as handle:
+            came = Came(handle, told.size, refusal=self.gate.before(self.machine, told.size))
+            self.read(came)
+            if came.refusal:
+                return came.refusal
+            if came.digest != told.sha256:
+                raise NotALine("another digest")
+            if refusal := self.gate.of_upload(self.machine, came.handle, came.size):
+                return refusal
+            return self.store.ask(Waiting(self.machine, came.handle, came.size))
+
+    def read(self, came: Came) -> None:
+        """Reads an upload. One that is refused is read to its end, and kept nowhere."""
+        self.one.settimeout(IDLE)
+        end, left, digest = time.monotonic() + IDLE + came.size / RATE, came.size, hashlib.sha256()
+        while left:
+            piece, self.rest = self.rest or self.one.recv(min(left, PIECE)), b""
+            if not piece or time.monotonic() > end:
+                raise NotALine("it was cut")
+            piece, self.rest = piece[:left], piece[left:]
+            left -= len(piece)
+            digest.update(piece)
+            if not came.refusal:
+                came.refusal = written(came.handle, piece)
+        came.digest = digest.hexdigest()
+
+
+def written(handle: int, piece: bytes) -> Put | None:
+    """Writes a part of an upload; if the disk has no room, it comes again."""
+    try:
+        files.write_all(handle, piece)
+    except OSError as error:
+        return Put(Verdict.LATER, f"the disk of the collector: {os.strerror(error.errno or 0)}")
+    return None

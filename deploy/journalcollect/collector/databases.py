@@ -1,0 +1,160 @@
+"""Databases as files: what a finished one has, its digest, and how a packed one is read.
+
+    databases/NAME.db           one that is being stored in, with its log NAME.db-wal; or a finished one
+    databases/NAME.db.sha256    it is finished: the digest, as sha256sum writes it
+    databases/NAME.db.zst       a finished one, packed; its digest is that of what it packs
+"""
+import contextlib
+import hashlib
+import shutil
+import sqlite3
+import subprocess
+import uuid
+from collections.abc import Iterator
+from dataclasses import dataclass
+from pathlib import Path
+
+from ..common import files
+from .folder import Folder
+
+# A log without a page has at most so many bytes.
+EMPTY_LOG = 55
+# Less than the tables take.
+NO_TABLES = 4096
+WINDOW = 4096
+
+
+class Damaged(Exception):
+    """A database isn't what it was when it was finished, and how."""
+
+
+@dataclass(frozen=True)
+class Summary:
+    """What a finished database has: its entries, the first and last of their times in microseconds, its bytes, its
+    digest, and how many entries each window of a sequence has."""
+    entries: int
+    first: int | None
+    last: int | None
+    bytes: int
+    digest: str
+    windows: dict[tuple[str, int], int]
+
+
+def path_of(folder: Folder, name: str) -> Path:
+    return folder.databases / f"{name}.db"
+
+
+def beside(path: Path, end: str) -> Path:
+    return path.with_name(path.name + end)
+
+
+def log_of(path: Path) -> Path:
+    return beside(path, "-wal")
+
+
+def bytes_of(path: Path) -> int:
+    """How many bytes a database that is being stored in has, with its log."""
+    return files.size(path) + files.size(log_of(path))
+
+
+def has_nothing(path: Path) -> bool:
+    """Whether its program was stopped before it had tables."""
+    return files.size(path) <= NO_TABLES and files.size(log_of(path)) <= EMPTY_LOG
+
+
+def digest_of(path: Path) -> str:
+    with open(path, "rb") as file:
+        return hashlib.file_digest(file, "sha256").hexdigest()
+
+
+def told_digest(path: Path) -> str | None:
+    """The digest that lies beside a database; None if it isn't finished."""
+    try:
+        return beside(path, ".sha256").read_text(encoding="ascii", errors="replace").partition(" ")[0]
+    except FileNotFoundError:
+        return None
+
+
+def own(path: Path) -> None:
+    """What somebody linked elsewhere, as a backup by hard links does, isn't written to: a copy takes its name."""
+    for each in (path, log_of(path)):
+        if each.exists() and each.stat().st_nlink > 1:
+            copy = beside(each, ".new")
+            shutil.copy2(each, copy)
+            files.sync(copy)
+            files.move(copy, each)
+
+
+def finish(path: Path) -> str:
+    """A closed database doesn't change any more: its log, which is empty, goes, and its digest is beside it."""
+    if files.size(log_of(path)) > EMPTY_LOG:
+        raise OSError(f"{log_of(path)} has pages")
+    files.sync(path)
+    log_of(path).unlink(missing_ok=True)
+    digest = digest_of(path)
+    files.replace(beside(path, ".sha256"), f"{digest}  {path.name}\n".encode("ascii"), 0o640)
+    return digest
+
+
+def summary(path: Path, digest: str) -> Summary:
+    """What a closed database has, by its tables."""
+    try:
+        with contextlib.closing(sqlite3.connect(f"file:{path}?immutable=1", uri=True)) as tables:
+            entries, first, last = tables.execute(
+                "SELECT count(*), min(realtime), max(realtime) FROM record").fetchone()
+            windows = {(sequence, window): count for sequence, window, count in tables.execute(
+                f"SELECT lower(hex(seqid)), seqnum / {WINDOW}, count(*) FROM record GROUP BY 1, 2")}
+    except sqlite3.Error as error:
+        raise Damaged(f"{path}: {error}") from error
+    return Summary(entries, first, last, path.stat().st_size, digest, windows)
+
+
+def delete(folder: Folder, name: str) -> None:
+    for end in (".db", ".db.zst", ".db-wal", ".db.sha256"):
+        (folder.databases / f"{name}{end}").unlink(missing_ok=True)
+    files.sync(folder.databases)
+
+
+# Packed ones ----------------------------------------------------------------------------------------------------------
+
+
+def pack(path: Path, digest: str) -> int:
+    """Packs a finished database, once what is packed reads as it was finished; how many bytes it takes then."""
+    packed, new = beside(path, ".zst"), beside(path, ".zst.new")
+    subprocess.run(["nice", "-n", "19", "zstd", "-qf", "-6", "-T1", "-o", new, path], check=True)
+    if unpacked_digest(new) != digest:
+        new.unlink()
+        raise Damaged(f"{path} isn't as it was finished")
+    new.chmod(0o640)
+    files.sync(new)
+    files.move(new, packed)
+    path.unlink()
+    return packed.stat().st_size
+
+
+def unpacked_digest(path: Path) -> str:
+    """The digest of what is packed in a file."""
+    with subprocess.Popen(["zstd", "-dcq", path], stdout=subprocess.PIPE) as unpacking:
+        assert unpacking.stdout
+        digest = hashlib.sha256()
+        while piece := unpacking.stdout.read(1 << 20):
+            digest.update(piece)
+    if unpacking.returncode:
+        raise Damaged(f"{path} can't be unpacked")
+    return digest.hexdigest()
+
+
+@contextlib.contextmanager
+def unpacked(folder: Folder, name: str) -> Iterator[Path]:
+    """A copy of a finished database, packed or not, which the program may open and which is gone afterwards."""
+    path = path_of(folder, name)
+    copy = folder.scratch / f"{uuid.uuid4().hex}.db"
+    try:
+        if path.exists():
+            shutil.copyfile(path, copy)
+        elif subprocess.run(["zstd", "-dqf", "-o", copy, beside(path, ".zst")], check=False).returncode:
+            raise Damaged(f"{beside(path, '.zst')} can't be unpacked")
+        yield copy
+    finally:
+        copy.unlink(missing_ok=True)
+        log_of(copy).unlink(missing_ok=True)

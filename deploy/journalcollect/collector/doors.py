@@ -1,0 +1,72 @@
+"""A socket for each machine that has a key, sockets/NAME: whoever comes by it is that machine."""
+import os
+import selectors
+import shutil
+import socket
+from collections.abc import Iterator
+from pathlib import Path
+
+from ..common import names
+from .folder import Folder
+from .gate import Gate
+
+BACKLOG = 16
+
+
+class Doors:
+    """The sockets that are listened on. The keys' folder says whose they are, and is looked at once a second."""
+
+    def __init__(self, folder: Folder, keys: Path, gate: Gate) -> None:
+        self.folder, self.keys, self.gate = folder, keys, gate
+        self.there = selectors.DefaultSelector()
+        self.open: dict[str, socket.socket] = {}
+        self.seen: int | None = None
+        for path in folder.sockets.iterdir():
+            shutil.rmtree(path) if path.is_dir() else path.unlink()
+
+    def came(self, seconds: float) -> Iterator[tuple[str, socket.socket]]:
+        """The machines that came within so many seconds, and their connections."""
+        self.look()
+        for key, _ in self.there.select(seconds):
+            if key.data in self.open:
+                yield key.data, self.open[key.data].accept()[0]
+
+    def look(self) -> None:
+        """Opens a socket for each new machine. Who has no key any more is let in no more, and out."""
+        changed = self.keys.stat().st_mtime_ns if self.keys.is_dir() else 0
+        if changed == self.seen:
+            return
+        self.seen = changed
+        wanted = {path.stem for path in self.keys.glob("*.pub") if names.is_machine(path.stem)}
+        for machine in self.open.keys() - wanted:
+            self.shut(machine)
+        for machine in sorted(wanted - self.open.keys()):
+            self.listen(machine)
+
+    def listen(self, machine: str) -> None:
+        listening = self.open[machine] = socket.socket(socket.AF_UNIX)
+        path = self.folder.sockets / machine
+        bind(listening, path)
+        path.chmod(0o666)                              # the folder says who may pass
+        listening.listen(BACKLOG)
+        self.there.register(listening, selectors.EVENT_READ, machine)
+
+    def shut(self, machine: str) -> None:
+        listening = self.open.pop(machine)
+        self.there.unregister(listening)
+        listening.close()
+        (self.folder.sockets / machine).unlink(missing_ok=True)
+        self.gate.end(machine)
+
+    def close(self) -> None:
+        for machine in list(self.open):
+            self.shut(machine)
+
+
+def bind(listening: socket.socket, path: Path) -> None:
+    """Gives a socket its name. A name over 107 bytes, which no socket may have, is reached by its open folder."""
+    folder = os.open(path.parent, os.O_PATH | os.O_DIRECTORY)
+    try:
+        listening.bind(f"/proc/self/fd/{folder}/{path.name}")
+    finally:
+        os.close(folder)

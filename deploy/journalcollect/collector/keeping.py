@@ -1,0 +1,148 @@
+"""What is done now and then beside storing: old databases go, and finished ones are packed and looked at."""
+import fcntl
+import os
+import subprocess
+import threading
+import time
+from collections.abc import Iterator
+from contextlib import contextmanager
+from pathlib import Path
+
+from ..common import program
+from . import databases
+from .databases import Damaged
+from .settings import Settings
+from .state import log
+from .store import Store
+
+ROUND_SECONDS = 30.0
+# A look at a database is followed by so many times as long of rest: all takes a fourth of a processor at most.
+REST = 3.0
+
+
+@contextmanager
+def held(path: Path, is_waiting: bool) -> Iterator[bool]:
+    """Has a lock for a while, or hasn't, if another one has it."""
+    handle = os.open(path, os.O_RDWR | os.O_CREAT | os.O_CLOEXEC, 0o600)
+    try:
+        fcntl.flock(handle, fcntl.LOCK_EX | (0 if is_waiting else fcntl.LOCK_NB))
+    except BlockingIOError:
+        os.close(handle)
+        yield False
+        return
+    try:
+        yield True
+    finally:
+        os.close(handle)
+
+
+class Keeping(threading.Thread):
+    """One thread, which takes its time."""
+
+    def __init__(self, settings: Settings, store: Store) -> None:
+        super().__init__(name="keeping", daemon=True)
+        self.settings, self.store = settings, store
+        self.folder, self.state, self.notes = store.folder, store.state, store.recovery.notes
+        self.notes_day = -1
+
+    def run(self) -> None:
+        while not self.store.stops.wait(ROUND_SECONDS):
+            try:
+                if self.store.is_begun.is_set():
+                    self.round()
+                self.state.over("keeping")
+            except (OSError, subprocess.SubprocessError, Damaged, program.Failed) as error:
+                self.state.tell("keeping", f"old databases, packing and checks: {error}")
+
+    def round(self) -> None:
+        age = self.state.age.grown()
+        if age.uncounted >= 1:
+            self.state.tell("days", f"by the clock {age.uncounted:.0f} days more went by than the collector is known to have "
+                            f"run: they don't count. If they did: journal-collect-admin passed {int(age.uncounted)}")
+        with held(self.folder.path / "backup.lock", is_waiting=False) as is_free:
+            if is_free:
+                self.delete_old(age.days)
+                self.pack(age.days)
+        self.check_notes(age.days)
+        self.check_databases(age.days - 1)
+
+    # What goes --------------------------------------------------------------------------------------------------------
+
+    def delete_old(self, age: float) -> None:
+        """Databases go KEEP_DAYS after they were finished, and the oldest if all have over KEEP_BYTES."""
+        for name, since in self.state.ask("SELECT name, age FROM database WHERE standing = 'finished' AND age < ? "
+                                          "ORDER BY id", age - self.settings.keep_days):
+            self.delete(name, f"{age - since:.1f} days after it was finished")
+        total, = self.state.ask("SELECT sum(coalesce(packed, bytes)) FROM database WHERE standing = 'finished'")[0]
+        if total and total > self.settings.keep_bytes:
+            for name, size in self.state.ask("SELECT name, coalesce(packed, bytes) FROM database WHERE "
+                                             "standing = 'finished' ORDER BY id"):
+                if total <= self.settings.keep_bytes:
+                    break
+                self.delete(name, "as all have over KEEP_BYTES")
+                total -= size
+
+    def delete(self, name: str, why: str) -> None:
+        self.state.stands(name, "deleted")
+        databases.delete(self.folder, name)
+        log(f"deleted: {name}, {why}")
+
+    def pack(self, age: float) -> None:
+        """Finished databases are packed, PACK_DAYS after."""
+        for name, digest in self.state.ask("SELECT name, digest FROM database WHERE standing = 'finished' AND packed IS NULL "
+                                           "AND age < ? ORDER BY id", age - self.settings.pack_days):
+            if self.store.stops.is_set():
+                return
+            try:
+                size = databases.pack(databases.path_of(self.folder, name), digest)
+            except Damaged as error:
+                self.state.tell(f"damaged {name}", f"{error}: restore it from a backup")
+                continue
+            self.state.ask("UPDATE database SET packed = ? WHERE name = ?", size, name)
+
+    # What is looked at ------------------------------------------------------------------------------------------------
+
+    def check_notes(self, age: float) -> None:
+        """Once a day of the collector, and at its start, each file of notes is compared with what it was."""
+        if int(age) != self.notes_day:
+            self.notes_day = int(age)
+            self.mend_notes()
+
+    def mend_notes(self) -> list[str]:
+        """Makes notes anew that aren't what they were; which."""
+        bad = sorted({*self.notes.short(), *self.notes.changed()})
+        if bad:
+            self.store.alone(lambda: self.notes.make_anew(bad, "it isn't as it was", self.store.stops))
+        return [f"{sequence}/{window}" for sequence, window in bad]
+
+    def check_databases(self, last: float) -> None:
+        """Looks at each database that wasn't looked at since an age."""
+        for name, in self.state.ask("SELECT name FROM database WHERE standing = 'finished' AND coalesce(checked, age) < ? "
+                                    "ORDER BY checked", last):
+            begun = time.monotonic()
+            self.check(name)
+            if self.store.stops.wait(REST * (time.monotonic() - begun)):
+                return
+
+    def check(self, name: str) -> str | None:
+        """Looks whether a finished database is as it was, and agrees with its notes: what is wrong, which is told."""
+        fault = self.fault(name)
+        if fault and name in self.state.names():
+            self.state.tell(f"damaged {name}", f"{fault}: restore it from a backup")
+        self.state.ask("UPDATE database SET checked = ? WHERE name = ?", self.state.age.grown().days, name)
+        return fault
+
+    def fault(self, name: str) -> str | None:
+        path = databases.path_of(self.folder, name)
+        (digest,), = self.state.ask("SELECT digest FROM database WHERE name = ?", name)
+        try:
+            with databases.unpacked(self.folder, name) as copy:
+                if databases.digest_of(copy) != digest:
+                    return f"{path} isn't as it was finished"
+                if databases.told_digest(path) != digest:
+                    return f"{databases.beside(path, '.sha256')} isn't as it was finished"
+                if differs := program.differs(self.folder.sequences, copy):
+                    return f"{path} differs from what is noted of it: {differs}"
+        except (OSError, Damaged) as error:
+            return str(error)
+        return None

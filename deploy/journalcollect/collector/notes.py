@@ -1,0 +1,173 @@
+"""The files of notes, sequences/SEQUENCE/WINDOW: whether each is as it was when its databases were finished.
+
+The program alone writes and reads notes. Here is known that a file is a row of blocks of 41 bytes with one byte behind
+them, that it is only added to, and that it has the notes of one database after the other. So what a finished database
+was noted in is told by a number of bytes and their digest, and notes are made anew by opening the databases.
+"""
+import hashlib
+import stat
+import threading
+from collections.abc import Iterable, Iterator
+from pathlib import Path
+
+from ..common import files, program
+from . import databases
+from .databases import Damaged, Summary
+from .folder import Folder
+from .state import State, Window, log
+
+NOTE = 41
+# The file that says whose a sequence is has the number of this window, and is never made anew.
+OWNER = str(2**63 // databases.WINDOW)
+
+Name = tuple[str, int]
+
+
+class Notes:
+    """The notes of a collector. What changes them is called only while no process of the program stores."""
+
+    def __init__(self, folder: Folder, state: State) -> None:
+        self.folder, self.state = folder, state
+
+    def path(self, sequence: str, window: int) -> Path:
+        return self.folder.sequences / sequence / str(window)
+
+    def after(self, had: Summary) -> list[Window]:
+        """How the windows of a database are once it is finished."""
+        counts = [(*name, self.state.notes_of(*name) + count) for name, count in had.windows.items()]
+        return [self.measured(sequence, window, notes) for sequence, window, notes in counts]
+
+    def measured(self, sequence: str, window: int, notes: int) -> Window:
+        """A window that ought to have so many notes of finished databases, as it is."""
+        data = self.beginning(sequence, window, NOTE * notes)
+        return Window(sequence, window, notes, len(data), hashlib.sha256(data).hexdigest())
+
+    def beginning(self, sequence: str, window: int, size: int) -> bytes:
+        """The first bytes of a file of notes; none, if it can't be read."""
+        try:
+            if not stat.S_ISREG(self.path(sequence, window).lstat().st_mode):
+                return b""
+            with open(self.path(sequence, window), "rb") as file:
+                return file.read(size)
+        except OSError:
+            return b""
+
+    # What is wrong ----------------------------------------------------------------------------------------------------
+
+    def unlike(self, windows: Iterable[Window]) -> list[Name]:
+        """The windows whose files have other notes than finished databases have entries. Asked while no other database
+        is there."""
+        return [(each.sequence, each.window) for each in windows
+                if self.size(each) != NOTE * each.notes + 1]
+
+    def short(self) -> list[Name]:
+        """The windows that are gone, emptied or cut."""
+        return [(each.sequence, each.window) for each in self.state.windows() if self.size(each) < NOTE * each.notes]
+
+    def size(self, window: Window) -> int:
+        """How many bytes the file of a window has; -1 if it is none."""
+        try:
+            told = self.path(window.sequence, window.window).lstat()
+        except OSError:
+            return -1
+        return told.st_size if stat.S_ISREG(told.st_mode) else -1
+
+    def changed(self) -> Iterator[Name]:
+        """The windows whose bytes aren't what they were. They are read, some at a time."""
+        for each in self.state.windows():
+            data = self.beginning(each.sequence, each.window, each.bytes)
+            if hashlib.sha256(data).hexdigest() != each.sum and self.is_so_still(each):
+                yield each.sequence, each.window
+
+    def is_so_still(self, window: Window) -> bool:
+        """Whether a window is known as it was; it may have gone for its age, or have been made anew."""
+        return bool(self.state.ask("SELECT 1 FROM noted WHERE sequence = ? AND window = ? AND sum = ?", window.sequence,
+                                   window.window, window.sum))
+
+    # What is done -----------------------------------------------------------------------------------------------------
+
+    def forget(self) -> None:
+        """Only notes of finished databases stay, which stand first in each file."""
+        found = ((path.parent.name, int(path.name), files.size(path)) for path in self.files())
+        known = [(sequence, window, size, self.state.notes_of(sequence, window)) for sequence, window, size in found]
+        more = [(sequence, window, notes) for sequence, window, size, notes in known if size > NOTE * notes + 1]
+        if more:
+            program.forget_after(self.folder.sequences, more)
+
+    def files(self) -> Iterator[Path]:
+        """All files of notes but those that say whose a sequence is."""
+        return (path for path in self.folder.sequences.glob("*/*")
+                if path.name.isascii() and path.name.isdigit() and path.name != OWNER)
+
+    def make_anew(self, names: Iterable[Name], why: str, stops: threading.Event | None = None) -> None:
+        """Windows that aren't as they were are put aside, and made anew of the databases that were noted in them. If it
+        is stopped, the next start finds them short."""
+        wanted: dict[int, str] = {}
+        names = list(names)
+        for name in names:
+            self.put_aside(*name, why)
+            for number, database in self.state.ask(
+                    "SELECT database.id, name FROM noted JOIN database ON database.id BETWEEN noted.first AND noted.last "
+                    "WHERE sequence = ? AND window = ? AND standing = 'finished'", *name):
+                wanted[number] = database
+        for _, database in sorted(wanted.items()):
+            if stops and stops.is_set():
+                return
+            self.note(database)
+        for sequence, window in names:
+            self.measure_anew(sequence, window)
+
+    def put_aside(self, sequence: str, window: int, why: str) -> None:
+        path = self.path(sequence, window)
+        self.state.tell(f"notes {sequence}/{window}", f"{path}: {why}: it is put aside, and made anew of the databases")
+        if path.is_symlink() or path.exists():
+            to = self.folder.quarantine / f"notes-{sequence}-{window}"
+            files.move(path, next(each for each in numbered(to) if not each.exists()))
+
+    def note(self, database: str) -> None:
+        """Notes what a finished database has, and isn't noted."""
+        try:
+            with databases.unpacked(self.folder, database) as copy:
+                ended = program.run(*program.collecting(self.folder.sequences, copy, 0, "/dev/null")[1:])
+        except Damaged as error:
+            self.state.tell(f"damaged {database}", str(error))
+            return
+        if ended.returncode:
+            said = ended.stderr.decode(errors="replace").strip()
+            self.state.tell(f"damaged {database}", f"{database} can't be noted: {said}: restore it from a backup")
+
+    def measure_anew(self, sequence: str, window: int) -> None:
+        """What a window has now, all of it of finished databases, is what it ought to have."""
+        notes = max(0, files.size(self.path(sequence, window)) // NOTE)
+        each = self.measured(sequence, window, notes)
+        self.state.ask("UPDATE noted SET notes = ?, bytes = ?, sum = ? WHERE sequence = ? AND window = ?", each.notes,
+                       each.bytes, each.sum, sequence, window)
+
+    def of_database(self, name: str) -> list[Name]:
+        """The windows that may have been noted in a database."""
+        return self.state.ask("SELECT sequence, window FROM noted JOIN database ON database.id BETWEEN noted.first AND "
+                              "noted.last WHERE name = ?", name)
+
+    def expire(self, age: float) -> None:
+        """The windows go in which nothing was noted since an age, and with the last one of a sequence whose it is."""
+        old = self.state.ask("SELECT sequence, window FROM noted WHERE age < ?", age)
+        for sequence, window in old:
+            self.path(sequence, window).unlink(missing_ok=True)
+            self.state.ask("DELETE FROM noted WHERE sequence = ? AND window = ?", sequence, window)
+        for sequence in {sequence for sequence, _ in old}:
+            folder = self.folder.sequences / sequence
+            if [path.name for path in folder.glob("*") if path.name.isdigit()] == [OWNER]:
+                for path in folder.iterdir():
+                    path.unlink()
+                folder.rmdir()
+        if old:
+            log(f"notes of {len(old)} windows went, their days are over")
+
+
+def numbered(path: Path) -> Iterator[Path]:
+    """Names for something that is put aside."""
+    yield path
+    number = 1
+    while True:
+        number += 1
+        yield path.with_name(f"{path.name}-{number}")

@@ -1,0 +1,131 @@
+"""What people have the service do. Each says in lines what came of it, and ends with a status."""
+import os
+from collections.abc import Callable, Iterator, Sequence
+from typing import Any, Protocol
+
+import journalcollect
+
+from ..common import files, names, program
+from ..common.protocol import HEX_ID
+from . import databases, head
+from .gate import Gate
+from .keeping import Keeping
+from .store import Store
+from .turns import Waiting
+
+PIECE = 1 << 20
+
+
+class No(Exception):
+    """What was asked can't be done, and why: nothing was changed."""
+
+
+class Parts(Protocol):
+    """The parts of a service, which runs or doesn't."""
+    store: Store
+    keeping: Keeping
+    gate: Gate
+
+
+class Operations:
+    """What may be asked, each a method that gives lines."""
+
+    def __init__(self, parts: Parts, alone: Callable[[Callable[[], None]], None]) -> None:
+        self.store, self.keeping, self.gate, self.alone = parts.store, parts.keeping, parts.gate, alone
+        self.folder, self.state, self.notes = self.store.folder, self.store.state, self.store.recovery.notes
+
+    def do(self, name: str, words: Sequence[str], handles: Sequence[int] = ()) -> Iterator[Any]:
+        """Does what has this name."""
+        if name == "take":
+            return self.take(words[0], handles[0])
+        known: dict[str, Callable[..., Iterator[Any]]] = {
+            "status": self.status, "finish": self.finish, "rename": self.rename, "release": self.release,
+            "check": self.check, "moved": self.moved, "passed": self.passed, "rebuild": self.rebuild, "head": self.head}
+        return known[name](*words)
+
+    def status(self) -> Iterator[dict[str, Any]]:
+        """What is so at the moment; what outlives the service is in state.sqlite."""
+        self.state.flush()
+        yield {**self.store.status(), "version": journalcollect.VERSION, "connections": self.gate.count(),
+               "is_begun": self.store.is_begun.is_set(), "head": head.latest(self.store)}
+
+    def finish(self) -> Iterator[str]:
+        """The present database is finished: all that was acknowledged until now is in finished ones."""
+        self.alone(lambda: None)
+        return iter(())
+
+    def rename(self, old: str, new: str) -> Iterator[str]:
+        """A machine has another name from now on."""
+        if not names.is_machine(new):
+            raise No(f"{new} can't be a machine's name")
+        if self.state.machine(new).seen:
+            raise No(f"{new} is known already")
+
+        def do() -> None:
+            program.rename_owner(self.folder.sequences, old, new)
+            self.state.rename(old, new)
+
+        self.alone(do)
+        yield f"{old} is {new} from now on"
+
+    def release(self, sequence: str) -> Iterator[str]:
+        """A sequence is nobody's, until a machine brings a new entry of it."""
+        if not HEX_ID.fullmatch(sequence) or sequence not in program.owners(self.folder.sequences):
+            raise No(f"{sequence} is no machine's")
+        self.alone(lambda: program.release(self.folder.sequences, sequence))
+        yield f"{sequence} is the machine's that brings a new entry of it next"
+
+    def take(self, machine: str, handle: int) -> Iterator[str]:
+        """An upload that came by other means is stored, whatever its size and kind; the answer."""
+        if not names.is_machine(machine):
+            raise No(f"{machine} can't be a machine's name")
+        with files.unnamed(self.folder.recent) as copy:
+            at = 0
+            while piece := os.pread(handle, PIECE, at):
+                files.write_all(copy, piece)
+                at += len(piece)
+            yield str(self.store.ask(Waiting(machine, copy, at)))
+
+    def moved(self, name: str) -> Iterator[str]:
+        """A person moves a finished database away: what it had stays acknowledged."""
+        name = name.removesuffix(".zst").removesuffix(".db")
+        if name not in self.state.names():
+            raise No(f"there is no finished database {name}")
+        self.state.stands(name, "moved")
+        yield f"{name} may be moved away, with all its files: {databases.path_of(self.folder, name)}*"
+
+    def passed(self, days: str) -> Iterator[str]:
+        """Days went by that weren't counted."""
+        age = self.state.age.grown()
+        if not 0 < int(days) <= age.uncounted + 0.01:
+            raise No(f"by the clock {age.uncounted:.1f} days went by that weren't counted")
+        self.state.age = age.passed(int(days))
+        self.state.flush()
+        self.state.over("days")
+        yield f"{days} days went by"
+
+    def head(self, *heads: str) -> Iterator[str]:
+        """Of which day each head is that a machine was told, by the databases that are known now."""
+        days = {name[:10] for name, in self.state.ask("SELECT name FROM database WHERE digest IS NOT NULL")}
+        known = {head.of_day(self.state, day): day for day in days}
+        bad = [each for each in heads if each not in known]
+        yield from (f"{each} is of {known[each]}" for each in heads if each in known)
+        if bad:
+            raise No(f"{' '.join(bad)}: no day has this head now: databases of it were changed, removed or added")
+
+    def check(self) -> Iterator[str]:
+        """Looks at all notes and all finished databases."""
+        bad = [f"{name}: notes weren't as they were, and were made anew" for name in self.keeping.mend_notes()]
+        found = self.state.names()
+        for name in found:
+            if fault := self.keeping.check(name):
+                bad.append(fault)
+        yield from bad
+        if bad:
+            raise No(f"{len(bad)} faults")
+        yield f"{len(found)} databases are as they were finished, and agree with their notes"
+
+    def rebuild(self) -> Iterator[str]:
+        """All that is known, and all notes, are made anew of the databases; whose each sequence is stays."""
+        self.alone(self.store.recovery.rebuild)
+        yield f"{len(self.state.names())} databases are known, and noted"

@@ -1,0 +1,108 @@
+"""journal-collect-service: stores what machines send, in the collector's folder."""
+import argparse
+import resource
+import signal
+import sys
+import threading
+import time
+from pathlib import Path
+
+import journalcollect
+
+from ..common import program
+from ..common.settings import Wrong
+from . import settings
+from .admin_door import AdminDoor
+from .connection import Connection
+from .doors import Doors
+from .folder import Folder
+from .gate import Gate
+from .keeping import Keeping
+from .notes import Notes
+from .recovery import Recovery
+from .sealing import Sealing
+from .settings import Settings
+from .state import State, log
+from .store import Store
+
+STACK = 256 << 10
+FLUSH_SECONDS = 5.0
+
+
+class Service:
+    """All that runs."""
+
+    def __init__(self, chosen: Settings, lock: int) -> None:
+        self.chosen, self.folder = chosen, Folder(Path(chosen.folder))
+        self.folder.make()
+        self.state = State(self.folder)
+        self.notes = Notes(self.folder, self.state)
+        self.sealing = Sealing(self.folder, Path(chosen.keys), self.state, self.notes)
+        self.store = Store(chosen, Recovery(chosen, self.sealing, lock))
+        self.gate = Gate(chosen, self.folder, self.state)
+        self.keeping = Keeping(chosen, self.store)
+
+    def run(self) -> None:
+        """Until SIGTERM."""
+        signal.signal(signal.SIGTERM, lambda *_: self.sealing.stops.set())
+        signal.signal(signal.SIGINT, lambda *_: self.sealing.stops.set())
+        signal.signal(signal.SIGHUP, lambda *_: self.store.is_asked_to_finish.set())
+        threading.stack_size(STACK)
+        doors = Doors(self.folder, Path(self.chosen.keys), self.gate)
+        self.store.start()
+        self.keeping.start()
+        AdminDoor(self).start()
+        flushed = time.monotonic()
+        while not self.sealing.stops.is_set():
+            for machine, one in doors.came(1.0):
+                Connection(one, machine, self.store, self.gate).start()
+            if time.monotonic() - flushed > FLUSH_SECONDS:
+                flushed = time.monotonic()
+                self.state.flush()
+        doors.close()
+        self.store.stop()
+        self.state.flush()
+
+
+def main() -> int:
+    words = argparse.ArgumentParser(prog="journal-collect-service", description="Stores what machines send.")
+    words.add_argument("--check", action="store_true", help="say what is wrong with the settings or the program, and end")
+    asked = words.parse_args()
+    try:
+        chosen = settings.read()
+        look_at_program()
+    except Wrong as error:
+        log(str(error))
+        return 2
+    if asked.check:
+        return 0
+    raise_files()
+    folder = Folder(Path(chosen.folder))
+    lock = folder.locked(is_waiting=False)
+    if lock is None:
+        log(f"{folder.lock} is held by another service, or by a process that it began: this one waits for it")
+        lock = folder.locked()
+    assert lock is not None
+    Service(chosen, lock).run()
+    return 0
+
+
+def look_at_program() -> None:
+    """The program that is called has to be there, and of the same version."""
+    try:
+        version = program.version()
+    except (OSError, program.Failed) as error:
+        raise Wrong(f"{program.path()} can't be called: {error}") from error
+    if version != f"journal-collect {journalcollect.VERSION}":
+        raise Wrong(f"{program.path()} is `{version}`, and this service of version {journalcollect.VERSION}: "
+                    "install both anew")
+
+
+def raise_files() -> None:
+    """As many open files as it may have: each connection has up to two."""
+    _, hard = resource.getrlimit(resource.RLIMIT_NOFILE)
+    resource.setrlimit(resource.RLIMIT_NOFILE, (hard, hard))
+
+
+if __name__ == "__main__":
+    sys.exit(main())

@@ -1,0 +1,233 @@
+"""What the service knows and what has to outlive it, in one SQLite file, which others may read.
+
+All of it can be made anew of the databases, the notes and the keys, but for when each machine was seen last.
+"""
+import contextlib
+import sqlite3
+import sys
+import threading
+import time
+from collections.abc import Iterable, Iterator
+from dataclasses import astuple, dataclass, fields
+from typing import Any
+
+from ..common import files
+from .age import Age
+from .databases import Summary
+from .folder import Folder
+
+SCHEMA = """
+CREATE TABLE IF NOT EXISTS database(id INTEGER PRIMARY KEY, name TEXT NOT NULL UNIQUE, standing TEXT NOT NULL,
+    finished REAL, age REAL, first INTEGER, last INTEGER, entries INTEGER, bytes INTEGER, digest TEXT, packed INTEGER,
+    checked REAL);
+CREATE INDEX IF NOT EXISTS standing ON database(standing, age);
+CREATE TABLE IF NOT EXISTS machine(name TEXT PRIMARY KEY, seen REAL, stored REAL, entries INTEGER, refused INTEGER,
+    skew REAL, day TEXT, bytes INTEGER, windows INTEGER) WITHOUT ROWID;
+CREATE TABLE IF NOT EXISTS sequence(id TEXT, machine TEXT, PRIMARY KEY(id, machine)) WITHOUT ROWID;
+CREATE TABLE IF NOT EXISTS noted(sequence TEXT, window INTEGER, notes INTEGER, bytes INTEGER, sum TEXT, age REAL,
+    first INTEGER, last INTEGER, PRIMARY KEY(sequence, window)) WITHOUT ROWID;
+CREATE TABLE IF NOT EXISTS told(cause TEXT PRIMARY KEY, text TEXT, first REAL, last REAL, count INTEGER) WITHOUT ROWID;
+CREATE TABLE IF NOT EXISTS clock(one INTEGER PRIMARY KEY CHECK(one = 1), days REAL, boot TEXT, running REAL, wall REAL,
+    uncounted REAL);
+"""
+TOLD_AGAIN, TOLD_SECONDS = 86400.0, 7 * 86400.0
+
+
+def log(text: str) -> None:
+    """Says something in the service's log."""
+    print(text, file=sys.stderr, flush=True)
+
+
+@dataclass
+class Machine:
+    """What is known of a machine: when it was seen, when something new of it was stored, how many entries were, how
+    many uploads were refused, by how many seconds its clock goes ahead; and the bytes and new files of notes of a
+    day."""
+    name: str
+    seen: float = 0.0
+    stored: float = 0.0
+    entries: int = 0
+    refused: int = 0
+    skew: float = 0.0
+    day: str = ""
+    bytes: int = 0
+    windows: int = 0
+
+
+@dataclass
+class Told:
+    """A cause that people were told of: the words, when it was so first and last, and how often."""
+    cause: str
+    text: str
+    first: float
+    last: float
+    count: int
+
+
+@dataclass(frozen=True)
+class Window:
+    """How many notes of finished databases a window of a sequence has, how many bytes these take, and their digest."""
+    sequence: str
+    window: int
+    notes: int
+    bytes: int
+    sum: str
+
+
+class State:
+    """The file, and what is kept in memory of it. Every thread may ask."""
+
+    def __init__(self, folder: Folder) -> None:
+        self.folder, self.lock = folder, threading.RLock()
+        self.is_new = not folder.state.exists()
+        try:
+            self.open()
+        except sqlite3.DatabaseError as error:
+            log(f"{folder.state}: {error}: it is put aside, and made anew")
+            self.rows.close()
+            files.move(folder.state, folder.quarantine / f"state.sqlite-{time.time_ns()}")
+            self.is_new = True
+            self.open()
+
+    def open(self) -> None:
+        self.rows = sqlite3.connect(self.folder.state, isolation_level=None, check_same_thread=False, timeout=30.0)
+        self.folder.state.chmod(0o640)
+        self.rows.executescript("PRAGMA synchronous=NORMAL;" + SCHEMA)
+        if self.rows.execute("PRAGMA quick_check").fetchone() != ("ok",):
+            raise sqlite3.DatabaseError("it is damaged")
+        self.machines = {row[0]: Machine(*row) for row in self.rows.execute("SELECT * FROM machine")}
+        self.told = {row[0]: Told(*row) for row in self.rows.execute("SELECT * FROM told")}
+        self.changed: set[str] = set()
+        found = self.rows.execute("SELECT days, boot, running, wall, uncounted FROM clock").fetchone()
+        self.age = Age(*found) if found else Age.now()
+
+    def ask(self, text: str, *values: Any) -> list[Any]:
+        with self.lock:
+            return self.rows.execute(text, values).fetchall()
+
+    @contextlib.contextmanager
+    def together(self) -> Iterator[None]:
+        """What is changed meanwhile is changed at once, or not at all."""
+        with self.lock:
+            self.rows.execute("BEGIN IMMEDIATE")
+            try:
+                yield
+            except BaseException:
+                self.rows.execute("ROLLBACK")
+                raise
+            self.rows.execute("COMMIT")
+
+    def flush(self) -> None:
+        """Writes what is in memory alone. That it can't be written costs no answer."""
+        with self.lock:
+            self.age = self.age.grown()
+            machines = [astuple(self.machines[name]) for name in self.changed if name in self.machines]
+            self.changed.clear()
+            self.told = {cause: each for cause, each in self.told.items() if time.time() - each.last < TOLD_SECONDS}
+            try:
+                with self.together():
+                    self.put("machine", machines, Machine)
+                    self.ask("DELETE FROM told")
+                    self.put("told", map(astuple, self.told.values()), Told)
+                    self.ask("INSERT OR REPLACE INTO clock VALUES(1, ?, ?, ?, ?, ?)", *astuple(self.age))
+            except sqlite3.Error as error:
+                self.changed.update(row[0] for row in machines)
+                self.tell("state", f"{self.folder.state} can't be written: {error}: look at its disk")
+            else:
+                self.over("state")
+
+    def put(self, table: str, rows: Iterable[tuple[Any, ...]], kind: type) -> None:
+        marks = ", ".join("?" for _ in fields(kind))
+        self.rows.executemany(f"INSERT OR REPLACE INTO {table} VALUES({marks})", rows)
+
+    # What people are told ---------------------------------------------------------------------------------------------
+
+    def tell(self, cause: str, text: str) -> None:
+        """Tells people of a cause once a day; it is in the table as long as it is so, and a week longer."""
+        now = time.time()
+        with self.lock:
+            known = self.told.get(cause)
+            if known is None or now - known.first > TOLD_AGAIN:
+                log(text)
+                known = self.told[cause] = Told(cause, text, now, now, 0)
+            known.text, known.last, known.count = text, now, known.count + 1
+
+    def over(self, cause: str) -> None:
+        """A cause is none any more."""
+        with self.lock:
+            if self.told.pop(cause, None):
+                log(f"over: {cause}")
+
+    # Machines ---------------------------------------------------------------------------------------------------------
+
+    def machine(self, name: str) -> Machine:
+        """What is known of a machine, of today; whoever changes it says so by `saw`."""
+        today = time.strftime("%Y-%m-%d", time.gmtime())
+        with self.lock:
+            found = self.machines.setdefault(name, Machine(name))
+            if found.day != today:
+                found.day, found.bytes, found.windows = today, 0, 0
+            return found
+
+    def saw(self, name: str) -> Machine:
+        """A machine was seen now."""
+        with self.lock:
+            found = self.machine(name)
+            found.seen = time.time()
+            self.changed.add(name)
+            return found
+
+    def rename(self, old: str, new: str) -> None:
+        with self.together():
+            self.ask("UPDATE OR REPLACE machine SET name = ? WHERE name = ?", new, old)
+            self.ask("UPDATE OR IGNORE sequence SET machine = ? WHERE machine = ?", new, old)
+            self.ask("DELETE FROM sequence WHERE machine = ?", old)
+        with self.lock:
+            if found := self.machines.pop(old, None):
+                found.name = new
+                self.machines[new] = found
+                self.changed.add(new)
+
+    # Databases --------------------------------------------------------------------------------------------------------
+
+    def is_known(self, name: str) -> bool:
+        return bool(self.ask("SELECT 1 FROM database WHERE name = ?", name))
+
+    def names(self, standing: str = "finished") -> list[str]:
+        """The databases that stand so, in the order in which they were finished."""
+        return [name for name, in self.ask("SELECT name FROM database WHERE standing = ? ORDER BY id", standing)]
+
+    def stands(self, name: str, standing: str) -> None:
+        """How a database stands from now on."""
+        self.ask("INSERT INTO database(name, standing) VALUES(?1, ?2) "
+                 "ON CONFLICT(name) DO UPDATE SET standing = ?2", name, standing)
+
+    def finished(self, name: str, had: Summary, windows: list[Window], owners: dict[str, str], packed: int | None) -> None:
+        """A database was finished: what it has, how its windows are now, and whose its sequences are."""
+        age = self.age.grown().days
+        with self.together():
+            self.ask("DELETE FROM database WHERE name = ?", name)
+            self.ask("INSERT INTO database(name, standing, finished, age, first, last, entries, bytes, digest, packed) "
+                     "VALUES(?, 'finished', ?, ?, ?, ?, ?, ?, ?, ?)", name, time.time(), age, had.first, had.last,
+                     had.entries, had.bytes, had.digest, packed)
+            number, = self.ask("SELECT id FROM database WHERE name = ?", name)[0]
+            for each in windows:
+                self.ask("INSERT INTO noted VALUES(?1, ?2, ?3, ?4, ?5, ?6, ?7, ?7) ON CONFLICT DO UPDATE "
+                         "SET notes = ?3, bytes = ?4, sum = ?5, age = ?6, last = ?7",
+                         each.sequence, each.window, each.notes, each.bytes, each.sum, age, number)
+            for sequence in {each.sequence for each in windows} & owners.keys():
+                self.ask("INSERT OR IGNORE INTO sequence VALUES(?, ?)", sequence, owners[sequence])
+
+    def windows(self) -> list[Window]:
+        return [Window(*row) for row in self.ask("SELECT sequence, window, notes, bytes, sum FROM noted")]
+
+    def notes_of(self, sequence: str, window: int) -> int:
+        """How many notes of finished databases a window has."""
+        found = self.ask("SELECT notes FROM noted WHERE sequence = ? AND window = ?", sequence, window)
+        return int(found[0][0]) if found else 0
+
+    def forget(self) -> None:
+        """Nothing is known any more of what databases have; what was deleted or moved away stays so."""
+        with self.together():
+            self.ask("DELETE FROM database WHERE standing NOT IN ('deleted', 'moved')")
+            self.ask("DELETE FROM noted")

@@ -1,0 +1,180 @@
+"""A collector that runs: the real service over real sockets and the real program, and machines that talk to it."""
+import hashlib
+import json
+import os
+import signal
+import socket
+import subprocess
+import sys
+import time
+from collections.abc import Iterator
+from pathlib import Path
+
+import pytest
+
+ROOT = Path(__file__).resolve().parents[2]
+sys.path.insert(0, str(ROOT / "deploy"))
+
+PROGRAM = Path(os.environ["JOURNAL_COLLECT"])
+REALTIME = 1_700_000_000_000_000
+
+
+def entry(sequence: str, number: int, **fields: str) -> bytes:
+    """An entry as journalctl exports it."""
+    lines = [f"__REALTIME_TIMESTAMP={REALTIME + number}", f"__MONOTONIC_TIMESTAMP={number}", f"__SEQNUM={number}",
+             f"__SEQNUM_ID={sequence}", *(f"{name}={value}" for name, value in fields.items())]
+    return ("\n".join(lines) + "\n\n").encode()
+
+
+def entries(sequence: str, numbers: range | list[int], text: str = "m") -> bytes:
+    return b"".join(entry(sequence, number, MESSAGE=f"{text}{number}") for number in numbers)
+
+
+def upload(body: bytes, count: int, source: str = "cd" * 16) -> bytes:
+    """An upload of version 2 that is to be whole, by the table of the formats."""
+    return b"JCUPLD02\1\1" + bytes(6) + bytes.fromhex(source) + bytes(8) + count.to_bytes(8, "little") + body
+
+
+def sequence(letter: str) -> str:
+    return letter * 32
+
+
+class Machine:
+    """A machine's connection."""
+
+    def __init__(self, path: Path) -> None:
+        self.socket = socket.socket(socket.AF_UNIX)
+        self.socket.settimeout(120)
+        self.socket.connect(str(path))
+        self.file = self.socket.makefile("rb")
+        self.greeting = self.line()
+
+    def line(self) -> str:
+        return self.file.readline().decode().rstrip("\n")
+
+    def say(self, text: str) -> None:
+        self.socket.sendall(text.encode() + b"\n")
+
+    def put(self, data: bytes, digest: str | None = None) -> None:
+        self.say(f"upload {len(data)} {digest or hashlib.sha256(data).hexdigest()} {time.time_ns() // 1000}")
+        self.socket.sendall(data)
+
+    def send(self, data: bytes) -> str:
+        """Sends an upload; the answer's line."""
+        self.put(data)
+        return self.line()
+
+    def had(self, sequence: str, number: int) -> str:
+        self.say(f"had {sequence} {number}")
+        return self.line()
+
+    def close(self) -> None:
+        self.file.close()
+        self.socket.close()
+
+
+class Collector:
+    """A collector's folder, its settings and keys, and its service, which may be stopped, killed and begun again."""
+
+    def __init__(self, folder: Path) -> None:
+        self.settings, self.folder, self.keys = folder / "etc", folder / "var", folder / "etc" / "keys"
+        self.keys.mkdir(parents=True)
+        self.folder.mkdir()
+        self.values = {"FOLDER": str(self.folder), "KEYS": str(self.keys), "FREE_BYTES": "0"}
+        self.process: subprocess.Popen[bytes] | None = None
+        self.log = folder / "log"
+        self.program = PROGRAM
+        self.under: list[str] = []
+
+    def admit(self, *names: str) -> None:
+        for name in names:
+            (self.keys / f"{name}.pub").write_text(f"ssh-ed25519 {name} {name}\n")
+
+    def environment(self) -> dict[str, str]:
+        (self.settings / "collector.conf.d").mkdir(exist_ok=True)
+        text = "".join(f"{name}={value}\n" for name, value in self.values.items())
+        (self.settings / "collector.conf.d" / "10-test.conf").write_text(text)
+        return {**os.environ, "JOURNAL_COLLECT": str(self.program), "JOURNAL_COLLECT_SETTINGS": str(self.settings)}
+
+    def start(self) -> None:
+        with open(self.log, "ab") as log:
+            self.process = subprocess.Popen([*self.under, ROOT / "deploy/programs/journal-collect-service"], stderr=log,
+                                            env=self.environment())
+
+    def stop(self, by: int = signal.SIGTERM, seconds: float = 60) -> int:
+        assert self.process
+        self.process.send_signal(by)
+        return self.process.wait(seconds)
+
+    def kill(self) -> None:
+        """Kills the service and its program at once, as a failure of power does."""
+        assert self.process
+        children = Path(f"/proc/{self.process.pid}/task/{self.process.pid}/children").read_text().split()
+        children += [child for task in Path(f"/proc/{self.process.pid}/task").iterdir()
+                     for child in (task / "children").read_text().split()]
+        self.process.kill()
+        for child in set(children):
+            try:
+                os.kill(int(child), signal.SIGKILL)
+            except ProcessLookupError:
+                pass
+        self.process.wait()
+
+    def connect(self, name: str) -> Machine:
+        path, end = self.folder / "sockets" / name, time.monotonic() + 30
+        while True:
+            try:
+                return Machine(path)
+            except (FileNotFoundError, ConnectionRefusedError):
+                if time.monotonic() > end:
+                    raise
+                time.sleep(0.05)
+
+    def send(self, name: str, data: bytes) -> str:
+        machine = self.connect(name)
+        try:
+            return machine.send(data)
+        finally:
+            machine.close()
+
+    def admin(self, *words: str | Path, given: str = "") -> subprocess.CompletedProcess[str]:
+        return subprocess.run([ROOT / "deploy/programs/journal-collect-admin", *words], env=self.environment(),
+                              input=given, capture_output=True, text=True, timeout=600)
+
+    def ask(self, do: str, *words: str) -> list[dict[str, object]]:
+        """Asks the service as journal-collect-admin does."""
+        with socket.socket(socket.AF_UNIX) as one:
+            one.connect(str(self.folder / "admin"))
+            one.sendall(json.dumps({"do": do, "words": words}).encode())
+            lines = []
+            with one.makefile() as file:
+                for line in file:
+                    lines.append(json.loads(line))
+                    if "status" in lines[-1]:
+                        break
+        return lines
+
+    def said(self) -> str:
+        return self.log.read_text()
+
+    def databases(self) -> list[Path]:
+        return sorted((self.folder / "databases").glob("*.db"))
+
+    def stored(self) -> list[tuple[str, int, bytes]]:
+        """All entries of all finished databases: sequence, number and text, as the program exports them."""
+        found = []
+        for path in self.databases():
+            assert path.with_name(path.name + ".sha256").exists(), f"{path} isn't finished"
+            text = subprocess.run([PROGRAM, "export", path], capture_output=True, check=True).stdout
+            for each in text.split(b"\n\n")[:-1]:
+                lines = dict(line.split(b"=", 1) for line in each.split(b"\n"))
+                found.append((lines[b"__SEQNUM_ID"].decode(), int(lines[b"__SEQNUM"]), lines.get(b"MESSAGE", b"")))
+        return sorted(found)
+
+
+@pytest.fixture
+def collector(tmp_path: Path) -> Iterator[Collector]:
+    made = Collector(tmp_path)
+    yield made
+    if made.process and made.process.poll() is None:
+        made.kill()
