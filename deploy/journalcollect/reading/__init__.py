@@ -1,0 +1,1 @@
+"""Reading: journal files of what is stored, and journalctl, which reads them."""

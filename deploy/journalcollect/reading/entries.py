@@ -1,0 +1,126 @@
+"""Entries of export streams, as systemd-journal-remote takes them.
+
+Lengths are followed, so no line of a message is taken for a field. What has only lines NAME=VALUE, as nearly all
+entries do, is taken by two regular expressions.
+"""
+import re
+from collections.abc import Iterator
+from mmap import mmap
+from typing import NamedTuple
+
+Data = bytes | mmap
+
+# Names that journald has; what begins with `__` is about the entry, and nearly always comes first.
+PLAIN = re.compile(rb"(?:[A-Z_][A-Z0-9_]{0,63}+=[^\n]*+\n)++\n")
+ABOUT = re.compile(rb"(__[A-Z0-9_]++)=([^\n]*+)\n")
+HEAD = re.compile(rb"(?:__[^\n]*+\n)*+")
+NAME = re.compile(rb"[A-Z_][A-Z0-9_]{0,63}")
+OWN = b"_COLLECTED_"
+BOOT, BOOT_ID, NO_BOOT = re.compile(rb"\n_BOOT_ID=([^\n]*)"), re.compile(rb"[0-9a-f]{32}"), b"0" * 32
+# What systemd-journal-remote takes: at a time that isn't below it ends, without a word and with status 0.
+TIMES = range(1, 1 << 55)
+MOST_FIELDS = 1_000
+
+
+class Malformed(Exception):
+    """It is no stream of whole entries."""
+
+
+class Untaken(Exception):
+    """systemd-journal-remote doesn't take the entry, and why; the databases have it."""
+
+
+class Entry(NamedTuple):
+    """Its key and times, its boot, and the text of its fields."""
+    realtime: int
+    monotonic: int
+    sequence: str
+    number: int
+    boot: str
+    fields: bytes
+
+    def text(self, machine: str | None, with_key: bool) -> bytes:
+        """What systemd-journal-remote reads, with the collector's name of the machine."""
+        own = b"_COLLECTED_FROM=%s\n" % machine.encode() if machine else b""
+        if with_key:
+            own += b"_COLLECTED_SEQNUM=%d\n_COLLECTED_SEQNUM_ID=%s\n" % (self.number, self.sequence.encode())
+        return b"__REALTIME_TIMESTAMP=%d\n__MONOTONIC_TIMESTAMP=%d\n%s%s\n" % (
+            self.realtime, self.monotonic, own, self.fields)
+
+
+class Span(NamedTuple):
+    """Where an entry begins and ends in a stream, and whether it has only lines NAME=VALUE."""
+    begin: int
+    end: int
+    is_plain: bool
+
+
+def spans(data: Data, at: int = 0) -> Iterator[Span]:
+    """All entries of a stream, one behind the other."""
+    length = len(data)
+    while at < length:
+        if data[at] == 10:
+            at += 1
+            continue
+        plain = PLAIN.match(data, at)
+        end = plain.end() if plain else end_by_fields(data, at)
+        yield Span(at, end, plain is not None)
+        at = end
+
+
+def end_by_fields(data: Data, at: int) -> int:
+    """Where the entry ends that begins here, field by field."""
+    while True:
+        end = data.find(b"\n", at)
+        if end == at:
+            return end + 1
+        if end < 0:
+            raise Malformed("the stream ends within an entry")
+        if data.find(b"=", at, end) < 0:
+            end += 9 + int.from_bytes(data[end + 1:end + 9], "little")
+            if data[end:end + 1] != b"\n":
+                raise Malformed("no newline after a value")
+        at = end + 1
+
+
+def entry(data: Data, span: Span) -> Entry:
+    """The entry that a span has. What systemd-journal-remote doesn't take is Untaken."""
+    text = data[span.begin:span.end]
+    head = HEAD.match(text)
+    fields = text[head.end():-1] if head else text
+    if head and span.is_plain and b"\n__" not in fields and OWN not in fields:
+        about, boots, count = dict(ABOUT.findall(head[0])), BOOT.findall(b"\n" + fields), fields.count(b"\n")
+    else:
+        about, kept = by_fields(text)
+        fields, boots, count = b"".join(kept), [each[9:-1] for each in kept if each[:9] == b"_BOOT_ID="], len(kept)
+    realtime, monotonic = int(about[b"__REALTIME_TIMESTAMP"]), int(about[b"__MONOTONIC_TIMESTAMP"])
+    if realtime not in TIMES or monotonic and monotonic not in TIMES:
+        raise Untaken("their time is none that a journal file can have")
+    if len(boots) != 1 or not BOOT_ID.fullmatch(boots[0]) or boots[0] == NO_BOOT:
+        raise Untaken("they aren't of one boot")
+    if count > MOST_FIELDS:
+        raise Untaken(f"they have over {MOST_FIELDS} fields")
+    return Entry(realtime, monotonic, about[b"__SEQNUM_ID"].decode("ascii").lower(), int(about[b"__SEQNUM"]),
+                 boots[0].decode("ascii"), fields)
+
+
+def by_fields(data: bytes) -> tuple[dict[bytes, bytes], list[bytes]]:
+    """What is said about an entry that has values with newlines in them, and its fields as the stream spells them."""
+    about: dict[bytes, bytes] = {}
+    fields: list[bytes] = []
+    at = 0
+    while at < len(data) - 1:
+        end = data.index(b"\n", at)
+        name, equals, value = data[at:end].partition(b"=")
+        if not equals:
+            begin = end + 9
+            end = begin + int.from_bytes(data[end + 1:begin], "little")
+            value = data[begin:end]
+        if name.startswith((b"__", OWN)):
+            about[name] = value
+        elif not NAME.fullmatch(name):
+            raise Untaken("a field's name is none of journald's")
+        else:
+            fields.append(data[at:end + 1])
+        at = end + 1
+    return about, fields

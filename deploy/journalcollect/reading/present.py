@@ -1,0 +1,186 @@
+"""The present: what is acknowledged and isn't in a finished database yet, in journal files that journalctl follows.
+
+All of it is one sequence: its id stays, and the number of an entry depends on nothing but the uploads of its database.
+So the files can be made anew at any time, as they are when a process was killed, which loses or doubles what it held:
+`journalctl --follow` shows each entry once, also one that came late, since it goes by numbers.
+"""
+import hashlib
+import queue
+import shutil
+import subprocess
+import sys
+import threading
+import time
+from collections.abc import Callable
+from pathlib import Path
+
+from . import entries, remote
+from .entries import Malformed, Untaken
+from .places import Places
+from .remote import Failed, Remote
+
+# The upload's header, and the kind of those that are export streams.
+HEADER, STREAM = 48, 1
+# So long the present of a finished database stays, for who follows it.
+SECONDS_STANDING = 3600.0
+SECONDS_WAITING = 60.0
+MOST_TOGETHER = 1 << 18
+
+
+def sequence_id() -> str:
+    """The sequence of this collector's present."""
+    return hashlib.sha256(b"journal-collect present " + Path("/etc/machine-id").read_bytes()).hexdigest()[:32]
+
+
+class Live:
+    """The present of one database."""
+
+    def __init__(self, places: Places, name: str, machine_of: Callable[[str], str | None], with_keys: bool) -> None:
+        self.name, self.machine_of, self.with_keys = name, machine_of, with_keys
+        self.keys: set[tuple[str, int]] = set()
+        self.machines: dict[str, str | None] = {}
+        before = self.before(places)
+        remote.remove(places.present, name)
+        self.remote = Remote(places.present / f"{name}.journal", sequence_id(), before)
+
+    def before(self, places: Places) -> int:
+        """The number before the first one: as it was if the database has a present, and else one that nothing had."""
+        heads = [head for path in remote.parts(places.present, self.name) if (head := remote.header(path))]
+        if heads:
+            return min(head.first_number - 1 if head.entries else head.last_number for head in heads)
+        others = [head.last_number for path in places.present.glob("*.journal") if (head := remote.header(path))]
+        return max([time.time_ns() // 1000, *others])
+
+    def add(self, upload: Path) -> None:
+        """The entries of an upload that weren't there before."""
+        data = upload.read_bytes()
+        if data[8] != STREAM:
+            return
+        texts: list[bytes] = []
+        held = 0
+        for span in entries.spans(data, HEADER):
+            try:
+                entry = entries.entry(data, span)
+            except Untaken:
+                continue
+            key = entry.sequence, entry.number
+            if key in self.keys:
+                continue
+            self.keys.add(key)
+            if entry.sequence not in self.machines:
+                self.machines[entry.sequence] = self.machine_of(entry.sequence)
+            texts.append(entry.text(self.machines[entry.sequence], self.with_keys))
+            held += len(texts[-1])
+            if held > MOST_TOGETHER:
+                self.remote.write(b"".join(texts))
+                texts, held = [], 0
+        self.remote.write(b"".join(texts))
+
+
+class Present(threading.Thread):
+    """A thread that has it. It is told of uploads and of finished databases, and never holds up who tells."""
+
+    def __init__(self, folder: Path, machine_of: Callable[[str], str | None], tell: Callable[[str], None],
+                 with_keys: bool = False) -> None:
+        super().__init__(name="present", daemon=True)
+        self.places, self.recent, self.databases = Places(folder), folder / "recent", folder / "databases"
+        self.machine_of, self.tell, self.with_keys = machine_of, tell, with_keys
+        self.events: queue.Queue[Path | str | None] = queue.Queue()
+        self.lives: dict[str, Live] = {}
+        self.maker: subprocess.Popen[bytes] | None = None
+        self.makes_again = True
+
+    def feed(self, upload: Path) -> None:
+        """An upload is stored, and is recent/DATABASE/N."""
+        self.events.put(upload)
+
+    def turn(self, database: str) -> None:
+        """A database is finished: recent/DATABASE goes once the present has it."""
+        self.events.put(database)
+
+    def stop(self) -> None:
+        self.events.put(None)
+        if self.is_alive():
+            self.join(timeout=5.0)
+
+    def run(self) -> None:
+        """Whatever fails, the present is made anew some time later; what is stored doesn't depend on it."""
+        is_stopping = False
+        while not is_stopping:
+            try:
+                self.places.make()
+                self.begin()
+                self.follow()
+                is_stopping = True
+            except (Failed, Malformed, OSError) as error:
+                self.tell(f"the present in journal files is made anew: {error}")
+                time.sleep(1.0)
+        for live in self.lives.values():
+            live.remote.kill()
+        if self.maker:
+            self.maker.terminate()
+
+    def begin(self) -> None:
+        """All that waits is known by recent/, so what the queue has of it would come twice: keys tell."""
+        for live in self.lives.values():
+            live.remote.kill()
+        self.lives.clear()
+        for folder in sorted(self.recent.iterdir()) if self.recent.exists() else ():
+            for upload in sorted(folder.iterdir(), key=number):
+                self.live(folder.name).add(upload)
+            if (self.databases / f"{folder.name}.db.sha256").exists():
+                self.end(folder.name)
+
+    def live(self, name: str) -> Live:
+        if name not in self.lives:
+            self.lives[name] = Live(self.places, name, self.machine_of, self.with_keys)
+        return self.lives[name]
+
+    def follow(self) -> None:
+        while True:
+            try:
+                event = self.events.get(timeout=SECONDS_WAITING if not self.is_making() else 1.0)
+            except queue.Empty:
+                self.clean()
+                self.make()
+                continue
+            match event:
+                case None:
+                    return
+                case Path():
+                    if event.exists():
+                        self.live(event.parent.name).add(event)
+                case str():
+                    self.end(event)
+                    self.makes_again = True
+                    self.make()
+
+    def end(self, name: str) -> None:
+        if live := self.lives.pop(name, None):
+            live.remote.finish()
+        shutil.rmtree(self.recent / name, ignore_errors=True)
+
+    def is_making(self) -> bool:
+        return self.maker is not None and self.maker.poll() is None
+
+    def make(self) -> None:
+        """Journal files of finished databases, by a process of its own; one at a time."""
+        if self.makes_again and not self.is_making():
+            self.makes_again = False
+            self.maker = subprocess.Popen(
+                ["nice", "-n", "10", sys.executable, "-B", "-m", "journalcollect.reading.making", self.places.folder],
+                cwd=Path(__file__).resolve().parents[2], stdin=subprocess.DEVNULL)
+
+    def clean(self) -> None:
+        """The present of databases whose journal files stand goes after a while."""
+        made = self.places.made()
+        for path in self.places.present.glob("*.journal*"):
+            name = remote.stem(path)
+            is_replaced = name in made or not (self.databases / f"{name}.db.sha256").exists()
+            if name not in self.lives and is_replaced and time.time() - path.stat().st_mtime > SECONDS_STANDING:
+                path.unlink(missing_ok=True)
+
+
+def number(upload: Path) -> int:
+    """Uploads of a database come in the order of their numbers."""
+    return int(upload.name)

@@ -1,0 +1,119 @@
+"""Journal files: systemd-journal-remote writes them, and their headers say what they have."""
+import os
+import re
+import struct
+import subprocess
+from pathlib import Path
+from typing import NamedTuple
+
+from ..common import files
+
+REMOTE = Path(os.environ.get("JOURNAL_COLLECT_REMOTE", "/lib/systemd/systemd-journal-remote"))
+SIGNATURE, HEADER = b"LPKSHHRH", 208
+SEQUENCE_AT, LAST_AT = 72, 160
+# How it names a file that was full: of NAME.journal it is NAME@SEQUENCE-NUMBER-TIME.journal.
+PART = re.compile(r"(.+?)(?:@[0-9a-f]{32}-[0-9a-f]{16}-[0-9a-f]{16})?\.journal")
+
+
+class Failed(Exception):
+    """systemd-journal-remote ended before its time."""
+
+
+class Header(NamedTuple):
+    """What the header of a journal file says; times in microseconds."""
+    sequence: str
+    entries: int
+    last_number: int
+    first_number: int
+    first: int
+    last: int
+
+
+def header(file: Path | int) -> Header | None:
+    """What a journal file has, of a path or an open file; nothing if it is none."""
+    try:
+        handle = os.open(file, os.O_RDONLY | os.O_CLOEXEC) if isinstance(file, Path) else file
+        try:
+            head = os.pread(handle, HEADER, 0)
+        finally:
+            if isinstance(file, Path):
+                os.close(handle)
+    except OSError:
+        return None
+    if len(head) < HEADER or not head.startswith(SIGNATURE):
+        return None
+    entries, last_number, first_number, _, first, last = struct.unpack_from("<6Q", head, 152)
+    return Header(head[SEQUENCE_AT:SEQUENCE_AT + 16].hex(), entries, last_number, first_number, first, last)
+
+
+def stem(path: Path) -> str:
+    """The name that a file and its further parts have in common."""
+    found = PART.fullmatch(path.name)
+    return found[1] if found else path.stem
+
+
+def parts(folder: Path, name: str) -> list[Path]:
+    """The files of a name, the full ones first."""
+    return [*sorted(folder.glob(f"{name}@*.journal")), *folder.glob(f"{name}.journal")]
+
+
+def count(folder: Path, name: str) -> int:
+    """How many entries the files of a name have."""
+    return sum(found.entries for path in parts(folder, name) if (found := header(path)))
+
+
+def remove(folder: Path, name: str) -> None:
+    for path in [*folder.glob(f"{name}@*.journal*"), folder / f"{name}.journal"]:
+        path.unlink(missing_ok=True)
+
+
+class Remote:
+    """One that writes NAME.journal, and further files when one is full. Its numbers go on from those of a sequence, if
+    that is given."""
+
+    def __init__(self, path: Path, sequence: str = "", last_number: int = 0) -> None:
+        if sequence:
+            self.begin(path, sequence, last_number)
+        self.process = self.started(path, subprocess.PIPE)
+
+    def begin(self, path: Path, sequence: str, last_number: int) -> None:
+        """A file without entries, whose next one has a number of this sequence. It gets its name when it is so far."""
+        new = path.with_name(f".{path.name}")
+        new.unlink(missing_ok=True)
+        if self.started(new, subprocess.DEVNULL).wait():
+            raise Failed(f"systemd-journal-remote can't make {path}")
+        with open(new, "r+b") as file:
+            file.seek(SEQUENCE_AT)
+            file.write(bytes.fromhex(sequence))
+            file.seek(LAST_AT)
+            file.write(struct.pack("<Q", last_number))
+        new.rename(path)
+
+    @staticmethod
+    def started(path: Path, given: int) -> subprocess.Popen[bytes]:
+        try:
+            return subprocess.Popen([REMOTE, f"--output={path}", "-"], stdin=given, stdout=subprocess.DEVNULL,
+                                    stderr=subprocess.DEVNULL, umask=0o027, start_new_session=True)
+        except OSError as error:
+            raise Failed(f"{REMOTE} can't be run: {error}") from error
+
+    def write(self, text: bytes) -> None:
+        assert self.process.stdin
+        try:
+            files.write_all(self.process.stdin.fileno(), text)
+        except OSError as error:
+            self.kill()
+            raise Failed(f"systemd-journal-remote ended: {error}") from error
+
+    def finish(self) -> None:
+        """All that was written is in files that are closed."""
+        assert self.process.stdin
+        self.process.stdin.close()
+        if self.process.wait():
+            raise Failed(f"systemd-journal-remote ended with status {self.process.returncode}")
+
+    def kill(self) -> None:
+        self.process.kill()
+        assert self.process.stdin
+        self.process.stdin.close()
+        self.process.wait()
