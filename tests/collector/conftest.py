@@ -1,9 +1,11 @@
 """A collector that runs: the real service over real sockets and the real program, and machines that talk to it."""
+import contextlib
 import hashlib
 import json
 import os
 import signal
 import socket
+import sqlite3
 import subprocess
 import sys
 import time
@@ -94,7 +96,7 @@ class Collector:
         (self.settings / "collector.conf.d").mkdir(exist_ok=True)
         text = "".join(f"{name}={value}\n" for name, value in self.values.items())
         (self.settings / "collector.conf.d" / "10-test.conf").write_text(text)
-        return {**os.environ, "JOURNAL_COLLECT": str(self.program), "JOURNAL_COLLECT_SETTINGS": str(self.settings)}
+        return {**os.environ, "JOURNAL_COLLECT_REMOTE": "/nonexistent", "JOURNAL_COLLECT": str(self.program), "JOURNAL_COLLECT_SETTINGS": str(self.settings)}
 
     def start(self) -> None:
         with open(self.log, "ab") as log:
@@ -153,6 +155,11 @@ class Collector:
                     if "status" in lines[-1]:
                         break
         return lines
+
+    def rows(self, text: str, *values: object) -> list[tuple[object, ...]]:
+        """What a statement says of state.sqlite, or changes in it."""
+        with contextlib.closing(sqlite3.connect(self.folder / "state.sqlite")) as tables, tables:
+            return tables.execute(text, values).fetchall()
 
     def said(self) -> str:
         return self.log.read_text()

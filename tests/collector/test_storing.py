@@ -1,7 +1,12 @@
 """Uploads that come, and what is stored of them."""
-from conftest import Collector, entries, sequence, upload
+import hashlib
+import subprocess
+import time
+
+from conftest import Collector, entries, entry, sequence, upload
 
 A, B = sequence("a"), sequence("b")
+ID = "cd" * 16
 
 
 def test_an_upload_is_stored_once_and_acknowledged_each_time(collector: Collector) -> None:
@@ -10,9 +15,94 @@ def test_an_upload_is_stored_once_and_acknowledged_each_time(collector: Collecto
     web = collector.connect("web")
     assert web.greeting.startswith("journal-collect 1 ") and web.greeting.endswith(" -")
     data = upload(entries(A, range(1, 6)), 5)
-    assert web.send(data) == f"ack {'cd' * 16} 0 5 5 0"
-    assert web.send(data) == f"ack {'cd' * 16} 0 5 0 0"
+    assert web.send(data) == f"ack {ID} 0 5 5 0"
+    assert web.send(data) == f"ack {ID} 0 5 0 0"
     assert web.had(A, 5) == "had"
     assert web.had(A, 6) == "lost"
     assert collector.stop() == 0
     assert collector.stored() == [(A, number, b"m%d" % number) for number in range(1, 6)]
+
+
+def test_a_cut_upload_leaves_nothing(collector: Collector) -> None:
+    collector.admit("web")
+    collector.start()
+    data = upload(entries(A, range(1, 6)), 5)
+    cut = collector.connect("web")
+    cut.say(f"upload {len(data)} {hashlib.sha256(data).hexdigest()} 1")
+    cut.socket.sendall(data[:-1])
+    cut.close()
+    wrong = collector.connect("web")
+    wrong.put(data, "00" * 32)
+    assert wrong.line() == ""
+    slow = collector.connect("web")
+    slow.say("upload 100 nothing 1")
+    assert slow.line() == ""
+    assert collector.stop() == 0
+    assert collector.stored() == []
+    assert [path for path in (collector.folder / "recent").rglob("*") if path.is_file()] == []
+
+
+def test_a_sequence_is_its_first_machine_s_and_an_entry_stays_what_it_was(collector: Collector) -> None:
+    collector.admit("web", "mail")
+    collector.start()
+    assert collector.send("web", upload(entries(A, [1]), 1)) == f"ack {ID} 0 1 1 0"
+    assert collector.send("mail", upload(entries(B, [1]) + entries(A, [2]), 2)) == f"no {ID} 0 71 1"
+    assert collector.send("web", upload(entries(A, [2, 1], "other"), 2)) == f"no {ID} 0 60 1"
+    assert collector.stop() == 0
+    assert collector.stored() == [(A, 1, b"m1")]
+    told = {row[0] for row in collector.rows("SELECT cause FROM told")}
+    assert {"refused web", "refused mail"} <= told
+
+
+def test_all_sequences_of_an_upload_are_its_machine_s(collector: Collector) -> None:
+    """As of a machine whose two users' journals came in one upload."""
+    collector.admit("web")
+    collector.start()
+    collector.send("web", upload(entries(A, [1]) + entries(B, [7]), 2))
+    assert collector.stop() == 0
+    assert collector.rows("SELECT id, machine FROM sequence ORDER BY id") == [(A, "web"), (B, "web")]
+
+
+def test_many_that_wait_are_each_answered_with_their_own(collector: Collector) -> None:
+    names = [f"m{number:02}" for number in range(12)]
+    collector.admit(*names)
+    collector.start()
+    machines = {name: collector.connect(name) for name in names}
+    for number, (name, machine) in enumerate(machines.items(), 1):
+        machine.put(upload(entries(f"{number:032x}", range(1, number + 1)), number, f"{number:032x}"))
+    for number, machine in enumerate(machines.values(), 1):
+        assert machine.line() == f"ack {number:032x} 0 {number} {number} 0"
+    assert collector.stop() == 0
+    assert len(collector.stored()) == sum(range(1, 13))
+
+
+def test_a_machine_comes_by_nc_alone_and_one_without_a_key_doesn_t(collector: Collector) -> None:
+    collector.admit("web")
+    collector.start()
+    collector.connect("web").close()
+    data = upload(entry(A, 1, MESSAGE="by nc"), 1)
+    line = f"upload {len(data)} {hashlib.sha256(data).hexdigest()} 1\n".encode()
+    said = subprocess.run(["nc.openbsd", "-NU", collector.folder / "sockets/web"], input=line + data, capture_output=True,
+                          timeout=120).stdout.decode()
+    assert said.splitlines()[1:] == [f"ack {ID} 0 1 1 0"]
+    standing = collector.connect("web")
+    (collector.keys / "web.pub").unlink()
+    assert standing.line() == ""
+    assert not (collector.folder / "sockets/web").exists()
+
+
+def test_a_database_is_finished_by_age_and_a_digest_is_beside_it(collector: Collector) -> None:
+    collector.values["DATABASE_SECONDS"] = "1"
+    collector.admit("web")
+    collector.start()
+    collector.send("web", upload(entries(A, [1]), 1))
+    end = time.monotonic() + 60
+    while not list((collector.folder / "databases").glob("*.sha256")):
+        assert time.monotonic() < end
+        time.sleep(0.2)
+    subprocess.run("sha256sum --check --quiet *.sha256", shell=True, cwd=collector.folder / "databases", check=True)
+    assert not list((collector.folder / "databases").glob("*-wal"))
+    assert collector.send("web", upload(entries(A, [1, 2]), 2)) == f"ack {ID} 0 2 1 0"
+    assert collector.stop() == 0
+    assert [len(path.name) > 0 for path in collector.databases()] == [True, True]
+    assert collector.stored() == [(A, 1, b"m1"), (A, 2, b"m2")]

@@ -1,5 +1,200 @@
-"""journal-collect-admin: what people do on the collector."""
+"""journal-collect-admin: what people do on the collector. The service does it, where it runs."""
+import argparse
+import json
+import os
+import socket
+import subprocess
+import sys
+import tempfile
+from collections.abc import Iterator
+from pathlib import Path
+from typing import Any
+
+from ..common import files, names, program, settings
+from ..setup import keys
+from . import backup
+from .folder import Folder
+from .operations import No, Operations
+from .service import Service
+from .settings import Settings
+from .settings import read as read_settings
+
+JOURNAL_FILE, FILE_ID = b"LPKSHHRH", slice(24, 40)
+# What a name of a command has for its words, and what it does.
+COMMANDS = {
+    "admit": ("NAME", "lets a machine in, whose public key is on standard input"),
+    "retire": ("NAME", "lets a machine in no more; what it sent stays its days"),
+    "rename": ("OLD NEW", "gives a machine another name"),
+    "release": ("SEQUENCE", "makes a sequence nobody's, until a machine brings a new entry of it"),
+    "take": ("NAME FILE..", "stores uploads, or journal files, that a machine sent by other means; prints the answers"),
+    "backup": ("FOLDER", "copies all that is stored to a folder, while the service runs"),
+    "restore": ("FOLDER", "puts a backup back, while the service is stopped"),
+    "check": ("", "looks at all databases and notes"),
+    "head": ("HEAD..", "says of which day the heads are that a machine was told"),
+    "moved": ("NAME", "says that a finished database is moved away: what it had stays acknowledged"),
+    "passed": ("DAYS", "says that days went by while the collector was off"),
+    "rebuild": ("", "makes anew what is known, and notes, of the databases"),
+}
 
 
-def main() -> int:
-    return 2
+def main(words: list[str] | None = None) -> int:
+    """The status: 0, 1 if it can't be done, 2 if the words or settings are wrong, 3 if it failed."""
+    words = sys.argv[1:] if words is None else words
+    if words[:1] == ["setup"]:
+        from ..setup import collector as setup
+        return setup.main(words[1:])
+    asked = parser().parse_args(words)
+    try:
+        chosen = read_settings()
+        for line in done(chosen, asked.do, asked.words):
+            print(line, flush=True)
+    except settings.Wrong as error:
+        return failed(2, error)
+    except No as error:
+        return failed(1, error)
+    except (OSError, program.Failed, subprocess.SubprocessError) as error:
+        return failed(3, error)
+    return 0
+
+
+def failed(status: int, error: Exception) -> int:
+    print(f"journal-collect-admin: {error}", file=sys.stderr)
+    return status
+
+
+def parser() -> argparse.ArgumentParser:
+    made = argparse.ArgumentParser(prog="journal-collect-admin", description="What people do on the collector.")
+    commands = made.add_subparsers(dest="do", required=True, metavar="COMMAND")
+    commands.add_parser("setup", help="makes this computer a collector", add_help=False)
+    for name, (of, does) in COMMANDS.items():
+        command = commands.add_parser(name, help=does, description=does)
+        count: Any = "+" if of.endswith("..") else len(of.split())
+        command.add_argument("words", nargs=count, metavar=tuple(of.split()) if count != "+" else of.split()[-1].rstrip("."))
+    return made
+
+
+def done(chosen: Settings, do: str, words: list[str]) -> Iterator[Any]:
+    """What a command says."""
+    folder, etc = Folder(Path(chosen.folder)), Path(chosen.keys).parent
+    match do, words:
+        case "admit", [name]:
+            yield admit(folder, etc, name, sys.stdin.read().strip())
+        case "retire", [name]:
+            key_of(etc, name).unlink()
+            keys.write(etc, folder.sockets)
+            yield f"{name} is let in no more"
+        case "rename", [old, new]:
+            yield from renamed(chosen, etc, old, new)
+            keys.write(etc, folder.sockets)
+        case "take", [name, *paths]:
+            for path in map(Path, paths):
+                with upload_of(path) as handle:
+                    yield from asked_of(chosen, do, [name], handle)
+        case "backup", [to]:
+            yield from asked_of(chosen, "finish", [])
+            yield from backup.make(folder, Path(to))
+        case "restore", [of]:
+            if (lock := folder.locked(is_waiting=False)) is None:
+                raise No("the service runs: systemctl stop journal-collect")
+            yield from backup.restore(folder, Path(of))
+            os.close(lock)
+        case _:
+            yield from asked_of(chosen, do, words)
+
+
+def key_of(etc: Path, name: str) -> Path:
+    """The key of a machine that has one."""
+    path = etc / "keys" / f"{name}.pub"
+    if not names.is_machine(name) or not path.exists():
+        raise No(f"{name} has no key in {path.parent}")
+    return path
+
+
+def admit(folder: Folder, etc: Path, name: str, key: str) -> str:
+    """Lets a machine in. No key is that of two machines."""
+    if not names.is_machine(name):
+        raise No(f"{name} can't be a machine's name: letters, digits, `.`, `_` and `-`, at most 64")
+    if not keys.is_key(key):
+        raise No("standard input isn't a public key")
+    for path in (etc / "keys").glob("*.pub"):
+        if path.stem != name and path.read_text().split()[:2] == key.split()[:2]:
+            raise No(f"this is the key of {path.stem}: each machine has a key of its own")
+    files.replace(etc / "keys" / f"{name}.pub", f"{key}\n".encode(), 0o644)
+    keys.write(etc, folder.sockets)
+    return f"{name} may send"
+
+
+def renamed(chosen: Settings, etc: Path, old: str, new: str) -> Iterator[Any]:
+    """A machine gets another name. Its key is taken away meanwhile, so that nothing comes under a wrong one."""
+    key = key_of(etc, old)
+    meanwhile = key.with_suffix(".renamed")
+    files.move(key, meanwhile)
+    try:
+        yield from asked_of(chosen, "rename", [old, new])
+    except BaseException:
+        files.move(meanwhile, key)
+        raise
+    files.move(meanwhile, etc / "keys" / f"{new}.pub")
+
+
+def upload_of(path: Path) -> Any:
+    """An open file with an upload: the file itself, or one that is made of a journal file."""
+    file = open(path, "rb")
+    head = file.read(64)
+    if not head.startswith(JOURNAL_FILE):
+        return file
+    file.close()
+    made = tempfile.TemporaryFile()
+    subprocess.run([program.path(), "upload", "--source", head[FILE_ID].hex(), "--resume", "/nonexistent/resume", "file",
+                    path], stdout=made, check=True)
+    return made
+
+
+# The service ----------------------------------------------------------------------------------------------------------
+
+
+def asked_of(chosen: Settings, do: str, words: list[str], file: Any = None) -> Iterator[Any]:
+    """Has the service do something; or does it here, as its user, if none runs."""
+    handles = [file.fileno()] if file else []
+    with socket.socket(socket.AF_UNIX) as one:
+        try:
+            one.connect(str(Folder(Path(chosen.folder)).admin))
+        except (FileNotFoundError, ConnectionRefusedError):
+            yield from here(chosen, do, words, handles)
+            return
+        socket.send_fds(one, [json.dumps({"do": do, "words": words}).encode()], handles)
+        with one.makefile(encoding="utf-8") as lines:
+            for said in map(json.loads, lines):
+                if "say" in said:
+                    yield said["say"]
+                elif said["status"] == 0:
+                    return
+                else:
+                    raise (No if said["status"] == 1 else OSError)(said["no"])
+    raise OSError("the service ended")
+
+
+def here(chosen: Settings, do: str, words: list[str], handles: list[int]) -> Iterator[Any]:
+    """Does something while no service runs. What is made then belongs to the folder's owner."""
+    owner = os.stat(chosen.folder)
+    if is_root := os.geteuid() == 0:
+        os.setegid(owner.st_gid)
+        os.seteuid(owner.st_uid)
+    lock = Folder(Path(chosen.folder)).locked(is_waiting=False)
+    if lock is None:
+        raise OSError("the service begins or ends: try again")
+    service = Service(chosen, lock)
+    service.store.start()
+    try:
+        yield from Operations(service, service.store.alone).do(do, words, handles)
+    finally:
+        service.store.stop()
+        service.state.flush()
+        os.close(lock)
+        if is_root:
+            os.seteuid(0)
+            os.setegid(0)
+
+
+if __name__ == "__main__":
+    sys.exit(main())

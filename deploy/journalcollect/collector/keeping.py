@@ -1,6 +1,7 @@
 """What is done now and then beside storing: old databases go, and finished ones are packed and looked at."""
 import fcntl
 import os
+import shutil
 import subprocess
 import threading
 import time
@@ -18,6 +19,7 @@ from .store import Store
 ROUND_SECONDS = 30.0
 # A look at a database is followed by so many times as long of rest: all takes a fourth of a processor at most.
 REST = 3.0
+RECENT_SECONDS = 3600.0
 
 
 @contextmanager
@@ -63,6 +65,7 @@ class Keeping(threading.Thread):
             if is_free:
                 self.delete_old(age.days)
                 self.pack(age.days)
+        self.clear_recent()
         self.check_notes(age.days)
         self.check_databases(age.days - 1)
 
@@ -86,6 +89,12 @@ class Keeping(threading.Thread):
         self.state.stands(name, "deleted")
         databases.delete(self.folder, name)
         log(f"deleted: {name}, {why}")
+
+    def clear_recent(self) -> None:
+        """Uploads of databases that were finished long ago go, though nobody that reads removed them."""
+        for folder in self.folder.recent.iterdir():
+            if self.state.ask("SELECT 1 FROM database WHERE name = ? AND finished < ?", folder.name, time.time() - RECENT_SECONDS):
+                shutil.rmtree(folder, ignore_errors=True)
 
     def pack(self, age: float) -> None:
         """Finished databases are packed, PACK_DAYS after."""

@@ -1,5 +1,6 @@
 """What people have the service do. Each says in lines what came of it, and ends with a status."""
 import os
+import time
 from collections.abc import Callable, Iterator, Sequence
 from typing import Any, Protocol
 
@@ -14,6 +15,8 @@ from .store import Store
 from .turns import Waiting
 
 PIECE = 1 << 20
+# So long the connections may take to end of a machine whose key is gone.
+GONE_SECONDS = 30.0
 
 
 class No(Exception):
@@ -55,11 +58,17 @@ class Operations:
         return iter(())
 
     def rename(self, old: str, new: str) -> Iterator[str]:
-        """A machine has another name from now on."""
+        """A machine has another name from now on. It has no key meanwhile, so its connections end."""
         if not names.is_machine(new):
             raise No(f"{new} can't be a machine's name")
         if self.state.machine(new).seen:
             raise No(f"{new} is known already")
+
+        end = time.monotonic() + GONE_SECONDS
+        while old in self.gate.count():
+            if time.monotonic() > end:
+                raise No(f"{old} is connected still")
+            time.sleep(0.1)
 
         def do() -> None:
             program.rename_owner(self.folder.sequences, old, new)

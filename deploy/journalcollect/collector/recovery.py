@@ -111,7 +111,7 @@ class Recovery:
             if folder.name in quarantined:
                 uploads += self.uploads(folder.name)
             else:
-                shutil.rmtree(folder)
+                self.sealing.reader.turn(folder.name)
         if uploads:
             log(f"{len(uploads)} uploads are stored again")
         return uploads

@@ -3,6 +3,7 @@ import hashlib
 import shutil
 import threading
 from pathlib import Path
+from typing import Protocol
 
 from ..common import files, names, program
 from . import databases
@@ -12,11 +13,31 @@ from .notes import Notes
 from .state import State, log
 
 
+class Reader(Protocol):
+    """Whoever shows what is stored: it is told of each upload that is, and of each finished database, whose recent
+    uploads it removes once it doesn't need them."""
+    def feed(self, upload: Path, /) -> None: ...
+    def turn(self, database: str, /) -> None: ...
+
+
+class NoReader:
+    """Nobody reads."""
+
+    def __init__(self, folder: Folder) -> None:
+        self.folder = folder
+
+    def feed(self, upload: Path, /) -> None:
+        pass
+
+    def turn(self, database: str, /) -> None:
+        shutil.rmtree(self.folder.recent / database, ignore_errors=True)
+
+
 class Sealing:
     """What becomes of a database that nobody stores in any more. Called while no process of the program stores."""
 
-    def __init__(self, folder: Folder, keys: Path, state: State, notes: Notes) -> None:
-        self.folder, self.keys, self.state, self.notes = folder, keys, state, notes
+    def __init__(self, folder: Folder, keys: Path, state: State, notes: Notes, reader: Reader) -> None:
+        self.folder, self.keys, self.state, self.notes, self.reader = folder, keys, state, notes, reader
         self.stops = threading.Event()
 
     def seal(self, path: Path) -> None:
@@ -25,7 +46,7 @@ class Sealing:
             databases.delete(self.folder, path.stem)
         else:
             self.adopt(path.stem, databases.finish(path))
-        shutil.rmtree(self.folder.recent / path.stem, ignore_errors=True)
+        self.reader.turn(path.stem)
 
     def adopt(self, name: str, digest: str, is_alone: bool = True) -> None:
         """A database that has its digest is known from now on. If no other one is there that isn't finished, the notes

@@ -11,6 +11,8 @@ import journalcollect
 
 from ..common import program
 from ..common.settings import Wrong
+from ..reading.present import Present
+from ..reading.remote import REMOTE
 from . import settings
 from .admin_door import AdminDoor
 from .connection import Connection
@@ -20,7 +22,7 @@ from .gate import Gate
 from .keeping import Keeping
 from .notes import Notes
 from .recovery import Recovery
-from .sealing import Sealing
+from .sealing import NoReader, Reader, Sealing
 from .settings import Settings
 from .state import State, log
 from .store import Store
@@ -36,8 +38,9 @@ class Service:
         self.chosen, self.folder = chosen, Folder(Path(chosen.folder))
         self.folder.make()
         self.state = State(self.folder)
-        self.notes = Notes(self.folder, self.state)
-        self.sealing = Sealing(self.folder, Path(chosen.keys), self.state, self.notes)
+        self.present = Present(self.folder.path, self.state.machine_of, log, chosen.read_keys) if REMOTE.exists() else None
+        reader: Reader = self.present or NoReader(self.folder)
+        self.sealing = Sealing(self.folder, Path(chosen.keys), self.state, Notes(self.folder, self.state), reader)
         self.store = Store(chosen, Recovery(chosen, self.sealing, lock))
         self.gate = Gate(chosen, self.folder, self.state)
         self.keeping = Keeping(chosen, self.store)
@@ -49,6 +52,8 @@ class Service:
         signal.signal(signal.SIGHUP, lambda *_: self.store.is_asked_to_finish.set())
         threading.stack_size(STACK)
         doors = Doors(self.folder, Path(self.chosen.keys), self.gate)
+        if self.present:
+            self.present.start()
         self.store.start()
         self.keeping.start()
         AdminDoor(self).start()
@@ -62,6 +67,8 @@ class Service:
         doors.close()
         self.store.stop()
         self.state.flush()
+        if self.present:
+            self.present.stop()
 
 
 def main() -> int:

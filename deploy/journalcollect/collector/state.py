@@ -177,6 +177,11 @@ class State:
             self.changed.add(name)
             return found
 
+    def machine_of(self, sequence: str) -> str | None:
+        """Whose a sequence is, as far as databases are finished."""
+        found = self.ask("SELECT machine FROM sequence WHERE id = ?", sequence)
+        return str(found[0][0]) if found else None
+
     def rename(self, old: str, new: str) -> None:
         with self.together():
             self.ask("UPDATE OR REPLACE machine SET name = ? WHERE name = ?", new, old)

@@ -1,7 +1,6 @@
 """The store: one thread that has the present database, and stores what waits, in turns."""
 import collections
 import os
-import shutil
 import threading
 import time
 from collections.abc import Callable, Iterator
@@ -125,7 +124,7 @@ class Store(threading.Thread):
             self.close()
             log(f"{new} entries of {len(uploads)} uploads are stored again")
         for folder in {path.parent for _, path in uploads}:
-            shutil.rmtree(folder)
+            self.recovery.sealing.reader.turn(folder.name)
 
     def fail(self, group: list[Waiting], why: str) -> None:
         """Those that wait are told to come again, and so are all that come while it is so."""
@@ -213,7 +212,9 @@ class Store(threading.Thread):
     def answered(self, upload: Waiting, answer: Answer) -> None:
         """What was answered is on the disk: whatever else fails costs no answer."""
         assert upload.path
-        if not answer.new:
+        if answer.new:
+            self.recovery.sealing.reader.feed(upload.path)
+        else:
             upload.path.unlink(missing_ok=True)
             self.recent_bytes -= upload.size
         upload.answer(Put(Verdict.LATER, "it couldn't be read") if answer.code == UNREAD else answer)

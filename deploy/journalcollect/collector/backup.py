@@ -1,0 +1,132 @@
+"""A backup of the collector in a folder, taken while the service runs, and put back.
+
+    FOLDER/state.sqlite    what was known; it is written last
+    FOLDER/databases/      each finished database, packed or not, with its digest
+    FOLDER/sequences/      the notes; these may have more than the databases do, and putting them back cuts that off
+"""
+import contextlib
+import os
+import shutil
+import sqlite3
+from collections.abc import Iterator
+from pathlib import Path
+
+from ..common import files
+from . import databases
+from .folder import Folder
+from .keeping import held
+from .notes import Notes
+from .operations import No
+from .state import State
+
+
+def make(folder: Folder, to: Path) -> Iterator[str]:
+    """Copies what isn't there yet. Nothing is deleted or packed meanwhile; all that was acknowledged is finished."""
+    (to / "databases").mkdir(parents=True, exist_ok=True)
+    with held(folder.path / "backup.lock", is_waiting=True):
+        new = to / "state.sqlite.new"
+        new.unlink(missing_ok=True)
+        with contextlib.closing(sqlite3.connect(f"file:{folder.state}?mode=ro", uri=True, timeout=60.0)) as rows:
+            rows.execute("VACUUM INTO ?", (str(new),))
+        with contextlib.closing(sqlite3.connect(new)) as rows:
+            known = rows.execute("SELECT name, standing, digest FROM database").fetchall()
+        bad = [name for name, standing, digest in known if standing == "finished" and not copied(folder, name, digest, to)]
+        for name in (name for name, standing, _ in known if standing == "deleted"):
+            remove(to, name)
+        copy_notes(folder.sequences, to / "sequences")
+        os.sync()
+        files.move(new, to / "state.sqlite")
+    if bad:
+        raise No(f"{' '.join(bad)}: not as they were finished, and not in the backup")
+    yield f"{sum(standing == 'finished' for _, standing, _ in known)} databases are in {to}"
+
+
+def forms(folder: Path, name: str) -> list[Path]:
+    """The files of a finished database that are there: as it is, or packed."""
+    return [path for end in (".db", ".db.zst") if (path := folder / f"{name}{end}").is_file()]
+
+
+def is_whole(path: Path, digest: str) -> bool:
+    """Whether a database, packed or not, is what it was when it was finished."""
+    try:
+        found = databases.unpacked_digest(path) if path.suffix == ".zst" else databases.digest_of(path)
+    except databases.Damaged:
+        return False
+    return found == digest
+
+
+def copied(folder: Folder, name: str, digest: str, to: Path) -> bool:
+    """Whether a database is in the backup now."""
+    there = to / "databases"
+    if forms(there, name) and databases.told_digest(there / f"{name}.db") == digest:
+        return True
+    return any(put(path, digest, there) for path in forms(folder.databases, name))
+
+
+def put(path: Path, digest: str, there: Path) -> bool:
+    """Copies a database and its digest into a folder, if it is whole."""
+    new, name = there / f"{path.name}.new", path.name.removesuffix(".zst")
+    shutil.copyfile(path, new)
+    if not is_whole(new, digest):
+        new.unlink()
+        return False
+    files.sync(new)
+    files.move(new, there / path.name)
+    files.replace(there / f"{name}.sha256", f"{digest}  {name}\n".encode("ascii"))
+    return True
+
+
+def remove(to: Path, name: str) -> None:
+    for path in [*forms(to / "databases", name), to / "databases" / f"{name}.db.sha256"]:
+        path.unlink(missing_ok=True)
+
+
+def copy_notes(sequences: Path, to: Path) -> None:
+    """Copies the files of notes that changed. Who stores only adds to them."""
+    for path in sequences.glob("*/*"):
+        copy = to / path.parent.name / path.name
+        with contextlib.suppress(FileNotFoundError):
+            if not copy.exists() or copy.stat().st_mtime_ns != path.stat().st_mtime_ns:
+                copy.parent.mkdir(parents=True, exist_ok=True)
+                shutil.copy2(path, copy)
+
+
+# Putting it back ------------------------------------------------------------------------------------------------------
+
+
+def restore(folder: Folder, backup: Path) -> Iterator[str]:
+    """Puts back each database that isn't there or isn't whole; what is known, and the notes, only into an empty folder.
+    The next start sees to the rest. Nothing that is whole is replaced."""
+    if not (backup / "state.sqlite").is_file():
+        raise No(f"{backup / 'state.sqlite'} isn't there: no backup was finished")
+    folder.make()
+    with contextlib.closing(sqlite3.connect(f"file:{backup / 'state.sqlite'}?mode=ro", uri=True)) as rows:
+        known = rows.execute("SELECT name, digest FROM database WHERE standing = 'finished'").fetchall()
+    is_empty = not any(folder.databases.iterdir()) and not any(folder.sequences.iterdir())
+    count = 0
+    for name, digest in known:
+        if not any(is_whole(path, digest) for path in forms(folder.databases, name)):
+            databases.delete(folder, name)
+            count += any(put(path, digest, folder.databases) for path in forms(backup / "databases", name))
+    if is_empty:
+        shutil.copyfile(backup / "state.sqlite", folder.state)
+        shutil.copytree(backup / "sequences", folder.sequences, dirs_exist_ok=True)
+        Notes(folder, State(folder)).forget()
+    own(folder.path)
+    os.sync()
+    yield f"{count} of {len(known)} databases are put back, as of {moment(backup / 'state.sqlite')}"
+    yield "machines send what came since, if they have it still"
+
+
+def moment(path: Path) -> str:
+    import time
+    return time.strftime("%Y-%m-%d %H:%M:%S UTC", time.gmtime(path.stat().st_mtime))
+
+
+def own(top: Path) -> None:
+    """All that is in a folder belongs to whom it belongs, as root can say."""
+    if os.geteuid() == 0:
+        told = top.stat()
+        for path in [*top.rglob("*")]:
+            if path.name not in ("journals", "sockets") and "journals" not in path.relative_to(top).parts:
+                os.chown(path, told.st_uid, told.st_gid, follow_symlinks=False)
