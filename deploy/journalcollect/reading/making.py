@@ -4,6 +4,7 @@ They are a cache: what is there is made of databases, and counts once it has its
 made anew.
 """
 import argparse
+import fcntl
 import heapq
 import mmap
 import os
@@ -108,21 +109,29 @@ class Maker:
         self.owners = owners(self.folder.state)
 
     def run(self, is_anew: bool) -> int:
+        """One run at a time; who comes while another one is under way leaves it that, if not all is to be made anew."""
         self.places.make()
         self.folder.scratch.mkdir(exist_ok=True)
-        if is_anew:
-            for folder in [*self.places.days(), self.places.today]:
+        with open(self.places.journals / ".lock", "wb") as lock:
+            try:
+                fcntl.flock(lock, fcntl.LOCK_EX | (0 if is_anew else fcntl.LOCK_NB))
+            except BlockingIOError:
+                return 0
+            for folder in [*self.places.days(), self.places.today] if is_anew else ():
                 shutil.rmtree(folder, ignore_errors=True)
             self.places.make()
+            return self.make_all()
+
+    def make_all(self) -> int:
         self.clean()
         status = 0
         for name in sorted(self.wanted() - self.places.made().keys(), reverse=True):
             if not self.has_room():
-                return told(f"fewer than {self.chosen.free_bytes} bytes are free: no journal files are made")
+                return told(f"FREE_BYTES is {self.chosen.free_bytes}, and fewer are free: none are made")
             try:
                 self.make(name)
             except (OSError, program.Failed, databases.Damaged, remote.Failed, Malformed) as error:
-                status = told(f"no journal files are made of {name}: {error}")
+                status = told(f"none are made of {name}: {error}")
         for day in sorted({self.day_of(name) for name in self.of_today()}, reverse=True):
             if self.is_over(day):
                 self.make_day(day)

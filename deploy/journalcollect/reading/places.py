@@ -57,8 +57,14 @@ class About:
                 times = mine.setdefault(boot, [first, last])
                 times[0], times[1] = min(times[0], first), max(times[1], last)
 
-    def write(self, path: Path) -> None:
-        files.replace(path, json.dumps(asdict(self), separators=(",", ":")).encode(), MODE)
+    def write(self, path: Path, is_synced: bool = True) -> None:
+        data = json.dumps(asdict(self), separators=(",", ":")).encode()
+        if is_synced:
+            files.replace(path, data, MODE)
+        else:
+            new = path.with_name(f".{path.name}")
+            new.write_bytes(data)
+            new.rename(path)
 
 
 def about(path: Path) -> About:

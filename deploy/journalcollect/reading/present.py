@@ -16,7 +16,7 @@ from pathlib import Path
 
 from . import entries, remote
 from .entries import Malformed, Untaken
-from .places import Places
+from .places import About, Places
 from .remote import Failed, Remote
 
 # The upload's header, and the kind of those that are export streams.
@@ -35,10 +35,11 @@ def sequence_id() -> str:
 class Live:
     """The present of one database."""
 
-    def __init__(self, places: Places, name: str, machine_of: Callable[[str], str | None], with_keys: bool) -> None:
-        self.name, self.machine_of, self.with_keys = name, machine_of, with_keys
+    def __init__(self, places: Places, name: str, with_keys: bool) -> None:
+        self.name, self.with_keys = name, with_keys
         self.keys: set[tuple[str, int]] = set()
-        self.machines: dict[str, str | None] = {}
+        self.about, self.path_of_about = About([name]), places.present / f"{name}.json"
+        self.is_told = True
         before = self.before(places)
         remote.remove(places.present, name)
         self.remote = Remote(places.present / f"{name}.journal", sequence_id(), before)
@@ -61,34 +62,41 @@ class Live:
         for span in entries.spans(data, HEADER):
             try:
                 entry = entries.entry(data, span)
-            except Untaken:
+            except Untaken as reason:
+                self.about.leave_out(str(reason))
                 continue
             key = entry.sequence, entry.number
             if key in self.keys:
                 continue
             self.keys.add(key)
-            if entry.sequence not in self.machines:
-                self.machines[entry.sequence] = self.machine_of(entry.sequence)
-            texts.append(entry.text(self.machines[entry.sequence], self.with_keys))
+            machine = upload.name.partition(".")[2]
+            self.about.add(machine, entry.boot, entry.realtime)
+            texts.append(entry.text(machine, self.with_keys))
             held += len(texts[-1])
             if held > MOST_TOGETHER:
                 self.remote.write(b"".join(texts))
                 texts, held = [], 0
         self.remote.write(b"".join(texts))
+        self.is_told = False
+
+    def say(self) -> None:
+        """What the files have now, beside them."""
+        if not self.is_told:
+            self.about.write(self.path_of_about, is_synced=False)
+            self.is_told = True
 
 
 class Present(threading.Thread):
     """A thread that has it. It is told of uploads and of finished databases, and never holds up who tells."""
 
-    def __init__(self, folder: Path, machine_of: Callable[[str], str | None], tell: Callable[[str], None],
-                 with_keys: bool = False) -> None:
+    def __init__(self, folder: Path, tell: Callable[[str], None], with_keys: bool = False) -> None:
         super().__init__(name="present", daemon=True)
         self.places, self.recent, self.databases = Places(folder), folder / "recent", folder / "databases"
-        self.machine_of, self.tell, self.with_keys = machine_of, tell, with_keys
+        self.tell, self.with_keys = tell, with_keys
         self.events: queue.Queue[Path | str | None] = queue.Queue()
         self.lives: dict[str, Live] = {}
         self.maker: subprocess.Popen[bytes] | None = None
-        self.makes_again = True
+        self.makes_again, self.looked, self.cleaned = True, 0.0, 0.0
 
     def feed(self, upload: Path) -> None:
         """An upload is stored, and is recent/DATABASE/N."""
@@ -133,31 +141,43 @@ class Present(threading.Thread):
 
     def live(self, name: str) -> Live:
         if name not in self.lives:
-            self.lives[name] = Live(self.places, name, self.machine_of, self.with_keys)
+            self.lives[name] = Live(self.places, name, self.with_keys)
         return self.lives[name]
 
     def follow(self) -> None:
-        while True:
-            try:
-                event = self.events.get(timeout=SECONDS_WAITING if not self.is_making() else 1.0)
-            except queue.Empty:
-                self.clean()
-                self.make()
-                continue
-            match event:
-                case None:
-                    return
-                case Path():
-                    if event.exists():
-                        self.live(event.parent.name).add(event)
-                case str():
-                    self.end(event)
-                    self.makes_again = True
-                    self.make()
+        while (event := self.next()) is not None:
+            if isinstance(event, Path):
+                self.live(event.parent.name).add(event)
+            elif event:
+                self.end(event)
+                self.makes_again = True
+            self.look()
+
+    def next(self) -> Path | str | None:
+        """What is told next: an upload that is still there, a finished database, nothing for a while, or the end."""
+        try:
+            event = self.events.get(timeout=1.0)
+        except queue.Empty:
+            return ""
+        return "" if isinstance(event, Path) and not event.exists() else event
+
+    def look(self) -> None:
+        """What is to be done now and then."""
+        now = time.monotonic()
+        if now - self.looked < 1.0:
+            return
+        self.looked = now
+        for live in self.lives.values():
+            live.say()
+        self.make()
+        if now - self.cleaned > SECONDS_WAITING:
+            self.cleaned = now
+            self.clean()
 
     def end(self, name: str) -> None:
         if live := self.lives.pop(name, None):
             live.remote.finish()
+            live.say()
         shutil.rmtree(self.recent / name, ignore_errors=True)
 
     def is_making(self) -> bool:
@@ -174,7 +194,7 @@ class Present(threading.Thread):
     def clean(self) -> None:
         """The present of databases whose journal files stand goes after a while."""
         made = self.places.made()
-        for path in self.places.present.glob("*.journal*"):
+        for path in self.places.present.glob("*.j*"):
             name = remote.stem(path)
             is_replaced = name in made or not (self.databases / f"{name}.db.sha256").exists()
             if name not in self.lives and is_replaced and time.time() - path.stat().st_mtime > SECONDS_STANDING:
@@ -182,5 +202,5 @@ class Present(threading.Thread):
 
 
 def number(upload: Path) -> int:
-    """Uploads of a database come in the order of their numbers."""
-    return int(upload.name)
+    """Uploads of a database come in the order of their numbers, recent/DATABASE/NUMBER.MACHINE."""
+    return int(upload.name.partition(".")[0])

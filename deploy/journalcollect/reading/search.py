@@ -1,0 +1,281 @@
+"""journal-collect-search: journalctl over what was collected of all machines.
+
+Its words are journalctl's, and are handed on to it as they are, over the files of the time asked for. `-M` is here the
+collector's name of a machine, and boots are counted for each machine by itself.
+"""
+import fnmatch
+import os
+import sqlite3
+import sys
+import time
+from collections import Counter
+from contextlib import closing
+from pathlib import Path
+
+from ..collector import settings
+from ..common.settings import Wrong as WrongSettings
+from . import choosing, journalctl, words
+from .choosing import FOREVER, Standing
+from .journalctl import Window
+from .places import About, Places
+from .words import Call, Wrong
+
+HELP = """\
+Usage: journal-collect-search [OPTIONS..] [MATCHES..]
+
+What was collected, by journalctl: all its options for showing entries, and
+
+  -M --machine=NAME         of this machine, by the collector's name; `we*` is all that begin so; may be repeated
+     --list-machines        the machines, the first and last entry of each, and how far its clock is ahead
+     --list-boots           the boots of each machine; -b counts the boots of each machine by itself
+     --count-by=FIELD       how many entries have each value of a field (machine, unit, boot, priority: short names)
+     --histogram[=SECONDS]  how many entries each span of time has; together with --count-by, by value
+     --failed               which units failed, how often, and when last
+     --folder=FOLDER        what another collector, or its copy, has
+
+The files are in /var/lib/journal-collect/journals: journalctl -D FOLDER/journals/DAY works, too.
+`-o export` has the journal files' own cursors: `journal-collect export DATABASE` is the canonical text.
+"""
+SHORT = {"machine": "_COLLECTED_FROM", "unit": "_SYSTEMD_UNIT", "boot": "_BOOT_ID", "priority": "PRIORITY",
+         "host": "_HOSTNAME", "identifier": "SYSLOG_IDENTIFIER"}
+UNIT_FAILED = "MESSAGE_ID=d9b373ed55a64feb8242e02dbe79a49c"
+# From so many files on it is found out first which of them the newest entries are in.
+MANY_FILES = 200
+# A histogram has about so many lines, each with a bar of so many characters.
+BARS, WIDTH = 40, 40
+STEPS = [1, 10, 60, 600, 3600, 6 * 3600, 86400, 7 * 86400]
+
+
+class Search:
+    """One call."""
+
+    def __init__(self, call: Call, at: Places) -> None:
+        self.asked, self.at = call, at
+        self.since = journalctl.microseconds(call.value("since"), 0)
+        self.until = journalctl.microseconds(call.value("until"), FOREVER)
+        self.call = call.of([f"_COLLECTED_FROM={name}" for name in self.machines()])
+        if (call.has("boot") or call.has("dmesg")) and call.value("boot") != "all" and not call.has("list-boots"):
+            self.call = self.of_boots()
+        if call.has("dmesg"):
+            self.call = self.call.of(["_TRANSPORT=kernel"])
+        self.call = self.call.without("boot", "dmesg", "merge", "list-boots")
+
+    def machines(self) -> list[str]:
+        """The machines asked for; none if all are."""
+        patterns = self.asked.values("machine")
+        if not patterns:
+            return []
+        known = [name for name in choosing.about(self.at).boots if name]
+        found = sorted({name for pattern in patterns for name in known if fnmatch.fnmatchcase(name, pattern)})
+        if not found:
+            raise Wrong(f"nothing of a machine {' or '.join(patterns)} was collected; --list-machines says of which")
+        return found
+
+    def boots(self) -> dict[str, list[tuple[str, int, int]]]:
+        """The boots of each machine asked for, in their order, with their first and last time."""
+        chosen, about = set(self.machines()), choosing.about(self.at)
+        return {machine: sorted(((boot, first, last) for boot, (first, last) in boots.items()), key=lambda each: each[1:])
+                for machine, boots in sorted(about.boots.items()) if not chosen or machine in chosen}
+
+    def of_boots(self) -> Call:
+        """The boot that is asked for, of each machine that has it."""
+        said = self.asked.value("boot") or "0"
+        is_named = len(said) >= 32 and all(each in "0123456789abcdefABCDEF" for each in said[:32])
+        boot, offset = (said[:32].lower(), int(said[32:] or 0)) if is_named else ("", int(said))
+        found: dict[str, int] = {}
+        for boots in self.boots().values():
+            ids = [each[0] for each in boots]
+            if boot and boot not in ids:
+                continue
+            place = ids.index(boot) + offset if boot else offset - 1 if offset > 0 else len(ids) - 1 + offset
+            if 0 <= place < len(ids):
+                found[ids[place]] = boots[place][1]
+        if not found:
+            raise Wrong(f"no machine has a boot {said}; --list-boots says which there are")
+        self.since = max(self.since, min(found.values()))
+        return self.call.of([f"_BOOT_ID={each}" for each in found])
+
+    def standing(self) -> Standing:
+        return choosing.standing(self.at).since(self.since, self.until)
+
+    def windows(self) -> list[Window]:
+        """Spans for all processors, some for each."""
+        return journalctl.windows(self.standing(), self.since, self.until, 4 * (os.cpu_count() or 1))
+
+    def run(self) -> int:
+        if self.asked.has("list-machines"):
+            return self.list_machines()
+        if self.asked.has("list-boots"):
+            return self.list_boots()
+        if self.asked.has("failed"):
+            return self.failed()
+        if self.asked.has("count-by", "histogram"):
+            return self.count()
+        if self.asked.has("field") and self.call.matches:
+            name = self.asked.value("field")
+            print(*sorted({value for _, value in journalctl.count(self.windows(), self.call.without("field"), name)
+                           if value != "-"}), sep="\n")
+            return 0
+        if self.asked.has("follow"):
+            return self.follow()
+        return self.show()
+
+    def show(self) -> int:
+        """journalctl itself; on all processors, if a word is looked for."""
+        call, is_plain = self.call, self.asked.has(*journalctl.CURSORS, "field", "fields", "header", "verify")
+        if call.has("grep") and not is_plain and not call.lines:
+            return journalctl.side_by_side(self.windows(), call)
+        standing = self.standing()
+        if call.lines and not is_plain and (call.has("grep") or len(standing.files) > MANY_FILES):
+            found = journalctl.windows(standing, self.since, self.until, max(len(standing.files), 1))
+            self.since = max(self.since, journalctl.newest(found, call, call.lines))
+            standing = standing.since(self.since, self.until)
+        files = standing.files or choosing.standing(self.at).files[:1]
+        if not files:
+            print("-- No entries --")
+            return 0
+        journalctl.replace(Window(files, 0, FOREVER), call)
+        return 3
+
+    def follow(self) -> int:
+        """First the last entries of what is finished, then the present, from its beginning or its last entries on."""
+        call, standing = self.call, self.standing()
+        sys.stdout.flush()
+        lines = None if call.has("no-tail") or call.lines is None and call.has("lines") else call.lines or 10
+        of_present = Window(standing.present, self.since, self.until)
+        here = sum(1 for _ in journalctl.entries(of_present, call.without("follow"), "_BOOT_ID")
+                   ) if standing.present and lines is not None else 0
+        call = call.without("lines", "no-tail")
+        if lines is None or here < lines:
+            before = call.without("follow", "show-cursor")
+            if lines is not None:
+                before = before.plus(("lines", str(lines - here)))
+            if standing.finished:
+                journalctl.side_by_side([Window(standing.finished, self.since, self.until)],
+                                        before.plus(("quiet", None)))
+                sys.stdout.flush()
+            call = call.plus(("no-tail", None))
+        else:
+            call = call.plus(("lines", str(lines)))
+        os.execvp(journalctl.PROGRAM, [journalctl.PROGRAM, f"--directory={self.at.present}", "--merge", "--no-pager",
+                                       *call.words()])
+
+    def list_boots(self) -> int:
+        boots = self.boots()
+        for machine, of_machine in boots.items():
+            if len(boots) > 1:
+                print(f"{machine or '(by hand)'}:")
+            print(f"IDX {'BOOT ID':<32} {'FIRST ENTRY':<27} LAST ENTRY")
+            for place, (boot, first, last) in enumerate(of_machine, 1 - len(of_machine)):
+                print(f"{place:3} {boot} {self.at_time(first):<27} {self.at_time(last)}")
+        return 0
+
+    def list_machines(self) -> int:
+        """Each machine with its first and last entry, when it was seen last, and how far its clock is ahead."""
+        seen = machines(self.at.folder / "state.sqlite")
+        about = choosing.about(self.at)
+        wanted = self.machines() or sorted({*about.boots, *seen} - {""})
+        print(f"{'MACHINE':<24} {'FIRST ENTRY':<27} {'LAST ENTRY':<27} {'SEEN':<27} CLOCK AHEAD")
+        for name in wanted:
+            spans = about.boots.get(name, {}).values()
+            first = self.at_time(min(span[0] for span in spans)) if spans else "-"
+            last = self.at_time(max(span[1] for span in spans)) if spans else "-"
+            at, skew = seen.get(name, (0.0, 0.0))
+            print(f"{name:<24} {first:<27} {last:<27} {self.at_time(int(at * 1e6)) if at else '-':<27} "
+                  f"{skew:+.1f} s" if at else f"{name:<24} {first:<27} {last:<27} {'-':<27} -")
+        return 0
+
+    def at_time(self, microseconds: int) -> str:
+        """As journalctl says times; a machine may say any."""
+        try:
+            split = time.gmtime if self.asked.has("utc") else time.localtime
+            return time.strftime("%a %Y-%m-%d %H:%M:%S %Z", split(microseconds // 1_000_000))
+        except (ValueError, OverflowError, OSError):
+            return f"@{microseconds}"
+
+    def count(self) -> int:
+        """--count-by, --histogram, or both."""
+        said = self.asked.value("count-by")
+        found = journalctl.count(self.windows(), self.call, SHORT.get(said, said) if said else None)
+        if not self.asked.has("histogram"):
+            by_value: Counter[str] = Counter()
+            for (_, value), count in found.items():
+                by_value[value] += count
+            for value, count in by_value.most_common():
+                print(f"{count:>10} {one_line(value)}")
+            return 0
+        step = self.step(found)
+        bars: Counter[tuple[int, str]] = Counter()
+        for (second, value), count in found.items():
+            bars[second // step * step, value] += count
+        most = max(bars.values(), default=1)
+        for (second, value), count in sorted(bars.items()):
+            bar = "#" * (count * WIDTH // most)
+            print(f"{self.at_time(second * 1_000_000):<27} {count:>10} {f'{one_line(value):<24} ' if said else ''}{bar}".rstrip())
+        return 0
+
+    def step(self, found: Counter[tuple[int, str]]) -> int:
+        """How many seconds a line of the histogram has."""
+        said = self.asked.value("histogram")
+        if said is not None:
+            if not said.isdigit() or not int(said):
+                raise Wrong(f"--histogram={said} is no number of seconds")
+            return int(said)
+        seconds = [second for second, _ in found] or [0]
+        return next((step for step in STEPS if (max(seconds) - min(seconds)) // step < BARS), STEPS[-1])
+
+    def failed(self) -> int:
+        """Which units failed, by what systemd says of them."""
+        last: dict[tuple[str, str, str], int] = {}
+        times: Counter[tuple[str, str, str]] = Counter()
+        call = self.call.of([UNIT_FAILED])
+        for window in self.windows():
+            for entry in journalctl.entries(window, call, "_COLLECTED_FROM", "UNIT", "USER_UNIT", "UNIT_RESULT"):
+                key = (str(entry.get("_COLLECTED_FROM", "")), str(entry.get("UNIT") or entry.get("USER_UNIT") or "?"),
+                       str(entry.get("UNIT_RESULT", "?")))
+                times[key] += 1
+                last[key] = max(last.get(key, 0), int(entry["__REALTIME_TIMESTAMP"]))
+        print(f"{'LAST':<27} {'TIMES':>6} {'MACHINE':<16} {'RESULT':<14} UNIT")
+        for key, at in sorted(last.items(), key=lambda each: -each[1]):
+            machine, unit, result = map(one_line, key)
+            print(f"{self.at_time(at):<27} {times[key]:>6} {machine:<16} {result:<14} {unit}")
+        return 0
+
+
+def one_line(value: str) -> str:
+    """A value as a terminal may have it."""
+    return "".join(each if each.isprintable() else "?" for each in value)
+
+
+def machines(state: Path) -> dict[str, tuple[float, float]]:
+    """When each machine was seen last, and by how many seconds its clock was ahead, if that may be read."""
+    try:
+        with closing(sqlite3.connect(f"file:{state}?mode=ro", uri=True)) as rows:
+            return {name: (seen or 0.0, skew or 0.0) for name, seen, skew in
+                    rows.execute("SELECT name, seen, skew FROM machine")}
+    except sqlite3.Error:
+        return {}
+
+
+def folder(named: str | None) -> Path:
+    return Path(named or settings.read().folder)
+
+
+def main() -> int:
+    try:
+        call = words.read(sys.argv[1:])
+        if call.has("help"):
+            sys.stdout.write(HELP)
+            return 0
+        if call.has("version", "list-catalog", "dump-catalog"):
+            os.execvp(journalctl.PROGRAM, [journalctl.PROGRAM, *call.words()])
+        return Search(call, Places(folder(call.value("folder")))).run()
+    except (Wrong, WrongSettings) as wrong:
+        print(f"journal-collect-search: {wrong}", file=sys.stderr)
+        return 2
+    except BrokenPipeError:
+        os.dup2(os.open(os.devnull, os.O_WRONLY), 1)
+        return 0
+    except OSError as error:
+        print(f"journal-collect-search: {error}", file=sys.stderr)
+        return 3
