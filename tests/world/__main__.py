@@ -94,6 +94,8 @@ def main() -> int:
         return 0
     print(f"world: --seed {asked.seed}", flush=True)
     world = World(folder, asked.seed)
+    if not world.library:
+        print("skipped: clocks that are wrong, since the program can't be run with a library that sets them")
     if asked.only:
         world.events = [event for event in world.events if event.__name__ in asked.only.split(",")]
     wrong = ["it didn't come to its end"]

@@ -42,6 +42,8 @@ class Computer:
         self.process: subprocess.Popen[bytes] | None = None
         (folder / "etc" / self.conf).mkdir(parents=True)
         self.write(settings)
+        self.data.mkdir(exist_ok=True)
+        disk.sync()
 
     def write(self, settings: dict[str, object]) -> None:
         text = "".join(f"{name}={value}\n" for name, value in settings.items())

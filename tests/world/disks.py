@@ -11,7 +11,7 @@ from pathlib import Path
 
 # What isn't synced stays in memory: it isn't on the disk when the power goes.
 OPTIONS = "loop,noatime,commit=600,noauto_da_alloc"
-SIZE, INODES = 64 << 20, 6_000
+SIZE, INODES = 64 << 20, 16_000
 
 
 def can_mount(folder: Path) -> bool:
@@ -68,6 +68,9 @@ class Disk:
         self.unmount()
         left.replace(self.image)
         self.mount()
+
+    def sync(self) -> None:
+        run("sync", "--file-system", self.at)
 
     def snapshot(self, to: Path) -> None:
         """A copy of the disk as it is, as a hypervisor makes it: processes stand still meanwhile."""

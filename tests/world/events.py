@@ -1,6 +1,7 @@
 """What happens in the world: each method whose name begins with `machine_` or `collector_` is one event."""
 from __future__ import annotations
 
+import os
 import random
 import shutil
 import signal
@@ -12,7 +13,7 @@ from collections.abc import Callable
 from pathlib import Path
 
 import preload
-from computers import HERE, Collector, Machine
+from computers import HERE, PROGRAM, Collector, Machine
 from disks import Disk, end_session
 from judge import Entry, acknowledged
 
@@ -21,12 +22,22 @@ MOST_MACHINES = 6
 DAY = 86_400
 
 
+def clock_library(folder: Path) -> str:
+    """What sets a program's clock, if there is a compiler, and the program can be run with it: one that checks its own
+    memory can't."""
+    if not shutil.which("rt"):
+        return ""
+    library = preload.built(str(HERE / "clock.c"), str(folder))
+    told = subprocess.run([PROGRAM, "--version"], env={**os.environ, "LD_PRELOAD": library}, capture_output=True, check=False)
+    return "" if told.returncode else library
+
+
 class World:
     """Machines, the collector, a hostile machine, and what was taken away from them."""
 
     def __init__(self, folder: Path, seed: int) -> None:
         self.folder, self.dice = folder, random.Random(seed)
-        self.library = preload.built(str(HERE / "clock.c"), str(folder)) if shutil.which("rt") else ""
+        self.library = clock_library(folder)
         home = self.at("collector")
         self.collector = Collector(home, Disk(home / "disk"), self.clock_of(home))
         self.machines = [self.machine(name) for name in NAMES]
@@ -36,6 +47,8 @@ class World:
         self.backups: list[Path] = []
         self.at_risk: set[Entry] = set()
         self.counts: Counter[str] = Counter()
+        for machine in self.machines:
+            machine.journal.grow(1)
         self.events: list[Callable[[], None]] = [
             getattr(self, name) for name in sorted(dir(self)) if name.startswith(("machine_", "collector_"))]
 
@@ -191,6 +204,7 @@ class World:
             self.risk()
             self.collector.stop(signal.SIGKILL)
             shutil.rmtree(self.collector.data)
+            self.collector.data.mkdir()
             self.collector.disk.free()
             told = self.collector.call("journal-collect-admin", "restore", self.backups[-1])
             assert told.returncode == 0, told.stderr.decode()

@@ -123,8 +123,8 @@ class Joining:
         return scanned
 
     def write_settings(self) -> bool:
-        port = f"PORT={self.port}\n" if self.port != 22 else ""
-        return self.deeds.write(self.etc / "machine.conf.d" / "10-join.conf", f"COLLECTOR={self.host}\n{port}")
+        where = self.host if self.port == 22 else f"{self.host}:{self.port}"
+        return self.deeds.write(self.etc / "machine.conf.d" / "10-join.conf", f"COLLECTOR={where}\n")
 
     # The collector
 

@@ -1,0 +1,121 @@
+"""Computers that systemd starts: each is a container with a copy of this computer's own system, in which nothing that is
+written stays, and all share a network of their own. They have what `make install` installs."""
+from __future__ import annotations
+
+import os
+import shutil
+import subprocess
+import time
+from collections.abc import Callable
+from pathlib import Path
+
+HERE = Path(__file__).resolve().parent
+DEPLOY = HERE.parents[1] / "deploy"
+NETWORK = "journal-collect-guide"
+# What of this computer isn't to be there: its own logs, units that wait for hardware, and what earlier installations left.
+EMPTY = ("var/log/journal", "var/lib/journal-collect", "var/lib/journal-collect-send", "etc/journal-collect")
+MASKED = ("systemd-timesyncd.service", "systemd-networkd-wait-online.service", "getty.target", "console-getty.service",
+          "systemd-resolved.service")
+SECONDS = 60.0
+
+
+def lacking() -> str:
+    """Why none can be started here; nothing if they can."""
+    for program in ("systemd-nspawn", "sshd", "ip"):
+        if not shutil.which(program, path=f"{os.environ['PATH']}:/usr/sbin:/sbin"):
+            return f"there is no {program}"
+    return "only root can start containers" if os.geteuid() else ""
+
+
+def run(*words: str | Path, given: bytes = b"") -> str:
+    return subprocess.run(words, input=given, capture_output=True, check=True).stdout.decode(errors="replace")
+
+
+class Network:
+    """Loopback alone, which all computers share."""
+
+    def __enter__(self) -> Network:
+        subprocess.run(["ip", "netns", "delete", NETWORK], capture_output=True, check=False)
+        run("ip", "netns", "add", NETWORK)
+        run("ip", "-n", NETWORK, "link", "set", "lo", "up")
+        return self
+
+    def __exit__(self, *_: object) -> None:
+        run("ip", "netns", "delete", NETWORK)
+
+
+class Booted:
+    """One computer."""
+
+    def __init__(self, folder: Path, name: str, program: Path) -> None:
+        self.folder, self.name = folder / name, name
+        self.root = self.folder / "root"
+        self.root.mkdir(parents=True)
+        run("mount", "-t", "tmpfs", "-o", "size=1G", "none", self.folder)
+        for each in ("upper", "work", "root"):
+            (self.folder / each).mkdir()
+        run("mount", "-t", "overlay", "overlay", "-o",
+            f"lowerdir=/,upperdir={self.folder / 'upper'},workdir={self.folder / 'work'}", self.root)
+        self.prepare(program)
+        command: list[str | Path] = ["systemd-nspawn", "--quiet", "--directory", self.root, "--boot",
+                                    "--register=no", "--keep-unit", f"--machine={name}", f"--hostname={name}",
+                                    f"--network-namespace-path=/run/netns/{NETWORK}", "--resolv-conf=off",
+                                    "--console=pipe", "--private-users=no"]
+        self.process = subprocess.Popen(command, stdin=subprocess.DEVNULL, stdout=subprocess.DEVNULL,
+                                        stderr=subprocess.DEVNULL)
+        self.wait_for(lambda: self.call("systemctl", "is-system-running").stdout.strip() in (b"running", b"degraded"))
+
+    def prepare(self, program: Path) -> None:
+        for each in EMPTY:
+            shutil.rmtree(self.root / each, ignore_errors=True)
+            (self.root / each).mkdir(parents=True)
+        (self.root / "etc/journal-collect").rmdir()
+        for path in (self.root / "var/lib/journal-collect", self.root / "var/lib/journal-collect-send"):
+            path.rmdir()
+        (self.root / "etc/machine-id").unlink(missing_ok=True)
+        (self.root / "etc/machine-id").write_text(os.urandom(16).hex() + "\n")
+        (self.root / "etc/hosts").write_text(f"127.0.0.1 localhost logs.example.org {self.name}\n")
+        (self.root / "etc/hostname").write_text(f"{self.name}\n")
+        (self.root / "etc/fstab").write_text("")
+        for unit in MASKED:
+            (self.root / "etc/systemd/system" / unit).unlink(missing_ok=True)
+            (self.root / "etc/systemd/system" / unit).symlink_to("/dev/null")
+        subprocess.run([DEPLOY / "install.sh", self.root, "/usr"], check=True)
+        shutil.copy(program, self.root / "usr/bin/journal-collect")
+
+    def __enter__(self) -> Booted:
+        return self
+
+    def __exit__(self, *_: object) -> None:
+        self.process.terminate()
+        try:
+            self.process.wait(timeout=20)
+        except subprocess.TimeoutExpired:
+            self.process.kill()
+            self.process.wait()
+        for path in (self.root, self.folder):
+            subprocess.run(["umount", "-l", path], check=False)
+
+    def leader(self) -> str:
+        """The process of its systemd."""
+        return Path(f"/proc/{self.process.pid}/task/{self.process.pid}/children").read_text().split()[0]
+
+    def call(self, *words: str | Path, given: bytes = b"") -> subprocess.CompletedProcess[bytes]:
+        """A program that root runs there."""
+        try:
+            there = ["nsenter", f"--target={self.leader()}", "--all", "--wd=/root", "env", "-i", "HOME=/root",
+                     "PATH=/usr/sbin:/usr/bin:/sbin:/bin", "LANG=C.UTF-8"]
+        except (OSError, IndexError):
+            return subprocess.CompletedProcess(words, 255, b"", b"it isn't started")
+        return subprocess.run([*there, *words], input=given, capture_output=True, check=False, timeout=300)
+
+    def shell(self, text: str) -> subprocess.CompletedProcess[bytes]:
+        """A block of the guide, as it is typed."""
+        return self.call("bash", "-euo", "pipefail", "-c", text)
+
+    def wait_for(self, holds: Callable[[], object], what: str = "it to start") -> None:
+        end = time.monotonic() + SECONDS
+        while not holds():
+            if time.monotonic() > end or self.process.poll() is not None:
+                raise TimeoutError(f"{self.name}: waited in vain for {what}")
+            time.sleep(0.2)
