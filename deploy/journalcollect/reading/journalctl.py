@@ -7,6 +7,7 @@ import tempfile
 from collections import Counter
 from collections.abc import Iterator
 from concurrent.futures import ProcessPoolExecutor, ThreadPoolExecutor
+from contextlib import contextmanager
 from dataclasses import dataclass
 from typing import IO, Any
 
@@ -86,17 +87,27 @@ def replace(window: Window, call: Call, *more: str) -> None:
     os.execvp(PROGRAM, [words[0], *more, *words[1:]])
 
 
-def entries(window: Window, call: Call, *fields: str) -> Iterator[dict[str, Any]]:
-    """The entries as JSON says them, with some fields alone if these are named."""
+Entries = Iterator[dict[str, Any]]
+
+
+@contextmanager
+def reading(window: Window, call: Call, *fields: str) -> Iterator[tuple[subprocess.Popen[bytes], Entries]]:
+    """A journalctl, and the entries as it says them in JSON, with some fields alone if these are named."""
     call = call.without("output", "output-fields", "quiet").plus(("output", "json"), ("quiet", None))
     if fields:
         call = call.plus(("output-fields", ",".join(fields)))
-    with subprocess.Popen(window.words(call), stdout=subprocess.PIPE, pass_fds=window.handles) as process:
+    with subprocess.Popen(window.words(call), stdout=subprocess.PIPE, stderr=subprocess.DEVNULL,
+                          pass_fds=window.handles) as process:
         assert process.stdout
         try:
-            yield from map(json.loads, process.stdout)
+            yield process, (json.loads(line) for line in process.stdout if line.endswith(b"}\n"))
         finally:
             process.terminate()
+
+
+def entries(window: Window, call: Call, *fields: str) -> Entries:
+    with reading(window, call, *fields) as (_, found):
+        yield from found
 
 
 def side_by_side(found: list[Window], call: Call) -> int:
