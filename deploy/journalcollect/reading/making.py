@@ -20,7 +20,7 @@ from typing import IO
 
 from ..collector import databases
 from ..collector import settings as collector_settings
-from ..collector.folder import Folder
+from ..collector.settings import Folder
 from ..common import files, program
 from . import entries, places, remote
 from .entries import Malformed, Untaken

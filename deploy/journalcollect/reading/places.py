@@ -18,7 +18,9 @@ from pathlib import Path
 from ..common import files
 
 DAY = re.compile(r"\d{4}-\d\d-\d\d(\.\d+)?", re.ASCII)
-ALL, ABOUT, MODE = "all", "about.json", 0o640
+ALL, ABOUT = "all", "about.json"
+# The group that a collector's folder has may read, whatever else who makes them leaves to others.
+MODE, FOLDER_MODE = 0o640, 0o2750
 # A machine that says more boots of one day than these isn't listened to.
 MOST_BOOTS = 1_000
 
@@ -64,6 +66,7 @@ class About:
         else:
             new = path.with_name(f".{path.name}")
             new.write_bytes(data)
+            new.chmod(MODE)
             new.rename(path)
 
 
@@ -95,7 +98,9 @@ class Places:
 
     def make(self) -> None:
         for folder in (self.journals, self.present, self.today):
-            folder.mkdir(exist_ok=True)
+            if not folder.exists():
+                folder.mkdir()
+                folder.chmod(FOLDER_MODE)
 
     def days(self) -> list[Path]:
         """The folders of days, the newest first."""

@@ -1,0 +1,1 @@
+"""Forwarding: what is stored is brought to ClickHouse."""

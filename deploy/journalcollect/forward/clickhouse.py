@@ -1,0 +1,120 @@
+"""ClickHouse, by HTTP: rows of JSON for a table whose sorting key has an entry's key, so that a row that comes again is
+merged with the first one."""
+import http.client
+import re
+import socket
+import threading
+from contextlib import suppress
+from dataclasses import dataclass
+from urllib.parse import urlencode
+
+from . import settings
+from .rows import COLUMNS, OWN, Row
+from .settings import Settings
+
+MOST_BYTES, LONGEST_REASON, LONGEST_WAIT = 1 << 20, 400, 600.0
+# A row that isn't taken is an error that is told: none may be left out without a word. What a Distributed table answers
+# is what the servers behind it have.
+STRICT = {"input_format_allow_errors_num": "0", "input_format_allow_errors_ratio": "0",
+          "input_format_skip_unknown_fields": "0", "insert_distributed_sync": "1"}
+# The codes of what can be wrong with a row: it can't be parsed, or isn't what the table allows. The status alone
+# doesn't tell that: servers answer 400 or 500.
+CODE = re.compile(r"Code: ([0-9]+)")
+OF_ROWS = {6, 26, 27, 38, 41, 69, 72, 117, 128, 130, 131, 190, 321, 349, 467, 469}
+OF_TABLE = "Unknown field"
+
+
+class Unavailable(Exception):
+    """It takes nothing now. Sent again later, the same may be taken. The connection may have been cut."""
+
+    def __init__(self, reason: str, is_cut: bool = False, wait: float | None = None) -> None:
+        super().__init__(reason)
+        self.is_cut, self.wait = is_cut, wait
+
+
+class Refused(Exception):
+    """A row will never be taken, and why."""
+
+
+@dataclass(frozen=True)
+class Answer:
+    status: int
+    body: bytes
+    wait: float | None
+
+    @property
+    def text(self) -> str:
+        """What it said, on one line."""
+        said = self.body[:LONGEST_REASON].decode(errors="replace").strip()
+        return f"{self.status} {''.join(each if each.isprintable() else '?' for each in said)}".strip()
+
+
+class ClickHouse:
+    """One table, over one connection."""
+
+    def __init__(self, chosen: Settings) -> None:
+        parts, context, self.seconds = chosen.parts, settings.encryption(chosen), chosen.timeout_seconds
+        self.table, self.path, self.headers = chosen.table, parts.path.rstrip("/"), settings.headers(chosen)
+        host, port = parts.hostname or "", parts.port
+        self.connection = http.client.HTTPSConnection(host, port, timeout=self.seconds, context=context) if context \
+            else http.client.HTTPConnection(host, port, timeout=self.seconds)
+        self.insert = "/?" + urlencode({"query": f"INSERT INTO {self.table} FORMAT JSONEachRow", **STRICT})
+
+    def look(self) -> None:
+        """Whether the table is there, with all columns; Unavailable if not."""
+        database, _, table = self.table.rpartition(".")
+        where = f"'{database}'" if database else "currentDatabase()"
+        answer = self.post("/", f"SELECT name FROM system.columns WHERE database = {where} AND table = '{table}' "
+                                "FORMAT TabSeparated".encode())
+        if answer.status != 200:
+            raise Unavailable(answer.text, wait=answer.wait)
+        has = set(answer.body.decode(errors="replace").split())
+        if missing := sorted({*OWN, *COLUMNS.values()} - has):
+            lacks = f"lacks {', '.join(missing)}" if has else "isn't there"
+            raise Unavailable(f"the table {self.table} {lacks}: see journal-collect-forward --schema")
+
+    def put(self, rows: list[Row]) -> None:
+        """Brings rows there: it has all of them when this returns. Refused if one of them is wrong."""
+        answer = self.post(self.insert, b"".join([row.data for row in rows]))
+        if answer.status == 200 and not answer.body:
+            return
+        said = answer.body.decode(errors="replace")
+        code = CODE.search(said)
+        if answer.status == 413 or code and int(code[1]) in OF_ROWS and OF_TABLE not in said:
+            raise Refused(answer.text)
+        raise Unavailable(answer.text, wait=answer.wait)
+
+    def post(self, target: str, body: bytes) -> Answer:
+        """A request, and its answer. All of it has a deadline, however slowly something comes."""
+        is_late = threading.Event()
+        timer = threading.Timer(self.seconds, self.cut, [is_late])
+        timer.start()
+        try:
+            return self.exchange(target, body)
+        except (OSError, http.client.HTTPException) as error:
+            self.connection.close()
+            reason = f"no answer within {self.seconds:g} s" if is_late.is_set() else str(error) or type(error).__name__
+            is_cut = not isinstance(error, (ConnectionRefusedError, socket.gaierror))
+            raise Unavailable(f"it can't be reached: {reason}", is_cut) from error
+        finally:
+            timer.cancel()
+
+    def cut(self, is_late: threading.Event) -> None:
+        is_late.set()
+        if sock := self.connection.sock:
+            with suppress(OSError):
+                sock.shutdown(socket.SHUT_RDWR)
+
+    def exchange(self, target: str, body: bytes) -> Answer:
+        # It may have closed the connection while nothing was under way.
+        self.connection.close()
+        try:
+            self.connection.request("POST", self.path + target, body, self.headers)
+        except (BrokenPipeError, ConnectionResetError):
+            # It may have answered before it had all, as one does that finds this too large.
+            if self.connection.sock is None:
+                raise
+        response = self.connection.getresponse()
+        said = response.read(MOST_BYTES)
+        wait = response.getheader("Retry-After", "")
+        return Answer(response.status, said, min(float(wait), LONGEST_WAIT) if wait.isdigit() else None)

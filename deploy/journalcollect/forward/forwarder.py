@@ -1,0 +1,247 @@
+"""journal-collect-forward: brings what was collected to ClickHouse, database by database."""
+import argparse
+import fcntl
+import mmap
+import os
+import signal
+import subprocess
+import sys
+import time
+from collections.abc import Iterator
+from datetime import date
+from pathlib import Path
+from typing import Any
+
+from ..collector import databases
+from ..collector import settings as collector_settings
+from ..collector.settings import Folder
+from ..common import files, program
+from ..common.settings import Wrong
+from ..reading.entries import Malformed, spans
+from . import settings
+from .clickhouse import ClickHouse, Refused, Unavailable
+from .place import Kept, Place
+from .rows import Row, row
+from .settings import Settings
+
+STATUSES = """\
+Status: 0 all went well; 1 something to look at: entries that were put aside, databases that are damaged or went before
+they were forwarded; 2 the call or the settings are wrong; 3 something failed; 75 another run is under way."""
+LOOK, WRONG, FAILED, UNDER_WAY = 1, 2, 3, 75
+BATCH_ENTRIES, BATCH_BYTES, POLL_SECONDS = 5_000, 8 << 20, 5.0
+LONGEST_WAIT, PATIENCE, MOST_CUTS = 60.0, 8.0, 3
+ALL = "all"
+
+
+class Stopping(BaseException):
+    """The run is told to stop. What the engine has and the place doesn't say goes out once more, and counts once."""
+
+
+class GaveUp(Exception):
+    """The engine takes nothing, and this run isn't to wait for it."""
+
+
+class Forwarder:
+    """One run."""
+
+    def __init__(self, chosen: Settings, folder: Path, once: bool) -> None:
+        self.chosen, self.once = chosen, once
+        self.folder, self.state = Folder(folder), folder / "forward"
+        self.folder.scratch, self.kept = self.state, Kept(self.state)
+        self.place, self.status, self.waits_for = Place(), 0, ""
+
+    def tell(self, text: str, status: int = 0) -> None:
+        print(f"forward: {text}", file=sys.stderr, flush=True)
+        self.status = max(self.status, status)
+
+    def finished(self) -> dict[str, str]:
+        """The finished databases and their digests."""
+        paths = self.folder.databases.glob("*.db.sha256")
+        return {path.name.removesuffix(".db.sha256"): path.read_text(errors="replace").partition(" ")[0] for path in paths}
+
+    def run(self, place: Place) -> int:
+        self.place, engine = place, ClickHouse(self.chosen)
+        self.insist(engine.look)
+        while True:
+            finished = self.finished()
+            for name in place.note(finished):
+                self.tell(f"{name} went before it was forwarded", LOOK)
+            for name in place.waited:
+                self.forward(name, finished[name], engine)
+            self.kept.write(place)
+            if self.once and not place.waiting(self.finished()):
+                return self.status
+            time.sleep(0.0 if self.once else POLL_SECONDS)
+
+    def forward(self, name: str, digest: str, engine: ClickHouse) -> None:
+        """Brings a database there, from where the last run came to."""
+        skipped = self.place.begin(name, digest)
+        try:
+            for batch in batches(self.rows(name, skipped)):
+                self.bring(batch, engine)
+                self.place.entries += len(batch)
+                self.kept.write(self.place)
+            self.place.done[name] = digest
+        except (program.Failed, databases.Damaged, Malformed, ValueError) as error:
+            self.place.bad[name] = digest
+            self.tell(f"{name} is damaged, and not all of it is forwarded: {error}", LOOK)
+        except FileNotFoundError:
+            self.tell(f"{name} went while it was forwarded", LOOK)
+        self.kept.write(self.place)
+
+    def rows(self, name: str, skipped: int) -> Iterator[Row]:
+        """The entries of a database but for the first ones, in the order of their keys."""
+        with databases.unpacked(self.folder, name) as database, files.unnamed(self.state) as handle:
+            ended = subprocess.run([program.path(), "export", database], stdout=handle, stderr=subprocess.PIPE, check=False)
+            if ended.returncode:
+                raise program.Failed(ended.stderr.decode(errors="replace").strip())
+            begun = self.begun(name)
+            if os.fstat(handle).st_size:
+                with mmap.mmap(handle, 0, access=mmap.ACCESS_READ) as data:
+                    for number, span in enumerate(spans(data)):
+                        if number >= skipped:
+                            yield row(data[span.begin:span.end], begun)
+
+    def begun(self, name: str) -> date:
+        """The day on which a database was begun, by its name; by its file, if that says none."""
+        try:
+            return date.fromisoformat(name[:10])
+        except ValueError:
+            return date.fromtimestamp((self.folder.databases / f"{name}.db.sha256").stat().st_mtime)
+
+    def bring(self, batch: list[Row], engine: ClickHouse) -> None:
+        """Brings rows there, however long that takes. What isn't taken is found by halves, and put aside; so is what
+        cuts the connection again and again."""
+        try:
+            self.insist(lambda: engine.put(batch), MOST_CUTS if len(batch) > 1 else None)
+        except (Refused, Unavailable) as fault:
+            if len(batch) == 1:
+                self.kept.put_aside(self.place, [(batch[0], str(fault))])
+                self.tell(f"{batch[0].sequence} {batch[0].number} isn't taken, and is put aside in {self.kept.aside}: "
+                          f"{fault}", LOOK)
+                return
+            half = len(batch) // 2
+            self.bring(batch[:half], engine)
+            self.bring(batch[half:], engine)
+
+    def insist(self, step: Any, most_cuts: int | None = None) -> None:
+        """Takes a step again and again until the engine lets it be taken, or has cut the connection too often."""
+        wait, cuts = 1.0, 0
+        while True:
+            try:
+                step()
+            except Unavailable as unavailable:
+                cuts = cuts + 1 if unavailable.is_cut else 0
+                if cuts == most_cuts:
+                    raise
+                wait = self.wait(unavailable, wait)
+            else:
+                if self.waits_for:
+                    self.tell("it goes on")
+                    self.waits_for = ""
+                    self.kept.problem.unlink(missing_ok=True)
+                return
+
+    def wait(self, why: Unavailable, seconds: float) -> float:
+        """Waits so long, or as long as the engine asks for; how long it waits the next time."""
+        seconds = seconds if why.wait is None else why.wait
+        if str(why) != self.waits_for:
+            self.waits_for = str(why)
+            self.tell(f"{why}; it is tried again in {seconds:.0f} s, and later at least each minute")
+            files.replace(self.kept.problem, f"{int(time.time())} {why}\n".encode(errors="replace"))
+        if self.once and seconds > PATIENCE:
+            raise GaveUp(f"nothing is taken: {why}") from why
+        time.sleep(seconds)
+        return min(max(seconds, 0.5) * 2, LONGEST_WAIT)
+
+    def say_status(self) -> int:
+        """How far behind it is; whether something is to be looked at."""
+        place, finished = self.kept.read(), self.finished()
+        print(f"engine {self.chosen.target}\nforwarded {len(place.done)} newest {max(place.done, default='none')}\n"
+              f"waiting {len(place.waiting(finished))}")
+        if place.database and place.database not in place.done:
+            print(f"within {place.database} entries {place.entries}")
+        wrong = [f"damaged {name}" for name in place.bad] + [f"missed {name}" for name in place.missed]
+        if place.aside:
+            wrong.append(f"aside {place.aside} in {self.kept.aside}")
+        if self.kept.problem.exists():
+            since, _, why = self.kept.problem.read_text(errors="replace").strip().partition(" ")
+            wrong.append(f"waits since {int(time.time()) - int(since)} seconds: {why}")
+        print(*wrong, sep="\n", end="\n" if wrong else "")
+        return LOOK if wrong else 0
+
+
+def batches(rows: Iterator[Row]) -> Iterator[list[Row]]:
+    """Rows that go out together: so many at most, or so many bytes and one row more."""
+    batch: list[Row] = []
+    held = 0
+    for each in rows:
+        batch.append(each)
+        held += len(each.data)
+        if len(batch) == BATCH_ENTRIES or held >= BATCH_BYTES:
+            yield batch
+            batch, held = [], 0
+    if batch:
+        yield batch
+
+
+def place_for(chosen: Settings, kept: Kept, again: list[str], keeps: bool) -> Place:
+    """How far it has come. What another target has says nothing of this one."""
+    place = kept.read()
+    if ALL in again:
+        place = Place(aside=place.aside, aside_bytes=place.aside_bytes)
+    elif place.target not in ("", chosen.target) and not keeps:
+        raise Wrong(f"`{place.target}` has what was forwarded, and the settings name `{chosen.target}`: call --again {ALL} "
+                    "to forward all to it, or --keep-place if it has the same")
+    for name in again:
+        if name != ALL and not (place.done.pop(name, None) or place.bad.pop(name, None)):
+            raise Wrong(f"{name} wasn't forwarded")
+        if name == place.database:
+            place.database = ""
+    place.target = chosen.target
+    return place
+
+
+def arguments() -> argparse.Namespace:
+    parser = argparse.ArgumentParser(prog="journal-collect-forward", description=__doc__, epilog=STATUSES,
+                                     formatter_class=argparse.RawDescriptionHelpFormatter, allow_abbrev=False)
+    parser.add_argument("--once", action="store_true", help="end when nothing waits any more")
+    parser.add_argument("--status", action="store_true", help="say how far behind it is, and do nothing")
+    parser.add_argument("--schema", action="store_true", help="print what the engine has to be set up with")
+    parser.add_argument("--again", metavar="DATABASE", action="append", default=[],
+                        help=f"forward this database once more, or all that are there (`{ALL}`)")
+    parser.add_argument("--keep-place", action="store_true", help="go on with another engine as with the last one")
+    return parser.parse_args()
+
+
+def stop(*_: object) -> None:
+    raise Stopping
+
+
+def main() -> int:
+    asked = arguments()
+    os.umask(0o077)
+    try:
+        chosen = settings.read()
+        if asked.schema:
+            print(Path(__file__).with_name("clickhouse.sql").read_text().replace("@table@", chosen.table), end="")
+            return 0
+        if not chosen.url:
+            print("forward: URL isn't set; nothing is forwarded", file=sys.stderr)
+            return 0
+        run = Forwarder(chosen, Path(collector_settings.read().folder), asked.once)
+        if asked.status:
+            return run.say_status()
+        run.state.mkdir(exist_ok=True)
+        signal.signal(signal.SIGTERM, stop)
+        with open(run.state / "lock", "wb") as lock:
+            fcntl.flock(lock, fcntl.LOCK_EX | fcntl.LOCK_NB)
+            return run.run(place_for(chosen, run.kept, asked.again, asked.keep_place))
+    except BlockingIOError:
+        print("forward: another run is under way", file=sys.stderr)
+        return UNDER_WAY
+    except Stopping:
+        return 0
+    except (Wrong, GaveUp, OSError) as fault:
+        print(f"forward: {fault}", file=sys.stderr)
+        return WRONG if isinstance(fault, Wrong) else FAILED

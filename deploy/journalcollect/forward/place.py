@@ -1,0 +1,76 @@
+"""How far forwarding has come, in one file that is replaced whole once the engine has what it says; and what the engine
+doesn't take, a line for each entry in a file beside it."""
+import json
+import os
+from dataclasses import asdict, dataclass, field
+from pathlib import Path
+
+from ..common import files
+from .rows import Row
+
+
+@dataclass
+class Place:
+    """The target; the databases that are forwarded, or can't be, by their digests; the one that is under way, and how
+    many of its entries are there; those that waited, and those that went before their turn; and how much of the file of
+    what isn't taken counts."""
+    target: str = ""
+    done: dict[str, str] = field(default_factory=dict)
+    bad: dict[str, str] = field(default_factory=dict)
+    database: str = ""
+    digest: str = ""
+    entries: int = 0
+    waited: list[str] = field(default_factory=list)
+    missed: list[str] = field(default_factory=list)
+    aside: int = 0
+    aside_bytes: int = 0
+
+    def waiting(self, finished: dict[str, str]) -> list[str]:
+        """The databases that wait, the oldest first."""
+        return sorted(name for name, digest in finished.items() if digest not in (self.done.get(name), self.bad.get(name)))
+
+    def note(self, finished: dict[str, str]) -> list[str]:
+        """These are there now; those that waited and went."""
+        gone = [name for name in self.waited if name not in finished and name not in self.done and name not in self.bad]
+        self.missed += gone
+        self.done = {name: digest for name, digest in self.done.items() if name in finished}
+        self.bad = {name: digest for name, digest in self.bad.items() if name in finished}
+        self.waited = self.waiting(finished)
+        return gone
+
+    def begin(self, name: str, digest: str) -> int:
+        """How many entries of a database are there already."""
+        if (self.database, self.digest) != (name, digest):
+            self.database, self.digest, self.entries = name, digest, 0
+        return self.entries
+
+
+class Kept:
+    """The files in a folder."""
+
+    def __init__(self, folder: Path) -> None:
+        self.path, self.aside, self.problem = folder / "place.json", folder / "aside.json", folder / "problem"
+
+    def read(self) -> Place:
+        """Nothing is forwarded if there is none, or none that is right: what comes again counts once."""
+        try:
+            return Place(**json.loads(self.path.read_bytes()))
+        except (FileNotFoundError, ValueError, TypeError):
+            return Place()
+
+    def write(self, place: Place) -> None:
+        files.replace(self.path, json.dumps(asdict(place), indent=1).encode())
+
+    def put_aside(self, place: Place, rows: list[tuple[Row, str]]) -> None:
+        """Rows and why they aren't taken. They are on the disk when this returns, and count with the place: what a stop
+        left behind that is written again."""
+        with open(os.open(self.aside, os.O_RDWR | os.O_CREAT | os.O_CLOEXEC, 0o600), "r+b") as file:
+            begin = min(file.seek(0, os.SEEK_END), place.aside_bytes)
+            file.truncate(begin)
+            file.seek(begin)
+            for row, why in rows:
+                file.write(json.dumps({"database": place.database, "why": why, "row": json.loads(row.data)}).encode() + b"\n")
+            file.flush()
+            os.fsync(file.fileno())
+            place.aside_bytes = file.tell()
+        place.aside = len(rows) + (place.aside if begin else 0)

@@ -1,0 +1,108 @@
+"""The settings of journal-collect-forward, /etc/journal-collect/forward.conf.d/*.conf, and what they may be."""
+import os
+import re
+import ssl
+import stat
+from dataclasses import dataclass
+from ipaddress import ip_address
+from pathlib import Path
+from urllib.parse import SplitResult, urlsplit
+
+from ..common import settings
+from ..common.settings import Wrong
+
+TABLE = re.compile(r"[A-Za-z_][A-Za-z0-9_]*(\.[A-Za-z_][A-Za-z0-9_]*)?")
+PATH = re.compile(r"(/[A-Za-z0-9._~-]+)*/?")
+LONGEST_SECRET = 16_384
+
+
+@dataclass(frozen=True)
+class Settings:
+    """Each setting under its name in small letters, with its default. Nothing is forwarded without a URL."""
+    url: str = ""
+    table: str = "journal"
+    authorization_file: str = ""
+    ca_file: str = ""
+    certificate_file: str = ""
+    timeout_seconds: float = 60.0
+
+    @property
+    def target(self) -> str:
+        """What is forwarded to: another one has none of what this one has."""
+        return f"{self.url} {self.table}"
+
+    @property
+    def parts(self) -> SplitResult:
+        return urlsplit(self.url)
+
+
+def read(folder: Path | None = None) -> Settings:
+    """The settings of a folder; a Wrong if they can't be."""
+    chosen = settings.read(folder or settings.FOLDER / "forward.conf.d", Settings)
+    if not TABLE.fullmatch(chosen.table):
+        raise Wrong(f"TABLE can't be {chosen.table}: it is NAME or DATABASE.NAME")
+    if not chosen.timeout_seconds:
+        raise Wrong("TIMEOUT_SECONDS is more than 0")
+    if chosen.url:
+        look_at_url(chosen)
+    return chosen
+
+
+def look_at_url(chosen: Settings) -> None:
+    try:
+        parts, port = chosen.parts, chosen.parts.port
+    except ValueError as error:
+        raise Wrong(f"URL can't be {chosen.url}: {error}") from None
+    if parts.scheme not in ("http", "https") or not parts.hostname or port == 0 or parts.query or parts.fragment \
+            or parts.username or not PATH.fullmatch(parts.path):
+        raise Wrong(f"URL can't be {chosen.url}: it is https://HOST:PORT, with a path behind it if need be")
+    if parts.scheme == "http" and chosen.authorization_file and not is_here(parts.hostname):
+        raise Wrong("URL has to begin with https: AUTHORIZATION_FILE would go out for all to read")
+
+
+def is_here(host: str) -> bool:
+    """Whether what is sent there doesn't leave this machine."""
+    try:
+        return ip_address(host).is_loopback
+    except ValueError:
+        return host == "localhost"
+
+
+def secret(path: str) -> str:
+    """What a file of mode 0600 or 0400 has that belongs to who runs this, or to root."""
+    try:
+        with open(path, "rb") as file:
+            status, content = os.fstat(file.fileno()), file.read(LONGEST_SECRET + 1)
+    except OSError as error:
+        raise Wrong(f"{path} can't be read: {error.strerror}") from error
+    if not stat.S_ISREG(status.st_mode) or status.st_mode & 0o177 or status.st_uid not in (0, os.geteuid()):
+        raise Wrong(f"{path} has to be a file of mode 0600 that is this user's, or root's: others could read it")
+    if len(content) > LONGEST_SECRET:
+        raise Wrong(f"{path} has over {LONGEST_SECRET} bytes")
+    return content.decode("latin-1").strip()
+
+
+def headers(chosen: Settings) -> dict[str, str]:
+    """What each request says, such as `Authorization: Bearer TOKEN`."""
+    said = {"Content-Type": "application/octet-stream", "User-Agent": "journal-collect-forward"}
+    if chosen.authorization_file:
+        value = secret(chosen.authorization_file)
+        if not value or not value.isascii() or not value.isprintable():
+            raise Wrong(f"{chosen.authorization_file} isn't one line such as `Bearer TOKEN`")
+        said["Authorization"] = value
+    return said
+
+
+def encryption(chosen: Settings) -> ssl.SSLContext | None:
+    """How connections are encrypted, if they are."""
+    if chosen.parts.scheme != "https":
+        return None
+    try:
+        context = ssl.create_default_context(cafile=chosen.ca_file or None)
+        context.minimum_version = ssl.TLSVersion.TLSv1_2
+        if chosen.certificate_file:
+            secret(chosen.certificate_file)
+            context.load_cert_chain(chosen.certificate_file, password=lambda: "")
+    except (OSError, ValueError) as error:
+        raise Wrong(f"CA_FILE or CERTIFICATE_FILE can't be used: {error}") from error
+    return context
