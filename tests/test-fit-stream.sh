@@ -1,11 +1,11 @@
 #!/usr/bin/env bash
-# deploy/fit-stream: keys from cursors, messages that look like cursors, entries over a limit, and streams cut off; and
+# fit-stream: keys from cursors, messages that look like cursors, entries over a limit, and streams cut off; and
 # the reader of export streams that it shares with what reads databases and uploads.
 set -uo pipefail
 . "$(dirname "$0")/expect.sh"
 
 new_folder
-fit=(deploy/fit-stream)
+fit=(deploy/programs/fit-stream)
 times=$'__REALTIME_TIMESTAMP=1000000\n__MONOTONIC_TIMESTAMP=5\n'
 cursor=__CURSOR=s=000102030405060708090a0b0c0d0e0f
 
@@ -37,19 +37,7 @@ for bytes in 20 170 195; do
 done
 expect 1 "~*" "an entry has neither a sequence number nor a cursor that has it" "${fit[@]}" < <(printf '%s\n' "$times")
 expect 1 "~*" "~a field has no name: *" "${fit[@]}" < <(printf '%s;i=1\n%s=x\n\n' "$cursor" "$times")
-expect 1 "" "~write failed: *" bash -c "deploy/fit-stream < '$folder/old' > /dev/full"
-
-# --split: a stream for each sequence, and a further one when its times go back
-entry() { printf '__REALTIME_TIMESTAMP=%s\n__MONOTONIC_TIMESTAMP=1\n__SEQNUM=%s\n__SEQNUM_ID=%s\nMESSAGE=%s\n\n' "$@"; }
-one=11111111111111111111111111111111 two=22222222222222222222222222222222
-mkdir "$folder/split"
-{ entry 5 1 $one a; entry 7 2 $one b; entry 6 3 $one c; entry 1 1 $two d; entry 8 4 $one e; } > "$folder/both"
-"${fit[@]}" --split "$folder/split" < "$folder/both" || differs "a stream that is split"
-{ entry 5 1 $one a; entry 7 2 $one b; } | cmp - "$folder/split/$one.export" || differs "the first sequence"
-{ entry 6 3 $one c; entry 8 4 $one e; } | cmp - "$folder/split/$one-2.export" || differs "after its time went back"
-entry 1 1 $two d | cmp - "$folder/split/$two.export" || differs "the second sequence"
-[[ $(ls "$folder/split" | wc -l) -eq 3 ]] || differs "other files"
-expect 1 "" "a sequence id isn't 32 hexadecimal digits" "${fit[@]}" --split "$folder/split" < <(entry 1 1 ../two f)
+expect 1 "" "~write failed: *" bash -c "deploy/programs/fit-stream < '$folder/old' > /dev/full"
 
 # a value of 300 MB in memory that has no room for it, in either spelling, left out or not
 of_300_mb() {
@@ -60,16 +48,16 @@ of_300_mb() {
 }
 for field in MESSAGE= 'MESSAGE\n\x00\xa3\xe1\x11\0\0\0\0'; do
     expect 0 1 "left out: __SEQNUM=1 __SEQNUM_ID=000102030405060708090a0b0c0d0e0f" bash -c "(ulimit -v 200000
-        exec deploy/fit-stream --leave-out-large) | tail --bytes=400 | grep -a -c '^__SEQNUM='" \
+        exec deploy/programs/fit-stream --leave-out-large) | tail --bytes=400 | grep -a -c '^__SEQNUM='" \
         < <(of_300_mb "$field")
     expect 0 2 "" bash -c "(ulimit -v 200000
-        exec deploy/fit-stream) | tail --bytes=400 | grep -a -c '^__SEQNUM='" < <(of_300_mb "$field")
+        exec deploy/programs/fit-stream) | tail --bytes=400 | grep -a -c '^__SEQNUM='" < <(of_300_mb "$field")
 done
 
 # a disk that is full within the last entry, whatever Python is told of its buffers
-entry 1 1 $one "$(printf '%01100d' 0)" > "$folder/long"
+printf '__SEQNUM=1\n__SEQNUM_ID=%032d\n%sMESSAGE=%01100d\n\n' 1 "$times" 0 > "$folder/long"
 expect 1 "" "~write failed: *" bash -c "trap '' XFSZ; ulimit -f 1
-    PYTHONUNBUFFERED=1 python3 -B deploy/fit-stream < '$folder/long' > '$folder/cut'"
+    PYTHONUNBUFFERED=1 python3 -B deploy/programs/fit-stream < '$folder/long' > '$folder/cut'"
 
 python3 -B tests/shared/export_stream_rows.py > "$folder/told" || differs "entries: $(< "$folder/told")"
 finish

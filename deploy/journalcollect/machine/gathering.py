@@ -10,6 +10,7 @@ import time
 from pathlib import Path
 
 from journalcollect.common.export_stream import Unfit
+from journalcollect.common.fit import Entry
 from journalcollect.machine import journal, since
 from journalcollect.machine.journal import Journal, JournalFile, Listing, Reading
 from journalcollect.machine.outbox import Making, Outbox, Piece
@@ -17,7 +18,6 @@ from journalcollect.machine.places import Place, Places
 from journalcollect.machine.refused import Refused, Whole
 from journalcollect.machine.report import FINE, LOOK, Report
 from journalcollect.machine.settings import Settings
-from journalcollect.machine.shortened import Shortened
 from journalcollect.machine.unreadable import next_readable
 
 
@@ -197,7 +197,7 @@ class Gathering:
             place.move(number, cursor)
         return False
 
-    def piece(self, entry: Shortened, sequence: str, number: int) -> Piece:
+    def piece(self, entry: Entry, sequence: str, number: int) -> Piece:
         """The entry as it goes out."""
         new = self.places.forked(sequence, number)
         is_large, named = entry.is_large, entry.named()

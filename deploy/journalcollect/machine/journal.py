@@ -11,13 +11,13 @@ import subprocess
 import time
 from collections.abc import Callable, Iterable, Iterator
 from dataclasses import dataclass, field
+from io import BufferedReader
 from itertools import takewhile
 from pathlib import Path
-from typing import BinaryIO
+from typing import cast
 
 from journalcollect.common.export_stream import CutOff, Unfit
-from journalcollect.machine.fit import entries
-from journalcollect.machine.shortened import Shortened
+from journalcollect.common.fit import Entry, entries
 
 MACHINE_ID = Path("/etc/machine-id")
 # The header of a journal file: what stands at which offset.
@@ -82,17 +82,16 @@ class Reading:
         command = ["journalctl", "--quiet", "--output=export", f"--file=/proc/self/fd/{handle}", *options]
         self.process = subprocess.Popen(command, stdin=subprocess.DEVNULL, stdout=subprocess.PIPE, stderr=self.errors,
                                         pass_fds=[handle])
+        self.output = cast(BufferedReader, self.process.stdout)
         self.whole = whole
         # The metadata of the entry at which journalctl broke off, if it began to write one.
         self.broken: dict[bytes, bytes] | None = None
         self.fault = self.said = ""
         self.status = 0
 
-    def entries(self) -> Iterator[Shortened]:
-        assert self.process.stdout
-        output: BinaryIO = self.process.stdout  # type: ignore[assignment]
+    def entries(self) -> Iterator[Entry]:
         try:
-            yield from entries(output, lambda: Shortened(self.whole))  # type: ignore[arg-type]
+            yield from entries(self.output, self.whole)
         except CutOff as fault:
             self.broken = fault.known
         except Unfit as fault:
@@ -100,10 +99,9 @@ class Reading:
 
     def end(self, is_wanted: bool = False) -> None:
         """Waits for journalctl, none of whose output is read any more; it is killed unless its status is wanted."""
-        assert self.process.stdout
         if not is_wanted:
             self.process.kill()
-        self.process.stdout.close()
+        self.output.close()
         self.status = self.process.wait()
         self.errors.seek(0)
         with self.errors:

@@ -14,9 +14,8 @@ from pathlib import Path
 
 from journalcollect.common import files, program
 from journalcollect.common.export_stream import Unfit
-from journalcollect.machine.fit import entries
+from journalcollect.common.fit import Entry, entries
 from journalcollect.machine.refused import Refused
-from journalcollect.machine.shortened import Shortened, is_shortened
 
 HEADER_BYTES, WINDOW = 48, 4_096
 # So many files of notes an upload touches at most: the collector takes no more.
@@ -31,15 +30,15 @@ class Piece:
     text: bytes
 
     @classmethod
-    def of(cls, entry: Shortened, sequence: str, number: int, is_other: bool) -> "Piece":
-        return cls(sequence, number, b"".join(entry.text(sequence.encode() if is_other else None)))
+    def of(cls, entry: Entry, sequence: str, number: int, is_other: bool) -> "Piece":
+        return cls(sequence, number, entry.text(sequence.encode() if is_other else None))
 
     @property
     def name(self) -> str:
         return f"{self.sequence[:32]}-{self.number}.export".replace("/", "_")
 
-    def entry(self) -> Shortened:
-        return next(entries(BytesIO(self.text), Shortened))
+    def entry(self) -> Entry:
+        return next(entries(BytesIO(self.text)))
 
     def under(self, sequence: str) -> "Piece":
         """The same entry in another sequence."""
@@ -48,7 +47,7 @@ class Piece:
     def shortened(self) -> "Piece | None":
         """What goes out in its place where it is too large; None if that is what it is."""
         entry = self.entry()
-        if is_shortened(entry):
+        if entry.was_shortened:
             return None
         entry.shorten()
         return self.of(entry, self.sequence, self.number, False)
@@ -60,7 +59,7 @@ def pieces_in(data: bytes) -> tuple[list[Piece], bytes]:
     body = BytesIO(data)
     body.seek(end)
     try:
-        for entry in entries(body, Shortened):
+        for entry in entries(body):
             sequence, number = entry.key()
             text = data[end:HEADER_BYTES + entry.end]
             pieces.append(Piece(sequence.decode("ascii"), int(number), text))

@@ -1,8 +1,8 @@
 """Sending: the outbox goes out, an upload at a time, and the answer to each comes before the next one goes.
 
-The newest upload goes first and then the oldest: what was just logged is wanted soon, and doesn't wait behind a backlog;
-what is old would otherwise be the longest without a second copy. Order is free, since each entry is stored by its key.
-An upload that was in vain twice lets all others go first, and rests, each time for twice as long.
+The newest upload and the oldest take turns. So what was just logged doesn't wait behind a backlog, and over a link that
+carries no more than is logged what is old comes nevertheless. Order is free, since each entry is stored by its key. An
+upload that was in vain twice lets all others go first, and rests, each time for twice as long.
 """
 import hashlib
 import random
@@ -32,17 +32,17 @@ class Sending:
         self.settings, self.report, self.places, self.outbox = settings, report, places, outbox
         self.refusals, self.link = refusals, Link(settings)
         self.pause, self.resumes = 0.0, 0.0
-        self.uploads = 0
+        self.is_turn_of_oldest = False
 
     def next(self) -> int | None:
         """The upload that goes out next, if one is to go out now."""
         if not self.outbox.sizes or time.monotonic() < self.resumes or not (self.settings.collector or self.settings.connect):
             return None
-        tries, now, newest = self.places.tries(), time.time(), max(self.outbox.sizes)
-        rested = [number for number in self.outbox.sizes
-                  if not now < tries.get(number, (0, 0.0))[1] <= now + LONGEST_REST]
-        return min(rested, key=lambda number: (tries.get(number, (0, 0.0))[0] // CUTS, number != newest, number)) \
-            if rested else None
+        tries, now = self.places.tries(), time.time()
+        rested = [number for number in self.outbox.sizes if not now < tries.get(number, (0, 0.0))[1] <= now + LONGEST_REST]
+        order = 1 if self.is_turn_of_oldest else -1
+        return min(((tries.get(number, (0, 0.0))[0] // CUTS, order * number, number) for number in rested),
+                   default=(0, 0, None))[2]
 
     def send_next(self) -> bool:
         """Sends an upload, if one is to go out now."""
@@ -71,7 +71,7 @@ class Sending:
         except Lost as lost:
             self.lost(number, len(data), lost)
             return
-        self.uploads += 1
+        self.is_turn_of_oldest = not self.is_turn_of_oldest
         self.places.set(answered=int(time.time()), cuts=0)
         if self.take(number, data, reply) and time.monotonic() - begin < FAST_SECONDS and len(data) * 2 > bound:
             self.places.set(bound=min(2 * bound, self.settings.upload_bytes))

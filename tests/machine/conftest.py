@@ -1,0 +1,66 @@
+"""A machine and its collector: the real sender, journalctl and program over a socket."""
+from __future__ import annotations
+
+import os
+import subprocess
+import sys
+from collections.abc import Iterator
+from pathlib import Path
+
+import pytest
+
+ROOT = Path(__file__).resolve().parents[2]
+os.environ.setdefault("JOURNAL_COLLECT", str(ROOT / "crates/jc_cli/out/jc_cli"))
+sys.path.insert(0, str(Path(__file__).parent))
+from collector import Collector  # noqa: E402
+from journals import MACHINE_ID  # noqa: E402
+
+SEND = ROOT / "deploy/programs/journal-collect-send"
+
+
+class Machine:
+    def __init__(self, folder: Path, connect: str) -> None:
+        self.base = folder
+        self.folder, self.journals = folder / "send", folder / "journal"
+        self.journal = self.journals / MACHINE_ID
+        self.journal.mkdir(parents=True)
+        self.settings = {"FOLDER": str(self.folder), "JOURNALS": str(self.journals), "CONNECT": connect}
+        self.environment = dict(os.environ, JOURNAL_COLLECT_SETTINGS=str(folder / "etc"), TZ="UTC")
+        self.said = ""
+
+    def set(self, **settings: object) -> None:
+        self.settings |= {name: str(value) for name, value in settings.items()}
+
+    def write_settings(self) -> None:
+        folder = self.base / "etc" / "machine.conf.d"
+        folder.mkdir(parents=True, exist_ok=True)
+        (folder / "10-test.conf").write_text("".join(f"{name}={value}\n" for name, value in self.settings.items()))
+
+    def begin(self, *words: str, command: tuple[str | Path, ...] = ("/usr/bin/python3", "-IB", SEND)) -> subprocess.Popen[str]:
+        self.write_settings()
+        return subprocess.Popen([*command, *words], env=self.environment, stderr=subprocess.PIPE, text=True)
+
+    def send(self, *words: str, command: tuple[str | Path, ...] = ("/usr/bin/python3", "-IB", SEND)) -> int:
+        """One run; its status."""
+        process = self.begin(*(words or ("--once",)), command=command)
+        self.said = process.communicate(timeout=120)[1]
+        assert "Traceback" not in self.said, self.said
+        return process.returncode
+
+    def outbox(self) -> list[Path]:
+        return sorted((self.folder / "outbox").glob("*.upload"), key=lambda path: int(path.stem))
+
+    def refused(self) -> list[str]:
+        return sorted(each.name for each in (self.folder / "refused").iterdir())
+
+
+@pytest.fixture
+def collector(tmp_path: Path) -> Iterator[Collector]:
+    collector = Collector(tmp_path / "collector")
+    yield collector
+    collector.close()
+
+
+@pytest.fixture
+def machine(tmp_path: Path, collector: Collector) -> Machine:
+    return Machine(tmp_path, f"nc.openbsd -NU {collector.socket}")
