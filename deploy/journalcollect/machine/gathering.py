@@ -39,6 +39,7 @@ class Gathering:
         self.begin(0.0)
 
     def begin(self, until: float) -> None:
+        """Nothing is gathered yet, and gathering ends at a time."""
         self.until, self.is_late = until, False
         self.making = Making(self.most)
         # The places that move when what is made is in the outbox.
@@ -56,11 +57,11 @@ class Gathering:
             return True
         if again := self.places.value("again"):
             self.places.go_back(again)
-        listing = self.journal.files()
-        self.tell_unread(listing)
+        before, listing = self.journal.listing.unread, self.journal.listed()
+        self.tell_unread(listing, before)
         known = self.see(listing)
         for file in listing.files:
-            place = known.get(file.id) or self.places.place(file)
+            place = known.get(file.id) or self.places.first(file)
             if (place.tail, place.is_archived) != (file.tail, file.is_archived) or self.is_other(file, place):
                 self.gather_path(file, place)
             if self.is_late:
@@ -72,17 +73,18 @@ class Gathering:
         """The place of each file, as it was. Those of the first list begin at the time of SINCE."""
         known = self.places.all()
         if listing.files and not self.places.value("begun"):
-            self.places.move([self.places.place(file) for file in listing.files if file.id not in known])
+            self.places.move([self.places.first(file) for file in listing.files if file.id not in known])
             self.places.set(begun="yes")
             known = self.places.all()
         if not listing.unread and self.gone(listing, known):
-            again = self.journal.list_again()       # a file may get another name while a folder is looked through
+            again = self.journal.listed()             # a file may get another name while a folder is looked through
             if not again.unread:
                 self.tell_gaps(again, self.gone(again, known))
         return known
 
-    def tell_unread(self, listing: Listing) -> None:
-        for each in listing.unreadable:
+    def tell_unread(self, listing: Listing, before: set[str]) -> None:
+        """Says what can't be read, if it couldn't be the last time, too: else it is perhaps being made."""
+        for each in sorted(listing.unread & before):
             self.report.say(LOOK, f"a file of the journal can't be read: {each}")
         if not listing.files and not listing.unread:
             self.report.say(LOOK, f"there are no journal files in {self.settings.journals}")
@@ -107,14 +109,16 @@ class Gathering:
     # One file
 
     def gather_path(self, file: JournalFile, place: Place) -> None:
-        opened = self.journal.open(file)
-        if opened is None:
-            return                                  # the next list has it under another name, or not at all
-        handle, now = opened
         try:
-            if self.is_other(now, place):
-                self.gather_anew(now, place)
-            self.gather_file(now, handle, place)
+            handle = journal.opened(file.path)
+        except OSError:
+            return                                  # the next list has it under another name, or not at all
+        try:
+            now = journal.read_header(file.path, handle)
+            if now.id == file.id:
+                if self.is_other(now, place):
+                    self.gather_anew(now, place)
+                self.gather_file(now, handle, place)
         finally:
             os.close(handle)
 
@@ -140,7 +144,8 @@ class Gathering:
                 continue
             if self.is_at_end(place, file, reading, before) or journal.is_removed(handle):
                 break
-            self.tell_failure(reading)
+            if reading.said:
+                self.report.say(FINE, f"journalctl: {reading.said}")
             place.see(reading.broken is not None)
             options = next_readable(handle, file, place.number, reading.broken)
             if options is None:
@@ -152,10 +157,6 @@ class Gathering:
     def gather_anew(self, file: JournalFile, place: Place) -> None:
         self.report.say(LOOK, f"{file.path} was set back, and is gathered anew; it was gathered up to {place.cursor}")
         place.begin_anew()
-
-    def tell_failure(self, reading: Reading) -> None:
-        if said := reading.said or reading.fault:
-            self.report.say(FINE, f"journalctl: {said}")
 
     def tell_unseen(self, place: Place, file: JournalFile, first: str) -> None:
         """journalctl may pass over a damaged entry without a word. The file's header knows how many there are."""
@@ -169,7 +170,7 @@ class Gathering:
     def is_at_end(place: Place, file: JournalFile, reading: Reading, before: int) -> bool:
         """All that the file had when it was opened was shown. Its last number may be one that no entry got, and of a
         time since which nothing is asked nothing is shown."""
-        is_whole = reading.status == 0 and reading.broken is None and not reading.fault
+        is_whole = reading.status == 0 and reading.broken is None
         if is_whole and place.number == before == 0 and place.since:
             return True
         return place.number >= file.tail or (is_whole and place.realtime == file.tail_realtime)
@@ -181,20 +182,20 @@ class Gathering:
         of it."""
         if self.whole:
             self.whole.begin()
-        for entry in reading.entries():
-            try:
+        try:
+            for entry in reading.entries():
                 sequence, number = entry.key()[0].decode("ascii"), int(entry.key()[1])
-            except (Unfit, ValueError) as fault:
-                reading.fault = str(fault)
-                break
-            cursor = entry.known.get(b"__CURSOR", b"").decode("ascii", "replace")
-            if number <= place.number:
-                if place.differs(number, cursor):
-                    return True
-                continue
-            if not self.add(self.piece(entry, sequence, number)):
-                break
-            place.move(number, cursor)
+                cursor = entry.known.get(b"__CURSOR", b"").decode("ascii", "replace")
+                if number <= place.number:
+                    if number == place.number and cursor != place.cursor:
+                        return True
+                    continue
+                if not self.add(self.piece(entry, sequence, number)):
+                    break
+                place.number, place.cursor = number, cursor
+                place.see(1)
+        except (Unfit, ValueError) as fault:
+            self.report.say(LOOK, f"journalctl shows what can't be followed: {fault}")
         return False
 
     def piece(self, entry: Entry, sequence: str, number: int) -> Piece:

@@ -73,12 +73,11 @@ class Outbox:
     def __init__(self, folder: Path, refused: Refused) -> None:
         self.folder, self.refused = folder / "outbox", refused
         self.folder.mkdir(exist_ok=True)
-        self.sizes: dict[int, int] = {}
         self.look()
 
     def look(self) -> None:
         """Which uploads there are."""
-        self.sizes = {int(each.stem): files.size(each) for each in self.folder.iterdir()
+        self.sizes: dict[int, int] = {int(each.stem): files.size(each) for each in self.folder.iterdir()
                       if each.suffix == ".upload" and each.stem.isascii() and each.stem.isdigit()}
 
     def path(self, number: int) -> Path:

@@ -3,18 +3,21 @@
 All of it may be lost: then everything that the journal has goes out once more, which changes nothing at the collector.
 So places needn't be on the disk at once; only forks are, before an entry goes out in one.
 
-place   each journal file by its own id: the number, the cursor and the count of what was gathered of it, its tail when
-        all of it was, whether it was archived then, and the time with which its reading begins, if nothing was
-fork    from this number on a sequence goes on as another one
-try     how often an upload went out in vain, and until when it rests
-machine each machine-id that this machine had
-head    the collector's daily heads, and when each was first told
-told    what somebody has to look at, the newest ones
-value   one value by name: see VALUES
+The table `place` has each journal file, `fork` the sequences that go on as others, and since which number; `try` how
+often an upload went out in vain, and until when it rests; `machine` the machine-ids that this machine had; `head` the
+collector's daily heads, and when each was first told; `told` what somebody has to look at; and `value`, by name:
+
+since, begun    the time that SINCE was when the first gathering began, and that one saw the list of files
+again, answers  since when the journal is to go out once more; lines that were brought by hand
+bound, cuts     how many bytes of an upload the link carries; how often in a row it didn't carry one
+had             SEQUENCE NUMBER TIME of the entry that was acknowledged last
+skew            by how many seconds the collector's clock was ahead
+answered, acknowledged, trouble     when the collector did so last; why nothing goes out, if so
 """
 import os
 import sqlite3
 import time
+from collections.abc import Iterable, Sequence
 from dataclasses import astuple, dataclass
 from pathlib import Path
 from typing import Any
@@ -24,6 +27,7 @@ from journalcollect.machine.report import LOOK, Report
 
 VERSION = 1
 TABLES = f"""
+BEGIN IMMEDIATE;
 CREATE TABLE place(file TEXT PRIMARY KEY, sequence TEXT, kind TEXT, number INT, cursor TEXT, count INT, tail INT,
     is_archived INT, since TEXT);
 CREATE TABLE fork(sequence TEXT, number INT, new TEXT, time INT);
@@ -33,38 +37,26 @@ CREATE TABLE head(time INT, head TEXT);
 CREATE TABLE told(time INT, status INT, text TEXT);
 CREATE TABLE value(name TEXT PRIMARY KEY, value TEXT);
 PRAGMA user_version={VERSION};
+COMMIT;
 """
-VALUES = {
-    "since": "the time that SINCE was when the first gathering began",
-    "begun": "a gathering saw the list of files",
-    "again": "since when the journal is to go out once more",
-    "answers": "lines that were brought by hand, and aren't taken yet",
-    "bound": "how many bytes of an upload the link carries",
-    "cuts": "how often in a row the link didn't carry one",
-    "had": "SEQUENCE NUMBER TIME of the entry that was acknowledged last",
-    "skew": "by how many seconds the collector's clock is ahead, when it was told last",
-    "answered": "when the collector answered last",
-    "acknowledged": "when it acknowledged last",
-    "trouble": "why nothing goes out, or nothing",
-}
 MOST_TOLD, MOST_HEADS, LONGEST_REST = 50, 400, 3600.0
 # Errors of SQLite that say that the file isn't what was made here; others, as of a full disk, may pass.
 DAMAGED = (sqlite3.SQLITE_CORRUPT, sqlite3.SQLITE_NOTADB, sqlite3.SQLITE_ERROR)
-PLACE, FORK = [str, str, str, int, str, int, int, int, str], [str, int, str]
 
 
 @dataclass
 class Place:
-    """How far one journal file was gathered."""
+    """How far one journal file was gathered: the number and the cursor of the last entry, and how many were seen, or -1
+    if it wasn't read from its beginning; its last number when all of it was, and whether it was archived then."""
     file: str
     sequence: str
     kind: str
     number: int = 0
     cursor: str = ""
-    # How many entries were seen of it, or -1 if it wasn't read from its beginning.
     count: int = 0
     tail: int = 0
-    is_archived: bool = False
+    is_archived: int = 0
+    # The time with which its reading begins, if nothing was gathered.
     since: str = ""
 
     def options(self) -> list[str]:
@@ -73,21 +65,12 @@ class Place:
             return [f"--cursor={cursor_of(self.sequence, self.number)}"]
         return [f"--since={self.since}"] if self.since else []
 
-    def move(self, number: int, cursor: str) -> None:
-        """One more entry was gathered."""
-        self.number, self.cursor = number, cursor
-        self.see(1)
-
     def see(self, count: int) -> None:
         self.count += count if self.count >= 0 else 0
 
-    def differs(self, number: int, cursor: str) -> bool:
-        """The entry of this number isn't the one that was gathered: it has another cursor."""
-        return number == self.number and cursor != self.cursor
-
     @property
     def realtime(self) -> int:
-        return cursor_parts(self.cursor)[2]
+        return cursor_parts(self.cursor)[1]
 
     def begin_anew(self) -> None:
         """The file is gathered from its first entry on."""
@@ -103,24 +86,23 @@ class Places:
             self.begin_anew(error)
 
     def open(self) -> None:
-        self.rows = sqlite3.connect(self.path)
-        self.rows.executescript("PRAGMA journal_mode=WAL; PRAGMA synchronous=NORMAL")
-        version = self.rows.execute("PRAGMA user_version").fetchone()[0]
+        self.database = sqlite3.connect(self.path)
+        self.database.executescript("PRAGMA journal_mode=WAL; PRAGMA synchronous=NORMAL")
+        version = self.database.execute("PRAGMA user_version").fetchone()[0]
         if version == 0:
-            self.rows.executescript(f"BEGIN IMMEDIATE; {TABLES} COMMIT")
+            self.database.executescript(TABLES)
         elif version != VERSION:
             raise sqlite3.DatabaseError(f"its tables are of version {version}, and this program knows {VERSION}")
-        checked = self.rows.execute("PRAGMA quick_check(1)").fetchone()[0]
-        if checked != "ok":
+        if (checked := self.database.execute("PRAGMA quick_check(1)").fetchone()[0]) != "ok":
             raise sqlite3.DatabaseError(checked)
-        self.forks: list[tuple[str, int, str]] = self.rows_of(
-            FORK, "SELECT sequence, number, new FROM fork ORDER BY number, rowid")
+        self.forks: list[tuple[str, int, str]] = self.rows(
+            [str, int, str], "SELECT sequence, number, new FROM fork ORDER BY number, rowid")
 
     def begin_anew(self, error: sqlite3.DatabaseError) -> None:
         """Puts aside what can't be read; a failure that isn't the file's own goes on."""
         if getattr(error, "sqlite_errorcode", DAMAGED[0]) not in DAMAGED:
             raise error
-        self.rows.close()
+        self.database.close()
         aside = self.path.with_name("places.damaged")
         os.replace(self.path, aside)
         for end in ("-wal", "-shm"):
@@ -129,39 +111,40 @@ class Places:
         self.report.say(LOOK, f"{self.path} can't be used, and is kept as {aside.name}: {error}. What the journal has goes "
                         "out once more, and is stored once")
 
-    def rows_of(self, types: list[type], query: str) -> list[Any]:
-        """The rows whose values are as they were written: the file has no sums."""
-        return [row for row in self.rows.execute(query) if list(map(type, row)) == types]
+    def rows(self, types: list[type], query: str) -> list[Any]:
+        """The rows whose values are of these types: the file has no sums."""
+        return [row for row in self.database.execute(query) if list(map(type, row)) == types]
+
+    def do(self, statement: str, rows: Iterable[Sequence[object]] = ((),)) -> None:
+        with self.database:
+            self.database.executemany(statement, rows)
 
     # Places
 
     def all(self) -> dict[str, Place]:
-        return {row[0]: Place(*row) for row in self.rows_of(PLACE, "SELECT * FROM place")}
+        return {row[0]: Place(*row) for row in
+                self.rows([str, str, str, int, str, int, int, int, str], "SELECT * FROM place")}
 
-    def move(self, places: list[Place]) -> None:
-        with self.rows:
-            self.rows.executemany("INSERT OR REPLACE INTO place VALUES(?, ?, ?, ?, ?, ?, ?, ?, ?)", map(astuple, places))
+    def move(self, places: Iterable[Place]) -> None:
+        self.do("INSERT OR REPLACE INTO place VALUES(?, ?, ?, ?, ?, ?, ?, ?, ?)", map(astuple, places))
 
-    def place(self, file: JournalFile) -> Place:
+    def first(self, file: JournalFile) -> Place:
         """Where a file begins that has no place: all that the first list has, at the time of SINCE."""
         since = "" if self.value("begun") else self.value("since")
         return Place(file.id, file.sequence, file.kind, count=-1 if since else 0, since=since)
 
-    def forget(self, files: list[Place]) -> None:
-        with self.rows:
-            self.rows.executemany("DELETE FROM place WHERE file = ?", [[each.file] for each in files])
+    def forget(self, places: Iterable[Place]) -> None:
+        self.do("DELETE FROM place WHERE file = ?", [[each.file] for each in places])
 
     def forget_all(self) -> None:
         """What the journal has goes out once more."""
-        with self.rows:
-            self.rows.execute("DELETE FROM place")
-            self.rows.execute("DELETE FROM value WHERE name IN ('begun', 'had')")
+        self.do("DELETE FROM value WHERE name IN ('begun', 'had')")
+        self.do("DELETE FROM place")
 
     def go_back(self, since: str) -> None:
         """What the journal has since a time goes out once more."""
-        with self.rows:
-            self.rows.execute("UPDATE place SET number = 0, cursor = '', count = -1, tail = 0, since = ?", [since])
-            self.rows.execute("DELETE FROM value WHERE name = 'again'")
+        self.do("UPDATE place SET number = 0, cursor = '', count = -1, tail = 0, since = ?", [[since]])
+        self.set(again="")
 
     # Forks
 
@@ -179,70 +162,59 @@ class Places:
         The disk has that before anything goes out under it."""
         later = [new for own, first, new in self.forks if own == sequence and first > number]
         new = later[0] if later else os.urandom(16).hex()
-        self.rows.execute("PRAGMA synchronous=FULL")
-        with self.rows:
-            self.rows.execute("INSERT INTO fork VALUES(?, ?, ?, ?)", [sequence, number, new, int(time.time())])
-        self.rows.execute("PRAGMA synchronous=NORMAL")
+        self.database.execute("PRAGMA synchronous=FULL")
+        self.do("INSERT INTO fork VALUES(?, ?, ?, ?)", [[sequence, number, new, int(time.time())]])
+        self.database.execute("PRAGMA synchronous=NORMAL")
         self.forks = sorted([*self.forks, (sequence, number, new)], key=lambda fork: fork[1])
         return new
 
     # Uploads that went out in vain
 
-    def tried(self, upload: int, seconds: float) -> int:
-        """An upload went out in vain, and rests, each time for twice as long; how often it did so."""
+    def tries(self) -> dict[int, tuple[int, float]]:
+        return {upload: (count, until) for upload, count, until in self.rows([int, int, float], "SELECT * FROM try")}
+
+    def tried(self, upload: int, seconds: float) -> None:
+        """An upload went out in vain, and rests, each time for twice as long."""
         count = self.tries().get(upload, (0, 0.0))[0] + 1
         until = time.time() + min(seconds * 2 ** min(count - 1, 12), LONGEST_REST)
-        with self.rows:
-            self.rows.execute("INSERT OR REPLACE INTO try VALUES(?, ?, ?)", [upload, count, until])
-        return count
+        self.do("INSERT OR REPLACE INTO try VALUES(?, ?, ?)", [[upload, count, until]])
 
-    def tries(self) -> dict[int, tuple[int, float]]:
-        return {upload: (count, until) for upload, count, until in
-                self.rows_of([int, int, float], "SELECT * FROM try")}
-
-    def forget_tries(self, upload: int) -> None:
-        with self.rows:
-            self.rows.execute("DELETE FROM try WHERE upload = ?", [upload])
+    def forget_tries(self, uploads: Iterable[int]) -> None:
+        """Only these uploads are there still."""
+        self.do("DELETE FROM try WHERE upload = ?", [[each] for each in self.tries().keys() - set(uploads)])
 
     # Values, and what is told
 
     def value(self, name: str) -> str:
-        return str((self.rows.execute("SELECT value FROM value WHERE name = ?", [name]).fetchone() or [""])[0])
+        return str((self.database.execute("SELECT value FROM value WHERE name = ?", [name]).fetchone() or [""])[0])
 
     def number(self, name: str) -> int:
         """A value that is a number; 0 if it is none."""
         text = self.value(name)
         return int(text) if text.isascii() and text.isdigit() and len(text) < 19 else 0
 
-    def is_asked(self) -> bool:
-        """Something is to be gathered again, or answers came by hand."""
-        names = {row[0] for row in self.rows.execute("SELECT name FROM value WHERE value != ''")}
-        return "begun" not in names or bool(names & {"again", "answers"})
-
     def set(self, **values: object) -> None:
-        with self.rows:
-            self.rows.executemany("INSERT OR REPLACE INTO value VALUES(?, ?)",
-                                  [(name, str(value)) for name, value in values.items()])
+        self.do("INSERT OR REPLACE INTO value VALUES(?, ?)", [(name, str(value)) for name, value in values.items()])
+
+    def is_asked(self) -> bool:
+        """Something is to be gathered once more, or answers came by hand."""
+        return not self.value("begun") or bool(self.value("again") or self.value("answers"))
 
     def machines(self, now: str) -> list[str]:
         """The ids that this machine had, with the one that it has."""
-        with self.rows:
-            self.rows.execute("INSERT OR IGNORE INTO machine VALUES(?)", [now])
-        return [row[0] for row in self.rows.execute("SELECT id FROM machine")]
+        self.do("INSERT OR IGNORE INTO machine VALUES(?)", [[now]])
+        return [row[0] for row in self.rows([str], "SELECT id FROM machine")]
 
     def see_head(self, head: str) -> None:
         """Keeps the collector's daily head."""
-        last = self.rows.execute("SELECT head FROM head ORDER BY rowid DESC LIMIT 1").fetchone()
-        if last != (head,):
-            with self.rows:
-                self.rows.execute("INSERT INTO head VALUES(?, ?)", [int(time.time()), head])
-                self.rows.execute("DELETE FROM head WHERE rowid <= (SELECT max(rowid) FROM head) - ?", [MOST_HEADS])
+        if self.rows([str], "SELECT head FROM head ORDER BY rowid DESC LIMIT 1") != [(head,)]:
+            self.do("INSERT INTO head VALUES(?, ?)", [[int(time.time()), head]])
+            self.do("DELETE FROM head WHERE rowid <= (SELECT max(rowid) FROM head) - ?", [[MOST_HEADS]])
 
     def tell(self, status: int, text: str) -> None:
         """Notes what is said, for `journal-collect-status`; nothing comes of it if it can't be."""
         try:
-            with self.rows:
-                self.rows.execute("INSERT INTO told VALUES(?, ?, ?)", [int(time.time()), status, text])
-                self.rows.execute("DELETE FROM told WHERE rowid <= (SELECT max(rowid) FROM told) - ?", [MOST_TOLD])
+            self.do("INSERT INTO told VALUES(?, ?, ?)", [[int(time.time()), status, text]])
+            self.do("DELETE FROM told WHERE rowid <= (SELECT max(rowid) FROM told) - ?", [[MOST_TOLD]])
         except sqlite3.Error:
             pass

@@ -19,11 +19,11 @@ class Refused:
 
     def put(self, name: str, text: bytes, why: str) -> None:
         """Keeps a text for a person, and says why."""
-        if len(text) > self.room:
-            self.report.say(LOOK, f"{why}; its text isn't kept, for {self.folder} is full: {name}")
-            return
-        files.replace(self.folder / name, text)
-        self.report.say(LOOK, f"{why}; its text is in {self.folder}/{name}, and the others go on")
+        has_room = len(text) <= self.room
+        if has_room:
+            files.replace(self.folder / name, text)
+        kept = f"its text is in {self.folder}/{name}" if has_room else f"its text isn't kept, for {self.folder} is full"
+        self.report.say(LOOK, f"{why}; {kept}, and the others go on")
 
 
 class Whole:
@@ -46,12 +46,11 @@ class Whole:
 
     def keep(self, name: str) -> str:
         """The entry is whole; what is said of it."""
-        if self.left is None:
-            return ""
-        is_kept = self.left >= 0
-        if is_kept:
-            self.write(b"\n")
-            files.sync(self.new)
-            files.move(self.new, self.refused.folder / name)
+        if self.left is None or self.left < 0:
+            self.begin()
+            return "; its text isn't kept: there is no room"
+        self.write(b"\n")
+        files.sync(self.new)
+        files.move(self.new, self.refused.folder / name)
         self.begin()
-        return f"; its text is in {self.refused.folder}/{name}" if is_kept else "; its text isn't kept: there is no room"
+        return f"; its text is in {self.refused.folder}/{name}"

@@ -97,7 +97,7 @@ class Sending:
         """What an answer means to an upload; whether it is acknowledged."""
         match reply:
             case Answer(line):
-                return self.take_answer(number, data, line)
+                return self.take_answer(number, data, f"{line}\n")
             case Put(Verdict.LATER, why):
                 self.rest(number, f"the collector takes nothing now: {why}")
             case Put(_, why):
@@ -135,7 +135,7 @@ class Sending:
         if pieces:
             self.places.set(had=f"{pieces[-1].sequence} {pieces[-1].number} {int(time.time())}")
         self.outbox.remove(number)
-        self.places.forget_tries(number)
+        self.places.forget_tries(self.outbox.sizes)
         self.places.set(acknowledged=int(time.time()), trouble="")
         self.pause = 0.0
 

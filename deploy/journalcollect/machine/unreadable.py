@@ -12,23 +12,23 @@ ONE_BY_ONE = 32
 
 
 class Search:
-    """Looks for what journalctl shows of an open file."""
+    """Looks for what journalctl shows of an open file behind the entry of a number."""
 
-    def __init__(self, handle: int, file: JournalFile) -> None:
-        self.handle, self.file = handle, file
+    def __init__(self, handle: int, file: JournalFile, after: int) -> None:
+        self.handle, self.file, self.after = handle, file, after
         # journalctl did something other than fail.
         self.works = False
 
     def options(self, number: int) -> list[str]:
         return [f"--cursor={cursor_of(self.file.sequence, number)}"]
 
-    def shows(self, options: list[str], after: int) -> bool:
-        """journalctl shows an entry whose number is over this one."""
-        reading, is_shown = Reading(self.handle, options, None), False
+    def shows(self, options: list[str]) -> bool:
+        """With these options journalctl shows an entry that is behind."""
+        reading, is_shown = Reading(self.handle, options), False
         try:
             for entry in reading.entries():
                 self.works = True
-                if int(entry.key()[1]) > after:
+                if int(entry.key()[1]) > self.after:
                     is_shown = True
                     break
         except (Unfit, ValueError):
@@ -37,19 +37,18 @@ class Search:
         self.works = self.works or reading.status == 0 or reading.broken is not None
         return is_shown
 
-    def after(self, number: int) -> list[str] | None:
-        """The options with which journalctl shows what it can of the entries after the one of this number."""
-        fails, tried, step = number, number + 1, 1
-        while not self.shows(self.options(tried), number):
+    def first_shown(self) -> list[str] | None:
+        """The options that show the most of what is shown from some number on."""
+        fails, tried, step = self.after, self.after + 1, 1
+        while not self.shows(self.options(tried)):
             fails = tried
-            step = step if tried - number < ONE_BY_ONE else 2 * step
+            step = step if tried - self.after < ONE_BY_ONE else 2 * step
             tried += step
             if tried > self.file.tail:
                 return None
-        # the first number from which something is shown
         while tried - fails > 1:
             middle = (tried + fails) // 2
-            if self.shows(self.options(middle), number):
+            if self.shows(self.options(middle)):
                 tried = middle
             else:
                 fails = middle
@@ -59,16 +58,15 @@ class Search:
 def next_readable(handle: int, file: JournalFile, number: int, broken: dict[bytes, bytes] | None) -> list[str] | None:
     """The options with which journalctl shows more of a file after an entry; None if it shows no more. An OSError if it
     doesn't work at all."""
-    search = Search(handle, file)
-    after = max(number, cursor_parts((broken or {}).get(b"__CURSOR", b"").decode("ascii", "replace"))[1])
-    # What was only stopped is read now.
-    if broken and search.shows(search.options(after), number):
-        return search.options(after)
-    found = search.after(after) if broken else None
-    if found is None and search.shows([], after):
+    at = max(number, cursor_parts((broken or {}).get(b"__CURSOR", b"").decode("ascii", "replace"))[0])
+    before, search = Search(handle, file, number), Search(handle, file, at)
+    if broken and before.shows(before.options(at)):
+        return before.options(at)                   # it was only stopped there
+    found = search.first_shown() if broken else None
+    if found is None and search.shows([]):
         return []
     if not broken:
-        found = search.after(after)
+        found = search.first_shown()
     if found is None and not search.works:
         raise OSError("journalctl fails")
     return found
