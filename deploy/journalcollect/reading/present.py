@@ -40,9 +40,7 @@ class Live:
         self.keys: set[tuple[str, int]] = set()
         self.about, self.path_of_about = About([name]), places.present / f"{name}.json"
         self.is_told = True
-        before = self.before(places)
-        remote.remove(places.present, name)
-        self.remote = Remote(places.present / f"{name}.journal", sequence_id(), before)
+        self.remote = Remote(places.present / f"{name}.journal", sequence_id(), self.before(places))
 
     def before(self, places: Places) -> int:
         """The number before the first one: as it was if the database has a present, and else one that nothing had."""
@@ -169,6 +167,8 @@ class Present(threading.Thread):
         self.looked = now
         for live in self.lives.values():
             live.say()
+            if live.remote.is_gone:
+                raise Failed("systemd-journal-remote ended")
         self.make()
         if now - self.cleaned > SECONDS_WAITING:
             self.cleaned = now

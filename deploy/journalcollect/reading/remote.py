@@ -62,11 +62,6 @@ def count(folder: Path, name: str) -> int:
     return sum(found.entries for path in parts(folder, name) if (found := header(path)))
 
 
-def remove(folder: Path, name: str) -> None:
-    for path in [*folder.glob(f"{name}@*.journal*"), folder / f"{name}.journal"]:
-        path.unlink(missing_ok=True)
-
-
 class Remote:
     """One that writes NAME.journal, and further files when one is full. Its numbers go on from those of a sequence, if
     that is given."""
@@ -77,7 +72,8 @@ class Remote:
         self.process = self.started(path, subprocess.PIPE)
 
     def begin(self, path: Path, sequence: str, last_number: int) -> None:
-        """A file without entries, whose next one has a number of this sequence. It gets its name when it is so far."""
+        """A file without entries, whose next one has a number of this sequence. It takes the place of what had its name,
+        so that at each moment a file says which number comes first."""
         new = path.with_name(f".{path.name}")
         new.unlink(missing_ok=True)
         if self.started(new, subprocess.DEVNULL).wait():
@@ -88,6 +84,8 @@ class Remote:
             file.seek(LAST_AT)
             file.write(struct.pack("<Q", last_number))
         new.rename(path)
+        for part in path.parent.glob(f"{path.stem}@*.journal*"):
+            part.unlink()
 
     @staticmethod
     def started(path: Path, given: int) -> subprocess.Popen[bytes]:
@@ -96,6 +94,10 @@ class Remote:
                                     stderr=subprocess.DEVNULL, umask=0o027, start_new_session=True)
         except OSError as error:
             raise Failed(f"{REMOTE} can't be run: {error}") from error
+
+    @property
+    def is_gone(self) -> bool:
+        return self.process.poll() is not None
 
     def write(self, text: bytes) -> None:
         assert self.process.stdin

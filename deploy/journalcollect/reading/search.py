@@ -141,7 +141,7 @@ class Search:
         """First the last entries of what is finished, then the present, from its beginning or its last entries on."""
         call, standing = self.call, self.standing()
         sys.stdout.flush()
-        lines = None if call.has("no-tail") or call.lines is None and call.has("lines") else call.lines or 10
+        lines = None if call.has("no-tail") else call.lines if call.has("lines") else 10
         of_present = Window(standing.present, self.since, self.until)
         here = sum(1 for _ in journalctl.entries(of_present, call.without("follow"), "_BOOT_ID")
                    ) if standing.present and lines is not None else 0
@@ -150,7 +150,7 @@ class Search:
             before = call.without("follow", "show-cursor")
             if lines is not None:
                 before = before.plus(("lines", str(lines - here)))
-            if standing.finished:
+            if standing.finished and lines != 0:
                 journalctl.side_by_side([Window(standing.finished, self.since, self.until)],
                                         before.plus(("quiet", None)))
                 sys.stdout.flush()

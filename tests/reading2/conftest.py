@@ -1,0 +1,23 @@
+"""What the tests of reading have: a collector's folder. They are skipped where systemd's programs aren't installed."""
+import os
+import shutil
+import sys
+from pathlib import Path
+
+import pytest
+
+sys.path.insert(0, str(Path(__file__).resolve().parent))
+from collecting import REMOTE, Collector  # noqa: E402
+
+IS_MISSING = not REMOTE.exists() or not shutil.which("journalctl") or "JOURNAL_COLLECT" not in os.environ
+
+
+def pytest_collection_modifyitems(items: list[pytest.Item]) -> None:
+    if IS_MISSING:
+        for item in items:
+            item.add_marker(pytest.mark.skip("systemd-journal-remote, journalctl or JOURNAL_COLLECT isn't there"))
+
+
+@pytest.fixture
+def collector(tmp_path: Path) -> Collector:
+    return Collector(tmp_path / "collector")

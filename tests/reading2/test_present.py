@@ -1,0 +1,178 @@
+"""The present: what is acknowledged is followed at once, each entry once, through turns, kills and restarts."""
+import os
+import random
+import signal
+import subprocess
+import time
+from collections import Counter
+from collections.abc import Iterator
+from contextlib import contextmanager
+from pathlib import Path
+
+import pytest
+from collecting import BEGIN, SEARCH, Collector, Present, plain, wait_until
+
+NAMES = ["2026-11-30T10-00-00", "2026-11-30T10-10-00", "2026-11-30T10-20-00", "2026-11-30T10-30-00"]
+
+
+class Followed:
+    """A process that follows, and what it said."""
+
+    def __init__(self, path: Path, words: list[str | Path], environment: dict[str, str]) -> None:
+        self.path = path
+        with path.open("wb") as file:
+            self.process = subprocess.Popen(words, stdout=file, stderr=subprocess.DEVNULL, env=environment)
+
+    @property
+    def lines(self) -> list[str]:
+        return self.path.read_text().splitlines()
+
+    def end(self) -> None:
+        self.process.terminate()
+        self.process.wait()
+
+
+@pytest.fixture
+def followed(collector: Collector) -> Iterator[list[Followed]]:
+    """journalctl over the folder, and the front."""
+    folder = collector.path / "journals" / "present"
+    (folder.parent / "today").mkdir(parents=True)
+    folder.mkdir()
+    both = [Followed(collector.path / "plain", ["journalctl", "-D", folder, "-f", "-m", "--no-tail", "-o", "cat"],
+                     collector.environment),
+            Followed(collector.path / "front", [SEARCH, "-f", "--no-tail", "-o", "cat"], collector.environment)]
+    yield both
+    for each in both:
+        each.end()
+
+
+@contextmanager
+def present(collector: Collector, told: list[str] | None = None) -> Iterator[Present]:
+    running = Present(collector.path, (told if told is not None else []).append)
+    running.start()
+    try:
+        yield running
+    finally:
+        running.stop()
+
+
+def remotes(folder: Path) -> list[int]:
+    """The processes of systemd-journal-remote that write in a folder."""
+    found = []
+    for each in Path("/proc").iterdir():
+        if each.name.isdigit():
+            try:
+                words = (each / "cmdline").read_bytes()
+            except OSError:
+                continue
+            if b"systemd-journal-remote" in words and str(folder).encode() in words:
+                found.append(int(each.name))
+    return found
+
+
+def test_an_entry_is_followed_at_once_and_in_the_order_in_which_it_came(
+        collector: Collector, followed: list[Followed]) -> None:
+    with present(collector) as running:
+        for number, late in enumerate([0, 3600, 5, 0, 7200]):
+            running.feed(collector.recent(NAMES[0], [plain("web", number + 1, f"m{number}", BEGIN - late * 1_000_000)]))
+        for each in followed:
+            wait_until(lambda: len(each.lines) == 5)
+            assert each.lines == [f"m{number}" for number in range(5)]
+
+
+def test_what_comes_again_in_another_upload_is_shown_once(collector: Collector, followed: list[Followed]) -> None:
+    entries = [plain("web", number, f"m{number}") for number in range(1, 21)]
+    with present(collector) as running:
+        running.feed(collector.recent(NAMES[0], entries[:12]))
+        running.feed(collector.recent(NAMES[0], entries[5:]))
+        for each in followed:
+            wait_until(lambda: len(each.lines) >= 20)
+            assert each.lines == [f"m{number}" for number in range(1, 21)]
+
+
+def test_each_entry_once_through_kills_turns_and_restarts(collector: Collector, followed: list[Followed]) -> None:
+    """Fifty moments: the remote is killed, the service is killed and begins anew, or a database is finished."""
+    choose, expected, number = random.Random(5), [], 0
+    running = Present(collector.path, print)
+    running.start()
+    turn = 0
+    for moment in range(50):
+        for _ in range(choose.randrange(1, 4)):
+            batch = []
+            for _ in range(choose.randrange(1, 30)):
+                number += 1
+                # A machine's clock goes by its own way, so the order in which entries come isn't that of their times.
+                batch.append(plain(choose.choice(["web", "db"]), number, f"m{number}",
+                                   BEGIN + number * 1000 - choose.randrange(5_000_000)))
+            batch = [each for each in batch if each.machine == batch[0].machine]
+            expected += [each.fields["MESSAGE"] for each in batch]
+            running.feed(collector.recent(NAMES[0] + f"-{turn}", batch))
+        time.sleep(choose.random() * 0.05)
+        match choose.randrange(3):
+            case 0:
+                for process in remotes(collector.path):
+                    os.kill(process, signal.SIGKILL)
+            case 1:
+                running.events.put(None)
+                running.join()
+                running = Present(collector.path, print)
+                running.start()
+            case 2 if moment % 3 == 0:
+                running.turn(NAMES[0] + f"-{turn}")
+                turn += 1
+    wait_until(lambda: all(len(each.lines) >= len(expected) for each in followed), 60)
+    running.stop()
+    for each in followed:
+        assert Counter(each.lines) == Counter(expected)
+        assert each.lines == expected
+
+
+def test_the_front_shows_the_last_entries_first_and_then_follows(collector: Collector) -> None:
+    for number in range(1, 31):
+        collector.recent(NAMES[0], [plain("web", number, f"m{number}")])
+    collector.finish(NAMES[0])
+    assert collector.make().returncode == 0
+    (collector.path / "recent" / NAMES[0]).rename(collector.path / "gone")
+    with present(collector) as running:
+        for number in range(31, 35):
+            running.feed(collector.recent(NAMES[1], [plain("web", number, f"m{number}")]))
+        wait_until(lambda: collector.messages("-n", "1") == ["m34"])
+        known = [f"m{number}" for number in range(1, 35)]
+        for number, (words, lines) in enumerate(((["-n", "10"], 10), (["-n3"], 3), (["--no-tail"], 50), (["-n", "0"], 0),
+                                                 ([], 10), (["-n", "all"], 50))):
+            one = Followed(collector.path / f"said{number}", [SEARCH, "-f", "-q", "-o", "cat", *words], collector.environment)
+            time.sleep(1.0)
+            running.feed(collector.recent(NAMES[1], [plain("db", number + 1, f"new{number}")]))
+            wait_until(lambda: f"new{number}" in one.lines)
+            one.end()
+            assert one.lines == [*(known[-lines:] if lines else []), f"new{number}"]
+            known.append(f"new{number}")
+
+
+def test_a_finished_database_takes_the_place_of_its_present(collector: Collector) -> None:
+    """An entry is shown once while both stand, and one that came late is found by its own time then."""
+    late = plain("web", 9, "late", BEGIN - 3_600_000_000)
+    with present(collector) as running:
+        running.feed(collector.recent(NAMES[0], [plain("web", 5, "five"), late, plain("web", 10, "ten")]))
+        wait_until(lambda: len(collector.messages()) == 3)
+        collector.finish(NAMES[0])
+        running.turn(NAMES[0])
+        wait_until(lambda: (collector.path / "journals" / "today" / f"{NAMES[0]}.json").exists())
+        assert (collector.path / "journals" / "present" / f"{NAMES[0]}.journal").exists()
+        assert not (collector.path / "recent" / NAMES[0]).exists()
+        assert collector.messages() == ["late", "five", "ten"]
+        assert collector.messages("--until", f"@{BEGIN // 1_000_000}") == ["late"]
+
+
+def test_what_isnt_readable_costs_nothing(collector: Collector) -> None:
+    """A remote that can't be run is told, and nobody waits."""
+    told: list[str] = []
+    with present(collector, told) as running:
+        path = collector.recent(NAMES[0], [plain("web", 1, "one")])
+        path.write_bytes(path.read_bytes()[:-20])
+        running.feed(path)
+        wait_until(lambda: bool(told))
+        assert "made anew" in told[0]
+        path.unlink()
+        running.feed(collector.recent(NAMES[0], [plain("web", 2, "two")]))
+        wait_until(lambda: collector.messages() == ["two"])
