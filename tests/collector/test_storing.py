@@ -82,8 +82,8 @@ def test_a_machine_comes_by_nc_alone_and_one_without_a_key_doesn_t(collector: Co
     collector.connect("web").close()
     data = upload(entry(A, 1, MESSAGE="by nc"), 1)
     line = f"upload {len(data)} {hashlib.sha256(data).hexdigest()} 1\n".encode()
-    said = subprocess.run(["nc.openbsd", "-NU", collector.folder / "sockets/web"], input=line + data, capture_output=True,
-                          timeout=120).stdout.decode()
+    nc = ["nc.openbsd", "-NU", collector.folder / "sockets/web"]
+    said = subprocess.run(nc, input=line + data, capture_output=True, timeout=120).stdout.decode()
     assert said.splitlines()[1:] == [f"ack {ID} 0 1 1 0"]
     standing = collector.connect("web")
     (collector.keys / "web.pub").unlink()

@@ -13,10 +13,9 @@ from typing import Any
 from ..common import files, names, program, settings
 from ..setup import keys
 from . import backup
-from .folder import Folder
 from .operations import No, Operations
 from .service import Service
-from .settings import Settings
+from .settings import Folder, Settings
 from .settings import read as read_settings
 
 JOURNAL_FILE, FILE_ID = b"LPKSHHRH", slice(24, 40)
@@ -68,8 +67,10 @@ def parser() -> argparse.ArgumentParser:
     commands.add_parser("setup", help="makes this computer a collector", add_help=False)
     for name, (of, does) in COMMANDS.items():
         command = commands.add_parser(name, help=does, description=does)
-        count: Any = "+" if of.endswith("..") else len(of.split())
-        command.add_argument("words", nargs=count, metavar=tuple(of.split()) if count != "+" else of.split()[-1].rstrip("."))
+        command.set_defaults(words=[])
+        if of:
+            count: int | str = "+" if ".." in of else len(of.split())
+            command.add_argument("words", nargs=count, metavar=of.split()[-1].rstrip("."))
     return made
 
 
@@ -94,7 +95,7 @@ def done(chosen: Settings, do: str, words: list[str]) -> Iterator[Any]:
             yield from asked_of(chosen, "finish", [])
             yield from backup.make(folder, Path(to))
         case "restore", [of]:
-            if (lock := folder.locked(is_waiting=False)) is None:
+            if (lock := folder.locked()) is None:
                 raise No("the service runs: systemctl stop journal-collect")
             yield from backup.restore(folder, Path(of))
             os.close(lock)
@@ -145,8 +146,8 @@ def upload_of(path: Path) -> Any:
         return file
     file.close()
     made = tempfile.TemporaryFile()
-    subprocess.run([program.path(), "upload", "--source", head[FILE_ID].hex(), "--resume", "/nonexistent/resume", "file",
-                    path], stdout=made, check=True)
+    subprocess.run([program.path(), "upload", "--source", head[FILE_ID].hex(), "--resume", "/nonexistent/resume",
+                    "file", path], stdout=made, check=True)
     return made
 
 
@@ -180,7 +181,7 @@ def here(chosen: Settings, do: str, words: list[str], handles: list[int]) -> Ite
     if is_root := os.geteuid() == 0:
         os.setegid(owner.st_gid)
         os.seteuid(owner.st_uid)
-    lock = Folder(Path(chosen.folder)).locked(is_waiting=False)
+    lock = Folder(Path(chosen.folder)).locked()
     if lock is None:
         raise OSError("the service begins or ends: try again")
     service = Service(chosen, lock)

@@ -8,37 +8,42 @@ import contextlib
 import os
 import shutil
 import sqlite3
+import threading
+import time
 from collections.abc import Iterator
 from pathlib import Path
 
 from ..common import files
 from . import databases
-from .folder import Folder
-from .keeping import held
 from .notes import Notes
 from .operations import No
+from .settings import Folder
 from .state import State
 
 
 def make(folder: Folder, to: Path) -> Iterator[str]:
     """Copies what isn't there yet. Nothing is deleted or packed meanwhile; all that was acknowledged is finished."""
     (to / "databases").mkdir(parents=True, exist_ok=True)
-    with held(folder.path / "backup.lock", is_waiting=True):
+    lock = folder.locked("backup.lock", is_waiting=True)
+    try:
         new = to / "state.sqlite.new"
         new.unlink(missing_ok=True)
         with contextlib.closing(sqlite3.connect(f"file:{folder.state}?mode=ro", uri=True, timeout=60.0)) as rows:
             rows.execute("VACUUM INTO ?", (str(new),))
         with contextlib.closing(sqlite3.connect(new)) as rows:
             known = rows.execute("SELECT name, standing, digest FROM database").fetchall()
-        bad = [name for name, standing, digest in known if standing == "finished" and not copied(folder, name, digest, to)]
+        finished = {name: digest for name, standing, digest in known if standing == "finished"}
+        bad = [name for name, digest in finished.items() if not copied(folder, name, digest, to)]
         for name in (name for name, standing, _ in known if standing == "deleted"):
             remove(to, name)
         copy_notes(folder.sequences, to / "sequences")
         os.sync()
         files.move(new, to / "state.sqlite")
+    finally:
+        os.close(lock or -1)
     if bad:
         raise No(f"{' '.join(bad)}: not as they were finished, and not in the backup")
-    yield f"{sum(standing == 'finished' for _, standing, _ in known)} databases are in {to}"
+    yield f"{len(finished)} databases are in {to}"
 
 
 def forms(folder: Path, name: str) -> list[Path]:
@@ -111,7 +116,7 @@ def restore(folder: Folder, backup: Path) -> Iterator[str]:
     if is_empty:
         shutil.copyfile(backup / "state.sqlite", folder.state)
         shutil.copytree(backup / "sequences", folder.sequences, dirs_exist_ok=True)
-        Notes(folder, State(folder)).forget()
+        Notes(State(folder), threading.Event()).forget()
     own(folder.path)
     os.sync()
     yield f"{count} of {len(known)} databases are put back, as of {moment(backup / 'state.sqlite')}"
@@ -119,7 +124,6 @@ def restore(folder: Folder, backup: Path) -> Iterator[str]:
 
 
 def moment(path: Path) -> str:
-    import time
     return time.strftime("%Y-%m-%d %H:%M:%S UTC", time.gmtime(path.stat().st_mtime))
 
 

@@ -6,9 +6,8 @@ import threading
 import time
 from dataclasses import dataclass
 
-from ..common import files, program, protocol
+from ..common import files, protocol
 from ..common.protocol import Answer, Had, Known, NotALine, Put, Upload, Verdict
-from . import head
 from .gate import Gate
 from .state import log
 from .store import Store
@@ -42,7 +41,7 @@ class Connection(threading.Thread):
         try:
             with self.one, self.gate.entered(self.machine, self.one):
                 self.one.settimeout(IDLE)
-                self.say(protocol.Greeting(time.time_ns() // 1000, head.latest(self.store)))
+                self.say(protocol.Greeting(time.time_ns() // 1000, self.store.head()))
                 while line := self.line():
                     self.say(self.reply(protocol.request(line)))
         except (OSError, NotALine):
@@ -72,10 +71,10 @@ class Connection(threading.Thread):
 
     def known(self, key: Had) -> Known:
         """Whether an entry that was acknowledged is known still."""
-        if program.has_note(self.store.folder.sequences, key.sequence, key.number):
+        if self.store.knows(key.sequence, key.number):
             return Known.HAD
-        self.store.state.tell(f"lost {self.machine}", f"{self.machine}: entry {key.number} of {key.sequence} was acknowledged,"
-                              " and isn't here: what its journal still has comes once more")
+        self.store.state.tell(f"lost {self.machine}", f"{self.machine}: entry {key.number} of {key.sequence} was "
+                              "acknowledged, and isn't here: what its journal still has comes once more")
         return Known.LOST
 
     def upload(self, told: Upload) -> Answer | Put:

@@ -15,7 +15,7 @@ from dataclasses import dataclass
 from pathlib import Path
 
 from ..common import files
-from .folder import Folder
+from .settings import Folder
 
 # A log without a page has at most so many bytes.
 EMPTY_LOG = 55
@@ -96,8 +96,16 @@ def finish(path: Path) -> str:
     return digest
 
 
-def summary(path: Path, digest: str) -> Summary:
-    """What a closed database has, by its tables."""
+def summary(folder: Folder, name: str, digest: str) -> tuple[Summary, int | None]:
+    """What a finished database has, by its tables; and how many bytes it takes if it is packed."""
+    path = path_of(folder, name)
+    if path.exists():
+        return tables_of(path, digest), None
+    with unpacked(folder, name) as copy:
+        return tables_of(copy, digest), files.size(beside(path, ".zst"))
+
+
+def tables_of(path: Path, digest: str) -> Summary:
     try:
         with contextlib.closing(sqlite3.connect(f"file:{path}?immutable=1", uri=True)) as tables:
             entries, first, last = tables.execute(

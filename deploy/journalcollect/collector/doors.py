@@ -7,8 +7,8 @@ from collections.abc import Iterator
 from pathlib import Path
 
 from ..common import names
-from .folder import Folder
 from .gate import Gate
+from .settings import Folder
 
 BACKLOG = 16
 

@@ -1,4 +1,4 @@
-"""What comes in: the bounds of a machine's connections and uploads. Each is answered, logged once, and kept for status."""
+"""The bounds of a machine's connections and uploads: each is answered, logged once a day, and kept for status."""
 import collections
 import contextlib
 import os
@@ -11,7 +11,6 @@ from collections.abc import Iterator
 from ..common import program
 from ..common.protocol import Put, Verdict
 from . import databases
-from .folder import Folder
 from .settings import CONNECTIONS, HEADER, LARGE, MIB, MOST_WINDOWS, UPLOAD_BYTES, WINDOWS_A_DAY, Settings
 from .state import State
 
@@ -29,8 +28,8 @@ LOOKED_UP = 2
 class Gate:
     """How much of all that a machine may have is used."""
 
-    def __init__(self, settings: Settings, folder: Folder, state: State) -> None:
-        self.settings, self.folder, self.state = settings, folder, state
+    def __init__(self, settings: Settings, state: State) -> None:
+        self.settings, self.folder, self.state = settings, state.folder, state
         self.lock = threading.Lock()
         self.connections: dict[str, collections.deque[socket.socket]] = {}
 
@@ -71,8 +70,8 @@ class Gate:
         if size > UPLOAD_BYTES:
             return self.refuse(machine, Verdict.NEVER, f"it has over {UPLOAD_BYTES // MIB} MiB")
         if why := self.folder.room(self.settings):
-            self.state.tell("room", f"{why}: nothing is stored until there is more: move the oldest databases to another "
-                            "disk (journal-collect-admin moved), or lower KEEP_DAYS")
+            self.state.tell("room", f"{why}: nothing is stored until there is more: move the oldest databases to "
+                            "another disk (journal-collect-admin moved), or lower KEEP_DAYS")
             return Put(Verdict.LATER, why)
         self.state.over("room")
         used = self.state.machine(machine)

@@ -1,15 +1,12 @@
 """What is done now and then beside storing: old databases go, and finished ones are packed and looked at."""
-import fcntl
 import os
 import shutil
 import subprocess
 import threading
 import time
-from collections.abc import Iterator
-from contextlib import contextmanager
-from pathlib import Path
 
 from ..common import program
+from ..reading.places import made
 from . import databases
 from .databases import Damaged
 from .settings import Settings
@@ -22,22 +19,6 @@ REST = 3.0
 RECENT_SECONDS = 3600.0
 
 
-@contextmanager
-def held(path: Path, is_waiting: bool) -> Iterator[bool]:
-    """Has a lock for a while, or hasn't, if another one has it."""
-    handle = os.open(path, os.O_RDWR | os.O_CREAT | os.O_CLOEXEC, 0o600)
-    try:
-        fcntl.flock(handle, fcntl.LOCK_EX | (0 if is_waiting else fcntl.LOCK_NB))
-    except BlockingIOError:
-        os.close(handle)
-        yield False
-        return
-    try:
-        yield True
-    finally:
-        os.close(handle)
-
-
 class Keeping(threading.Thread):
     """One thread, which takes its time."""
 
@@ -45,13 +26,15 @@ class Keeping(threading.Thread):
         super().__init__(name="keeping", daemon=True)
         self.settings, self.store = settings, store
         self.folder, self.state, self.notes = store.folder, store.state, store.recovery.notes
-        self.notes_day = -1
+        self.notes_day = int(store.state.age.days)
 
     def run(self) -> None:
-        while not self.store.stops.wait(ROUND_SECONDS):
+        self.store.is_begun.wait()
+        rest = 0.0
+        while not self.store.stops.wait(rest):
+            rest = ROUND_SECONDS
             try:
-                if self.store.is_begun.is_set():
-                    self.round()
+                self.round()
                 self.state.over("keeping")
             except (OSError, subprocess.SubprocessError, Damaged, program.Failed) as error:
                 self.state.tell("keeping", f"old databases, packing and checks: {error}")
@@ -59,12 +42,14 @@ class Keeping(threading.Thread):
     def round(self) -> None:
         age = self.state.age.grown()
         if age.uncounted >= 1:
-            self.state.tell("days", f"by the clock {age.uncounted:.0f} days more went by than the collector is known to have "
-                            f"run: they don't count. If they did: journal-collect-admin passed {int(age.uncounted)}")
-        with held(self.folder.path / "backup.lock", is_waiting=False) as is_free:
-            if is_free:
+            self.state.tell("days", f"by the clock {age.uncounted:.0f} days more went by than the collector ran: they "
+                            f"don't count. If they went by: journal-collect-admin passed {int(age.uncounted)}")
+        if (lock := self.folder.locked("backup.lock")) is not None:
+            try:
                 self.delete_old(age.days)
                 self.pack(age.days)
+            finally:
+                os.close(lock)
         self.clear_recent()
         self.check_notes(age.days)
         self.check_databases(age.days - 1)
@@ -93,15 +78,20 @@ class Keeping(threading.Thread):
     def clear_recent(self) -> None:
         """Uploads of databases that were finished long ago go, though nobody that reads removed them."""
         for folder in self.folder.recent.iterdir():
-            if self.state.ask("SELECT 1 FROM database WHERE name = ? AND finished < ?", folder.name, time.time() - RECENT_SECONDS):
+            if self.state.ask("SELECT 1 FROM database WHERE name = ? AND finished < ?", folder.name,
+                              time.time() - RECENT_SECONDS):
                 shutil.rmtree(folder, ignore_errors=True)
 
     def pack(self, age: float) -> None:
-        """Finished databases are packed, PACK_DAYS after."""
-        for name, digest in self.state.ask("SELECT name, digest FROM database WHERE standing = 'finished' AND packed IS NULL "
-                                           "AND age < ? ORDER BY id", age - self.settings.pack_days):
+        """Finished databases are packed PACK_DAYS after, once journal files are made of them."""
+        due = self.state.ask("SELECT name, digest FROM database WHERE standing = 'finished' AND packed IS NULL "
+                             "AND age < ? ORDER BY id", age - self.settings.pack_days)
+        shown = made(self.folder.path) if due else set()
+        for name, digest in due:
             if self.store.stops.is_set():
                 return
+            if name not in shown:
+                continue
             try:
                 size = databases.pack(databases.path_of(self.folder, name), digest)
             except Damaged as error:
@@ -112,22 +102,22 @@ class Keeping(threading.Thread):
     # What is looked at ------------------------------------------------------------------------------------------------
 
     def check_notes(self, age: float) -> None:
-        """Once a day of the collector, and at its start, each file of notes is compared with what it was."""
+        """Once a day of the collector each file of notes is compared with what it was."""
         if int(age) != self.notes_day:
             self.notes_day = int(age)
-            self.mend_notes()
+            self.mend_notes(REST)
 
-    def mend_notes(self) -> list[str]:
+    def mend_notes(self, rest: float = 0.0) -> list[str]:
         """Makes notes anew that aren't what they were; which."""
-        bad = sorted({*self.notes.short(), *self.notes.changed()})
+        bad = sorted({*self.notes.short(), *self.notes.changed(rest)})
         if bad:
-            self.store.alone(lambda: self.notes.make_anew(bad, "it isn't as it was", self.store.stops))
+            self.store.alone(lambda: self.notes.make_anew(bad, "it isn't as it was"))
         return [f"{sequence}/{window}" for sequence, window in bad]
 
     def check_databases(self, last: float) -> None:
         """Looks at each database that wasn't looked at since an age."""
-        for name, in self.state.ask("SELECT name FROM database WHERE standing = 'finished' AND coalesce(checked, age) < ? "
-                                    "ORDER BY checked", last):
+        for name, in self.state.ask("SELECT name FROM database WHERE standing = 'finished' "
+                                    "AND coalesce(checked, age) < ? ORDER BY checked", last):
             begun = time.monotonic()
             self.check(name)
             if self.store.stops.wait(REST * (time.monotonic() - begun)):

@@ -7,13 +7,13 @@ was noted in is told by a number of bytes and their digest, and notes are made a
 import hashlib
 import stat
 import threading
+import time
 from collections.abc import Iterable, Iterator
 from pathlib import Path
 
 from ..common import files, program
 from . import databases
 from .databases import Damaged, Summary
-from .folder import Folder
 from .state import State, Window, log
 
 NOTE = 41
@@ -26,8 +26,8 @@ Name = tuple[str, int]
 class Notes:
     """The notes of a collector. What changes them is called only while no process of the program stores."""
 
-    def __init__(self, folder: Folder, state: State) -> None:
-        self.folder, self.state = folder, state
+    def __init__(self, state: State, stops: threading.Event) -> None:
+        self.folder, self.state, self.stops = state.folder, state, stops
 
     def path(self, sequence: str, window: int) -> Path:
         return self.folder.sequences / sequence / str(window)
@@ -72,12 +72,17 @@ class Notes:
             return -1
         return told.st_size if stat.S_ISREG(told.st_mode) else -1
 
-    def changed(self) -> Iterator[Name]:
-        """The windows whose bytes aren't what they were. They are read, some at a time."""
+    def changed(self, rest: float) -> list[Name]:
+        """The windows whose bytes aren't what they were; after each there is so many times as long of rest."""
+        found = []
         for each in self.state.windows():
+            begun = time.monotonic()
             data = self.beginning(each.sequence, each.window, each.bytes)
             if hashlib.sha256(data).hexdigest() != each.sum and self.is_so_still(each):
-                yield each.sequence, each.window
+                found.append((each.sequence, each.window))
+            if self.stops.wait(rest * (time.monotonic() - begun)):
+                return []
+        return found
 
     def is_so_still(self, window: Window) -> bool:
         """Whether a window is known as it was; it may have gone for its age, or have been made anew."""
@@ -99,7 +104,7 @@ class Notes:
         return (path for path in self.folder.sequences.glob("*/*")
                 if path.name.isascii() and path.name.isdigit() and path.name != OWNER)
 
-    def make_anew(self, names: Iterable[Name], why: str, stops: threading.Event | None = None) -> None:
+    def make_anew(self, names: Iterable[Name], why: str) -> None:
         """Windows that aren't as they were are put aside, and made anew of the databases that were noted in them. If it
         is stopped, the next start finds them short."""
         wanted: dict[int, str] = {}
@@ -107,11 +112,11 @@ class Notes:
         for name in names:
             self.put_aside(*name, why)
             for number, database in self.state.ask(
-                    "SELECT database.id, name FROM noted JOIN database ON database.id BETWEEN noted.first AND noted.last "
-                    "WHERE sequence = ? AND window = ? AND standing = 'finished'", *name):
+                    "SELECT database.id, name FROM noted JOIN database ON database.id BETWEEN noted.first AND "
+                    "noted.last WHERE sequence = ? AND window = ? AND standing = 'finished'", *name):
                 wanted[number] = database
         for _, database in sorted(wanted.items()):
-            if stops and stops.is_set():
+            if self.stops.is_set():
                 return
             self.note(database)
         for sequence, window in names:

@@ -8,7 +8,7 @@ import journalcollect
 
 from ..common import files, names, program
 from ..common.protocol import HEX_ID
-from . import databases, head
+from . import databases
 from .gate import Gate
 from .keeping import Keeping
 from .store import Store
@@ -50,7 +50,7 @@ class Operations:
         """What is so at the moment; what outlives the service is in state.sqlite."""
         self.state.flush()
         yield {**self.store.status(), "version": journalcollect.VERSION, "connections": self.gate.count(),
-               "is_begun": self.store.is_begun.is_set(), "head": head.latest(self.store)}
+               "is_begun": self.store.is_begun.is_set(), "head": self.store.head()}
 
     def finish(self) -> Iterator[str]:
         """The present database is finished: all that was acknowledged until now is in finished ones."""
@@ -82,6 +82,7 @@ class Operations:
         if not HEX_ID.fullmatch(sequence) or sequence not in program.owners(self.folder.sequences):
             raise No(f"{sequence} is no machine's")
         self.alone(lambda: program.release(self.folder.sequences, sequence))
+        self.state.released(sequence)
         yield f"{sequence} is the machine's that brings a new entry of it next"
 
     def take(self, machine: str, handle: int) -> Iterator[str]:
@@ -116,7 +117,7 @@ class Operations:
     def head(self, *heads: str) -> Iterator[str]:
         """Of which day each head is that a machine was told, by the databases that are known now."""
         days = {name[:10] for name, in self.state.ask("SELECT name FROM database WHERE digest IS NOT NULL")}
-        known = {head.of_day(self.state, day): day for day in days}
+        known = {self.state.head(day): day for day in days}
         bad = [each for each in heads if each not in known]
         yield from (f"{each} is of {known[each]}" for each in heads if each in known)
         if bad:

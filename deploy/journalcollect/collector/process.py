@@ -13,8 +13,7 @@ from collections.abc import Iterator, Sequence
 from pathlib import Path
 
 from ..common import program, protocol
-from .folder import Folder
-from .settings import CPU_SECONDS, MEMORY, MOST_WINDOWS
+from .settings import CPU_SECONDS, MEMORY, MOST_WINDOWS, Folder
 
 # So long it may take for its next answer, and to note what a database has.
 PATIENCE, LONGEST = 180.0, 3600.0
@@ -100,7 +99,7 @@ class Process:
         with contextlib.suppress(subprocess.TimeoutExpired):
             self.process.wait(1.0)
         status = self.process.returncode
-        return Ended(f"{self.path.name}: {why}: {self.said() or f'status {status}'}", -status if status and status < 0 else 0)
+        return Ended(f"{self.path.name}: {why}: {self.said() or f'status {status}'}", max(0, -(status or 0)))
 
     def said(self) -> str:
         """What it said of its failure."""

@@ -1,14 +1,21 @@
-"""What a stop or a failure left is taken up: the notes get what they lack, and a database is sealed or set aside."""
+"""What becomes of a database that nobody stores in any more: it is sealed and known, or set aside.
+
+What a stop or a failure left is taken up here. All of it is called while no process of the program stores.
+"""
+import hashlib
 import shutil
+import threading
 import time
 from pathlib import Path
+from typing import Protocol
 
-from ..common import files
+from ..common import files, names, program
 from . import databases
+from .databases import Damaged
+from .notes import Notes
 from .process import WINDOW, Process
-from .sealing import Sealing
-from .settings import Settings
-from .state import log
+from .settings import Folder, Settings
+from .state import State, log
 
 TRIES = 5
 REFUSED = 1
@@ -18,12 +25,72 @@ class Unrecovered(Exception):
     """A database can't be taken up now: nothing is stored until it is."""
 
 
-class Recovery:
-    """Takes up what is left in the collector's folder, while no process of the program stores."""
+class Reader(Protocol):
+    """Whoever shows what is stored: it is told of each upload that is, and of each finished database, whose recent
+    uploads it removes once it doesn't need them."""
+    def feed(self, upload: Path, /) -> None: ...
+    def turn(self, database: str, /) -> None: ...
 
-    def __init__(self, settings: Settings, sealing: Sealing, lock: int) -> None:
-        self.settings, self.sealing, self.lock = settings, sealing, lock
-        self.folder, self.state, self.notes = sealing.folder, sealing.state, sealing.notes
+
+class NoReader:
+    """Nobody reads."""
+
+    def __init__(self, folder: Folder) -> None:
+        self.folder = folder
+
+    def feed(self, upload: Path, /) -> None:
+        pass
+
+    def turn(self, database: str, /) -> None:
+        shutil.rmtree(self.folder.recent / database, ignore_errors=True)
+
+
+class Recovery:
+    """Seals, takes up, and sets aside."""
+
+    def __init__(self, settings: Settings, state: State, lock: int, reader: Reader) -> None:
+        self.settings, self.state, self.lock, self.reader = settings, state, lock, reader
+        self.folder, self.stops = state.folder, threading.Event()
+        self.notes = Notes(state, self.stops)
+
+    # Sealing ----------------------------------------------------------------------------------------------------------
+
+    def seal(self, path: Path) -> None:
+        """A closed database gets its digest; its uploads needn't be kept any more. One with nothing goes."""
+        if databases.has_nothing(path):
+            databases.delete(self.folder, path.stem)
+        else:
+            self.adopt(path.stem, databases.finish(path))
+        self.reader.turn(path.stem)
+
+    def adopt(self, name: str, digest: str, is_alone: bool = True) -> None:
+        """A database that has its digest is known from now on. If no other one is there that isn't finished, the notes
+        have to be just those of finished ones."""
+        try:
+            had, packed = databases.summary(self.folder, name, digest)
+        except Damaged as error:
+            self.state.stands(name, "damaged")
+            self.state.tell(f"damaged {name}", f"{error}: restore it from a backup")
+            return
+        if not had.entries:
+            return databases.delete(self.folder, name)
+        windows = self.notes.after(had)
+        sequences = {each.sequence for each in windows}
+        owners = self.owners() if self.state.lack_owners(sequences) else {}
+        self.state.finished(name, had, windows, owners, packed)
+        log(f"finished: {name} with {had.entries} entries")
+        if is_alone and (unlike := self.notes.unlike(windows)):
+            self.notes.make_anew(unlike, "it has other notes than databases have entries")
+
+    def owners(self) -> dict[str, str]:
+        """Whose each sequence is, by name, as far as the machine is known."""
+        keys = Path(self.settings.keys).glob("*.pub")
+        known = {path.stem for path in keys if names.is_machine(path.stem)} | self.state.machines.keys()
+        digests = {hashlib.sha256(name.encode("ascii")).hexdigest(): name for name in known}
+        found = program.owners(self.folder.sequences)
+        return {sequence: digests[digest] for sequence, digest in found.items() if digest in digests}
+
+    # What a start finds -----------------------------------------------------------------------------------------------
 
     def start(self) -> None:
         """What a start looks at: databases that aren't known, or are missing, and notes that were cut."""
@@ -38,19 +105,31 @@ class Recovery:
             if digest := databases.told_digest(databases.path_of(self.folder, name)):
                 if self.state.is_known(name):
                     self.notes.note(name)
-                self.sealing.adopt(name, digest, is_alone=False)
+                self.adopt(name, digest, is_alone=False)
         for name in sorted(finished - there):
             self.missing(name)
         if short := self.notes.short():
-            self.notes.make_anew(short, "notes are lacking", self.sealing.stops)
+            self.notes.make_anew(short, "notes are lacking")
 
     def missing(self, name: str) -> None:
         """A database is gone that nobody deleted or moved: what it had isn't acknowledged any more."""
-        self.state.tell(f"missing {name}", f"{name} is missing: what it had isn't acknowledged any more, and is stored if "
-                        "its machine has it still; restore it from a backup")
+        self.state.tell(f"missing {name}", f"{name} is missing: what it had isn't acknowledged any more, and is stored "
+                        "if its machine has it still; restore it from a backup")
         windows = self.notes.of_database(name)
         self.state.stands(name, "missing")
-        self.notes.make_anew(windows, f"{name}, which it notes, is missing", self.sealing.stops)
+        self.notes.make_anew(windows, f"{name}, which it notes, is missing")
+
+    def rebuild(self) -> None:
+        """Makes all anew that is known of databases, and all notes but whose each sequence is."""
+        for path in list(self.notes.files()):
+            path.unlink()
+        self.state.forget()
+        for path in sorted(self.folder.databases.glob("*.db.sha256")):
+            name = path.name.removesuffix(".db.sha256")
+            self.notes.note(name)
+            self.adopt(name, databases.told_digest(databases.path_of(self.folder, name)) or "")
+
+    # What isn't finished ----------------------------------------------------------------------------------------------
 
     def left(self) -> list[Path]:
         """The databases that aren't finished."""
@@ -60,16 +139,16 @@ class Recovery:
         """Takes up a database. If it has to be set aside, the uploads that are to be stored again, with their
         machines."""
         if databases.has_nothing(path):
-            self.sealing.seal(path)
+            self.seal(path)
             return []
         databases.own(path)
         for _ in range(TRIES):
             process = Process(self.folder, path, self.lock, "/dev/null")
-            status = process.finish(self.sealing.stops)
+            status = process.finish(self.stops)
             if status == 0:
-                self.sealing.seal(path)
+                self.seal(path)
                 return []
-            if self.sealing.stops.is_set():
+            if self.stops.is_set():
                 raise Unrecovered("the service stops")
             is_mended = self.mend(process.said())
             if status == REFUSED and not is_mended:
@@ -81,10 +160,9 @@ class Recovery:
 
     def mend(self, said: str) -> bool:
         """What failed may be a file of notes, and no fault of the database: whether one was made anew."""
-        windows = {(sequence, int(window)) for sequence, window in WINDOW.findall(said)}
-        bad = windows.union(self.notes.short())
+        bad = {(sequence, int(window)) for sequence, window in WINDOW.findall(said)}.union(self.notes.short())
         if bad:
-            self.notes.make_anew(bad, "it can't be read, or has less than it had", self.sealing.stops)
+            self.notes.make_anew(bad, "it can't be read, or has less than it had")
         return bool(bad)
 
     def quarantine(self, path: Path, why: str) -> list[tuple[str, Path]]:
@@ -100,8 +178,7 @@ class Recovery:
 
     def uploads(self, name: str) -> list[tuple[str, Path]]:
         """The uploads that were stored in a database that isn't finished, with their machines, in order."""
-        found = (self.folder.recent / name).glob("*.*")
-        return [(path.name.partition(".")[2], path) for path in sorted(found)]
+        return [(path.name.partition(".")[2], path) for path in sorted((self.folder.recent / name).glob("*.*"))]
 
     def again(self) -> list[tuple[str, Path]]:
         """The uploads of databases that were set aside which aren't all stored again yet; those of others go."""
@@ -111,24 +188,5 @@ class Recovery:
             if folder.name in quarantined:
                 uploads += self.uploads(folder.name)
             else:
-                self.sealing.reader.turn(folder.name)
-        if uploads:
-            log(f"{len(uploads)} uploads are stored again")
+                self.reader.turn(folder.name)
         return uploads
-
-    def rebuild(self) -> None:
-        """Makes all anew that is known of databases, and all notes but whose each sequence is."""
-        for path in list(self.notes.files()):
-            path.unlink()
-        self.state.forget()
-        for name in self.finished():
-            self.notes.note(name)
-            digest = databases.told_digest(databases.path_of(self.folder, name))
-            if digest:
-                self.sealing.adopt(name, digest)
-            if self.sealing.stops.is_set():
-                return
-
-    def finished(self) -> list[str]:
-        """The finished databases that are there, in order of their names."""
-        return sorted(path.name.removesuffix(".db.sha256") for path in self.folder.databases.glob("*.db.sha256"))

@@ -17,13 +17,10 @@ from . import settings
 from .admin_door import AdminDoor
 from .connection import Connection
 from .doors import Doors
-from .folder import Folder
 from .gate import Gate
 from .keeping import Keeping
-from .notes import Notes
-from .recovery import Recovery
-from .sealing import NoReader, Reader, Sealing
-from .settings import Settings
+from .recovery import NoReader, Recovery
+from .settings import Folder, Settings
 from .state import State, log
 from .store import Store
 
@@ -38,17 +35,15 @@ class Service:
         self.chosen, self.folder = chosen, Folder(Path(chosen.folder))
         self.folder.make()
         self.state = State(self.folder)
-        self.present = Present(self.folder.path, self.state.machine_of, log, chosen.read_keys) if REMOTE.exists() else None
-        reader: Reader = self.present or NoReader(self.folder)
-        self.sealing = Sealing(self.folder, Path(chosen.keys), self.state, Notes(self.folder, self.state), reader)
-        self.store = Store(chosen, Recovery(chosen, self.sealing, lock))
-        self.gate = Gate(chosen, self.folder, self.state)
+        self.present = Present(self.folder.path, log, chosen.read_keys) if REMOTE.exists() else None
+        self.store = Store(chosen, Recovery(chosen, self.state, lock, self.present or NoReader(self.folder)))
+        self.stops, self.gate = self.store.stops, Gate(chosen, self.state)
         self.keeping = Keeping(chosen, self.store)
 
     def run(self) -> None:
         """Until SIGTERM."""
-        signal.signal(signal.SIGTERM, lambda *_: self.sealing.stops.set())
-        signal.signal(signal.SIGINT, lambda *_: self.sealing.stops.set())
+        signal.signal(signal.SIGTERM, lambda *_: self.stops.set())
+        signal.signal(signal.SIGINT, lambda *_: self.stops.set())
         signal.signal(signal.SIGHUP, lambda *_: self.store.is_asked_to_finish.set())
         threading.stack_size(STACK)
         doors = Doors(self.folder, Path(self.chosen.keys), self.gate)
@@ -58,7 +53,7 @@ class Service:
         self.keeping.start()
         AdminDoor(self).start()
         flushed = time.monotonic()
-        while not self.sealing.stops.is_set():
+        while not self.stops.is_set():
             for machine, one in doors.came(1.0):
                 Connection(one, machine, self.store, self.gate).start()
             if time.monotonic() - flushed > FLUSH_SECONDS:
@@ -73,7 +68,7 @@ class Service:
 
 def main() -> int:
     words = argparse.ArgumentParser(prog="journal-collect-service", description="Stores what machines send.")
-    words.add_argument("--check", action="store_true", help="say what is wrong with the settings or the program, and end")
+    words.add_argument("--check", action="store_true", help="say what is wrong with settings or the program, and end")
     asked = words.parse_args()
     try:
         chosen = settings.read()
@@ -85,10 +80,10 @@ def main() -> int:
         return 0
     raise_files()
     folder = Folder(Path(chosen.folder))
-    lock = folder.locked(is_waiting=False)
+    lock = folder.locked()
     if lock is None:
-        log(f"{folder.lock} is held by another service, or by a process that it began: this one waits for it")
-        lock = folder.locked()
+        log(f"another service, or a process that it began, stores in {folder.path}: this one waits for its end")
+        lock = folder.locked(is_waiting=True)
     assert lock is not None
     Service(chosen, lock).run()
     return 0

@@ -1,9 +1,11 @@
-"""The collector's settings, /etc/journal-collect/collector.conf.d/*.conf, and the bounds that nobody sets."""
+"""The collector's settings, /etc/journal-collect/collector.conf.d/*.conf, bounds that nobody sets, and its folder."""
+import fcntl
+import os
 import sys
 from dataclasses import dataclass, replace
 from pathlib import Path
 
-from ..common import settings
+from ..common import files, settings
 
 KIB, MIB = 1 << 10, 1 << 20
 # An upload has at most so many bytes; over LARGE it has one entry, and it is no upload without a header.
@@ -43,3 +45,45 @@ def read() -> Settings:
     if not chosen.database_seconds or not chosen.database_bytes:
         raise settings.Wrong("DATABASE_SECONDS and DATABASE_BYTES are at least 1")
     return replace(chosen, keep_bytes=chosen.keep_bytes or sys.maxsize)
+
+
+class Folder:
+    """Where things are. Nothing here changes the process's own folder."""
+
+    def __init__(self, path: Path) -> None:
+        self.path = path
+        self.databases = path / "databases"
+        self.sequences = path / "sequences"
+        self.recent = path / "recent"
+        self.quarantine = path / "quarantine"
+        self.scratch = path / "scratch"
+        self.sockets = path / "sockets"
+        self.state = path / "state.sqlite"
+        self.admin = path / "admin"
+
+    def make(self) -> None:
+        """Makes the folders that aren't there."""
+        for each in (self.databases, self.sequences, self.recent, self.quarantine, self.scratch, self.sockets):
+            each.mkdir(mode=0o700, exist_ok=True)
+
+    def locked(self, name: str = "lock", is_waiting: bool = False) -> int | None:
+        """A lock of the folder, which goes when the answer is closed; None if another has it, and this isn't to wait.
+
+        A service has `lock`, and each process of the program that it began: so it waits until what an earlier one began
+        has ended. Nothing is deleted or packed while somebody has `backup.lock`."""
+        handle = os.open(self.path / name, os.O_RDWR | os.O_CREAT | os.O_CLOEXEC, 0o600)
+        try:
+            fcntl.flock(handle, fcntl.LOCK_EX | (0 if is_waiting else fcntl.LOCK_NB))
+        except BlockingIOError:
+            os.close(handle)
+            return None
+        return handle
+
+    def room(self, chosen: Settings) -> str | None:
+        """Why nothing more can be stored; None if there is room."""
+        free_bytes, free_files = files.free(self.path)
+        if free_bytes <= chosen.free_bytes:
+            return f"only {free_bytes} bytes are free, and FREE_BYTES is {chosen.free_bytes}"
+        if free_files <= FREE_FILES:
+            return f"only {free_files} more files can be made on the disk"
+        return None

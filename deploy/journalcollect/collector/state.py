@@ -3,6 +3,7 @@
 All of it can be made anew of the databases, the notes and the keys, but for when each machine was seen last.
 """
 import contextlib
+import hashlib
 import sqlite3
 import sys
 import threading
@@ -14,7 +15,7 @@ from typing import Any
 from ..common import files
 from .age import Age
 from .databases import Summary
-from .folder import Folder
+from .settings import Folder
 
 SCHEMA = """
 CREATE TABLE IF NOT EXISTS database(id INTEGER PRIMARY KEY, name TEXT NOT NULL UNIQUE, standing TEXT NOT NULL,
@@ -177,11 +178,6 @@ class State:
             self.changed.add(name)
             return found
 
-    def machine_of(self, sequence: str) -> str | None:
-        """Whose a sequence is, as far as databases are finished."""
-        found = self.ask("SELECT machine FROM sequence WHERE id = ?", sequence)
-        return str(found[0][0]) if found else None
-
     def rename(self, old: str, new: str) -> None:
         with self.together():
             self.ask("UPDATE OR REPLACE machine SET name = ? WHERE name = ?", new, old)
@@ -207,7 +203,8 @@ class State:
         self.ask("INSERT INTO database(name, standing) VALUES(?1, ?2) "
                  "ON CONFLICT(name) DO UPDATE SET standing = ?2", name, standing)
 
-    def finished(self, name: str, had: Summary, windows: list[Window], owners: dict[str, str], packed: int | None) -> None:
+    def finished(self, name: str, had: Summary, windows: list[Window], owners: dict[str, str],
+                 packed: int | None) -> None:
         """A database was finished: what it has, how its windows are now, and whose its sequences are."""
         age = self.age.grown().days
         with self.together():
@@ -222,9 +219,34 @@ class State:
                          each.sequence, each.window, each.notes, each.bytes, each.sum, age, number)
             for sequence in {each.sequence for each in windows} & owners.keys():
                 self.ask("INSERT OR IGNORE INTO sequence VALUES(?, ?)", sequence, owners[sequence])
+                self.ask("DELETE FROM sequence WHERE id = ? AND machine = ''", sequence)
 
-    def windows(self) -> list[Window]:
-        return [Window(*row) for row in self.ask("SELECT sequence, window, notes, bytes, sum FROM noted")]
+    def lack_owners(self, sequences: set[str]) -> bool:
+        """Whether some of these sequences are of machines that aren't known yet, or were released."""
+        return any(not (found := self.ask("SELECT machine FROM sequence WHERE id = ?", each)) or ("",) in found
+                   for each in sequences)
+
+    def released(self, sequence: str) -> None:
+        """A sequence may be another machine's from now on."""
+        self.ask("INSERT OR IGNORE INTO sequence VALUES(?, '')", sequence)
+
+    def head(self, day: str) -> str | None:
+        """The digest over the digests of all databases that were begun on a day (UTC); None if there are none. It is
+        that of the files NAME.db.sha256 one after the other: `cat 2026-12-01T*.db.sha256 | sha256sum`. Machines keep
+        what they are told of it: so whoever changes a database later, and all that is known here, has that against
+        him."""
+        found = self.ask("SELECT name, digest FROM database WHERE name > ?1 || 'T' AND name < ?1 || 'U' "
+                         "AND digest IS NOT NULL ORDER BY name", day)
+        text = "".join(f"{digest}  {name}.db\n" for name, digest in found)
+        return hashlib.sha256(text.encode("ascii")).hexdigest() if found else None
+
+    def windows(self) -> Iterator[Window]:
+        """All windows, some at a time: there may be many."""
+        last = ("", -1)
+        while rows := self.ask("SELECT sequence, window, notes, bytes, sum FROM noted WHERE "
+                               "(sequence, window) > (?, ?) ORDER BY sequence, window LIMIT 1000", *last):
+            yield from (Window(*row) for row in rows)
+            last = rows[-1][:2]
 
     def notes_of(self, sequence: str, window: int) -> int:
         """How many notes of finished databases a window has."""

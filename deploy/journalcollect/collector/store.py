@@ -4,24 +4,23 @@ import os
 import threading
 import time
 from collections.abc import Callable, Iterator
+from concurrent.futures import Future
 from pathlib import Path
 
 from ..common import files, program
 from ..common.protocol import Answer, Put, Verdict
 from . import databases
-from .folder import Folder
 from .process import OWN, UNREAD, Ended, Process
 from .recovery import Recovery, Unrecovered
 from .settings import NOTES_DAYS, Settings
-from .state import State, log
+from .state import log
 from .turns import Turns, Waiting
 
 # So often an upload may be there alone when somebody kills the program, before it is held to be the cause.
 KILLS = 3
 # So long a stop waits for what is being stored, and so long a database that can't be taken up is left alone.
 LAST_SECONDS, REST_SECONDS = 10.0, 3.0
-
-Task = Callable[[], None]
+CLOSED_WELL = (0, 1)
 
 
 class Store(threading.Thread):
@@ -29,47 +28,35 @@ class Store(threading.Thread):
 
     def __init__(self, settings: Settings, recovery: Recovery) -> None:
         super().__init__(name="store", daemon=True)
-        self.settings, self.recovery, self.lock = settings, recovery, recovery.lock
-        self.folder: Folder = recovery.folder
-        self.state: State = recovery.state
-        self.stops = recovery.sealing.stops
-        self.turns, self.tasks = Turns(), collections.deque[Task]()
+        self.settings, self.recovery = settings, recovery
+        self.folder, self.state, self.stops = recovery.folder, recovery.state, recovery.stops
+        self.turns, self.tasks = Turns(), collections.deque[tuple[Callable[[], None], Future[None]]]()
         self.present: Process | None = None
         self.numbers: Iterator[int] = iter(())
-        self.recent_bytes = 0
+        self.recent_bytes, self.is_taken_up = 0, False
         self.is_asked_to_finish, self.is_begun = threading.Event(), threading.Event()
+        # Whoever reads notes has this, and whoever changes what isn't only added.
+        self.notes = threading.Lock()
 
     # What others ask for ----------------------------------------------------------------------------------------------
 
     def ask(self, upload: Waiting) -> Answer | Put:
         """Has an upload stored, and waits for what becomes of it."""
         self.turns.put(upload)
-        upload.is_answered.wait()
-        assert upload.reply
-        return upload.reply
+        return upload.reply.result()
 
-    def finish(self) -> None:
-        """The present database is finished soon."""
-        self.is_asked_to_finish.set()
-        self.turns.wake()
-
-    def alone(self, task: Task) -> None:
+    def alone(self, task: Callable[[], None]) -> None:
         """Does something while no process of the program stores, and waits for its end; raises what it raises."""
-        done, errors = threading.Event(), list[BaseException]()
-
-        def run() -> None:
-            try:
-                task()
-            except BaseException as error:
-                errors.append(error)
-            finally:
-                done.set()
-
-        self.tasks.append(run)
+        done: Future[None] = Future()
+        self.tasks.append((task, done))
         self.turns.wake()
-        done.wait()
-        if errors:
-            raise errors[0]
+        done.result()
+
+    def knows(self, sequence: str, number: int) -> bool:
+        """Whether an entry is noted as stored."""
+        self.is_begun.wait()
+        with self.notes:
+            return program.has_note(self.folder.sequences, sequence, number)
 
     def stop(self) -> None:
         """What is being stored is brought to its end, for some seconds. What isn't answered comes again."""
@@ -84,9 +71,8 @@ class Store(threading.Thread):
         while not self.stops.is_set():
             group: list[Waiting] = []
             try:
-                if not self.is_begun.is_set():
+                if not self.is_taken_up:
                     self.begin()
-                    self.is_begun.set()
                 group = self.turns.group(1.0)
                 self.store(group)
                 self.turn()
@@ -101,45 +87,53 @@ class Store(threading.Thread):
             log(f"the present database isn't finished: {error}")
 
     def begin(self) -> None:
-        """Takes up what an earlier service left."""
-        self.recovery.start()
+        """Takes up what an earlier service, or a failure, left."""
+        with self.notes:
+            if not self.is_begun.is_set():
+                self.recovery.start()
         self.take_up()
-        uploads = self.recovery.again()
-        self.store_again(uploads)
+        self.store_again(self.recovery.again())
+        self.is_taken_up = True
+        self.is_begun.set()
 
     def take_up(self) -> None:
         """Whatever isn't finished is finished or set aside."""
         for path in self.recovery.left():
-            self.store_again(self.recovery.recover(path))
+            with self.notes:
+                uploads = self.recovery.recover(path)
+            self.store_again(uploads)
 
     def store_again(self, uploads: list[tuple[str, Path]]) -> None:
         """Uploads of databases that were set aside are stored in another one."""
-        new = 0
         for machine, path in uploads:
             with open(path, "rb") as file:
-                upload = Waiting(machine, file.fileno(), files.size(path))
-                self.store([upload])
-            new += upload.reply.new if isinstance(upload.reply, Answer) else 0
+                self.store([Waiting(machine, file.fileno(), files.size(path))])
         if uploads:
             self.close()
-            log(f"{new} entries of {len(uploads)} uploads are stored again")
+            log(f"{len(uploads)} uploads are stored again")
         for folder in {path.parent for _, path in uploads}:
-            self.recovery.sealing.reader.turn(folder.name)
+            self.recovery.reader.turn(folder.name)
 
     def fail(self, group: list[Waiting], why: str) -> None:
-        """Those that wait are told to come again, and so are all that come while it is so."""
+        """Those that wait are told to come again, and so are all that come for some seconds."""
         self.state.tell("store", why)
-        if self.present:
-            self.present.kill()
-            self.present = None
+        self.is_taken_up = False
+        self.end_present()
+        while self.tasks:
+            self.tasks.popleft()[1].set_exception(Unrecovered(why))
         end = time.monotonic() + REST_SECONDS
         while True:
             for each in group:
-                if each.reply is None:
-                    each.answer(Put(Verdict.LATER, why))
+                if not each.reply.done():
+                    each.put(Verdict.LATER, why)
             if time.monotonic() > end or self.stops.is_set():
                 break
             group = self.turns.group(0.5)
+
+    def end_present(self) -> None:
+        process, self.present = self.present, None
+        if process:
+            process.kill()
 
     # Storing ----------------------------------------------------------------------------------------------------------
 
@@ -148,41 +142,38 @@ class Store(threading.Thread):
         if not group:
             return
         begun = time.monotonic()
-        if why := self.hand_over(group):
+        if ended := self.hand_over(group):
             for each in group:
-                if each.reply is None:
-                    self.store_alone(each, why if len(group) == 1 else None)
+                if not each.reply.done():
+                    self.store_alone(each, ended if len(group) == 1 else None)
         self.turns.charge(group, time.monotonic() - begun)
 
-    def store_alone(self, upload: Waiting, why: Ended | None) -> None:
+    def store_alone(self, upload: Waiting, ended: Ended | None) -> None:
         """Stores one after a failure. What ends the process by itself, or is there each time that it is killed, is
         too much."""
         for _ in range(KILLS):
-            why = why or self.hand_over([upload])
-            if why is None or upload.reply:
+            ended = ended or self.hand_over([upload])
+            if ended is None or upload.reply.done():
                 return
-            if not why.by_signal:
-                upload.answer(Put(Verdict.LATER, str(why)))
-                return
-            if why.by_signal in OWN:
+            if not ended.by_signal:
+                return upload.put(Verdict.LATER, str(ended))
+            if ended.by_signal in OWN:
                 break
-            why = None
-        self.state.tell(f"smaller {upload.machine}", f"{upload.machine}: an upload ended the program, and is to come smaller")
-        upload.answer(Put(Verdict.SMALLER, "it ended the program"))
+            ended = None
+        self.state.tell(f"smaller {upload.machine}", f"{upload.machine}: an upload ended the program: it comes smaller")
+        upload.put(Verdict.SMALLER, "it ended the program")
 
     def hand_over(self, group: list[Waiting]) -> Ended | None:
         """Hands uploads to the program, and answers those that it answers. If it fails, it is taken up."""
         try:
             process = self.present = self.present or self.new()
-            named = [each for each in group if each.reply is None and self.give_name(each, process.path.stem)]
+            named = [each for each in group if not each.reply.done() and self.give_name(each, process.path.stem)]
             uploads = [(each.machine, each.path) for each in named if each.path]
             for each, answer in zip(named, process.ask(uploads)):
                 self.answered(each, answer)
         except Ended as ended:
             self.state.tell("program", f"{ended}: what it was storing is taken up")
-            if self.present:
-                self.present.kill()
-                self.present = None
+            self.end_present()
             self.take_up()
             return ended
         return None
@@ -191,12 +182,16 @@ class Store(threading.Thread):
         """Begins a database, under a name that none had."""
         now = time.strftime("%Y-%m-%dT%H-%M-%S", time.gmtime())
         name, number = now, 1
-        while self.state.is_known(name) or databases.path_of(self.folder, name).exists():
+        while self.is_taken(name):
             number += 1
             name = f"{now}-{number}"
         (self.folder.recent / name).mkdir()
         self.numbers, self.recent_bytes = iter(range(1, 1 << 62)), 0
-        return Process(self.folder, databases.path_of(self.folder, name), self.lock)
+        return Process(self.folder, databases.path_of(self.folder, name), self.recovery.lock)
+
+    def is_taken(self, name: str) -> bool:
+        return (self.state.is_known(name) or databases.path_of(self.folder, name).exists()
+                or (self.folder.recent / name).exists())
 
     def give_name(self, upload: Waiting, database: str) -> bool:
         """Gives an upload a name that none had, as which it can be stored once more. Whether it has one."""
@@ -204,7 +199,7 @@ class Store(threading.Thread):
         try:
             files.link(upload.handle, upload.path)
         except OSError as error:
-            upload.answer(Put(Verdict.LATER, f"the disk of the collector: {error.strerror}"))
+            upload.put(Verdict.LATER, f"the disk of the collector: {error.strerror}")
             return False
         self.recent_bytes += upload.size
         return True
@@ -213,11 +208,14 @@ class Store(threading.Thread):
         """What was answered is on the disk: whatever else fails costs no answer."""
         assert upload.path
         if answer.new:
-            self.recovery.sealing.reader.feed(upload.path)
+            self.recovery.reader.feed(upload.path)
         else:
             upload.path.unlink(missing_ok=True)
             self.recent_bytes -= upload.size
-        upload.answer(Put(Verdict.LATER, "it couldn't be read") if answer.code == UNREAD else answer)
+        if answer.code == UNREAD:
+            upload.put(Verdict.LATER, "it couldn't be read")
+        else:
+            upload.reply.set_result(answer)
         machine = self.state.saw(upload.machine)
         machine.bytes += upload.size
         machine.entries += answer.new
@@ -235,7 +233,12 @@ class Store(threading.Thread):
             self.is_asked_to_finish.clear()
             self.close()
         while self.tasks:
-            self.tasks.popleft()()
+            task, done = self.tasks.popleft()
+            with self.notes:
+                try:
+                    done.set_result(task())
+                except Exception as error:
+                    done.set_exception(error)
 
     def is_full(self) -> bool:
         process = self.present
@@ -248,11 +251,18 @@ class Store(threading.Thread):
         process, self.present = self.present, None
         if process is None:
             return
-        if process.finish() in (0, 1):
-            self.recovery.sealing.seal(process.path)
+        if process.finish() not in CLOSED_WELL:
+            return self.take_up()
+        with self.notes:
+            self.recovery.seal(process.path)
             self.recovery.notes.expire(self.state.age.grown().days - max(self.settings.keep_days, NOTES_DAYS))
-        else:
-            self.take_up()
+
+    def head(self) -> str | None:
+        """The head of yesterday; None as long as a database of it isn't finished."""
+        day, process = time.strftime("%Y-%m-%d", time.gmtime(time.time() - 86400)), self.present
+        if not self.is_begun.is_set() or (process and process.path.name.startswith(day)):
+            return None
+        return self.state.head(day)
 
     def status(self) -> dict[str, object]:
         """What is so at the moment."""

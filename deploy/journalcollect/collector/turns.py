@@ -1,10 +1,11 @@
 """Uploads that wait, and whose turn it is: next is the machine that had the least of the store's time."""
 import collections
 import threading
+from concurrent.futures import Future
 from dataclasses import dataclass, field
 from pathlib import Path
 
-from ..common.protocol import Answer, Put
+from ..common.protocol import Answer, Put, Verdict
 
 # So many uploads and bytes are handed to the program at once, one of each machine; a machine whose last upload took
 # longer than HEAVY has its turn alone.
@@ -17,13 +18,12 @@ class Waiting:
     machine: str
     handle: int
     size: int
-    reply: Answer | Put | None = None
     path: Path | None = None
-    is_answered: threading.Event = field(default_factory=threading.Event)
+    reply: Future[Answer | Put] = field(default_factory=Future)
 
-    def answer(self, reply: Answer | Put) -> None:
-        self.reply = reply
-        self.is_answered.set()
+    def put(self, verdict: Verdict, why: str) -> None:
+        """It isn't stored."""
+        self.reply.set_result(Put(verdict, why))
 
 
 class Turns:
