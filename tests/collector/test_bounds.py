@@ -1,0 +1,168 @@
+"""What a machine may not do: each bound is answered, told once, and holds up nobody else."""
+import os
+import subprocess
+import time
+from pathlib import Path
+
+import pytest
+from conftest import PROGRAM, Collector, entries, entry, sequence, upload
+
+A, B = sequence("a"), sequence("b")
+ID = "cd" * 16
+
+
+def causes(collector: Collector) -> dict[str, int]:
+    collector.ask("status")
+    return dict(collector.rows("SELECT cause, count FROM told"))  # type: ignore[arg-type]
+
+
+def test_only_whole_export_uploads_of_some_size_come(collector: Collector) -> None:
+    collector.admit("web")
+    collector.start()
+    web = collector.connect("web")
+    assert web.send(b"JCUPLD02\1\0" + upload(entries(A, [1]), 1)[10:]).startswith("never it is no upload of a stream")
+    assert web.send(b"JCUPLD02\2\0" + bytes(300)).startswith("never it is no upload of a stream")
+    assert web.send(b"JCUPLD01" + upload(entries(A, [1]), 1)[8:]).startswith("never it is no upload of a stream")
+    assert web.send(b"").startswith("never it is no upload of a stream")
+    assert web.send(bytes((36 << 20) + 1)) == "never it has over 36 MiB"
+    large = entry(A, 1, MESSAGE="x" * (1 << 20))
+    assert web.send(upload(large + entry(A, 2), 2)) == "never it has over 1 MiB, and more than one entry"
+    assert web.send(upload(large, 1)) == f"ack {ID} 0 1 1 0"
+    assert web.send(upload(entries(A, [2]), 1)) == f"ack {ID} 0 1 1 0"
+    assert causes(collector)["never web"] == 6
+    assert collector.said().count("web: it ") == 1
+    assert collector.stop() == 0
+
+
+def test_a_day_has_a_share_of_bytes(collector: Collector) -> None:
+    data = upload(entries(A, [1]), 1)
+    collector.values["DAY_BYTES"] = str(len(data))
+    collector.admit("web", "mail")
+    collector.start()
+    web = collector.connect("web")
+    assert web.send(data).startswith("ack")
+    assert web.send(data) == f"later it has sent DAY_BYTES, {len(data)}, today"
+    assert collector.send("mail", upload(entries(B, [1]), 1)).startswith("ack")
+    assert "later web" in causes(collector)
+    collector.rows("UPDATE machine SET day = '2000-01-01'")
+    assert collector.stop() == 0
+
+
+def test_the_newest_connection_ends_the_oldest(collector: Collector) -> None:
+    collector.admit("web")
+    collector.start()
+    there = [collector.connect("web") for _ in range(5)]
+    assert there[0].line() == ""
+    for each in there[1:]:
+        assert each.send(upload(entries(A, [1]), 1)).startswith("ack")
+    assert "connections web" in causes(collector)
+    assert collector.ask("status")[0]["say"]["connections"] == {"web": 4}  # type: ignore[index]
+    assert collector.stop() == 0
+
+
+def test_thousands_of_sequences_and_windows_are_refused_at_once_beside_others(collector: Collector) -> None:
+    collector.admit("hostile", *(f"m{number}" for number in range(4)))
+    collector.start()
+    sequences = b"".join(entry(f"{number:032x}", 1) for number in range(1, 3901))
+    windows = b"".join(entry(A, 1 + 4096 * number) for number in range(3900))
+    others = [collector.connect(f"m{number}") for number in range(4)]
+    assert others[0].send(upload(entries(B, [1]), 1)).startswith("ack")
+    hostile = collector.connect("hostile")
+    hostile.put(upload(sequences, 3900))
+    for number, other in enumerate(others):
+        other.put(upload(entries(f"{number:032d}", [1]), 1))
+    begun = time.monotonic()
+    assert hostile.line() == f"no {ID} 0 6 16"
+    assert all(other.line() == f"ack {ID} 0 1 1 0" for other in others)
+    assert hostile.send(upload(windows, 3900)) == f"no {ID} 0 6 16"
+    taken = time.monotonic() - begun
+    print(f"{taken:.2f} s")
+    assert not (collector.folder / "sequences" / A).exists()
+    assert len(list((collector.folder / "sequences").iterdir())) == 5
+    begun = time.monotonic()
+    assert collector.stop() == 0
+    assert time.monotonic() - begun < 30
+
+
+def test_new_files_of_notes_have_a_share_of_the_day(collector: Collector) -> None:
+    collector.admit("web")
+    collector.start()
+    web = collector.connect("web")
+    assert web.send(upload(b"".join(entry(A, 1 + 4096 * number) for number in range(16)), 16)).startswith("ack")
+    assert web.send(upload(entries(A, [2, 3]), 2)).startswith("ack")
+    assert web.send(upload(entries(A, [1 << 40]), 1)).startswith("ack")
+    collector.ask("status")
+    assert collector.rows("SELECT windows FROM machine") == [(17,)]
+    assert collector.stop() == 0
+    collector.rows("UPDATE machine SET windows = 10001")
+    collector.start()
+    assert collector.send("web", upload(entries(A, [4]), 1)).startswith("later its entries made over 10000 files")
+    assert collector.stop() == 0
+
+
+def test_a_message_that_looks_like_many_entries_counts_for_none(collector: Collector) -> None:
+    """A user of a machine logs lines that look like numbers of entries."""
+    collector.admit("web")
+    collector.start()
+    text = b"".join(b"\n__SEQNUM=%d\n__SEQNUM_ID=%032x" % (4096 * number, number) for number in range(1000))
+    odd = entry(A, 1)[:-1] + b"MESSAGE\n" + len(text).to_bytes(8, "little") + text + b"\n\n"
+    assert collector.send("web", upload(odd, 1)) == f"ack {ID} 0 1 1 0"
+    collector.ask("status")
+    assert collector.rows("SELECT windows FROM machine") == [(1,)]
+    assert collector.stop() == 0
+    assert collector.rows("SELECT id FROM sequence") == [(A,)]
+
+
+def test_what_ends_the_program_is_to_come_smaller_and_others_are_stored(collector: Collector, tmp_path: Path) -> None:
+    """A program that is ended by a signal of its own when an upload has a word."""
+    odd = tmp_path / "odd"
+    odd.write_text(f"""#!/usr/bin/python3
+import os, signal, subprocess, sys
+if sys.argv[1] != "collect" or sys.argv[-2] != "-":
+    os.execv("{PROGRAM}", ["{PROGRAM}", *sys.argv[1:]])
+real = subprocess.Popen(["{PROGRAM}", *sys.argv[1:]], stdin=subprocess.PIPE)
+for line in sys.stdin:
+    if b"KILLER" in open(line.rstrip("\\n").partition("\\t")[2], "rb").read():
+        real.kill()
+        real.wait()
+        signal.signal(signal.SIGSEGV, signal.SIG_DFL)
+        os.kill(os.getpid(), signal.SIGSEGV)
+    real.stdin.write(line.encode())
+    real.stdin.flush()
+real.stdin.close()
+sys.exit(real.wait())
+""")
+    odd.chmod(0o755)
+    collector.program = odd
+    collector.admit("web", "mail")
+    collector.start()
+    mail, web = collector.connect("mail"), collector.connect("web")
+    assert mail.send(upload(entries(B, [1]), 1)) == f"ack {ID} 0 1 1 0"
+    web.put(upload(entries(A, [1], "KILLER"), 1))
+    mail.put(upload(entries(B, [2]), 1))
+    assert web.line() == "smaller it ended the program"
+    assert mail.line() == f"ack {ID} 0 1 1 0"
+    assert web.send(upload(entries(A, [2]), 1)) == f"ack {ID} 0 1 1 0"
+    assert collector.stop() == 0
+    assert collector.stored() == [(A, 2, b"m2"), (B, 1, b"m1"), (B, 2, b"m2")]
+    assert "smaller web" in dict(collector.rows("SELECT cause, count FROM told"))
+
+
+def test_a_disk_without_files_left_is_told_later(collector: Collector, tmp_path: Path) -> None:
+    """A file system of its own, with few inodes."""
+    disk = tmp_path / "disk"
+    disk.mkdir()
+    mounted = subprocess.run(["mount", "-t", "tmpfs", "-o", "nr_inodes=9000", "tmpfs", disk], capture_output=True)
+    if mounted.returncode:
+        pytest.skip("no file system can be mounted here")
+    try:
+        os.chmod(disk, 0o755)
+        collector.folder = disk
+        collector.values["FOLDER"] = str(disk)
+        collector.admit("web")
+        collector.start()
+        assert collector.send("web", upload(entries(A, [1]), 1)).startswith("later only ")
+        assert "more files can be made" in collector.said()
+        assert collector.stop() == 0
+    finally:
+        subprocess.run(["umount", disk], check=True)

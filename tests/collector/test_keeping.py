@@ -1,0 +1,116 @@
+"""How long things are kept, and how finished databases are packed."""
+import contextlib
+import os
+import subprocess
+import time
+from collections.abc import Callable
+from pathlib import Path
+
+import pytest
+from conftest import Collector, entries, sequence, upload
+
+A, B = sequence("a"), sequence("b")
+ID = "cd" * 16
+
+
+def stored_by_a_run(collector: Collector, numbers: range, of: str = A) -> None:
+    collector.start()
+    collector.send("web", upload(entries(of, numbers), len(numbers)))
+    assert collector.stop() == 0
+
+
+def wait_for(is_so: Callable[[], object], seconds: float = 60) -> None:
+    end = time.monotonic() + seconds
+    while not is_so():
+        assert time.monotonic() < end
+        time.sleep(0.2)
+
+
+def grow_older(collector: Collector, days: float) -> None:
+    """The collector runs for so many days."""
+    collector.rows("UPDATE clock SET days = days + ?", days)
+
+
+def test_databases_and_notes_go_after_their_days(collector: Collector) -> None:
+    collector.admit("web")
+    stored_by_a_run(collector, range(1, 4))
+    stored_by_a_run(collector, range(1, 3), B)
+    first, second = collector.databases()
+    collector.rows("UPDATE database SET age = age + 20 WHERE name = ?", second.stem)
+    collector.rows("UPDATE noted SET age = age + 20 WHERE sequence = ?", B)
+    grow_older(collector, 30.5)
+    collector.start()
+    wait_for(lambda: not first.exists())
+    assert not first.with_name(first.name + ".sha256").exists() and second.exists()
+    assert f"deleted: {first.stem}, 30.5 days after" in collector.said()
+    assert collector.send("web", upload(entries(B, [9]), 1)) == f"ack {ID} 0 1 1 0"
+    assert collector.stop() == 0
+    assert not (collector.folder / "sequences" / A).exists()
+    assert collector.rows("SELECT sequence, notes FROM noted") == [(B, 3)]
+    stored_by_a_run(collector, range(1, 4))
+    assert "missing" not in collector.said()
+
+
+def test_the_clock_of_the_day_deletes_nothing(collector: Collector) -> None:
+    collector.admit("web")
+    stored_by_a_run(collector, range(1, 4))
+    collector.rows("UPDATE clock SET wall = wall - 40 * 86400, boot = 'another'")
+    collector.start()
+    wait_for(lambda: "40 days more went by" in collector.said())
+    assert len(collector.databases()) == 1
+    assert collector.admin("passed", "41").returncode == 1
+    assert collector.admin("passed", "40").returncode == 0
+    assert collector.stop() == 0
+    collector.start()
+    wait_for(lambda: not collector.databases())
+    assert collector.stop() == 0
+
+
+def test_the_oldest_go_if_all_have_too_many_bytes(collector: Collector) -> None:
+    collector.admit("web")
+    for number in range(1, 4):
+        stored_by_a_run(collector, range(number, number + 1))
+    size = sum(path.stat().st_size for path in collector.databases()[1:])
+    names = [path.name for path in collector.databases()]
+    collector.values["KEEP_BYTES"] = str(size)
+    collector.start()
+    wait_for(lambda: len(collector.databases()) == 2)
+    assert [path.name for path in collector.databases()] == names[1:]
+    assert collector.stop() == 0
+
+
+def test_a_finished_database_is_packed_once_journal_files_are_made(
+        collector: Collector, tmp_path: Path) -> None:
+    if not Path("/lib/systemd/systemd-journal-remote").exists():
+        pytest.skip("there is no systemd-journal-remote")
+    collector.values["PACK_DAYS"] = "0"
+    collector.admit("web")
+    stored_by_a_run(collector, range(1, 400))
+    [path] = collector.databases()
+    assert not path.with_name(path.name + ".zst").exists()
+    collector.remote = "/lib/systemd/systemd-journal-remote"
+    packed = path.with_name(path.name + ".zst")
+    collector.start()
+    with contextlib.suppress(AssertionError):
+        wait_for(packed.exists, 90)
+    assert packed.exists(), collector.said()
+    assert not path.exists()
+    assert packed.stat().st_size < collector.rows("SELECT bytes FROM database")[0][0] // 2  # type: ignore[operator]
+    assert collector.send("web", upload(entries(A, range(1, 400)), 399)) == f"ack {ID} 0 399 0 0"
+    assert collector.admin("check").returncode == 0
+    assert collector.admin("backup", tmp_path / "backup").returncode == 0
+    assert collector.stop() == 0
+    (collector.folder / "state.sqlite").unlink()
+    window = collector.folder / "sequences" / A / "0"
+    before = window.read_bytes()
+    os.truncate(window, 100)
+    collector.start()
+    assert collector.send("web", upload(entries(A, range(1, 400)), 399)) == f"ack {ID} 0 399 0 0"
+    assert collector.stop() == 0
+    assert window.read_bytes() == before
+    packed.write_bytes(packed.read_bytes()[:-9])
+    assert collector.admin("check").returncode == 1
+    assert collector.admin("restore", tmp_path / "backup").returncode == 0
+    assert collector.admin("check").returncode == 0
+    subprocess.run(["zstd", "-dq", packed], check=True)
+    subprocess.run(["sha256sum", "--check", "--quiet", f"{path.name}.sha256"], cwd=path.parent, check=True)

@@ -1,0 +1,200 @@
+"""Kills, and files that were damaged while the service didn't run or ran."""
+import os
+import signal
+import time
+from pathlib import Path
+
+from conftest import Collector, entries, sequence, upload
+
+A, B = sequence("a"), sequence("b")
+ID = "cd" * 16
+
+
+def begun(collector: Collector, numbers: range = range(1, 4)) -> None:
+    """A collector that has acknowledged some entries of a sequence, in a database that isn't finished."""
+    collector.admit("web")
+    collector.start()
+    count = len(numbers)
+    assert collector.send("web", upload(entries(A, numbers), count)) == f"ack {ID} 0 {count} {count} 0"
+
+
+def store_and_stop(collector: Collector, numbers: range) -> None:
+    """A run that stores entries in a database of its own, which is finished."""
+    collector.start()
+    collector.send("web", upload(entries(A, numbers), len(numbers)))
+    assert collector.stop() == 0
+
+
+def texts(numbers: range) -> list[tuple[str, int, bytes]]:
+    return [(A, number, b"m%d" % number) for number in numbers]
+
+
+def test_what_was_acknowledged_is_there_after_a_kill(collector: Collector) -> None:
+    begun(collector)
+    collector.kill()
+    (collector.folder / "state.sqlite").unlink()
+    collector.start()
+    assert collector.send("web", upload(entries(A, range(1, 5)), 4)) == f"ack {ID} 0 4 1 0"
+    assert collector.stop() == 0
+    assert collector.stored() == texts(range(1, 5))
+    assert len(collector.databases()) == 2
+
+
+def test_the_program_is_killed_and_nothing_is_lost(collector: Collector) -> None:
+    begun(collector)
+    assert collector.process
+    children = {child for task in Path(f"/proc/{collector.process.pid}/task").iterdir()
+                for child in (task / "children").read_text().split()}
+    for child in children:
+        os.kill(int(child), signal.SIGKILL)
+    assert collector.send("web", upload(entries(A, range(1, 5)), 4)) == f"ack {ID} 0 4 1 0"
+    assert collector.stop() == 0
+    assert collector.stored() == texts(range(1, 5))
+
+
+def test_an_unfinished_database_that_is_damaged_is_stored_again_from_its_uploads(collector: Collector) -> None:
+    begun(collector)
+    assert collector.send("web", upload(entries(B, [5]), 1)) == f"ack {ID} 0 1 1 0"
+    collector.kill()
+    [database] = collector.databases()
+    database.write_bytes(b"x" * 20480)
+    database.with_name(database.name + "-wal").unlink(missing_ok=True)
+    collector.start()
+    assert collector.send("web", upload(entries(A, range(1, 4)), 3)) == f"ack {ID} 0 3 0 0"
+    assert collector.stop() == 0
+    assert (collector.folder / "quarantine" / database.name).read_bytes() == b"x" * 20480
+    assert collector.stored() == [*texts(range(1, 4)), (B, 5, b"m5")]
+    assert collector.rows("SELECT cause FROM told WHERE cause LIKE 'quarantined %'")
+
+
+def test_the_notes_of_a_window_are_made_anew_whatever_became_of_it(collector: Collector) -> None:
+    collector.admit("web")
+    store_and_stop(collector, range(1, 4))
+    store_and_stop(collector, range(4, 7))
+    window = collector.folder / "sequences" / A / "0"
+    before = window.read_bytes()
+
+    def emptied() -> None:
+        window.write_bytes(b"")
+
+    def cut() -> None:
+        os.truncate(window, 60)
+
+    def folder() -> None:
+        window.unlink()
+        window.mkdir()
+
+    for damage in (window.unlink, emptied, cut, folder):
+        damage()
+        collector.start()
+        assert collector.send("web", upload(entries(A, range(1, 7)), 6)) == f"ack {ID} 0 6 0 0", damage
+        assert collector.stop() == 0
+        assert window.read_bytes() == before, damage
+    assert str(window) in collector.said()
+    assert collector.stored() == texts(range(1, 7))
+
+
+def test_a_window_that_is_damaged_while_the_service_runs_sets_no_database_aside(collector: Collector) -> None:
+    collector.admit("web")
+    store_and_stop(collector, range(1, 4))
+    collector.start()
+    assert collector.send("web", upload(entries(B, [1]), 1)) == f"ack {ID} 0 1 1 0"
+    window = collector.folder / "sequences" / A / "0"
+    window.unlink()
+    window.mkdir()
+    again = upload(entries(A, range(1, 5)), 4)
+    end = time.monotonic() + 60
+    while (answer := collector.send("web", again)).startswith("later"):
+        assert time.monotonic() < end
+    assert answer == f"ack {ID} 0 4 1 0"
+    assert collector.stop() == 0
+    assert collector.rows("SELECT name FROM database WHERE standing <> 'finished'") == []
+    assert collector.stored() == [*texts(range(1, 5)), (B, 1, b"m1")]
+
+
+def test_a_changed_byte_of_a_note_is_found_by_the_check(collector: Collector) -> None:
+    collector.admit("web")
+    store_and_stop(collector, range(1, 4))
+    window = collector.folder / "sequences" / A / "0"
+    before = window.read_bytes()
+    window.write_bytes(before[:41 + 1] + bytes([before[42] ^ 1]) + before[43:])
+    collector.start()
+    collector.connect("web").close()
+    said = collector.ask("check")
+    assert said[-1]["status"] == 1 and A in str(said)
+    assert window.read_bytes() == before
+    assert collector.send("web", upload(entries(A, range(1, 4)), 3)) == f"ack {ID} 0 3 0 0"
+    assert collector.stop() == 0
+
+
+def test_what_a_missing_database_had_is_stored_if_it_comes_again(collector: Collector) -> None:
+    collector.admit("web")
+    store_and_stop(collector, range(1, 4))
+    store_and_stop(collector, range(4, 7))
+    first = collector.databases()[0]
+    first.unlink()
+    first.with_name(first.name + ".sha256").unlink()
+    collector.start()
+    assert collector.send("web", upload(entries(A, range(1, 7)), 6)) == f"ack {ID} 0 6 3 0"
+    assert collector.stop() == 0
+    assert f"{first.stem} is missing" in collector.said()
+    assert collector.stored() == texts(range(1, 7))
+
+
+def test_state_that_is_damaged_or_gone_is_made_anew(collector: Collector) -> None:
+    collector.admit("web")
+    store_and_stop(collector, range(1, 4))
+    store_and_stop(collector, range(4, 7))
+    databases = "SELECT name, standing, first, last, entries, bytes, digest FROM database"
+    windows = "SELECT sequence, window, notes, sum FROM noted"
+    known, noted = collector.rows(databases), collector.rows(windows)
+    for damage in (lambda path: path.unlink(), lambda path: path.write_bytes(b"no table" * 1000)):
+        damage(collector.folder / "state.sqlite")
+        collector.start()
+        assert collector.send("web", upload(entries(A, range(1, 7)), 6)) == f"ack {ID} 0 6 0 0"
+        assert collector.stop() == 0
+        assert collector.rows(databases) == known
+        assert collector.rows(windows) == noted
+        assert collector.rows("SELECT id, machine FROM sequence") == [(A, "web")]
+
+
+def test_a_copy_by_hard_links_of_an_unfinished_database_stays_as_it_is(collector: Collector, tmp_path: Path) -> None:
+    begun(collector)
+    collector.kill()
+    [database] = collector.databases()
+    copies = {path: tmp_path / path.name for path in (database, database.with_name(database.name + "-wal"))}
+    for path, copy in copies.items():
+        os.link(path, copy)
+    before = {copy: copy.read_bytes() for copy in copies.values()}
+    collector.start()
+    collector.send("web", upload(entries(A, range(1, 5)), 4))
+    assert collector.stop() == 0
+    assert {copy: copy.read_bytes() for copy in copies.values()} == before
+    assert collector.stored() == texts(range(1, 5))
+
+
+def test_a_full_disk_is_told_later_and_nothing_is_lost(collector: Collector) -> None:
+    begun(collector)
+    assert collector.stop() == 0
+    collector.values["FREE_BYTES"] = str(1 << 60)
+    collector.start()
+    answer = collector.send("web", upload(entries(A, range(1, 5)), 4))
+    assert answer.startswith("later only ")
+    assert "FREE_BYTES" in collector.said()
+    assert collector.stop() == 0
+    assert collector.rows("SELECT count FROM told WHERE cause = 'room'") == [(1,)]
+    collector.values["FREE_BYTES"] = "0"
+    store_and_stop(collector, range(1, 5))
+    assert collector.stored() == texts(range(1, 5))
+    assert collector.rows("SELECT count FROM told WHERE cause = 'room'") == []
+
+
+def test_a_program_of_another_version_stores_nothing(collector: Collector, tmp_path: Path) -> None:
+    other = tmp_path / "other"
+    other.write_text("#!/bin/sh\necho journal-collect 0.0.9\n")
+    other.chmod(0o755)
+    collector.program = other
+    collector.start()
+    assert collector.process and collector.process.wait(30) == 2
+    assert "0.0.9" in collector.said()
+    assert not (collector.folder / "databases").exists()
