@@ -17,8 +17,8 @@ from journalcollect.machine.refusals import Refusals
 from journalcollect.machine.report import FAILED, LOOK, Report
 from journalcollect.machine.settings import Settings
 
-# An upload whose connection is lost as often in a row is halved, down to so many bytes.
-CUTS, LEAST_BYTES = 2, 4 << 10
+# A link that is lost as often in a row, with an upload under way, carries half of its bytes, or so many at least.
+CUTS, LEAST_BYTES = 2, 1 << 10
 # One that is through in so many seconds is small enough for the link.
 FAST_SECONDS = 2.0
 FIRST_PAUSE, LONGEST_PAUSE = 5.0, 60.0
@@ -33,6 +33,11 @@ class Sending:
         self.refusals, self.link = refusals, Link(settings)
         self.pause, self.resumes = 0.0, 0.0
         self.is_turn_of_oldest = False
+
+    @property
+    def bound(self) -> int:
+        """How many bytes of an upload the link carries."""
+        return min(self.settings.upload_bytes, self.places.number("bound") or self.settings.upload_bytes)
 
     def next(self) -> int | None:
         """The upload that goes out next, if one is to go out now."""
@@ -52,32 +57,33 @@ class Sending:
         return number is not None
 
     def send(self, number: int) -> None:
-        bound = self.places.number("bound") or self.settings.upload_bytes
+        bound = self.bound
         try:
             data = self.outbox.path(number).read_bytes()
         except FileNotFoundError:
             self.outbox.look()                      # somebody took it away
             return
-        if len(data) > 2 * bound and len(pieces_in(data)[0]) > 1:
+        if len(data) > bound and len(pieces_in(data)[0]) > 1:
             self.outbox.cut(number, bound)
             return
         if self.refusals.go_on_forked(number):
             return
         begin = time.monotonic()
         try:
-            if not self.link.is_open and not self.greet(self.link.open()):
-                return
+            if not self.link.is_open:
+                self.greet(self.link.open())
             reply = self.link.ask(Upload(len(data), hashlib.sha256(data).hexdigest(), time.time_ns() // 1_000), data)
         except Lost as lost:
             self.lost(number, len(data), lost)
             return
         self.is_turn_of_oldest = not self.is_turn_of_oldest
         self.places.set(answered=int(time.time()), cuts=0)
-        if self.take(number, data, reply) and time.monotonic() - begin < FAST_SECONDS and len(data) * 2 > bound:
-            self.places.set(bound=min(2 * bound, self.settings.upload_bytes))
+        is_fast = time.monotonic() - begin < FAST_SECONDS
+        if self.take(number, data, reply) and is_fast and bound < min(2 * len(data), self.settings.upload_bytes):
+            self.places.set(bound=2 * bound)
 
-    def greet(self, greeting: Greeting) -> bool:
-        """What the collector says first, and whether it has what it acknowledged last."""
+    def greet(self, greeting: Greeting) -> None:
+        """Takes what the collector says first, and asks whether it has what it acknowledged last."""
         skew = (greeting.realtime - time.time_ns() // 1_000) // 1_000_000
         self.places.set(skew=skew, answered=int(time.time()))
         if abs(skew) > SKEW_SECONDS:
@@ -85,13 +91,10 @@ class Sending:
         if greeting.head:
             self.places.see_head(greeting.head)
         sequence, number, noted = (self.places.value("had").split() + ["0"] * 3)[:3]
-        if not number.isdigit() or not noted.isdigit() or not 0 <= time.time() - int(noted) < HAD_SECONDS:
-            return True
-        if self.link.ask(Had(sequence, int(number))) is not Known.LOST:
-            return True
-        self.report.say(LOOK, "the collector lost what it had acknowledged: what the journal still has goes out once more")
-        self.places.forget_all()
-        return True
+        is_recent = number.isdigit() and noted.isdigit() and 0 <= time.time() - int(noted) < HAD_SECONDS
+        if is_recent and self.link.ask(Had(sequence, int(number))) is Known.LOST:
+            self.report.say(LOOK, "the collector lost what it had acknowledged: what the journal still has goes out again")
+            self.places.forget_all()
 
     def take(self, number: int, data: bytes, reply: Reply) -> bool:
         """What an answer means to an upload; whether it is acknowledged."""
@@ -140,15 +143,13 @@ class Sending:
         self.pause = 0.0
 
     def lost(self, number: int, size: int, lost: Lost) -> None:
-        """No answer came. What the link didn't carry twice in a row has too many bytes for it."""
+        """No answer came. What the link didn't carry twice in a row has too many bytes for it, and comes in parts."""
         if lost.went_out > LONGEST_LINE:
             cuts = self.places.number("cuts") + 1
             self.places.set(cuts=cuts % CUTS)
             if cuts >= CUTS:
-                self.places.set(bound=max(LEAST_BYTES, min(size, self.settings.upload_bytes) // 2))
+                self.places.set(bound=max(LEAST_BYTES, min(size, self.bound) // 2))
             self.rest(number, str(lost), FAILED)
-            if cuts >= CUTS and size > LEAST_BYTES and len(pieces := self.outbox.pieces(number)) > 1:
-                self.outbox.halve(number, pieces)
         else:
             self.wait(str(lost), FAILED)
 
