@@ -93,15 +93,26 @@ class Disk:
 
     def fill(self, left: int) -> None:
         """Another program takes all room of the disk but some bytes."""
-        room = os.statvfs(self.at)
-        if (size := room.f_bavail * room.f_frsize - left) > 0:
-            run("fallocate", "-l", str(size), self.at / "filled")
+        piece = b"x" * (1 << 20)
+        with (self.at / "filled").open("ab", buffering=0) as file:
+            try:
+                while (room := self.room() - left) > 0:
+                    file.write(piece[:room])
+            except OSError:
+                pass                    # somebody else took the last of it
+
+    def room(self) -> int:
+        told = os.statvfs(self.at)
+        return told.f_bavail * told.f_frsize
 
     def take_inodes(self, left: int) -> None:
         """Another program makes all files that there can be but some."""
-        (self.at / "files").mkdir(exist_ok=True)
-        for number in range(os.statvfs(self.at).f_favail - left):
-            (self.at / "files" / str(number)).touch()
+        try:
+            (self.at / "files").mkdir(exist_ok=True)
+            for number in range(os.statvfs(self.at).f_favail - left):
+                (self.at / "files" / str(number)).touch()
+        except OSError:
+            pass
 
     def free(self) -> None:
         (self.at / "filled").unlink(missing_ok=True)

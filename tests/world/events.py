@@ -53,7 +53,7 @@ class World:
             getattr(self, name) for name in sorted(dir(self)) if name.startswith(("machine_", "collector_"))]
 
     def at(self, name: str) -> Path:
-        path = self.folder / f"{len(list(self.folder.iterdir()))}-{name}"
+        path = self.folder / f"{len(list(self.folder.glob('*-*'))) + 1}-{name}"
         path.mkdir()
         return path
 
@@ -86,6 +86,8 @@ class World:
         time.sleep(self.dice.choice((0.05, 0.2, 0.5, 1.0)))
         event = self.dice.choice(self.events)
         self.counts[event.__name__] += 1
+        with (self.folder / "events").open("a") as file:
+            print(time.strftime("%H:%M:%S"), event.__name__, file=file)
         event()
         for computer in self.computers():
             if self.dice.random() < 0.3:
@@ -189,7 +191,7 @@ class World:
 
     def collector_set_back(self) -> None:
         """What was acknowledged since is there again only as far as journals have it, which the judge holds it to."""
-        if self.collector in self.snapshots:
+        if self.collector in self.snapshots and not self.share_a_key():
             self.risk()
             self.collector.disk.set_back(self.snapshots[self.collector])
 
@@ -200,7 +202,7 @@ class World:
 
     def collector_restored(self) -> None:
         """All of its folder is lost, and a backup is put back."""
-        if self.backups:
+        if self.backups and not self.share_a_key():
             self.risk()
             self.collector.stop(signal.SIGKILL)
             shutil.rmtree(self.collector.data)
@@ -270,6 +272,11 @@ class World:
         new = computer.folder / "clock.new"
         new.write_text(f"{seconds} 0 0\n")
         new.replace(computer.folder / "clock")
+
+    def share_a_key(self) -> bool:
+        """Two computers with one key are one machine to the collector: each takes what the other stored for its own, so
+        neither notices that the collector was set back."""
+        return len({machine.name for machine in self.machines}) < len(self.machines)
 
     def risk(self) -> None:
         for machine in self.machines:

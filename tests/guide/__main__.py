@@ -1,0 +1,113 @@
+"""The guide over two computers that systemd starts: what it says to type is typed, and does what the guide says.
+
+usage: python3 tests/guide
+
+Each block of docs/GUIDE.md whose fence says `sh collector` or `sh web` is run there, in the order of the page, as root.
+Then each event in a machine's and a collector's life is one command, after which journal-collect-status finds nothing;
+and each failure of a list is named by it, with what to do, on the side where it is mended. PROGRAM names the program.
+"""
+from __future__ import annotations
+
+import json
+import os
+import re
+import sys
+import tempfile
+import time
+from pathlib import Path
+
+from booted import Booted, Network, lacking
+from failures import FAILURES
+from life import EVENTS
+
+GUIDE = Path(__file__).resolve().parents[2] / "docs/GUIDE.md"
+BLOCK = re.compile(r"^```sh (\w+)\n(.*?)^```$", re.MULTILINE | re.DOTALL)
+FIRST_SECONDS, LIMIT_COMMANDS = 300.0, 12
+
+
+class Wrong(Exception):
+    """What isn't as the guide says."""
+
+
+def prepare(collector: Booted, web: Booted) -> None:
+    """The administrator can log in at the collector by ssh, as the guide supposes."""
+    collector.shell("ssh-keygen -A && systemctl unmask ssh && systemctl start ssh")
+    web.shell("mkdir -p -m 700 /root/.ssh && rm -f /root/.ssh/* && ssh-keygen -q -t ed25519 -N '' -f /root/.ssh/id_ed25519")
+    key = web.call("cat", "/root/.ssh/id_ed25519.pub").stdout.decode()
+    collector.shell(f"mkdir -p -m 700 /root/.ssh && printf '%s' '{key}' > /root/.ssh/authorized_keys")
+    hosts = collector.shell("cat /etc/ssh/ssh_host_*_key.pub").stdout.decode()
+    web.shell("".join(f"echo 'logs.example.org {line}' >> /root/.ssh/known_hosts\n" for line in hosts.splitlines()))
+
+
+def type_blocks(computers: dict[str, Booted]) -> None:
+    """Each block of the guide, at the computer that it names."""
+    began = time.monotonic()
+    for name, block in BLOCK.findall(GUIDE.read_text()):
+        told = computers[name].shell(block)
+        said = (told.stdout + told.stderr).decode(errors="replace")
+        print(f"{name}$ {block}{said}", flush=True)
+        if told.returncode:
+            raise Wrong(f"{name}: status {told.returncode}: {block}{said}")
+        if "journal-collect-join" in block and not said.rstrip().endswith("web sends to logs.example.org"):
+            raise Wrong(f"join: {said}")
+        if "journal-collect-search -M web -n 20" in block:
+            if not said.strip():
+                raise Wrong("nothing of web can be read")
+            if time.monotonic() - began > FIRST_SECONDS:
+                raise Wrong("the first entries took too long")
+
+
+def findings(computer: Booted) -> list[dict[str, object]]:
+    told = computer.call("journal-collect-status", "--json")
+    value = json.loads(told.stdout)
+    assert value["status"] == told.returncode, told
+    found: list[dict[str, object]] = value["findings"]
+    return found
+
+
+def is_well(computer: Booted) -> None:
+    """Nothing wrong is said, at the latest after a while."""
+    computer.wait_for(lambda: not findings(computer), f"nothing to look at: {findings(computer)}")
+
+
+def main() -> int:
+    if why := lacking():
+        print(f"skipped: the guide isn't typed: {why}")
+        return 0
+    program = Path(os.environ["PROGRAM"]).resolve()
+    folder = Path(tempfile.mkdtemp(prefix="guide-"))
+    wrong = 0
+    with Network(), Booted(folder, "collector", program) as collector, Booted(folder, "web", program) as web:
+        prepare(collector, web)
+        computers = {"collector": collector, "web": web}
+        try:
+            type_blocks(computers)
+        except (Wrong, TimeoutError) as error:
+            print(f"WRONG: {error}")
+            return 1
+        for event in EVENTS:
+            print(f"event: {event.__doc__}", flush=True)
+            try:
+                event(collector, web)
+                is_well(collector)
+                is_well(web)
+            except (AssertionError, TimeoutError) as error:
+                wrong += 1
+                print(f"WRONG: {event.__name__}: {error}")
+        for failure in FAILURES:
+            try:
+                with failure.happens(collector, web):
+                    side = computers[failure.side]
+                    side.wait_for(lambda: failure.is_named(findings(side)),
+                                  f"{failure.name}: what is said is {findings(side)}")
+                is_well(collector)
+                is_well(web)
+            except (AssertionError, TimeoutError) as error:
+                wrong += 1
+                print(f"WRONG: {failure.name}: {error}")
+    print(f"{len(EVENTS) + len(FAILURES) + 1 - wrong} passed, {wrong} failed")
+    return 1 if wrong else 0
+
+
+if __name__ == "__main__":
+    sys.exit(main())

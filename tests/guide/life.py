@@ -1,0 +1,120 @@
+"""Events in a machine's and a collector's life, each by one command, as the guide has them."""
+from __future__ import annotations
+
+from collections.abc import Callable
+
+from booted import Booted
+
+EVENTS: list[Callable[[Booted, Booted], None]] = []
+
+
+def event(function: Callable[[Booted, Booted], None]) -> Callable[[Booted, Booted], None]:
+    EVENTS.append(function)
+    return function
+
+
+def does(computer: Booted, command: str) -> str:
+    """A command that ends well; what it says."""
+    told = computer.shell(command)
+    said = (told.stdout + told.stderr).decode(errors="replace")
+    assert told.returncode == 0, f"{computer.name}: {command}: status {told.returncode}: {said}"
+    return said
+
+
+def arrives(collector: Booted, web: Booted, machine: str = "web") -> None:
+    """What is logged on web is found at the collector, under this name of the machine."""
+    word = does(web, "head -c 8 /dev/urandom | od -An -tx1 | tr -d ' \\n'").strip()
+    does(web, f"logger -t guide {word}")
+    collector.wait_for(lambda: word in does(collector, f"journal-collect-search -M {machine} -t guide -o cat --no-pager || true"),
+                       f"an entry of {machine}")
+
+
+@event
+def called_again(collector: Booted, web: Booted) -> None:
+    """Set-up, called again, changes nothing and says so."""
+    assert "nothing was to do" in does(collector, "journal-collect-admin setup")
+    said = does(web, "journal-collect-join logs.example.org")
+    assert said == "nothing was to do\nweb sends to logs.example.org\n", said
+    arrives(collector, web)
+
+
+@event
+def rehearsed(collector: Booted, web: Booted) -> None:
+    """With --dry-run nothing is done."""
+    before = does(web, "sha256sum /etc/journal-collect/key")
+    assert "would: " in does(web, "journal-collect-join --dry-run --new-key logs.example.org")
+    assert before == does(web, "sha256sum /etc/journal-collect/key")
+
+
+@event
+def key_rotated(collector: Booted, web: Booted) -> None:
+    """A machine gets another key, which replaces the old one."""
+    said = does(web, "journal-collect-join --new-key --via root@logs.example.org logs.example.org")
+    assert said.endswith("web sends to logs.example.org\n"), said
+    arrives(collector, web)
+
+
+@event
+def reinstalled(collector: Booted, web: Booted) -> None:
+    """A machine lost its folder, its key and its settings, and joins again."""
+    does(web, "systemctl stop journal-collect-send; rm -rf /var/lib/journal-collect-send /etc/journal-collect")
+    does(web, "journal-collect-join --via root@logs.example.org logs.example.org")
+    arrives(collector, web)
+
+
+@event
+def renamed(collector: Booted, web: Booted) -> None:
+    """A machine has another name at the collector, with all that it sent; and its old one again."""
+    does(collector, "journal-collect-admin rename web www")
+    arrives(collector, web, "www")
+    does(collector, "journal-collect-admin rename www web")
+    arrives(collector, web)
+
+
+@event
+def machine_id_changed(collector: Booted, web: Booted) -> None:
+    """A machine's id changes, and so does the folder of its journal."""
+    does(web, "systemd-id128 new > /etc/machine-id && systemctl restart systemd-journald")
+    arrives(collector, web)
+
+
+@event
+def backed_up_and_restored(collector: Booted, web: Booted) -> None:
+    """A collector is put back from a backup, and machines bring what came since."""
+    does(collector, "journal-collect-admin backup /var/backups/journal-collect")
+    arrives(collector, web)
+    does(collector, "systemctl stop journal-collect; rm -rf /var/lib/journal-collect/*; "
+         "journal-collect-admin restore /var/backups/journal-collect && journal-collect-admin setup && "
+         "systemctl start journal-collect")
+    arrives(collector, web)
+
+
+@event
+def checked(collector: Booted, web: Booted) -> None:
+    """All finished databases are as they were, and all that is known can be made anew of them."""
+    does(collector, "journal-collect-admin check")
+    does(collector, "journal-collect-admin rebuild")
+    arrives(collector, web)
+
+
+@event
+def retired(collector: Booted, web: Booted) -> None:
+    """A machine is retired: status says nothing of it; it is admitted again."""
+    key = does(web, "cat /etc/journal-collect/key.pub").strip()
+    does(web, "systemctl stop journal-collect-send")
+    does(collector, "journal-collect-admin retire web")
+    assert "web" not in does(collector, "journal-collect-status || true")
+    does(collector, f"echo '{key}' | journal-collect-admin admit web")
+    does(web, "systemctl start journal-collect-send")
+    arrives(collector, web)
+
+
+@event
+def moved_away(collector: Booted, web: Booted) -> None:
+    """A finished database is moved to another disk, and nobody misses it."""
+    does(collector, "systemctl reload journal-collect; sleep 2")
+    name = does(collector, "cd /var/lib/journal-collect/databases; ls *.sha256 | head -n 1").strip().removesuffix(".db.sha256")
+    does(collector, f"journal-collect-admin moved {name} && mkdir -p /srv/old && mv /var/lib/journal-collect/databases/{name}.* "
+         "/srv/old")
+    does(collector, "systemctl restart journal-collect")
+    arrives(collector, web)
