@@ -221,9 +221,10 @@ class Maker:
 
     def forget(self) -> None:
         """Days that are over READ_DAYS days go: days on which something came, so a clock that is wrong costs one."""
-        days = sorted({day.name[:10] for day in self.places.days()}, reverse=True)[self.chosen.read_days:]
+        days = {day.name[:10] for day in self.places.days()} | set(map(self.day_of, self.of_today()))
+        kept = sorted(days, reverse=True)[:self.chosen.read_days]
         for folder in self.places.days():
-            if folder.name[:10] in days:
+            if folder.name[:10] not in kept:
                 shutil.rmtree(folder)
 
 
