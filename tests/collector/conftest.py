@@ -141,14 +141,31 @@ class Collector:
         finally:
             machine.close()
 
+    def runs(self) -> bool:
+        return self.process is not None and self.process.poll() is None
+
     def admin(self, *words: str | Path, given: str = "") -> subprocess.CompletedProcess[str]:
+        """Calls journal-collect-admin. The service runs meanwhile, unless that isn't asked for."""
+        if not self.runs() and words[0] not in ("admit", "retire", "restore"):
+            self.start()
+            end = time.monotonic() + 60
+            while not self.ask("status")[0]["say"]["is_begun"]:   # type: ignore[index]
+                assert time.monotonic() < end
+                time.sleep(0.1)
+            try:
+                return self.admin(*words, given=given)
+            finally:
+                assert self.stop() == 0
         return subprocess.run([ROOT / "deploy/programs/journal-collect-admin", *words], env=self.environment(),
                               input=given, capture_output=True, text=True, timeout=600)
 
     def ask(self, do: str, *words: str) -> list[dict[str, object]]:
         """Asks the service as journal-collect-admin does."""
         with socket.socket(socket.AF_UNIX) as one:
-            one.connect(str(self.folder / "admin"))
+            end = time.monotonic() + 60
+            while one.connect_ex(str(self.folder / "admin")):
+                assert time.monotonic() < end
+                time.sleep(0.05)
             one.sendall(json.dumps({"do": do, "words": words}).encode())
             lines = []
             with one.makefile() as file:
@@ -185,5 +202,5 @@ class Collector:
 def collector(tmp_path: Path) -> Iterator[Collector]:
     made = Collector(tmp_path)
     yield made
-    if made.process and made.process.poll() is None:
+    if made.runs():
         made.kill()

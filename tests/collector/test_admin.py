@@ -46,18 +46,13 @@ def test_a_machine_is_admitted_under_one_name_and_retired(collector: Collector) 
     assert collector.stop() == 0
 
 
-@pytest.mark.parametrize("runs", [True, False])
-def test_a_renamed_machine_has_its_sequences(collector: Collector, runs: bool) -> None:
+def test_a_renamed_machine_has_its_sequences(collector: Collector) -> None:
     said(collector, "admit", "web", given=key("A"))
     stored_by_a_run(collector, "web", range(1, 3))
-    if runs:
-        collector.start()
-        standing = collector.connect("web")
+    collector.start()
+    standing = collector.connect("web")
     said(collector, "rename", "web", "www")
-    if runs:
-        assert standing.line() == ""
-    else:
-        collector.start()
+    assert standing.line() == ""
     assert collector.send("www", upload(entries(A, range(1, 4)), 3)) == f"ack {ID} 0 3 1 0"
     assert collector.stop() == 0
     assert collector.rows("SELECT id, machine FROM sequence") == [(A, "www")]
@@ -84,7 +79,6 @@ def test_uploads_that_came_by_other_means_are_taken(collector: Collector, tmp_pa
         paths.append(tmp_path / f"{number}.upload")
         paths[-1].write_bytes(upload(entries(A, [number]), 1))
     collector.admit("web")
-    collector.folder.chmod(0o755)
     assert said(collector, "take", "web", *paths) == f"ack {ID} 0 1 1 0\n" * 2
     collector.start()
     collector.connect("web").close()

@@ -7,10 +7,11 @@ import json
 import os
 import socket
 import threading
+import time
 from collections.abc import Iterator
 
 from .doors import bind
-from .operations import No, Operations, Parts
+from .operations import No, Operations
 from .state import log
 
 LONGEST = 1 << 16
@@ -19,10 +20,9 @@ LONGEST = 1 << 16
 class AdminDoor(threading.Thread):
     """Listens for commands, each in a thread of its own."""
 
-    def __init__(self, parts: Parts) -> None:
+    def __init__(self, operations: Operations) -> None:
         super().__init__(name="admin", daemon=True)
-        self.operations = Operations(parts, parts.store.alone)
-        path = parts.store.folder.admin
+        self.operations, path = operations, operations.folder.admin
         path.unlink(missing_ok=True)
         self.listening = socket.socket(socket.AF_UNIX)
         bind(self.listening, path)
@@ -31,8 +31,10 @@ class AdminDoor(threading.Thread):
 
     def run(self) -> None:
         while True:
-            one, _ = self.listening.accept()
-            threading.Thread(target=self.answer, args=(one,), daemon=True).start()
+            try:
+                threading.Thread(target=self.answer, args=self.listening.accept()[:1], daemon=True).start()
+            except (OSError, RuntimeError):
+                time.sleep(1.0)                        # there are too many open files, or threads
 
     def answer(self, one: socket.socket) -> None:
         """Does what each request of a connection asks."""

@@ -4,7 +4,6 @@ import os
 import socket
 import threading
 import time
-from dataclasses import dataclass
 
 from ..common import files, protocol
 from ..common.protocol import Answer, Had, Known, NotALine, Put, Upload, Verdict
@@ -18,15 +17,6 @@ IDLE, REST, RATE = 90.0, 3600.0, 1_000
 PIECE = 1 << 16
 # What is too large is read to its end, so that it can be answered, if it is no larger than this.
 READ_TO_END = 256 << 20
-
-
-@dataclass
-class Came:
-    """An upload as it came."""
-    handle: int
-    size: int
-    digest: str = ""
-    refusal: Put | None = None
 
 
 class Connection(threading.Thread):
@@ -81,31 +71,27 @@ class Connection(threading.Thread):
         """Takes an upload, and has it stored, if no bound is in the way."""
         if told.size > READ_TO_END:
             raise NotALine(str(told))
+        refusal = self.gate.before(self.machine, told.size)
         with files.unnamed(self.store.folder.recent) as handle:
-            came = Came(handle, told.size, refusal=self.gate.before(self.machine, told.size))
-            self.read(came)
-            if came.refusal:
-                return came.refusal
-            if came.digest != told.sha256:
+            digest, refusal = self.read(handle, told.size, refusal)
+            if digest != told.sha256:
                 raise NotALine("another digest")
-            if refusal := self.gate.of_upload(self.machine, came.handle, came.size):
-                return refusal
-            return self.store.ask(Waiting(self.machine, came.handle, came.size))
+            return (refusal or self.gate.of_upload(self.machine, handle, told.size)
+                    or self.store.ask(Waiting(self.machine, handle, told.size)))
 
-    def read(self, came: Came) -> None:
-        """Reads an upload. One that is refused is read to its end, and kept nowhere."""
+    def read(self, handle: int, size: int, refusal: Put | None) -> tuple[str, Put | None]:
+        """Reads an upload; its digest, and why it isn't taken. Then it is read to its end, and kept nowhere."""
         self.one.settimeout(IDLE)
-        end, left, digest = time.monotonic() + IDLE + came.size / RATE, came.size, hashlib.sha256()
-        while left:
-            piece, self.rest = self.rest or self.one.recv(min(left, PIECE)), b""
+        end, digest = time.monotonic() + IDLE + size / RATE, hashlib.sha256()
+        while size:
+            piece = self.rest or self.one.recv(min(size, PIECE))
             if not piece or time.monotonic() > end:
                 raise NotALine("it was cut")
-            piece, self.rest = piece[:left], piece[left:]
-            left -= len(piece)
+            piece, self.rest = piece[:size], piece[size:]
+            size -= len(piece)
             digest.update(piece)
-            if not came.refusal:
-                came.refusal = written(came.handle, piece)
-        came.digest = digest.hexdigest()
+            refusal = refusal or written(handle, piece)
+        return digest.hexdigest(), refusal
 
 
 def written(handle: int, piece: bytes) -> Put | None:

@@ -3,6 +3,7 @@ import os
 import selectors
 import shutil
 import socket
+import time
 from collections.abc import Iterator
 from pathlib import Path
 
@@ -11,6 +12,8 @@ from .gate import Gate
 from .settings import Folder
 
 BACKLOG = 16
+# The keys are looked at when their folder changed, and at least so often.
+LOOK_SECONDS = 10.0
 
 
 class Doors:
@@ -20,7 +23,7 @@ class Doors:
         self.folder, self.keys, self.gate = folder, keys, gate
         self.there = selectors.DefaultSelector()
         self.open: dict[str, socket.socket] = {}
-        self.seen: int | None = None
+        self.seen, self.looked = -1, 0.0
         for path in folder.sockets.iterdir():
             shutil.rmtree(path) if path.is_dir() else path.unlink()
 
@@ -28,15 +31,19 @@ class Doors:
         """The machines that came within so many seconds, and their connections."""
         self.look()
         for key, _ in self.there.select(seconds):
-            if key.data in self.open:
-                yield key.data, self.open[key.data].accept()[0]
+            try:
+                one = self.open[key.data].accept()[0]
+            except OSError:
+                time.sleep(0.1)                        # there are too many open files: it waits
+            else:
+                yield key.data, one
 
     def look(self) -> None:
         """Opens a socket for each new machine. Who has no key any more is let in no more, and out."""
-        changed = self.keys.stat().st_mtime_ns if self.keys.is_dir() else 0
-        if changed == self.seen:
+        changed, now = self.keys.stat().st_mtime_ns if self.keys.is_dir() else 0, time.monotonic()
+        if changed == self.seen and now - self.looked < LOOK_SECONDS:
             return
-        self.seen = changed
+        self.seen, self.looked = changed, now
         wanted = {path.stem for path in self.keys.glob("*.pub") if names.is_machine(path.stem)}
         for machine in self.open.keys() - wanted:
             self.shut(machine)

@@ -51,7 +51,9 @@ class Keeping(threading.Thread):
             finally:
                 os.close(lock)
         self.clear_recent()
-        self.check_notes(age.days)
+        if int(age.days) != self.notes_day:
+            self.notes_day = int(age.days)
+            self.mend_notes(REST)
         self.check_databases(age.days - 1)
 
     # What goes --------------------------------------------------------------------------------------------------------
@@ -71,8 +73,9 @@ class Keeping(threading.Thread):
                 total -= size
 
     def delete(self, name: str, why: str) -> None:
-        self.state.stands(name, "deleted")
-        databases.delete(self.folder, name)
+        with self.store.notes:
+            self.state.stands(name, "deleted")
+            databases.delete(self.folder, name)
         log(f"deleted: {name}, {why}")
 
     def clear_recent(self) -> None:
@@ -101,14 +104,8 @@ class Keeping(threading.Thread):
 
     # What is looked at ------------------------------------------------------------------------------------------------
 
-    def check_notes(self, age: float) -> None:
-        """Once a day of the collector each file of notes is compared with what it was."""
-        if int(age) != self.notes_day:
-            self.notes_day = int(age)
-            self.mend_notes(REST)
-
     def mend_notes(self, rest: float = 0.0) -> list[str]:
-        """Makes notes anew that aren't what they were; which."""
+        """Makes notes anew that aren't what they were; which. Done once a day of the collector."""
         bad = sorted({*self.notes.short(), *self.notes.changed(rest)})
         if bad:
             self.store.alone(lambda: self.notes.make_anew(bad, "it isn't as it was"))
@@ -125,15 +122,20 @@ class Keeping(threading.Thread):
 
     def check(self, name: str) -> str | None:
         """Looks whether a finished database is as it was, and agrees with its notes: what is wrong, which is told."""
-        fault = self.fault(name)
-        if fault and name in self.state.names():
+        if fault := self.fault(name):
+            with self.store.notes:                     # nothing goes or is made anew meanwhile
+                fault = self.fault(name)
+        if fault:
             self.state.tell(f"damaged {name}", f"{fault}: restore it from a backup")
         self.state.ask("UPDATE database SET checked = ? WHERE name = ?", self.state.age.grown().days, name)
         return fault
 
     def fault(self, name: str) -> str | None:
-        path = databases.path_of(self.folder, name)
-        (digest,), = self.state.ask("SELECT digest FROM database WHERE name = ?", name)
+        path, found = databases.path_of(self.folder, name), self.state.ask(
+            "SELECT digest FROM database WHERE name = ? AND standing = 'finished'", name)
+        if not found:
+            return None
+        digest, = found[0]
         try:
             with databases.unpacked(self.folder, name) as copy:
                 if databases.digest_of(copy) != digest:

@@ -1,9 +1,10 @@
 """The files of notes, sequences/SEQUENCE/WINDOW: whether each is as it was when its databases were finished.
 
 The program alone writes and reads notes. Here is known that a file is a row of blocks of 41 bytes with one byte behind
-them, that it is only added to, and that it has the notes of one database after the other. So what a finished database
-was noted in is told by a number of bytes and their digest, and notes are made anew by opening the databases.
+them, that it is only added to, and that it has the notes of one database after the other. So what finished databases
+were noted in is told by a number of notes and a digest of their bytes, and they are made anew by opening databases.
 """
+import contextlib
 import hashlib
 import stat
 import threading
@@ -34,23 +35,24 @@ class Notes:
 
     def after(self, had: Summary) -> list[Window]:
         """How the windows of a database are once it is finished."""
-        counts = [(*name, self.state.notes_of(*name) + count) for name, count in had.windows.items()]
-        return [self.measured(sequence, window, notes) for sequence, window, notes in counts]
+        return [self.measured(*name, self.state.notes_of(*name) + count) for name, count in had.windows.items()]
 
     def measured(self, sequence: str, window: int, notes: int) -> Window:
         """A window that ought to have so many notes of finished databases, as it is."""
-        data = self.beginning(sequence, window, NOTE * notes)
-        return Window(sequence, window, notes, len(data), hashlib.sha256(data).hexdigest())
+        data = b""
+        with contextlib.suppress(OSError):
+            if self.size(sequence, window) >= 0:
+                with open(self.path(sequence, window), "rb") as file:
+                    data = file.read(NOTE * notes)
+        return Window(sequence, window, notes, hashlib.sha256(data).hexdigest())
 
-    def beginning(self, sequence: str, window: int, size: int) -> bytes:
-        """The first bytes of a file of notes; none, if it can't be read."""
+    def size(self, sequence: str, window: int) -> int:
+        """How many bytes the file of a window has; -1 if it is none."""
         try:
-            if not stat.S_ISREG(self.path(sequence, window).lstat().st_mode):
-                return b""
-            with open(self.path(sequence, window), "rb") as file:
-                return file.read(size)
+            told = self.path(sequence, window).lstat()
         except OSError:
-            return b""
+            return -1
+        return told.st_size if stat.S_ISREG(told.st_mode) else -1
 
     # What is wrong ----------------------------------------------------------------------------------------------------
 
@@ -58,45 +60,31 @@ class Notes:
         """The windows whose files have other notes than finished databases have entries. Asked while no other database
         is there."""
         return [(each.sequence, each.window) for each in windows
-                if self.size(each) != NOTE * each.notes + 1]
+                if self.size(each.sequence, each.window) != NOTE * each.notes + 1]
 
     def short(self) -> list[Name]:
         """The windows that are gone, emptied or cut."""
-        return [(each.sequence, each.window) for each in self.state.windows() if self.size(each) < NOTE * each.notes]
-
-    def size(self, window: Window) -> int:
-        """How many bytes the file of a window has; -1 if it is none."""
-        try:
-            told = self.path(window.sequence, window.window).lstat()
-        except OSError:
-            return -1
-        return told.st_size if stat.S_ISREG(told.st_mode) else -1
+        return [(each.sequence, each.window) for each in self.state.windows()
+                if self.size(each.sequence, each.window) < NOTE * each.notes]
 
     def changed(self, rest: float) -> list[Name]:
         """The windows whose bytes aren't what they were; after each there is so many times as long of rest."""
         found = []
         for each in self.state.windows():
             begun = time.monotonic()
-            data = self.beginning(each.sequence, each.window, each.bytes)
-            if hashlib.sha256(data).hexdigest() != each.sum and self.is_so_still(each):
+            if self.measured(each.sequence, each.window, each.notes) != each and self.state.is_so(each):
                 found.append((each.sequence, each.window))
             if self.stops.wait(rest * (time.monotonic() - begun)):
                 return []
         return found
 
-    def is_so_still(self, window: Window) -> bool:
-        """Whether a window is known as it was; it may have gone for its age, or have been made anew."""
-        return bool(self.state.ask("SELECT 1 FROM noted WHERE sequence = ? AND window = ? AND sum = ?", window.sequence,
-                                   window.window, window.sum))
-
     # What is done -----------------------------------------------------------------------------------------------------
 
     def forget(self) -> None:
         """Only notes of finished databases stay, which stand first in each file."""
-        found = ((path.parent.name, int(path.name), files.size(path)) for path in self.files())
-        known = [(sequence, window, size, self.state.notes_of(sequence, window)) for sequence, window, size in found]
-        more = [(sequence, window, notes) for sequence, window, size, notes in known if size > NOTE * notes + 1]
-        if more:
+        found = [(path.parent.name, int(path.name)) for path in self.files()]
+        known = [(*name, self.state.notes_of(*name)) for name in found]
+        if more := [each for each in known if self.size(*each[:2]) > NOTE * each[2] + 1]:
             program.forget_after(self.folder.sequences, more)
 
     def files(self) -> Iterator[Path]:
@@ -119,15 +107,16 @@ class Notes:
             if self.stops.is_set():
                 return
             self.note(database)
-        for sequence, window in names:
-            self.measure_anew(sequence, window)
+        for name in names:
+            notes = max(0, self.size(*name) // NOTE)
+            self.state.ask("UPDATE noted SET notes = ?, sum = ? WHERE sequence = ? AND window = ?", notes,
+                           self.measured(*name, notes).sum, *name)
 
     def put_aside(self, sequence: str, window: int, why: str) -> None:
         path = self.path(sequence, window)
         self.state.tell(f"notes {sequence}/{window}", f"{path}: {why}: it is put aside, and made anew of the databases")
         if path.is_symlink() or path.exists():
-            to = self.folder.quarantine / f"notes-{sequence}-{window}"
-            files.move(path, next(each for each in numbered(to) if not each.exists()))
+            files.move(path, self.folder.quarantine / f"notes-{sequence}-{window}-{time.time_ns()}")
 
     def note(self, database: str) -> None:
         """Notes what a finished database has, and isn't noted."""
@@ -140,13 +129,6 @@ class Notes:
         if ended.returncode:
             said = ended.stderr.decode(errors="replace").strip()
             self.state.tell(f"damaged {database}", f"{database} can't be noted: {said}: restore it from a backup")
-
-    def measure_anew(self, sequence: str, window: int) -> None:
-        """What a window has now, all of it of finished databases, is what it ought to have."""
-        notes = max(0, files.size(self.path(sequence, window)) // NOTE)
-        each = self.measured(sequence, window, notes)
-        self.state.ask("UPDATE noted SET notes = ?, bytes = ?, sum = ? WHERE sequence = ? AND window = ?", each.notes,
-                       each.bytes, each.sum, sequence, window)
 
     def of_database(self, name: str) -> list[Name]:
         """The windows that may have been noted in a database."""
@@ -167,12 +149,3 @@ class Notes:
                 folder.rmdir()
         if old:
             log(f"notes of {len(old)} windows went, their days are over")
-
-
-def numbered(path: Path) -> Iterator[Path]:
-    """Names for something that is put aside."""
-    yield path
-    number = 1
-    while True:
-        number += 1
-        yield path.with_name(f"{path.name}-{number}")

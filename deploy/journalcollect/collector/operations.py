@@ -2,7 +2,7 @@
 import os
 import time
 from collections.abc import Callable, Iterator, Sequence
-from typing import Any, Protocol
+from typing import Any
 
 import journalcollect
 
@@ -23,19 +23,12 @@ class No(Exception):
     """What was asked can't be done, and why: nothing was changed."""
 
 
-class Parts(Protocol):
-    """The parts of a service, which runs or doesn't."""
-    store: Store
-    keeping: Keeping
-    gate: Gate
-
-
 class Operations:
     """What may be asked, each a method that gives lines."""
 
-    def __init__(self, parts: Parts, alone: Callable[[Callable[[], None]], None]) -> None:
-        self.store, self.keeping, self.gate, self.alone = parts.store, parts.keeping, parts.gate, alone
-        self.folder, self.state, self.notes = self.store.folder, self.store.state, self.store.recovery.notes
+    def __init__(self, store: Store, keeping: Keeping, gate: Gate) -> None:
+        self.store, self.keeping, self.gate = store, keeping, gate
+        self.folder, self.state = store.folder, store.state
 
     def do(self, name: str, words: Sequence[str], handles: Sequence[int] = ()) -> Iterator[Any]:
         """Does what has this name."""
@@ -54,7 +47,7 @@ class Operations:
 
     def finish(self) -> Iterator[str]:
         """The present database is finished: all that was acknowledged until now is in finished ones."""
-        self.alone(lambda: None)
+        self.store.alone(lambda: None)
         return iter(())
 
     def rename(self, old: str, new: str) -> Iterator[str]:
@@ -74,14 +67,14 @@ class Operations:
             program.rename_owner(self.folder.sequences, old, new)
             self.state.rename(old, new)
 
-        self.alone(do)
+        self.store.alone(do)
         yield f"{old} is {new} from now on"
 
     def release(self, sequence: str) -> Iterator[str]:
         """A sequence is nobody's, until a machine brings a new entry of it."""
         if not HEX_ID.fullmatch(sequence) or sequence not in program.owners(self.folder.sequences):
             raise No(f"{sequence} is no machine's")
-        self.alone(lambda: program.release(self.folder.sequences, sequence))
+        self.store.alone(lambda: program.release(self.folder.sequences, sequence))
         self.state.released(sequence)
         yield f"{sequence} is the machine's that brings a new entry of it next"
 
@@ -137,5 +130,5 @@ class Operations:
 
     def rebuild(self) -> Iterator[str]:
         """All that is known, and all notes, are made anew of the databases; whose each sequence is stays."""
-        self.alone(self.store.recovery.rebuild)
+        self.store.alone(self.store.recovery.rebuild)
         yield f"{len(self.state.names())} databases are known, and noted"

@@ -93,9 +93,7 @@ class Recovery:
     # What a start finds -----------------------------------------------------------------------------------------------
 
     def start(self) -> None:
-        """What a start looks at: databases that aren't known, or are missing, and notes that were cut."""
-        shutil.rmtree(self.folder.scratch)
-        self.folder.scratch.mkdir()
+        """What is there, and what is known, are made to agree: databases, and how long files of notes are."""
         there = {path.name.removesuffix(".zst").removesuffix(".db") for path in self.folder.databases.iterdir()
                  if path.name.endswith((".db", ".db.zst"))}
         for name in there.intersection(self.state.names("deleted")):

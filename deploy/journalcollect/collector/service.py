@@ -19,6 +19,7 @@ from .connection import Connection
 from .doors import Doors
 from .gate import Gate
 from .keeping import Keeping
+from .operations import Operations
 from .recovery import NoReader, Recovery
 from .settings import Folder, Settings
 from .state import State, log
@@ -51,11 +52,15 @@ class Service:
             self.present.start()
         self.store.start()
         self.keeping.start()
-        AdminDoor(self).start()
+        AdminDoor(Operations(self.store, self.keeping, self.gate)).start()
         flushed = time.monotonic()
         while not self.stops.is_set():
             for machine, one in doors.came(1.0):
-                Connection(one, machine, self.store, self.gate).start()
+                try:
+                    Connection(one, machine, self.store, self.gate).start()
+                except RuntimeError as error:
+                    self.state.tell("threads", f"connections are refused: {error}: raise TasksMax of the service")
+                    one.close()
             if time.monotonic() - flushed > FLUSH_SECONDS:
                 flushed = time.monotonic()
                 self.state.flush()

@@ -1,6 +1,7 @@
 """The collector's settings, /etc/journal-collect/collector.conf.d/*.conf, bounds that nobody sets, and its folder."""
 import fcntl
 import os
+import shutil
 import sys
 from dataclasses import dataclass, replace
 from pathlib import Path
@@ -62,7 +63,8 @@ class Folder:
         self.admin = path / "admin"
 
     def make(self) -> None:
-        """Makes the folders that aren't there."""
+        """Makes the folders that aren't there. In `scratch` nothing outlives a service."""
+        shutil.rmtree(self.scratch, ignore_errors=True)
         for each in (self.databases, self.sequences, self.recent, self.quarantine, self.scratch, self.sockets):
             each.mkdir(mode=0o700, exist_ok=True)
 

@@ -25,8 +25,8 @@ CREATE INDEX IF NOT EXISTS standing ON database(standing, age);
 CREATE TABLE IF NOT EXISTS machine(name TEXT PRIMARY KEY, seen REAL, stored REAL, entries INTEGER, refused INTEGER,
     skew REAL, day TEXT, bytes INTEGER, windows INTEGER) WITHOUT ROWID;
 CREATE TABLE IF NOT EXISTS sequence(id TEXT, machine TEXT, PRIMARY KEY(id, machine)) WITHOUT ROWID;
-CREATE TABLE IF NOT EXISTS noted(sequence TEXT, window INTEGER, notes INTEGER, bytes INTEGER, sum TEXT, age REAL,
-    first INTEGER, last INTEGER, PRIMARY KEY(sequence, window)) WITHOUT ROWID;
+CREATE TABLE IF NOT EXISTS noted(sequence TEXT, window INTEGER, notes INTEGER, sum TEXT, age REAL, first INTEGER,
+    last INTEGER, PRIMARY KEY(sequence, window)) WITHOUT ROWID;
 CREATE TABLE IF NOT EXISTS told(cause TEXT PRIMARY KEY, text TEXT, first REAL, last REAL, count INTEGER) WITHOUT ROWID;
 CREATE TABLE IF NOT EXISTS clock(one INTEGER PRIMARY KEY CHECK(one = 1), days REAL, boot TEXT, running REAL, wall REAL,
     uncounted REAL);
@@ -67,11 +67,10 @@ class Told:
 
 @dataclass(frozen=True)
 class Window:
-    """How many notes of finished databases a window of a sequence has, how many bytes these take, and their digest."""
+    """How many notes of finished databases a window of a sequence has, and the digest of their bytes."""
     sequence: str
     window: int
     notes: int
-    bytes: int
     sum: str
 
 
@@ -214,9 +213,8 @@ class State:
                      had.entries, had.bytes, had.digest, packed)
             number, = self.ask("SELECT id FROM database WHERE name = ?", name)[0]
             for each in windows:
-                self.ask("INSERT INTO noted VALUES(?1, ?2, ?3, ?4, ?5, ?6, ?7, ?7) ON CONFLICT DO UPDATE "
-                         "SET notes = ?3, bytes = ?4, sum = ?5, age = ?6, last = ?7",
-                         each.sequence, each.window, each.notes, each.bytes, each.sum, age, number)
+                self.ask("INSERT INTO noted VALUES(?1, ?2, ?3, ?4, ?5, ?6, ?6) ON CONFLICT DO UPDATE SET notes = ?3, "
+                         "sum = ?4, age = ?5, last = ?6", *astuple(each), age, number)
             for sequence in {each.sequence for each in windows} & owners.keys():
                 self.ask("INSERT OR IGNORE INTO sequence VALUES(?, ?)", sequence, owners[sequence])
                 self.ask("DELETE FROM sequence WHERE id = ? AND machine = ''", sequence)
@@ -243,10 +241,15 @@ class State:
     def windows(self) -> Iterator[Window]:
         """All windows, some at a time: there may be many."""
         last = ("", -1)
-        while rows := self.ask("SELECT sequence, window, notes, bytes, sum FROM noted WHERE "
-                               "(sequence, window) > (?, ?) ORDER BY sequence, window LIMIT 1000", *last):
+        while rows := self.ask("SELECT sequence, window, notes, sum FROM noted WHERE (sequence, window) > (?, ?) "
+                               "ORDER BY sequence, window LIMIT 1000", *last):
             yield from (Window(*row) for row in rows)
             last = rows[-1][:2]
+
+    def is_so(self, window: Window) -> bool:
+        """Whether a window is known to be so still: it may have gone for its age, or have been made anew."""
+        return bool(self.ask("SELECT 1 FROM noted WHERE sequence = ? AND window = ? AND notes = ? AND sum = ?",
+                             *astuple(window)))
 
     def notes_of(self, sequence: str, window: int) -> int:
         """How many notes of finished databases a window has."""

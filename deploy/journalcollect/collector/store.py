@@ -89,8 +89,7 @@ class Store(threading.Thread):
     def begin(self) -> None:
         """Takes up what an earlier service, or a failure, left."""
         with self.notes:
-            if not self.is_begun.is_set():
-                self.recovery.start()
+            self.recovery.start()
         self.take_up()
         self.store_again(self.recovery.again())
         self.is_taken_up = True

@@ -13,12 +13,12 @@ import time
 from collections.abc import Iterator
 from pathlib import Path
 
+from ..collector import databases
+from ..collector.notes import Notes
+from ..collector.operations import No
+from ..collector.settings import Folder
+from ..collector.state import State
 from ..common import files
-from . import databases
-from .notes import Notes
-from .operations import No
-from .settings import Folder
-from .state import State
 
 
 def make(folder: Folder, to: Path) -> Iterator[str]:

@@ -1,4 +1,4 @@
-"""journal-collect-admin: what people do on the collector. The service does it, where it runs."""
+"""journal-collect-admin: what people do on the collector."""
 import argparse
 import json
 import os
@@ -10,13 +10,12 @@ from collections.abc import Iterator
 from pathlib import Path
 from typing import Any
 
+from ..collector.operations import No
+from ..collector.settings import Folder, Settings
+from ..collector.settings import read as read_settings
 from ..common import files, names, program, settings
 from ..setup import keys
 from . import backup
-from .operations import No, Operations
-from .service import Service
-from .settings import Folder, Settings
-from .settings import read as read_settings
 
 JOURNAL_FILE, FILE_ID = b"LPKSHHRH", slice(24, 40)
 # What a name of a command has for its words, and what it does.
@@ -151,19 +150,14 @@ def upload_of(path: Path) -> Any:
     return made
 
 
-# The service ----------------------------------------------------------------------------------------------------------
-
-
 def asked_of(chosen: Settings, do: str, words: list[str], file: Any = None) -> Iterator[Any]:
-    """Has the service do something; or does it here, as its user, if none runs."""
-    handles = [file.fileno()] if file else []
+    """Has the service do something."""
     with socket.socket(socket.AF_UNIX) as one:
         try:
             one.connect(str(Folder(Path(chosen.folder)).admin))
         except (FileNotFoundError, ConnectionRefusedError):
-            yield from here(chosen, do, words, handles)
-            return
-        socket.send_fds(one, [json.dumps({"do": do, "words": words}).encode()], handles)
+            raise No("the service doesn't run: systemctl start journal-collect") from None
+        socket.send_fds(one, [json.dumps({"do": do, "words": words}).encode()], [file.fileno()] if file else [])
         with one.makefile(encoding="utf-8") as lines:
             for said in map(json.loads, lines):
                 if "say" in said:
@@ -173,29 +167,3 @@ def asked_of(chosen: Settings, do: str, words: list[str], file: Any = None) -> I
                 else:
                     raise (No if said["status"] == 1 else OSError)(said["no"])
     raise OSError("the service ended")
-
-
-def here(chosen: Settings, do: str, words: list[str], handles: list[int]) -> Iterator[Any]:
-    """Does something while no service runs. What is made then belongs to the folder's owner."""
-    owner = os.stat(chosen.folder)
-    if is_root := os.geteuid() == 0:
-        os.setegid(owner.st_gid)
-        os.seteuid(owner.st_uid)
-    lock = Folder(Path(chosen.folder)).locked()
-    if lock is None:
-        raise OSError("the service begins or ends: try again")
-    service = Service(chosen, lock)
-    service.store.start()
-    try:
-        yield from Operations(service, service.store.alone).do(do, words, handles)
-    finally:
-        service.store.stop()
-        service.state.flush()
-        os.close(lock)
-        if is_root:
-            os.seteuid(0)
-            os.setegid(0)
-
-
-if __name__ == "__main__":
-    sys.exit(main())
