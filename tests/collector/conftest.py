@@ -82,7 +82,7 @@ class Collector:
         self.settings, self.folder, self.keys = folder / "etc", folder / "var", folder / "etc" / "keys"
         self.keys.mkdir(parents=True)
         self.folder.mkdir()
-        self.values = {"FOLDER": str(self.folder), "KEYS": str(self.keys), "FREE_BYTES": "0"}
+        self.values = {"FOLDER": str(self.folder), "FREE_BYTES": "0"}
         self.process: subprocess.Popen[bytes] | None = None
         self.log = folder / "log"
         self.program = PROGRAM

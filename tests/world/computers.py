@@ -102,10 +102,10 @@ class Collector(Computer):
     service, conf = "journal-collect-service", "collector.conf.d"
 
     def __init__(self, folder: Path, disk: Disk, environment: dict[str, str]) -> None:
-        self.keys = folder / "keys"
-        self.keys.mkdir()
+        self.keys = folder / "etc" / "keys"
+        self.keys.mkdir(parents=True)
         super().__init__(folder, disk, {
-            "FOLDER": disk.at / "data", "KEYS": self.keys, "DATABASE_SECONDS": 5, "DATABASE_BYTES": 300_000,
+            "FOLDER": disk.at / "data", "DATABASE_SECONDS": 5, "DATABASE_BYTES": 300_000,
             "FREE_BYTES": 1_000_000}, environment)
 
     def admit(self, name: str) -> None:

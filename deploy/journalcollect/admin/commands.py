@@ -14,6 +14,7 @@ from ..collector.operations import No
 from ..collector.settings import Folder, Settings
 from ..collector.settings import read as read_settings
 from ..common import files, names, program, settings
+from ..reading import making
 from ..setup import keys
 from . import backup
 
@@ -70,12 +71,14 @@ def parser() -> argparse.ArgumentParser:
         if of:
             count: int | str = "+" if ".." in of else len(of.split())
             command.add_argument("words", nargs=count, metavar=of.split()[-1].rstrip("."))
+    commands.choices["rebuild"].add_argument("--journals", dest="words", nargs="?", action="append", const="",
+                                             metavar="FOLDER", help="journal files, of another folder with databases")
     return made
 
 
 def done(chosen: Settings, do: str, words: list[str]) -> Iterator[Any]:
     """What a command says."""
-    folder, etc = Folder(Path(chosen.folder)), Path(chosen.keys).parent
+    folder, etc = Folder(Path(chosen.folder)), settings.FOLDER
     match do, words:
         case "admit", [name]:
             yield admit(folder, etc, name, sys.stdin.read().strip())
@@ -98,6 +101,11 @@ def done(chosen: Settings, do: str, words: list[str]) -> Iterator[Any]:
                 raise No("the service runs: systemctl stop journal-collect")
             yield from backup.restore(folder, Path(of))
             os.close(lock)
+        case "rebuild", [""]:
+            yield from asked_of(chosen, "journals", [])
+        case "rebuild", [of]:
+            if making.main(["--anew", of]):
+                raise No(f"not all journal files of {of} are made")
         case _:
             yield from asked_of(chosen, do, words)
 

@@ -9,7 +9,7 @@ from pathlib import Path
 
 from ..common import names
 from .gate import Gate
-from .settings import Folder
+from .settings import KEYS, Folder
 
 BACKLOG = 16
 # The keys are looked at when their folder changed, and at least so often.
@@ -19,8 +19,8 @@ LOOK_SECONDS = 10.0
 class Doors:
     """The sockets that are listened on. The keys' folder says whose they are, and is looked at once a second."""
 
-    def __init__(self, folder: Folder, keys: Path, gate: Gate) -> None:
-        self.folder, self.keys, self.gate = folder, keys, gate
+    def __init__(self, folder: Folder, gate: Gate) -> None:
+        self.folder, self.gate = folder, gate
         self.there = selectors.DefaultSelector()
         self.open: dict[str, socket.socket] = {}
         self.seen, self.looked = -1, 0.0
@@ -40,11 +40,11 @@ class Doors:
 
     def look(self) -> None:
         """Opens a socket for each new machine. Who has no key any more is let in no more, and out."""
-        changed, now = self.keys.stat().st_mtime_ns if self.keys.is_dir() else 0, time.monotonic()
+        changed, now = KEYS.stat().st_mtime_ns if KEYS.is_dir() else 0, time.monotonic()
         if changed == self.seen and now - self.looked < LOOK_SECONDS:
             return
         self.seen, self.looked = changed, now
-        wanted = {path.stem for path in self.keys.glob("*.pub") if names.is_machine(path.stem)}
+        wanted = {path.stem for path in KEYS.glob("*.pub") if names.is_machine(path.stem)}
         for machine in self.open.keys() - wanted:
             self.shut(machine)
         for machine in sorted(wanted - self.open.keys()):

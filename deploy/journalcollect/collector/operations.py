@@ -1,7 +1,10 @@
 """What people have the service do. Each says in lines what came of it, and ends with a status."""
 import os
+import subprocess
+import sys
 import time
 from collections.abc import Callable, Iterator, Sequence
+from pathlib import Path
 from typing import Any
 
 import journalcollect
@@ -15,6 +18,7 @@ from .store import Store
 from .turns import Waiting
 
 PIECE = 1 << 20
+LIBRARY = Path(__file__).resolve().parents[2]
 # So long the connections may take to end of a machine whose key is gone.
 GONE_SECONDS = 30.0
 
@@ -36,7 +40,8 @@ class Operations:
             return self.take(words[0], handles[0])
         known: dict[str, Callable[..., Iterator[Any]]] = {
             "status": self.status, "finish": self.finish, "rename": self.rename, "release": self.release,
-            "check": self.check, "moved": self.moved, "passed": self.passed, "rebuild": self.rebuild, "head": self.head}
+            "check": self.check, "moved": self.moved, "passed": self.passed, "rebuild": self.rebuild, "head": self.head,
+            "journals": self.journals}
         return known[name](*words)
 
     def status(self) -> Iterator[dict[str, Any]]:
@@ -132,3 +137,11 @@ class Operations:
         """All that is known, and all notes, are made anew of the databases; whose each sequence is stays."""
         self.store.alone(self.store.recovery.rebuild)
         yield f"{len(self.state.names())} databases are known, and noted"
+
+    def journals(self) -> Iterator[str]:
+        """All journal files are made anew of the databases."""
+        making = subprocess.run([sys.executable, "-B", "-m", "journalcollect.reading.making", "--anew", self.folder.path],
+                                cwd=LIBRARY, capture_output=True, text=True, check=False)
+        if making.returncode:
+            raise No(making.stderr.strip())
+        yield "journal files are made anew"

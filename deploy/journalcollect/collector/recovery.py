@@ -14,7 +14,7 @@ from . import databases
 from .databases import Damaged
 from .notes import Notes
 from .process import WINDOW, Process
-from .settings import Folder, Settings
+from .settings import KEYS, Folder, Settings
 from .state import State, log
 
 TRIES = 5
@@ -84,8 +84,7 @@ class Recovery:
 
     def owners(self) -> dict[str, str]:
         """Whose each sequence is, by name, as far as the machine is known."""
-        keys = Path(self.settings.keys).glob("*.pub")
-        known = {path.stem for path in keys if names.is_machine(path.stem)} | self.state.machines.keys()
+        known = {path.stem for path in KEYS.glob("*.pub") if names.is_machine(path.stem)} | self.state.machines.keys()
         digests = {hashlib.sha256(name.encode("ascii")).hexdigest(): name for name in known}
         found = program.owners(self.folder.sequences)
         return {sequence: digests[digest] for sequence, digest in found.items() if digest in digests}

@@ -33,7 +33,7 @@ class Service:
     """All that runs."""
 
     def __init__(self, chosen: Settings, lock: int) -> None:
-        self.chosen, self.folder = chosen, Folder(Path(chosen.folder))
+        self.folder = Folder(Path(chosen.folder))
         self.folder.make()
         self.state = State(self.folder)
         self.present = Present(self.folder.path, log, chosen.read_keys) if REMOTE.exists() else None
@@ -47,7 +47,7 @@ class Service:
         signal.signal(signal.SIGINT, lambda *_: self.stops.set())
         signal.signal(signal.SIGHUP, lambda *_: self.store.is_asked_to_finish.set())
         threading.stack_size(STACK)
-        doors = Doors(self.folder, Path(self.chosen.keys), self.gate)
+        doors = Doors(self.folder, self.gate)
         if self.present:
             self.present.start()
         self.store.start()

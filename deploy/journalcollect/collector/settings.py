@@ -9,6 +9,8 @@ from pathlib import Path
 from ..common import files, settings
 
 KIB, MIB = 1 << 10, 1 << 20
+# The machines' keys, NAME.pub.
+KEYS = settings.FOLDER / "keys"
 # An upload has at most so many bytes; over LARGE it has one entry, and it is no upload without a header.
 UPLOAD_BYTES, LARGE, HEADER = 36 * MIB, MIB, 48
 # An upload touches at most so many files of notes, and a machine makes at most so many new ones in a day.
@@ -25,7 +27,6 @@ NOTES_DAYS = 8
 class Settings:
     """Each setting under its name in small letters, with its default."""
     folder: str = "/var/lib/journal-collect"
-    keys: str = "/etc/journal-collect/keys"
     database_seconds: int = 600
     database_bytes: int = 32 * MIB
     keep_days: int = 30
@@ -40,9 +41,8 @@ class Settings:
 def read() -> Settings:
     """The settings as they are; a Wrong if they can't be."""
     chosen = settings.read(settings.FOLDER / "collector.conf.d", Settings)
-    for name in ("folder", "keys"):
-        if not Path(getattr(chosen, name)).is_absolute():
-            raise settings.Wrong(f"{name.upper()} doesn't begin with a slash: {getattr(chosen, name)}")
+    if not Path(chosen.folder).is_absolute():
+        raise settings.Wrong(f"FOLDER doesn't begin with a slash: {chosen.folder}")
     if not chosen.database_seconds or not chosen.database_bytes:
         raise settings.Wrong("DATABASE_SECONDS and DATABASE_BYTES are at least 1")
     return replace(chosen, keep_bytes=chosen.keep_bytes or sys.maxsize)

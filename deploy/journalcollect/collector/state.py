@@ -32,6 +32,8 @@ CREATE TABLE IF NOT EXISTS clock(one INTEGER PRIMARY KEY CHECK(one = 1), days RE
     uncounted REAL);
 """
 TOLD_AGAIN, TOLD_SECONDS = 86400.0, 7 * 86400.0
+# While nothing comes, the age is written so often.
+IDLE_DAYS = 60 / 86400
 
 
 def log(text: str) -> None:
@@ -78,15 +80,13 @@ class State:
     """The file, and what is kept in memory of it. Every thread may ask."""
 
     def __init__(self, folder: Folder) -> None:
-        self.folder, self.lock = folder, threading.RLock()
-        self.is_new = not folder.state.exists()
+        self.folder, self.lock, self.rows_lock = folder, threading.Lock(), threading.RLock()
         try:
             self.open()
         except sqlite3.DatabaseError as error:
             log(f"{folder.state}: {error}: it is put aside, and made anew")
             self.rows.close()
             files.move(folder.state, folder.quarantine / f"state.sqlite-{time.time_ns()}")
-            self.is_new = True
             self.open()
 
     def open(self) -> None:
@@ -98,17 +98,18 @@ class State:
         self.machines = {row[0]: Machine(*row) for row in self.rows.execute("SELECT * FROM machine")}
         self.told = {row[0]: Told(*row) for row in self.rows.execute("SELECT * FROM told")}
         self.changed: set[str] = set()
+        self.is_changed = False
         found = self.rows.execute("SELECT days, boot, running, wall, uncounted FROM clock").fetchone()
         self.age = Age(*found) if found else Age.now()
 
     def ask(self, text: str, *values: Any) -> list[Any]:
-        with self.lock:
+        with self.rows_lock:
             return self.rows.execute(text, values).fetchall()
 
     @contextlib.contextmanager
     def together(self) -> Iterator[None]:
         """What is changed meanwhile is changed at once, or not at all."""
-        with self.lock:
+        with self.rows_lock:
             self.rows.execute("BEGIN IMMEDIATE")
             try:
                 yield
@@ -118,23 +119,26 @@ class State:
             self.rows.execute("COMMIT")
 
     def flush(self) -> None:
-        """Writes what is in memory alone. That it can't be written costs no answer."""
+        """Writes what is in memory alone, if it changed, and the age. That it can't be written costs no answer."""
+        age = self.age.grown()
         with self.lock:
-            self.age = self.age.grown()
+            if not self.is_changed and age.days - self.age.days < IDLE_DAYS:
+                return
+            self.age, self.is_changed = age, False
             machines = [astuple(self.machines[name]) for name in self.changed if name in self.machines]
             self.changed.clear()
             self.told = {cause: each for cause, each in self.told.items() if time.time() - each.last < TOLD_SECONDS}
-            try:
-                with self.together():
-                    self.put("machine", machines, Machine)
-                    self.ask("DELETE FROM told")
-                    self.put("told", map(astuple, self.told.values()), Told)
-                    self.ask("INSERT OR REPLACE INTO clock VALUES(1, ?, ?, ?, ?, ?)", *astuple(self.age))
-            except sqlite3.Error as error:
-                self.changed.update(row[0] for row in machines)
-                self.tell("state", f"{self.folder.state} can't be written: {error}: look at its disk")
-            else:
-                self.over("state")
+            told = [astuple(each) for each in self.told.values()]
+        try:
+            with self.together():
+                self.put("machine", machines, Machine)
+                self.ask("DELETE FROM told")
+                self.put("told", told, Told)
+                self.ask("INSERT OR REPLACE INTO clock VALUES(1, ?, ?, ?, ?, ?)", *astuple(age))
+            self.over("state")
+        except sqlite3.Error as error:
+            self.changed.update(row[0] for row in machines)
+            self.tell("state", f"{self.folder.state} can't be written: {error}: look at its disk")
 
     def put(self, table: str, rows: Iterable[tuple[Any, ...]], kind: type) -> None:
         marks = ", ".join("?" for _ in fields(kind))
@@ -150,12 +154,13 @@ class State:
             if known is None or now - known.first > TOLD_AGAIN:
                 log(text)
                 known = self.told[cause] = Told(cause, text, now, now, 0)
-            known.text, known.last, known.count = text, now, known.count + 1
+            known.text, known.last, known.count, self.is_changed = text, now, known.count + 1, True
 
     def over(self, cause: str) -> None:
         """A cause is none any more."""
         with self.lock:
             if self.told.pop(cause, None):
+                self.is_changed = True
                 log(f"over: {cause}")
 
     # Machines ---------------------------------------------------------------------------------------------------------
@@ -163,17 +168,16 @@ class State:
     def machine(self, name: str) -> Machine:
         """What is known of a machine, of today; whoever changes it says so by `saw`."""
         today = time.strftime("%Y-%m-%d", time.gmtime())
-        with self.lock:
-            found = self.machines.setdefault(name, Machine(name))
-            if found.day != today:
-                found.day, found.bytes, found.windows = today, 0, 0
-            return found
+        found = self.machines.setdefault(name, Machine(name))
+        if found.day != today:
+            found.day, found.bytes, found.windows = today, 0, 0
+        return found
 
     def saw(self, name: str) -> Machine:
         """A machine was seen now."""
         with self.lock:
             found = self.machine(name)
-            found.seen = time.time()
+            found.seen, self.is_changed = time.time(), True
             self.changed.add(name)
             return found
 
@@ -184,8 +188,7 @@ class State:
             self.ask("DELETE FROM sequence WHERE machine = ?", old)
         with self.lock:
             if found := self.machines.pop(old, None):
-                found.name = new
-                self.machines[new] = found
+                found.name, self.machines[new] = new, found
                 self.changed.add(new)
 
     # Databases --------------------------------------------------------------------------------------------------------

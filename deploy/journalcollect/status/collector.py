@@ -58,7 +58,7 @@ def look(now: float, findings: Findings) -> Collector:
         return Collector()
     found, folder = Collector(chosen.folder), Path(chosen.folder)
     look_at_service(found, folder, findings)
-    look_at_machines(found, folder, Path(chosen.keys), now, findings)
+    look_at_machines(found, folder, settings.FOLDER / "keys", now, findings)
     look_at_databases(found, folder, now, findings)
     look_at_disk(found, folder, chosen, now, findings)
     look_at_what_was_told(found, folder, now, findings)
