@@ -22,7 +22,8 @@ from life import EVENTS
 
 GUIDE = Path(__file__).resolve().parents[2] / "docs/GUIDE.md"
 BLOCK = re.compile(r"^```sh (\w+)\n(.*?)^```$", re.MULTILINE | re.DOTALL)
-FIRST_SECONDS, LIMIT_COMMANDS = 300.0, 12
+LOGS = "journalctl -n 30 -u 'journal-collect*' -u ssh -o short --no-pager"
+FIRST_SECONDS = 300.0
 
 
 class Wrong(Exception):
@@ -31,7 +32,7 @@ class Wrong(Exception):
 
 def prepare(collector: Booted, web: Booted) -> None:
     """The administrator can log in at the collector by ssh, as the guide supposes."""
-    collector.shell("ssh-keygen -A && systemctl unmask ssh && systemctl start ssh")
+    collector.shell("ssh-keygen -A && systemctl start systemd-user-sessions ssh")
     web.shell("mkdir -p -m 700 /root/.ssh && rm -f /root/.ssh/* && ssh-keygen -q -t ed25519 -N '' -f /root/.ssh/id_ed25519")
     key = web.call("cat", "/root/.ssh/id_ed25519.pub").stdout.decode()
     collector.shell(f"mkdir -p -m 700 /root/.ssh && printf '%s' '{key}' > /root/.ssh/authorized_keys")
@@ -83,7 +84,7 @@ def main() -> int:
         try:
             type_blocks(computers)
         except (Wrong, TimeoutError) as error:
-            print(f"WRONG: {error}")
+            print(f"WRONG: {error}\n{collector.shell(LOGS).stdout.decode()}{web.shell(LOGS).stdout.decode()}")
             return 1
         for event in EVENTS:
             print(f"event: {event.__doc__}", flush=True)

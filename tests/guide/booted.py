@@ -16,7 +16,7 @@ NETWORK = "journal-collect-guide"
 EMPTY = ("var/log/journal", "var/lib/journal-collect", "var/lib/journal-collect-send", "etc/journal-collect")
 MASKED = ("systemd-timesyncd.service", "systemd-networkd-wait-online.service", "getty.target", "console-getty.service",
           "systemd-resolved.service")
-SECONDS = 60.0
+SECONDS = 180.0
 
 
 def lacking() -> str:
@@ -80,6 +80,9 @@ class Booted:
         for unit in MASKED:
             (self.root / "etc/systemd/system" / unit).unlink(missing_ok=True)
             (self.root / "etc/systemd/system" / unit).symlink_to("/dev/null")
+        # what else is installed on this computer isn't started
+        (self.root / "etc/systemd/system/default.target").unlink(missing_ok=True)
+        (self.root / "etc/systemd/system/default.target").symlink_to("/usr/lib/systemd/system/basic.target")
         subprocess.run([DEPLOY / "install.sh", self.root, "/usr"], check=True)
         shutil.copy(program, self.root / "usr/bin/journal-collect")
 
@@ -103,7 +106,7 @@ class Booted:
     def call(self, *words: str | Path, given: bytes = b"") -> subprocess.CompletedProcess[bytes]:
         """A program that root runs there."""
         try:
-            there = ["nsenter", f"--target={self.leader()}", "--all", "--wd=/root", "env", "-i", "HOME=/root",
+            there = ["nsenter", f"--target={self.leader()}", "--all", "--wdns=/root", "env", "-i", "HOME=/root",
                      "PATH=/usr/sbin:/usr/bin:/sbin:/bin", "LANG=C.UTF-8"]
         except (OSError, IndexError):
             return subprocess.CompletedProcess(words, 255, b"", b"it isn't started")

@@ -26,7 +26,7 @@ from events import World  # noqa: E402
 from journals import REMOTE  # noqa: E402
 from judge import Entry, Judge, acknowledged  # noqa: E402
 
-PATIENCE = 120.0
+PATIENCE = 60.0
 
 
 def calm(world: World) -> list[str]:

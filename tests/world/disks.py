@@ -2,6 +2,7 @@
 are what they are on real computers: operations on that image. It takes root and loop devices."""
 from __future__ import annotations
 
+import filecmp
 import os
 import shutil
 import signal
@@ -65,6 +66,8 @@ class Disk:
         self.kill()
         left = self.folder / "left"
         shutil.copy(self.image, left)
+        while not filecmp.cmp(self.image, left, shallow=False):     # something was still being written
+            shutil.copy(self.image, left)
         self.unmount()
         left.replace(self.image)
         self.mount()
@@ -135,3 +138,9 @@ def signal_session(process: subprocess.Popen[bytes], number: signal.Signals) -> 
 def end_session(process: subprocess.Popen[bytes], number: signal.Signals) -> None:
     signal_session(process, number)
     process.wait(timeout=60)
+    for _ in range(200):                    # what it began has ended, too
+        try:
+            os.killpg(process.pid, number)
+        except ProcessLookupError:
+            return
+        time.sleep(0.01)

@@ -5,11 +5,12 @@ from typing import Any
 
 from journalcollect.collector import settings as collector_settings
 from journalcollect.common import files, settings
+from journalcollect.reading import places
 from journalcollect.setup import keys
 from journalcollect.status import looking, words
 from journalcollect.status.findings import Findings
 
-SERVICE, MAKER = "journal-collect.service", "journal-collect-files.service"
+SERVICE = "journal-collect.service"
 SSHD = Path("/etc/ssh/sshd_config.d/journal-collect.conf")
 HOUR, DAY = 3600.0, 86400.0
 # A machine whose journal grows is seen within a minute; a quiet one logs something within hours.
@@ -139,21 +140,16 @@ def look_at_databases(found: Collector, folder: Path, now: float, findings: Find
     recent = [row for row in finished if now - 7 * DAY < number(row["finished"]) <= now]
     if recent and (days := (now - min(number(row["finished"]) for row in recent)) / DAY) > 0.25:
         found.bytes_a_day = sum(number(row["bytes"]) for row in recent) / days
-    done = files_made(folder)
+    done = places.made(folder)
     waiting = [number(row["finished"]) for row in finished if row["name"] not in done]
     found.waiting_for_files = len(waiting)
     if waiting and now - min(waiting) > BEHIND_SECONDS:
         findings.look("behind", "collector", f"{len(waiting)} databases wait for their journal files, the oldest for "
-                      f"{words.span(now - min(waiting))}", f"systemctl start {MAKER}; journalctl -u {MAKER} says why")
+                      f"{words.span(now - min(waiting))}", f"journalctl -u {SERVICE} says why; apt install systemd-journal-remote if it isn't there")
 
 
 def number(value: Any) -> Any:
     return value or 0
-
-
-def files_made(folder: Path) -> set[str]:
-    from journalcollect.reading.made import made
-    return made(folder)
 
 
 def look_at_disk(found: Collector, folder: Path, chosen: collector_settings.Settings, now: float,
