@@ -119,7 +119,8 @@ class Collector:
                               env=self.environment, capture_output=True, text=True, check=False)
 
     def search(self, *words: str) -> subprocess.CompletedProcess[str]:
-        return subprocess.run([SEARCH, *words], env=self.environment, capture_output=True, text=True, check=False)
+        return subprocess.run([SEARCH, *words], env=self.environment, capture_output=True, text=True, errors="replace",
+                              check=False)
 
     def messages(self, *words: str) -> list[str]:
         done = self.search("-o", "cat", "-q", *words)

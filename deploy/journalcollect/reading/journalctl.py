@@ -111,7 +111,8 @@ def entries(window: Window, call: Call, *fields: str) -> Entries:
 
 
 def side_by_side(found: list[Window], call: Call) -> int:
-    """Says what each window has, one behind the other, read on all processors. The status of the last that failed."""
+    """Says what each window has, one behind the other, read on all processors. The status is journalctl's: 1 if a word
+    isn't found."""
     if os.isatty(1):
         os.environ.setdefault("SYSTEMD_COLORS", "1")
 
@@ -121,10 +122,10 @@ def side_by_side(found: list[Window], call: Call) -> int:
                                pass_fds=window.handles, check=False)
         return said, ended.returncode
 
-    status, is_empty = 0, True
+    failed, is_empty = 0, True
     with ThreadPoolExecutor(os.cpu_count()) as pool:
-        for said, ended in pool.map(read, reversed(found) if call.has("reverse") else found):
-            status = ended or status
+        for said, status in pool.map(read, reversed(found) if call.has("reverse") else found):
+            failed = status if status > 1 else failed
             said.seek(0)
             while piece := said.read(1 << 20):
                 is_empty = False
@@ -132,7 +133,7 @@ def side_by_side(found: list[Window], call: Call) -> int:
             said.close()
     if is_empty and not call.has("quiet"):
         print("-- No entries --")
-    return 1 if is_empty and call.has("grep") else status
+    return failed or int(is_empty and call.has("grep"))
 
 
 def newest(found: list[Window], call: Call, lines: int) -> int:

@@ -41,8 +41,8 @@ SHORT = {"machine": "_COLLECTED_FROM", "unit": "_SYSTEMD_UNIT", "boot": "_BOOT_I
 UNIT_FAILED = "MESSAGE_ID=d9b373ed55a64feb8242e02dbe79a49c"
 # From so many files on it is found out first which of them the newest entries are in.
 MANY_FILES = 200
-# A histogram has about so many lines, each with a bar of so many characters.
-BARS, WIDTH = 40, 40
+# A histogram has at most so many lines, each with a bar of so many characters, or so many columns of values.
+BARS, WIDTH, COLUMNS, OTHERS = 40, 40, 8, "(others)"
 STEPS = [1, 10, 60, 600, 3600, 6 * 3600, 86400, 7 * 86400]
 
 
@@ -51,6 +51,9 @@ class Search:
 
     def __init__(self, call: Call, at: Places) -> None:
         self.asked, self.at = call, at
+        if call.has("utc"):
+            os.environ["TZ"] = "UTC"
+            time.tzset()
         self.since = journalctl.microseconds(call.value("since"), 0)
         self.until = journalctl.microseconds(call.value("until"), FOREVER)
         self.call = call.of([f"_COLLECTED_FROM={name}" for name in self.machines()])
@@ -188,8 +191,7 @@ class Search:
     def at_time(self, microseconds: int) -> str:
         """As journalctl says times; a machine may say any."""
         try:
-            split = time.gmtime if self.asked.has("utc") else time.localtime
-            return time.strftime("%a %Y-%m-%d %H:%M:%S %Z", split(microseconds // 1_000_000))
+            return time.strftime("%a %Y-%m-%d %H:%M:%S %Z", time.localtime(microseconds // 1_000_000))
         except (ValueError, OverflowError, OSError):
             return f"@{microseconds}"
 
@@ -197,21 +199,27 @@ class Search:
         """--count-by, --histogram, or both."""
         said = self.asked.value("count-by")
         found = journalctl.count(self.windows(), self.call, SHORT.get(said, said) if said else None)
+        by_value: Counter[str] = Counter()
+        for (_, value), count in found.items():
+            by_value[value] += count
         if not self.asked.has("histogram"):
-            by_value: Counter[str] = Counter()
-            for (_, value), count in found.items():
-                by_value[value] += count
             for value, count in by_value.most_common():
                 print(f"{count:>10} {one_line(value)}")
             return 0
-        step = self.step(found)
-        bars: Counter[tuple[int, str]] = Counter()
+        step, bars = self.step(found), Counter[tuple[int, str]]()
         for (second, value), count in found.items():
             bars[second // step * step, value] += count
+        names = [value for value, _ in by_value.most_common(COLUMNS)]
+        for (second, value), count in list(bars.items()) if len(by_value) > COLUMNS else ():
+            bars[second, OTHERS] += count if value not in names else 0
+        names += [OTHERS] * (len(by_value) > COLUMNS)
+        if said:
+            print(f"{'TIME':<27}", *(f"{one_line(name)[:16]:>16}" for name in names))
         most = max(bars.values(), default=1)
-        for (second, value), count in sorted(bars.items()):
-            bar = "#" * (count * WIDTH // most)
-            print(f"{self.at_time(second * 1_000_000):<27} {count:>10} {f'{one_line(value):<24} ' if said else ''}{bar}".rstrip())
+        for second in sorted({second for second, _ in bars}):
+            counts = [bars[second, name] for name in names]
+            print(f"{self.at_time(second * 1_000_000):<27}", *(f"{count:>16}" for count in counts),
+                  *([] if said else ["#" * (counts[0] * WIDTH // most)]))
         return 0
 
     def step(self, found: Counter[tuple[int, str]]) -> int:
