@@ -176,3 +176,17 @@ def test_what_isnt_readable_costs_nothing(collector: Collector) -> None:
         path.unlink()
         running.feed(collector.recent(NAMES[0], [plain("web", 2, "two")]))
         wait_until(lambda: collector.messages() == ["two"])
+
+
+def test_without_a_remote_nothing_of_a_finished_database_waits(
+        collector: Collector, monkeypatch: pytest.MonkeyPatch) -> None:
+    from journalcollect.reading import present as module, remote
+    monkeypatch.setattr(remote, "REMOTE", Path("/nowhere/systemd-journal-remote"))
+    monkeypatch.setattr(module, "MOST_FAILURES", 2)
+    told: list[str] = []
+    with present(collector, told) as running:
+        running.feed(collector.recent(NAMES[0], [plain("web", 1, "one")]))
+        collector.finish(NAMES[0])
+        running.turn(NAMES[0])
+        wait_until(lambda: not (collector.path / "recent" / NAMES[0]).exists())
+    assert len(told) == 2 and "of the package of that name" in told[0]

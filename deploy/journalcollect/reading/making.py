@@ -123,6 +123,8 @@ class Maker:
             return self.make_all()
 
     def make_all(self) -> int:
+        if not remote.REMOTE.exists():
+            return told("there is no systemd-journal-remote, of the package of that name: no databases are packed meanwhile")
         self.clean()
         status = 0
         for name in sorted(self.wanted() - self.places.made().keys(), reverse=True):

@@ -24,6 +24,8 @@ HEADER, STREAM = 48, 1
 # So long the present of a finished database stays, for who follows it.
 SECONDS_STANDING = 3600.0
 SECONDS_WAITING = 60.0
+# When it failed so often in a row, nothing waits for it any more.
+MOST_FAILURES = 10
 MOST_TOGETHER = 1 << 18
 
 
@@ -111,20 +113,35 @@ class Present(threading.Thread):
 
     def run(self) -> None:
         """Whatever fails, the present is made anew some time later; what is stored doesn't depend on it."""
-        is_stopping = False
+        failures, is_stopping = 0, False
         while not is_stopping:
             try:
                 self.places.make()
                 self.begin()
+                failures = 0
                 self.follow()
                 is_stopping = True
             except (Failed, Malformed, OSError) as error:
-                self.tell(f"the present in journal files is made anew: {error}")
-                time.sleep(1.0)
+                failures += 1
+                if failures in (1, MOST_FAILURES):
+                    self.tell(f"the present in journal files is made anew: {error}")
+                is_stopping = failures >= MOST_FAILURES and self.let_go()
+                time.sleep(min(failures, SECONDS_WAITING))
         for live in self.lives.values():
             live.remote.kill()
         if self.maker:
             self.maker.terminate()
+
+    def let_go(self) -> bool:
+        """What can't be made doesn't hold on to what was finished; whether the end was told."""
+        told = [self.events.get() for _ in range(self.events.qsize())]
+        for folder in self.recent.iterdir() if self.recent.exists() else ():
+            if self.is_finished(folder.name):
+                shutil.rmtree(folder, ignore_errors=True)
+        return None in told
+
+    def is_finished(self, name: str) -> bool:
+        return (self.databases / f"{name}.db.sha256").exists()
 
     def begin(self) -> None:
         """All that waits is known by recent/, so what the queue has of it would come twice: keys tell."""
@@ -134,7 +151,7 @@ class Present(threading.Thread):
         for folder in sorted(self.recent.iterdir()) if self.recent.exists() else ():
             for upload in sorted(folder.iterdir(), key=number):
                 self.live(folder.name).add(upload)
-            if (self.databases / f"{folder.name}.db.sha256").exists():
+            if self.is_finished(folder.name):
                 self.end(folder.name)
 
     def live(self, name: str) -> Live:
@@ -196,7 +213,7 @@ class Present(threading.Thread):
         made = self.places.made()
         for path in self.places.present.glob("*.j*"):
             name = remote.stem(path)
-            is_replaced = name in made or not (self.databases / f"{name}.db.sha256").exists()
+            is_replaced = name in made or not self.is_finished(name)
             if name not in self.lives and is_replaced and time.time() - path.stat().st_mtime > SECONDS_STANDING:
                 path.unlink(missing_ok=True)
 

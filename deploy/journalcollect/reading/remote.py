@@ -93,7 +93,7 @@ class Remote:
             return subprocess.Popen([REMOTE, f"--output={path}", "-"], stdin=given, stdout=subprocess.DEVNULL,
                                     stderr=subprocess.DEVNULL, umask=0o027, start_new_session=True)
         except OSError as error:
-            raise Failed(f"{REMOTE} can't be run: {error}") from error
+            raise Failed(f"systemd-journal-remote, of the package of that name, can't be run: {error}") from error
 
     @property
     def is_gone(self) -> bool:
