@@ -127,7 +127,7 @@ class Collector:
         for number in range(self.databases):
             told = subprocess.run([PROGRAM, "show", self.folder / f"{number}.db"], capture_output=True, text=True, check=True)
             for line in told.stdout.splitlines():
-                sequence, seqnum, _, _, message = line.split(None, 4)
+                sequence, seqnum, _, _, message = line.split(" ", 4)
                 found.append((sequence, int(seqnum), message.strip()))
         return found
 

@@ -1,6 +1,7 @@
 """Journal files that systemd's own programs write, and what is in them."""
 from __future__ import annotations
 
+import os
 import subprocess
 from dataclasses import dataclass, field
 from pathlib import Path
@@ -36,7 +37,7 @@ def write(path: Path, logged: list[Entry]) -> None:
     """Makes a journal file, or adds to it. The numbers go on where it ends."""
     path.parent.mkdir(parents=True, exist_ok=True)
     subprocess.run([REMOTE, f"--output={path}", "-"], input=b"".join(each.export() for each in logged), check=True,
-                   capture_output=True)
+                   capture_output=True, env=dict(os.environ, SYSTEMD_JOURNAL_COMPACT="0"))
 
 
 def offsets(path: Path) -> list[int]:

@@ -116,7 +116,7 @@ def test_a_key_that_is_taken(machine: Machine, collector: Collector) -> None:
     assert machine.send() == 1 and "forked: " in machine.said
     assert machine.send() == 0, machine.said
     stored = collector.stored()
-    own = stored[0][0]
+    own = next(sequence for sequence, _, message in stored if message == "six 3")
     assert [(sequence == own, number) for sequence, number, message in sorted(stored) if message.startswith("one")
             and sequence == own] == [(True, 1), (True, 2), (True, 3), (True, 5)]
     assert sorted((number, message) for sequence, number, message in stored if sequence != own) == [(4, "one 3"), (5, "one 4")]

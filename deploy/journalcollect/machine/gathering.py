@@ -7,7 +7,6 @@ what is new mustn't wait for all that is old, and journald removes what is old f
 import os
 import sqlite3
 import time
-from pathlib import Path
 
 from journalcollect.common.export_stream import Unfit
 from journalcollect.common.fit import Entry
@@ -18,76 +17,52 @@ from journalcollect.machine.places import Place, Places
 from journalcollect.machine.refused import Refused, Whole
 from journalcollect.machine.report import FINE, LOOK, Report
 from journalcollect.machine.settings import Settings
-from journalcollect.machine.unreadable import next_readable
-
-
-def machine_id(path: Path) -> str:
-    try:
-        return path.read_text(encoding="ascii").strip()
-    except (OSError, UnicodeDecodeError):
-        return "-"
+from journalcollect.machine.unreadable import Unreadable, next_readable
 
 
 class Gathering:
     def __init__(self, settings: Settings, report: Report, places: Places, outbox: Outbox, refused: Refused) -> None:
         self.settings, self.report, self.places, self.outbox = settings, report, places, outbox
         self.whole = None if settings.leave_out_large else Whole(refused)
-        self.journal = Journal(settings.journals.split(), settings.namespace,
-                               places.machines(machine_id(journal.MACHINE_ID)))
+        self.journal = Journal(settings.journals.split(), settings.namespace, places.machines(journal.machine_id()))
         if settings.since and not places.value("since"):
             places.set(since=since.seconds(settings.since))
-        self.begin(0.0)
-
-    def begin(self, until: float) -> None:
-        """Nothing is gathered yet, and gathering ends at a time."""
-        self.until, self.is_late = until, False
-        self.making = Making(self.most)
-        # The places that move when what is made is in the outbox.
-        self.moves: dict[str, Place] = {}
-
-    @property
-    def most(self) -> int:
-        """How many bytes an upload may have: what the link carries, if that is less."""
-        return min(self.settings.upload_bytes, self.places.number("bound") or self.settings.upload_bytes)
 
     def gather(self, until: float) -> bool:
         """Gathers what is new, up to a time; whether there is more."""
-        self.begin(until)
-        if self.is_full():
-            return True
+        self.until, self.is_late = until, self.is_full()
+        self.making = Making(self.places.bound(self.settings.upload_bytes))
+        # The places that move when what is made is in the outbox.
+        self.moves: dict[str, Place] = {}
         if again := self.places.value("again"):
             self.places.go_back(again)
-        before, listing = self.journal.listing.unread, self.journal.listed()
-        self.tell_unread(listing, before)
-        known = self.see(listing)
-        for file in listing.files:
+        files, known = self.files()
+        for file in files:
+            if self.is_late:
+                break
             place = known.get(file.id) or self.places.first(file)
             if (place.tail, place.is_archived) != (file.tail, file.is_archived) or self.is_other(file, place):
                 self.gather_path(file, place)
-            if self.is_late:
-                break
         self.put()
         return self.is_late
 
-    def see(self, listing: Listing) -> dict[str, Place]:
-        """The place of each file, as it was. Those of the first list begin at the time of SINCE."""
-        known = self.places.all()
-        if listing.files and not self.places.value("begun"):
+    def files(self) -> tuple[list[JournalFile], dict[str, Place]]:
+        """The files, and the places of those that have one. All of the first list begin at the time of SINCE."""
+        listing, known = self.journal.listed(), self.places.all()
+        if listing.unread or self.gone(listing, known):
+            # while folders were looked through one may have been made, or got another name
+            before, listing = listing.unread, self.journal.listed()
+            for each in sorted(before & listing.unread):
+                self.report.say(LOOK, f"a file of the journal can't be read: {each}")
+        if not listing.unread:
+            self.tell_gaps(listing, self.gone(listing, known))
+        if not listing.files:
+            self.report.say(LOOK, f"no journal file can be read in {self.settings.journals}")
+        elif not self.places.value("begun"):
             self.places.move([self.places.first(file) for file in listing.files if file.id not in known])
             self.places.set(begun="yes")
             known = self.places.all()
-        if not listing.unread and self.gone(listing, known):
-            again = self.journal.listed()             # a file may get another name while a folder is looked through
-            if not again.unread:
-                self.tell_gaps(again, self.gone(again, known))
-        return known
-
-    def tell_unread(self, listing: Listing, before: set[str]) -> None:
-        """Says what can't be read, if it couldn't be the last time, too: else it is perhaps being made."""
-        for each in sorted(listing.unread & before):
-            self.report.say(LOOK, f"a file of the journal can't be read: {each}")
-        if not listing.files and not listing.unread:
-            self.report.say(LOOK, f"there are no journal files in {self.settings.journals}")
+        return listing.files, known
 
     # Files that are gone
 
@@ -116,9 +91,11 @@ class Gathering:
         try:
             now = journal.read_header(file.path, handle)
             if now.id == file.id:
-                if self.is_other(now, place):
-                    self.gather_anew(now, place)
+                self.moves[file.id] = self.place = place
                 self.gather_file(now, handle, place)
+        except Unreadable:
+            if not journal.is_removed(handle):
+                self.report.say(LOOK, f"journalctl can't read {file.path}: it is looked at again later")
         finally:
             os.close(handle)
 
@@ -128,12 +105,13 @@ class Gathering:
         return place.number > file.tail or (place.number == file.tail and place.realtime != file.tail_realtime)
 
     def gather_file(self, file: JournalFile, handle: int, place: Place) -> None:
+        if self.is_other(file, place):
+            self.gather_anew(file, place)
         options: list[str] | None = place.options()
-        first = place.cursor
-        self.moves[file.id] = self.place = place
-        while place.number < file.tail and file.entries:
+        first, self.is_stepping = place.cursor, False
+        while options is not None and place.number < file.tail and file.entries:
             before = place.number
-            reading = Reading(handle, options or [], self.whole.write if self.whole else None)
+            reading = Reading(handle, options, self.whole.write if self.whole else None)
             is_other = self.take(reading, place)
             reading.end(not is_other and not self.is_late)
             if self.is_late:
@@ -141,16 +119,14 @@ class Gathering:
             if is_other:
                 self.gather_anew(file, place)
                 first, options = "", []
-                continue
-            if self.is_at_end(place, file, reading, before) or journal.is_removed(handle):
+            elif self.is_at_end(place, file, reading) or journal.is_removed(handle):
                 break
-            if reading.said:
-                self.report.say(FINE, f"journalctl: {reading.said}")
-            place.see(reading.broken is not None)
-            options = next_readable(handle, file, place.number, reading.broken)
-            if options is None:
-                break
-        if not journal.is_removed(handle) or place.number >= file.tail:
+            elif reading.status < 0 and place.number > before:
+                options = place.options()           # a signal ended it
+            else:
+                self.report.say(FINE, f"{file.path}: journalctl: {reading.said or reading.status}")
+                options, self.is_stepping = next_readable(handle, file, place.number, reading.broken), True
+        if place.number >= file.tail or not journal.is_removed(handle):
             self.tell_unseen(place, file, first)
             place.tail, place.is_archived = file.tail, file.is_archived
 
@@ -167,13 +143,12 @@ class Gathering:
             place.see(unseen)
 
     @staticmethod
-    def is_at_end(place: Place, file: JournalFile, reading: Reading, before: int) -> bool:
+    def is_at_end(place: Place, file: JournalFile, reading: Reading) -> bool:
         """All that the file had when it was opened was shown. Its last number may be one that no entry got, and of a
-        time since which nothing is asked nothing is shown."""
+        time since which nothing was logged nothing is shown."""
         is_whole = reading.status == 0 and reading.broken is None
-        if is_whole and place.number == before == 0 and place.since:
-            return True
-        return place.number >= file.tail or (is_whole and place.realtime == file.tail_realtime)
+        is_nothing = not place.number and bool(place.since)
+        return place.number >= file.tail or (is_whole and (is_nothing or place.realtime == file.tail_realtime))
 
     # Entries
 
@@ -190,6 +165,10 @@ class Gathering:
                     if number == place.number and cursor != place.cursor:
                         return True
                     continue
+                if self.is_stepping and place.count < 0 and number > place.number + 1:
+                    self.report.say(LOOK, f"left out, for journalctl can't read it: what is between {place.cursor or '-'} and "
+                                    f"{cursor}")
+                self.is_stepping = False
                 if not self.add(self.piece(entry, sequence, number)):
                     break
                 place.number, place.cursor = number, cursor
@@ -201,11 +180,10 @@ class Gathering:
     def piece(self, entry: Entry, sequence: str, number: int) -> Piece:
         """The entry as it goes out."""
         new = self.places.forked(sequence, number)
-        is_large, named = entry.is_large, entry.named()
         piece = Piece.of(entry, new, number, new != sequence)
-        if is_large:
+        if entry.is_large:
             kept = self.whole.keep(piece.name) if self.whole else ""
-            self.report.say(FINE, f"over a limit, and goes out without what makes it so: {named}{kept}")
+            self.report.say(FINE, f"over a limit, and goes out without what makes it so: {piece.name}{kept}")
         return piece
 
     def add(self, piece: Piece) -> bool:
@@ -218,12 +196,12 @@ class Gathering:
 
     def put(self) -> None:
         """What is made is in the outbox, and then its places move."""
-        if not self.making.pieces and not self.moves:
+        if not self.moves:
             return
         made = self.outbox.put(self.making.pieces)
-        self.making = Making(self.most)
+        self.making = Making(self.making.most)
         try:
-            self.places.move(list(self.moves.values()))
+            self.places.move(self.moves.values())
         except sqlite3.Error:
             for number in made:                     # else it would be made again and again, until the disk is full
                 self.outbox.remove(number)
@@ -233,7 +211,7 @@ class Gathering:
 
     def is_full(self) -> bool:
         """There is no room for more; journald keeps what isn't gathered, as long as it can."""
-        is_full = self.outbox.bytes + self.settings.upload_bytes > self.settings.folder_bytes and bool(self.outbox.sizes)
+        is_full = bool(self.outbox.sizes) and self.outbox.bytes + self.settings.upload_bytes > self.settings.folder_bytes
         if is_full:
             self.report.say(LOOK, f"paused: {self.outbox.bytes} bytes wait in {self.outbox.folder}; what isn't gathered is "
                             "in the journal, as long as journald keeps it")

@@ -45,6 +45,13 @@ class JournalFile:
         return f"{self.path.parent.name}/" + "".join(takewhile(lambda each: each not in "@.", self.path.name))
 
 
+def machine_id() -> str:
+    try:
+        return MACHINE_ID.read_text(encoding="ascii").strip()
+    except (OSError, UnicodeDecodeError):
+        return "-"
+
+
 def read_header(path: Path, handle: int) -> JournalFile:
     """The journal file that is open; a ValueError if it is none."""
     header = os.pread(handle, HEADER_BYTES, 0)

@@ -73,6 +73,7 @@ class Outbox:
     def __init__(self, folder: Path, refused: Refused) -> None:
         self.folder, self.refused = folder / "outbox", refused
         self.folder.mkdir(exist_ok=True)
+        files.sync(folder)
         self.look()
 
     def look(self) -> None:

@@ -193,6 +193,10 @@ class Places:
         text = self.value(name)
         return int(text) if text.isascii() and text.isdigit() and len(text) < 19 else 0
 
+    def bound(self, most: int) -> int:
+        """How many bytes of an upload the link carries, of so many."""
+        return min(most, self.number("bound") or most)
+
     def set(self, **values: object) -> None:
         self.do("INSERT OR REPLACE INTO value VALUES(?, ?)", [(name, str(value)) for name, value in values.items()])
 

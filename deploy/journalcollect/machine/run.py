@@ -13,7 +13,7 @@ import time
 from collections.abc import Callable
 from pathlib import Path
 
-from journalcollect.common import program
+from journalcollect.common import files, program
 from journalcollect.common.export_stream import Unfit
 from journalcollect.common.settings import Wrong
 from journalcollect.machine import settings, since
@@ -103,6 +103,7 @@ def locked(folder: Path) -> int | None:
     """A handle of the machine's folder, which one process at a time has for its own; None if another one has."""
     os.umask(0o077)
     folder.mkdir(parents=True, exist_ok=True)
+    files.sync(folder.parent)
     handle = os.open(folder, os.O_RDONLY | os.O_DIRECTORY | os.O_CLOEXEC)
     try:
         fcntl.flock(handle, fcntl.LOCK_EX | fcntl.LOCK_NB)

@@ -34,11 +34,6 @@ class Sending:
         self.pause, self.resumes = 0.0, 0.0
         self.is_turn_of_oldest = False
 
-    @property
-    def bound(self) -> int:
-        """How many bytes of an upload the link carries."""
-        return min(self.settings.upload_bytes, self.places.number("bound") or self.settings.upload_bytes)
-
     def next(self) -> int | None:
         """The upload that goes out next, if one is to go out now."""
         if not self.outbox.sizes or time.monotonic() < self.resumes or not (self.settings.collector or self.settings.connect):
@@ -57,7 +52,7 @@ class Sending:
         return number is not None
 
     def send(self, number: int) -> None:
-        bound = self.bound
+        bound = self.places.bound(self.settings.upload_bytes)
         try:
             data = self.outbox.path(number).read_bytes()
         except FileNotFoundError:
@@ -148,7 +143,7 @@ class Sending:
             cuts = self.places.number("cuts") + 1
             self.places.set(cuts=cuts % CUTS)
             if cuts >= CUTS:
-                self.places.set(bound=max(LEAST_BYTES, min(size, self.bound) // 2))
+                self.places.set(bound=max(LEAST_BYTES, min(size, self.places.bound(size)) // 2))
             self.rest(number, str(lost), FAILED)
         else:
             self.wait(str(lost), FAILED)

@@ -11,6 +11,10 @@ from journalcollect.machine.journal import JournalFile, Reading, cursor_of, curs
 ONE_BY_ONE = 32
 
 
+class Unreadable(Exception):
+    """journalctl shows nothing of a file, and fails."""
+
+
 class Search:
     """Looks for what journalctl shows of an open file behind the entry of a number."""
 
@@ -56,8 +60,8 @@ class Search:
 
 
 def next_readable(handle: int, file: JournalFile, number: int, broken: dict[bytes, bytes] | None) -> list[str] | None:
-    """The options with which journalctl shows more of a file after an entry; None if it shows no more. An OSError if it
-    doesn't work at all."""
+    """The options with which journalctl shows more of a file after an entry; None if it shows no more. An Unreadable if
+    it doesn't work at all."""
     at = max(number, cursor_parts((broken or {}).get(b"__CURSOR", b"").decode("ascii", "replace"))[0])
     before, search = Search(handle, file, number), Search(handle, file, at)
     if broken and before.shows(before.options(at)):
@@ -68,5 +72,5 @@ def next_readable(handle: int, file: JournalFile, number: int, broken: dict[byte
     if not broken:
         found = search.first_shown()
     if found is None and not search.works:
-        raise OSError("journalctl fails")
+        raise Unreadable
     return found

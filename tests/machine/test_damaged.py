@@ -1,0 +1,173 @@
+"""Journal files that are damaged, and entries that are odd or large: what can be read of them comes, the rest is told."""
+import gzip
+import os
+import re
+import shutil
+import subprocess
+from pathlib import Path
+
+import pytest
+from collector import Collector
+from conftest import ROOT, Machine
+from journals import BEGIN, Entry, entries, offsets, write
+
+REAL = shutil.which("journalctl")
+
+
+def fixture(release: int, kind: str) -> bytes:
+    return gzip.decompress((ROOT / f"tests/fixtures/systemd-{release}/{kind}.journal.gz").read_bytes())
+
+
+def put(machine: Machine, name: str, data: bytes | bytearray) -> Path:
+    path = machine.journal / f"{name}.journal"
+    path.write_bytes(data)
+    return path
+
+
+def numbers(collector: Collector) -> list[int]:
+    return sorted(number for _, number, _ in collector.stored())
+
+
+def use(machine: Machine, journalctl: str) -> None:
+    """What is called in place of journalctl; $REAL is that one."""
+    folder = machine.base / "bin"
+    folder.mkdir(exist_ok=True)
+    (folder / "journalctl").write_text(f"#!/bin/sh\nREAL={REAL}\n{journalctl}\n")
+    (folder / "journalctl").chmod(0o755)
+    machine.environment["PATH"] = f"{folder}:{os.environ['PATH']}"
+
+
+def test_all_layouts(machine: Machine, collector: Collector) -> None:
+    """Regular, compact and compressed files of two releases, with the entries that systemd itself showed."""
+    for release in (252, 254):
+        for kind in ("regular", "compact", "compressed"):
+            put(machine, f"{kind}-{release}", fixture(release, kind))
+    assert machine.send() == 0, machine.said
+    assert numbers(collector) == sorted([1, 2, 3, 4, 5, 6] * 6)
+    keys = set()
+    for path in machine.journal.iterdir():
+        shown = subprocess.run(["journalctl", "-q", "-o", "export", f"--file={path}"], capture_output=True, check=True).stdout
+        keys |= set(re.findall(rb"^__CURSOR=s=([0-9a-f]+);i=([0-9a-f]+)", shown, re.MULTILINE))
+    assert {(sequence, number) for sequence, number, _ in collector.stored()} == \
+        {(sequence.decode(), int(number, 16)) for sequence, number in keys}
+
+
+def test_a_damaged_field(machine: Machine, collector: Collector) -> None:
+    """A field without `=`: journalctl breaks off there."""
+    data = bytearray(fixture(252, "regular"))
+    data[[match.start() for match in re.finditer(rb"MESSAGE=", data)][3] + 7] = ord("A")
+    put(machine, "system", data)
+    put(machine, "other", fixture(254, "regular"))
+    assert machine.send() == 1
+    assert "left out, for journalctl doesn't show them: 1 of the entries" in machine.said
+    assert numbers(collector) == [1, 1, 2, 2, 3, 3, 4, 5, 5, 6, 6]
+    assert machine.send() == 0 and machine.said == ""
+
+
+def test_a_damaged_entry(machine: Machine, collector: Collector) -> None:
+    """An entry that is none: journalctl finds nothing beside it, and passes over it when it reads on."""
+    path = put(machine, "system", fixture(252, "regular"))
+    data = bytearray(fixture(252, "regular"))
+    data[offsets(path)[2]] = 9
+    put(machine, "system", data)
+    assert machine.send() == 1
+    assert "left out" in machine.said
+    assert numbers(collector) == [1, 2, 4, 5, 6]
+    assert machine.send() == 0 and machine.said == ""
+
+
+def test_a_damaged_entry_beside_the_place(machine: Machine, collector: Collector) -> None:
+    path = machine.journal / "system.journal"
+    write(path, entries("one", 2))
+    assert machine.send() == 0, machine.said
+    write(path, entries("two", 4, begin=BEGIN + 60_000_000))
+    data = bytearray(path.read_bytes())
+    data[offsets(path)[2]] = 9
+    path.write_bytes(data)
+    assert machine.send() == 1
+    assert "left out, for journalctl doesn't show them: 1 of the entries" in machine.said
+    assert numbers(collector) == [1, 2, 4, 5, 6]
+
+
+@pytest.mark.parametrize("begin", ["", "2023-11-14 22:13:22 UTC"])
+def test_a_journalctl_that_a_signal_ends(machine: Machine, collector: Collector, begin: str) -> None:
+    """Nothing is left out, and nothing is said to be."""
+    machine.set(SINCE=begin)
+    write(machine.journal / "system.journal", entries("one", 20, pad=100))
+    use(machine, f'if [ -e {machine.base}/ended ]; then exec $REAL "$@"; fi\ntouch {machine.base}/ended\n'
+        '$REAL "$@" | head -c 3000\nkill -9 $$')
+    assert machine.send() in (0, 1)
+    assert machine.send() == 0, machine.said
+    assert "left out" not in machine.said
+    assert numbers(collector) == list(range(3 if begin else 1, 21))
+
+
+def test_files_that_cannot_be_read(machine: Machine, collector: Collector) -> None:
+    """They are told; the others are gathered, and nothing of them is said to be a gap."""
+    put(machine, "system", fixture(252, "regular"))
+    put(machine, "user-1000", fixture(254, "regular"))
+    assert machine.send() == 0, machine.said
+    damaged = bytearray(fixture(252, "regular"))
+    damaged[88:96] = b"\xff" * 8
+    damaged[160:168] = (7).to_bytes(8, "little")
+    put(machine, "system", damaged)
+    put(machine, "user-1001", fixture(254, "compact")[:300])
+    put(machine, "user-1002", b"no journal")
+    write(machine.journal / "user-1003.journal", entries("one", 1))
+    assert machine.send() == 1
+    assert "a gap" not in machine.said and "user-1002.journal: it has no header" in machine.said
+    assert "journalctl can't read" in machine.said
+    put(machine, "system", fixture(252, "regular"))
+    (machine.journal / "user-1002.journal").unlink()
+    put(machine, "user-1001", fixture(254, "compact"))
+    machine.send()
+    assert numbers(collector) == sorted([1, 2, 3, 4, 5, 6] * 3 + [1])
+
+
+def test_removed_while_it_is_read(machine: Machine, collector: Collector) -> None:
+    """journalctl opens no file that is removed: the others are gathered, and a gap is told once."""
+    path = put(machine, "system", fixture(252, "regular"))
+    put(machine, "other", fixture(254, "regular"))
+    use(machine, f'case $(readlink /proc/self/fd/"${{3##*/}}") in {path}) rm {path} ;; esac\nexec $REAL "$@"')
+    machine.send()
+    first = machine.said
+    machine.send()
+    assert (first + machine.said).count("a gap: ") == 1
+    assert numbers(collector) == [1, 2, 3, 4, 5, 6]
+    assert machine.send() == 0 and machine.said == ""
+
+
+def test_entries_that_are_odd(machine: Machine, collector: Collector) -> None:
+    """Binary values, empty ones, empty lines, names and values that look like metadata."""
+    odd: list[dict[str, str | bytes]] = [
+        {"BINARY": bytes(range(256)) * 20}, {"LINES": b"a\n\n__SEQNUM=7\n__CURSOR=s=1;i=1\n\nb"},
+        {"A": b"\n\n\n"}, {"LONG": b"x" * 70_000}, {"UTF": "\u00fc\u4e16"}, {"MESSAGE_ID": b"\xff\xfe"},
+    ]
+    logged = [Entry(f"odd {at}", BEGIN + at, fields) for at, fields in enumerate(odd)]
+    write(machine.journal / "system.journal", logged)
+    assert machine.send() == 0, machine.said
+    assert collector.messages() == [each.message for each in logged]
+    exported = subprocess.run([os.environ["JOURNAL_COLLECT"], "export", collector.folder / "0.db"], capture_output=True,
+                              check=True).stdout
+    for fields in odd:
+        for name, value in fields.items():
+            data = value.encode() if isinstance(value, str) else value
+            assert name.encode() + b"=" + data + b"\n" in exported or \
+                name.encode() + b"\n" + len(data).to_bytes(8, "little") + data + b"\n" in exported
+
+
+@pytest.mark.parametrize("keeps", ["yes", "no"])
+def test_an_entry_over_a_limit(machine: Machine, collector: Collector, keeps: str) -> None:
+    """A value of 20 MiB: the entry goes out with less, and its whole text is kept if that is wanted."""
+    machine.set(LEAVE_OUT_LARGE=keeps)
+    large = Entry("large", BEGIN + 500_000, {"COREDUMP": b"\0" * (20 << 20), "UNIT": "a.service"})
+    long = Entry("x" * (20 << 20), BEGIN + 600_000)
+    write(machine.journal / "system.journal", [*entries("one", 1), large, long, *entries("two", 1, begin=BEGIN + 1_000_000)])
+    assert machine.send() == 0 and "over a limit" in machine.said
+    stored = sorted((number, message) for _, number, message in collector.stored())
+    assert stored == [(1, "one 0"), (2, "large"), (3, "x" * 2_048), (4, "two 0")]
+    exported = subprocess.run([os.environ["JOURNAL_COLLECT"], "export", collector.folder / "0.db"], capture_output=True,
+                              check=True).stdout
+    assert exported.count(b"_JOURNAL_COLLECT_LEFT_OUT=1 fields, ") == 2 and b"UNIT=a.service\n" in exported
+    kept = [(machine.folder / "refused" / name).stat().st_size > (20 << 20) for name in machine.refused()]
+    assert kept == ([True, True] if keeps == "no" else [])
