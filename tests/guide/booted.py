@@ -51,7 +51,7 @@ class Booted:
         self.folder, self.name = folder / name, name
         self.root = self.folder / "root"
         self.root.mkdir(parents=True)
-        run("mount", "-t", "tmpfs", "-o", "size=1G", "none", self.folder)
+        run("mount", "-t", "tmpfs", "-o", "size=3G", "none", self.folder)
         for each in ("upper", "work", "root"):
             (self.folder / each).mkdir()
         run("mount", "-t", "overlay", "overlay", "-o",

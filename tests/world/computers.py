@@ -8,7 +8,7 @@ import subprocess
 from collections.abc import Iterator
 from pathlib import Path
 
-from disks import Disk, end_session
+from disks import Disk
 from journals import Journal
 
 HERE = Path(__file__).resolve().parent
@@ -63,22 +63,19 @@ class Computer:
         if self.is_running():
             return
         with (self.folder / "said").open("ab") as said:
-            self.process = subprocess.Popen(
-                [PROGRAMS / self.service], env=self.environment, stdin=subprocess.DEVNULL, stdout=said, stderr=said,
-                start_new_session=True)
-        self.disk.processes.append(self.process)
+            self.process = self.disk.begin("service", [PROGRAMS / self.service], env=self.environment,
+                                           stdin=subprocess.DEVNULL, stdout=said, stderr=said)
 
     def is_running(self) -> bool:
-        return bool(self.process and self.process in self.disk.processes and self.process.poll() is None)
+        return self.disk.runs(self.process)
 
     def stop(self, number: signal.Signals = signal.SIGTERM) -> int | None:
         """As systemd stops it: the signal goes to the service alone, and what is left of it is killed then."""
-        if not self.process or self.process not in self.disk.processes:
-            return None
-        self.process.send_signal(number)
-        status = self.process.wait(timeout=120)
-        end_session(self.process, signal.SIGKILL)
-        self.disk.processes.remove(self.process)
+        status = None
+        if self.process and self.is_running():
+            self.process.send_signal(number)
+            status = self.process.wait(timeout=120)
+        self.disk.kill("service")
         return status
 
     def kill_a_child(self, dice: random.Random) -> None:

@@ -5,10 +5,11 @@ from __future__ import annotations
 import filecmp
 import os
 import shutil
-import signal
 import subprocess
 import time
+from collections.abc import Sequence
 from pathlib import Path
+from typing import Any
 
 # What isn't synced stays in memory: it isn't on the disk when the power goes.
 OPTIONS = "loop,noatime,commit=600,noauto_da_alloc"
@@ -28,11 +29,23 @@ def run(*words: str | Path) -> None:
     subprocess.run(words, check=True, stdin=subprocess.DEVNULL, stdout=subprocess.DEVNULL, stderr=subprocess.PIPE)
 
 
+def groups() -> Path:
+    """Where control groups of version 2 are."""
+    with open("/proc/mounts", encoding="ascii") as file:
+        for line in file:
+            if line.split()[2] == "cgroup2":
+                return Path(line.split()[1])
+    raise OSError("no control groups of version 2 are mounted")
+
+
 class Disk:
-    """An image and where it is mounted. The processes that use it are told to it, since they end with its power."""
+    """An image and where it is mounted. Its computer's processes are in a control group, which ends with its power; in
+    that each unit has one of its own, as systemd has it."""
 
     def __init__(self, folder: Path, copied: Path | None = None) -> None:
         folder.mkdir()
+        self.group = groups() / f"world-{os.getpid()}-{folder.parent.name}-{time.monotonic_ns()}"
+        self.group.mkdir()
         self.folder, self.image, self.at = folder, folder / "image", folder / "mounted"
         self.at.mkdir()
         self.processes: list[subprocess.Popen[bytes]] = []
@@ -48,18 +61,37 @@ class Disk:
         run("mount", "-o", OPTIONS, self.image, self.at)
 
     def unmount(self) -> None:
-        """What still has a file open, as a child of what was killed, has it for a moment only."""
-        for _ in range(100):
+        """What was killed has its files open for a moment still."""
+        for _ in range(200):
             if subprocess.run(["umount", self.at], stderr=subprocess.DEVNULL, check=False).returncode == 0:
                 return
             time.sleep(0.05)
-        run("umount", "-l", self.at)
+        raise OSError(f"{self.at} is used: {self.group}")
 
-    def kill(self) -> None:
-        """All processes of the computer end at once."""
+    def begin(self, unit: str, words: Sequence[str | Path], **options: Any) -> subprocess.Popen[bytes]:
+        """A process of a unit."""
+        group = self.group / unit
+        group.mkdir(exist_ok=True)
+
+        def join() -> None:
+            (group / "cgroup.procs").write_text(str(os.getpid()))
+
+        self.processes.append(subprocess.Popen(words, preexec_fn=join, **options))
+        return self.processes[-1]
+
+    def runs(self, process: subprocess.Popen[bytes] | None) -> bool:
+        return process in self.processes and process is not None and process.poll() is None
+
+    def kill(self, unit: str = "") -> None:
+        """All processes of a unit, or of the computer, end at once."""
+        group = self.group / unit
+        if group.is_dir():
+            (group / "cgroup.kill").write_text("1")
+            while "populated 1" in (group / "cgroup.events").read_text():
+                time.sleep(0.005)
         for process in self.processes:
-            end_session(process, signal.SIGKILL)
-        self.processes.clear()
+            process.poll()
+        self.processes = [process for process in self.processes if process.poll() is None]
 
     def lose_power(self) -> None:
         """The disk is what was written to it so far, and nothing of what memory had for it."""
@@ -77,15 +109,13 @@ class Disk:
 
     def snapshot(self, to: Path) -> None:
         """A copy of the disk as it is, as a hypervisor makes it: processes stand still meanwhile."""
-        for process in self.processes:
-            signal_session(process, signal.SIGSTOP)
+        (self.group / "cgroup.freeze").write_text("1")
         run("fsfreeze", "--freeze", self.at)
         try:
             shutil.copy(self.image, to)
         finally:
             run("fsfreeze", "--unfreeze", self.at)
-            for process in self.processes:
-                signal_session(process, signal.SIGCONT)
+            (self.group / "cgroup.freeze").write_text("0")
 
     def set_back(self, snapshot: Path) -> None:
         """The computer goes on as it was then."""
@@ -124,23 +154,6 @@ class Disk:
     def remove(self) -> None:
         self.kill()
         self.unmount()
+        for each in [*(path for path in self.group.iterdir() if path.is_dir()), self.group]:
+            each.rmdir()
         shutil.rmtree(self.folder)
-
-
-def signal_session(process: subprocess.Popen[bytes], number: signal.Signals) -> None:
-    """Each process that was started here leads a session and a group of its own."""
-    try:
-        os.killpg(process.pid, number)
-    except ProcessLookupError:
-        pass
-
-
-def end_session(process: subprocess.Popen[bytes], number: signal.Signals) -> None:
-    signal_session(process, number)
-    process.wait(timeout=60)
-    for _ in range(200):                    # what it began has ended, too
-        try:
-            os.killpg(process.pid, number)
-        except ProcessLookupError:
-            return
-        time.sleep(0.01)

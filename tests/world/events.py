@@ -14,7 +14,7 @@ from pathlib import Path
 
 import preload
 from computers import HERE, PROGRAM, Collector, Machine
-from disks import Disk, end_session
+from disks import Disk
 from judge import Entry, acknowledged
 
 NAMES = ("web", "mail", "db-1")
@@ -98,9 +98,7 @@ class World:
     # Machines
 
     def machine_killed(self) -> None:
-        machine = self.any()
-        if machine.process:
-            machine.stop(signal.SIGKILL)
+        self.any().stop(signal.SIGKILL)
 
     def machine_child_killed(self) -> None:
         self.any().kill_a_child(self.dice)
@@ -243,12 +241,12 @@ class World:
     def collector_hostile(self) -> None:
         self.end_hostile()
         words = [str(self.collector.socket("evil")), str(self.dice.random()), *(str(each.ledger) for each in self.machines)]
-        self.hostile = subprocess.Popen([sys.executable, "-B", HERE / "hostile.py", *words], start_new_session=True,
-                                        stderr=subprocess.DEVNULL)
+        self.hostile = subprocess.Popen([sys.executable, "-B", HERE / "hostile.py", *words], stderr=subprocess.DEVNULL)
 
     def end_hostile(self) -> None:
         if self.hostile:
-            end_session(self.hostile, signal.SIGKILL)
+            self.hostile.kill()
+            self.hostile.wait()
         self.hostile = None
 
     # What events share

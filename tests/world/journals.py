@@ -3,12 +3,11 @@ from __future__ import annotations
 
 import json
 import random
-import signal
 import subprocess
 import time
 from pathlib import Path
 
-from disks import Disk, end_session
+from disks import Disk
 
 REMOTE = Path("/lib/systemd/systemd-journal-remote")
 TEXTS = ("ready", "größer", "tab\there", "=", "x" * 700, "two\nlines", "__CURSOR=s=1;i=2", "y" * 5_000)
@@ -35,11 +34,11 @@ class Journal:
 
     def write(self, text: bytes) -> None:
         """The writer ends if its disk is full, or its power went: another one is begun."""
-        if not self.writer or self.writer.poll() is not None or self.writer not in self.disk.processes:
-            self.writer = subprocess.Popen(
-                [REMOTE, "--output", self.present, "--split-mode=none", "--compress=no", "-"], stdin=subprocess.PIPE,
-                stdout=subprocess.DEVNULL, stderr=subprocess.DEVNULL, start_new_session=True)
-            self.disk.processes.append(self.writer)
+        if not self.disk.runs(self.writer):
+            self.writer = self.disk.begin(
+                "journal", [REMOTE, "--output", self.present, "--split-mode=none", "--compress=no", "-"],
+                stdin=subprocess.PIPE, stdout=subprocess.DEVNULL, stderr=subprocess.DEVNULL)
+        assert self.writer
         assert self.writer.stdin
         try:
             self.writer.stdin.write(text)
@@ -60,14 +59,13 @@ class Journal:
 
     def end(self) -> None:
         """The writer writes what it was given, and ends."""
-        if self.writer and self.writer in self.disk.processes:
+        if self.writer and self.disk.runs(self.writer):
             assert self.writer.stdin
             try:
                 self.writer.stdin.close()
                 self.writer.wait(timeout=60)
             except (BrokenPipeError, subprocess.TimeoutExpired):
-                end_session(self.writer, signal.SIGKILL)
-            self.disk.processes.remove(self.writer)
+                self.disk.kill("journal")
         self.writer = None
 
     def rotate(self) -> None:
