@@ -31,15 +31,14 @@ def settle(machine: Machine) -> None:
 @pytest.mark.parametrize("how", ["signal=KILL", "error=EIO", "error=ENOSPC"])
 @pytest.mark.parametrize("call", CALLS)
 def test_a_call_that_is_stopped(machine: Machine, collector: Collector, call: str, how: str) -> None:
-    if call == "fsync" and how != "signal=KILL" or call == "openat" and how != "signal=KILL":
-        how = "error=EIO"
+    """The sender is killed, or one of the programs that it began; or a call of the sender fails."""
     logged: list[Entry] = []
     log = machine.base / "strace"
     for number in range(1, 2_000, CALLS[call]):
         more = entries(f"call {number}", 2, begin=BEGIN + number * 60_000_000)
         logged += more
         write(machine.journal / "system.journal", more)
-        machine.send("--once", command=("strace", "-f", "-qq", "-o", log, f"--inject={call}:{how}:when={number}",
+        machine.send("--once", command=("strace", *(["-f"] if how == "signal=KILL" else []), "-qq", "-o", log, f"--inject={call}:{how}:when={number}",
                                         "/usr/bin/python3", "-IB", SEND))
         told = log.read_text()
         if "INJECTED" not in told and "killed by SIGKILL" not in told:

@@ -25,8 +25,12 @@ class Gathering:
         self.settings, self.report, self.places, self.outbox = settings, report, places, outbox
         self.whole = None if settings.leave_out_large else Whole(refused)
         self.journal = Journal(settings.journals.split(), settings.namespace, places.machines(journal.machine_id()))
-        if settings.since and not places.value("since"):
-            places.set(since=since.seconds(settings.since))
+        self.note_since()
+
+    def note_since(self) -> None:
+        """Looks up once when SINCE is."""
+        if self.settings.since and not self.places.value("since"):
+            self.places.set(since=since.seconds(self.settings.since))
 
     def gather(self, until: float) -> bool:
         """Gathers what is new, up to a time; whether there is more."""
@@ -59,6 +63,7 @@ class Gathering:
         if not listing.files:
             self.report.say(LOOK, f"no journal file can be read in {self.settings.journals}")
         elif not self.places.value("begun"):
+            self.note_since()
             self.places.move([self.places.first(file) for file in listing.files if file.id not in known])
             self.places.set(begun="yes")
             known = self.places.all()

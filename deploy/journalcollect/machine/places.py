@@ -83,7 +83,8 @@ class Places:
         try:
             self.open()
         except sqlite3.DatabaseError as error:
-            self.begin_anew(error)
+            if not self.mend(error):
+                raise
 
     def open(self) -> None:
         self.database = sqlite3.connect(self.path)
@@ -98,10 +99,10 @@ class Places:
         self.forks: list[tuple[str, int, str]] = self.rows(
             [str, int, str], "SELECT sequence, number, new FROM fork ORDER BY number, rowid")
 
-    def begin_anew(self, error: sqlite3.DatabaseError) -> None:
-        """Puts aside what can't be read; a failure that isn't the file's own goes on."""
+    def mend(self, error: sqlite3.DatabaseError) -> bool:
+        """Puts aside a file that isn't what was made here, and begins another; whether the error says that."""
         if getattr(error, "sqlite_errorcode", DAMAGED[0]) not in DAMAGED:
-            raise error
+            return False
         self.database.close()
         aside = self.path.with_name("places.damaged")
         os.replace(self.path, aside)
@@ -110,6 +111,7 @@ class Places:
         self.open()
         self.report.say(LOOK, f"{self.path} can't be used, and is kept as {aside.name}: {error}. What the journal has goes "
                         "out once more, and is stored once")
+        return True
 
     def rows(self, types: list[type], query: str) -> list[Any]:
         """The rows whose values are of these types: the file has no sums."""

@@ -1,6 +1,6 @@
 """journal-collect-send: what is new in this machine's journal goes to the collector.
 
-Whatever ends it at any moment, it goes on where it was: so it takes no notice of signals.
+Whatever ends it at any moment, the next one goes on where it was: so it takes no notice of signals.
 """
 import argparse
 import fcntl
@@ -14,77 +14,71 @@ from collections.abc import Callable
 from pathlib import Path
 
 from journalcollect.common import files, program
-from journalcollect.common.export_stream import Unfit
 from journalcollect.common.settings import Wrong
 from journalcollect.machine import settings, since
 from journalcollect.machine.gathering import Gathering
-from journalcollect.machine.link import Link, Lost
+from journalcollect.machine.link import Link
 from journalcollect.machine.outbox import Outbox
 from journalcollect.machine.places import Places
 from journalcollect.machine.refusals import Refusals
 from journalcollect.machine.refused import Refused
 from journalcollect.machine.report import BUSY, FAILED, FINE, LOOK, WRONG, Report
-from journalcollect.machine.sending import FIRST_PAUSE, LONGEST_PAUSE, Sending
+from journalcollect.machine.sending import FAILURES, FIRST_PAUSE, Sending
 from journalcollect.machine.settings import Settings
 
 # So often the journal's files are looked at, and looking takes such a part of a processor at most.
 LOOK_SECONDS, LOOK_PART = 1.0, 0.0005
-FAILURES = (OSError, program.Failed, Unfit, ValueError, sqlite3.Error)
 
 
 class Machine:
-    def __init__(self, chosen: Settings, report: Report, places: Places) -> None:
-        self.chosen, self.report, self.places = chosen, report, places
+    def __init__(self, chosen: Settings, report: Report) -> None:
         folder = Path(chosen.folder)
+        self.chosen, self.report, self.places = chosen, report, Places(folder, report)
+        report.note = self.places.tell
         refused = Refused(folder, chosen.folder_bytes, report)
         self.outbox = Outbox(folder, refused)
-        self.gathering = Gathering(chosen, report, places, self.outbox, refused)
-        self.sending = Sending(chosen, report, places, self.outbox, Refusals(places, self.outbox, refused, report))
-        self.has_more = True
-        self.gathers_at = self.pause = 0.0
+        self.gathering = Gathering(chosen, report, self.places, self.outbox, refused)
+        refusals = Refusals(self.places, self.outbox, refused, report)
+        self.sending = Sending(chosen, report, self.places, self.outbox, refusals)
+        self.has_more, self.gathers_at = True, 0.0
 
     def stay(self) -> None:
         """Gathers at most each EVERY_SECONDS, and as long; between that the outbox goes out."""
         while True:
-            begin = time.monotonic()
-            if self.is_due():
+            begin = time.process_time()
+            is_due, looked = self.is_due(), time.process_time() - begin
+            if is_due:
                 self.guarded(lambda: self.gather(self.chosen.every_seconds))
-            looked = time.monotonic() - begin
-            if not self.guarded(self.sending.send_next):
+            elif not self.guarded(self.sending.send_next):
                 self.sending.link.close_if_idle()
-                time.sleep(min(max(LOOK_SECONDS, looked / LOOK_PART), max(LOOK_SECONDS, self.chosen.every_seconds)))
+                time.sleep(max(LOOK_SECONDS, min(looked / LOOK_PART, self.chosen.every_seconds)))
 
     def is_due(self) -> bool:
-        """It is time to gather, and there is something new; what isn't gathered yet only waits for what goes out."""
-        is_time = time.monotonic() >= self.gathers_at or (self.has_more and not self.pause and self.sending.next() is None)
-        return is_time and (self.has_more or self.places.is_asked() or self.gathering.journal.has_news())
+        """It is time to gather, and there is something new. While nothing can go out, what isn't gathered is."""
+        is_new = self.has_more or self.places.is_asked() or self.gathering.journal.has_news()
+        return is_new and time.monotonic() >= self.gathers_at
 
     def gather(self, seconds: float) -> bool:
-        """Gathers for so long at most."""
-        self.has_more = True
+        """Gathers for so long at most, and takes answers that came by hand."""
+        self.has_more, self.gathers_at = True, time.monotonic() + FIRST_PAUSE
         if answers := self.places.value("answers"):
             self.sending.take_answers(answers)
             self.places.set(answers="")
         self.has_more = self.gathering.gather(time.monotonic() + seconds)
-        self.gathers_at = time.monotonic() + self.chosen.every_seconds
-        self.pause = 0.0
+        is_idle = self.has_more and self.sending.next() is None and not self.gathering.is_full()
+        self.gathers_at = time.monotonic() + (0 if is_idle else self.chosen.every_seconds)
         return True
 
     def guarded(self, step: Callable[[], bool]) -> bool:
-        """Whether a step did something. One that fails is tried again after a while, each time after twice as long."""
+        """Whether a step did something. One that fails is tried again after a while."""
         try:
             return step()
-        except sqlite3.DatabaseError as error:
-            self.fail(error)
-            self.places.begin_anew(error)
-        except FAILURES as error:
-            self.fail(error)
+        except (*FAILURES, sqlite3.Error) as error:
+            self.report.say(FAILED, f"failed, and is tried again: {error}")
+            self.sending.resumes = time.monotonic() + FIRST_PAUSE
+            if isinstance(error, sqlite3.DatabaseError):
+                self.places.mend(error)
         return False
-
-    def fail(self, error: Exception) -> None:
-        self.report.say(FAILED, f"failed: {error}")
-        self.pause = min(max(2 * self.pause, FIRST_PAUSE), LONGEST_PAUSE)
-        self.gathers_at = self.sending.resumes = time.monotonic() + self.pause
 
     def once(self) -> None:
         """Gathers all that is new, and sends it as far as that goes now."""
@@ -92,45 +86,40 @@ class Machine:
         while self.has_more and is_going:
             self.guarded(lambda: self.gather(math.inf))
             is_going = False
-            while self.report.status < FAILED and self.guarded(self.sending.send_next):
+            while self.guarded(self.sending.send_next):
                 is_going = True
         self.sending.link.close()
         if self.outbox.sizes:
             self.report.say(LOOK, f"{len(self.outbox.sizes)} uploads wait, with {self.outbox.bytes} bytes")
 
 
-def locked(folder: Path) -> int | None:
-    """A handle of the machine's folder, which one process at a time has for its own; None if another one has."""
+def locked(folder: Path) -> bool:
+    """Whether this process has the machine's folder for its own, as one at a time has."""
     os.umask(0o077)
     folder.mkdir(parents=True, exist_ok=True)
     files.sync(folder.parent)
-    handle = os.open(folder, os.O_RDONLY | os.O_DIRECTORY | os.O_CLOEXEC)
     try:
-        fcntl.flock(handle, fcntl.LOCK_EX | fcntl.LOCK_NB)
+        fcntl.flock(os.open(folder, os.O_RDONLY | os.O_DIRECTORY | os.O_CLOEXEC), fcntl.LOCK_EX | fcntl.LOCK_NB)
     except BlockingIOError:
-        os.close(handle)
-        return None
-    return handle
+        return False
+    return True
 
 
-def check(chosen: Settings, report: Report) -> None:
-    """Says nothing if the collector answers to this machine's key."""
+def check(chosen: Settings) -> None:
+    """Returns if the collector answers to this machine's key."""
+    program.version()
     link = Link(chosen)
-    try:
-        program.version()
-        link.open()
-        link.close()
-    except (Lost, OSError, program.Failed) as error:
-        report.say(FAILED, str(error))
+    link.open()
+    link.close()
 
 
-def ask(chosen: Settings, report: Report, again: str, answers: str) -> None:
-    """Notes what is asked for: who has the folder, or the next one, does it."""
+def note(chosen: Settings, report: Report, again: str, answers: str) -> None:
+    """Notes what is asked for: who has the folder does it, or the next one."""
     places = Places(Path(chosen.folder), report)
     if again:
         places.set(again=since.seconds(again))
     if answers:
-        text = Path(answers).read_text(encoding="ascii", errors="replace") if answers != "-" else sys.stdin.read()
+        text = sys.stdin.read() if answers == "-" else Path(answers).read_text(encoding="ascii", errors="replace")
         places.set(answers=places.value("answers") + text)
     report.say(FINE, "noted: the sender does it within seconds, or once it runs")
 
@@ -138,21 +127,19 @@ def ask(chosen: Settings, report: Report, again: str, answers: str) -> None:
 def run(words: argparse.Namespace, report: Report) -> None:
     chosen = settings.read()
     if words.check:
-        check(chosen, report)
+        check(chosen)
         return
-    folder = Path(chosen.folder)
-    handle = locked(folder)
-    if words.again or words.answers:
-        ask(chosen, report, words.again, words.answers)
-    if handle is None:
-        if words.once or not (words.again or words.answers):
-            report.say(BUSY, "another one is running")
+    is_free, is_asked = locked(Path(chosen.folder)), bool(words.again or words.answers)
+    if is_asked:
+        note(chosen, report, words.again, words.answers)
+    if is_asked and not words.once:
         return
-    if words.once or not (words.again or words.answers):
-        places = Places(folder, report)
-        report.note = places.tell
-        machine = Machine(chosen, report, places)
-        machine.once() if words.once else machine.stay()
+    if not is_free:
+        report.say(BUSY, "another one is running")
+    elif words.once:
+        Machine(chosen, report).once()
+    else:
+        Machine(chosen, report).stay()
 
 
 def main() -> int:
@@ -171,6 +158,6 @@ def main() -> int:
         run(words, report)
     except Wrong as fault:
         report.say(WRONG, str(fault))
-    except FAILURES as error:
+    except (*FAILURES, sqlite3.Error) as error:
         report.say(FAILED, str(error))
     return report.status

@@ -9,6 +9,7 @@ import random
 import time
 
 from journalcollect.common import program
+from journalcollect.common.export_stream import Unfit
 from journalcollect.common.protocol import LONGEST_LINE, Answer, Greeting, Had, Known, Put, Reply, Upload, Verdict
 from journalcollect.machine.link import Link, Lost
 from journalcollect.machine.outbox import Outbox, pieces_in
@@ -25,6 +26,8 @@ FIRST_PAUSE, LONGEST_PAUSE = 5.0, 60.0
 # The collector notes for longer than this what it stored, whatever it keeps.
 HAD_SECONDS = 7 * 86_400
 SKEW_SECONDS = 60
+# What may pass, and is told and tried again.
+FAILURES = (OSError, program.Failed, Unfit, ValueError)
 
 
 class Sending:
@@ -47,9 +50,13 @@ class Sending:
     def send_next(self) -> bool:
         """Sends an upload, if one is to go out now."""
         number = self.next()
-        if number is not None:
+        if number is None:
+            return False
+        try:
             self.send(number)
-        return number is not None
+        except FAILURES as error:
+            self.rest(number, f"sending failed: {error}", FAILED)
+        return True
 
     def send(self, number: int) -> None:
         bound = self.places.bound(self.settings.upload_bytes)
