@@ -25,7 +25,7 @@ class Told(NamedTuple):
 
 def built(source: str, folder: str) -> str:
     """The library of a source, compiled into a folder. No other compiler, linker or header is needed."""
-    toolchain = os.path.join(os.path.dirname(os.path.realpath(shutil.which("rt"))), "..", "toolchain", "bin")
+    toolchain = os.path.join(os.path.dirname(os.path.realpath(shutil.which("rt") or "")), "..", "toolchain", "bin")
     library = os.path.join(folder, os.path.basename(source) + ".so")
     options = ["-fuse-ld=lld", "-O1", "-fPIC", "-shared", "-nostdlib", "-fno-builtin", "-Wall", "-Werror"]
     subprocess.run([os.path.join(toolchain, "clang"), *options, "-o", library, source], check=True)

@@ -49,13 +49,16 @@ def calm(world: World) -> list[str]:
 
 
 def not_at_rest(world: World, machine: Machine) -> str:
-    end = time.monotonic() + PATIENCE
+    """Nothing of it, if it sends all; what it says, if for a while nothing more was acknowledged."""
+    count, end = 0, 0.0
     while True:
+        if (now := len(list(machine.ledger.iterdir()))) > count:
+            count, end = now, time.monotonic() + PATIENCE
         world.collector.start()
         told = machine.once()
         if told.returncode == 0:
             return ""
-        if time.monotonic() > end:
+        if time.monotonic() > (end or (end := time.monotonic() + PATIENCE)):
             return (told.stdout + told.stderr)[-300:].decode(errors="replace")
         time.sleep(0.5)
 

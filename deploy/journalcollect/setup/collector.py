@@ -62,7 +62,7 @@ def folders(deeds: Deeds, etc: Path) -> None:
     state = Path("/var/lib/journal-collect")
     deeds.folder(state, 0o751, "journal-collect", "journal-collect-read")
     deeds.folder(state / "sockets", 0o710, "journal-collect", LOGIN)
-    deeds.folder(state / "journals", 0o2750, "journal-collect", "journal-collect-read")
+    deeds.folder(state / "journals", 0o750, "journal-collect", "journal-collect-read")
     if not (etc / "authorized_keys").exists():
         deeds.say(f"writes {etc / 'authorized_keys'}")
         if not deeds.is_rehearsal:

@@ -14,7 +14,9 @@ from pathlib import Path
 
 from journalcollect.common import names, settings
 from journalcollect.setup import keys
-from journalcollect.setup.deeds import Deeds, Stopped, as_root, fail, is_true, output, told
+from journalcollect.setup.deeds import Deeds, Stopped, as_root, fail, is_true, output
+from journalcollect.status import machine
+from journalcollect.status.findings import Findings
 
 USER = "journal-collect-send"
 SERVICE = "journal-collect-send.service"
@@ -137,12 +139,14 @@ class Joining:
         return self.known.exists() and is_true("runuser", "-u", USER, "--", SEND, "--check")
 
     def tell(self) -> int:
-        """The last line: it sends, or what is to be done."""
-        end = time.monotonic() + (PATIENCE if self.via else 5.0)
+        """The last line: something was acknowledged, or what is to be done."""
+        end = time.monotonic() + PATIENCE
         while not self.reaches():
-            if time.monotonic() > end:
+            if not self.via or time.monotonic() > end:
                 return self.tell_what_to_do()
             time.sleep(1.0)
+        while not machine.look(time.time(), Findings()).acknowledged and time.monotonic() < end:
+            time.sleep(0.5)
         if not self.deeds.count:
             print("nothing was to do")
         print(f"{self.name} sends to {self.host}")
