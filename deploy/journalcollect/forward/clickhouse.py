@@ -6,6 +6,7 @@ import socket
 import threading
 from contextlib import suppress
 from dataclasses import dataclass
+from typing import Any
 from urllib.parse import urlencode
 
 from . import settings
@@ -58,6 +59,7 @@ class ClickHouse:
         host, port = parts.hostname or "", parts.port
         self.connection = http.client.HTTPSConnection(host, port, timeout=self.seconds, context=context) if context \
             else http.client.HTTPConnection(host, port, timeout=self.seconds)
+        self.used: Any = None
         self.insert = "/?" + urlencode({"query": f"INSERT INTO {self.table} FORMAT JSONEachRow", **STRICT})
 
     def look(self) -> None:
@@ -90,7 +92,10 @@ class ClickHouse:
         timer = threading.Timer(self.seconds, self.cut, [is_late])
         timer.start()
         try:
-            return self.exchange(target, body)
+            answer = self.exchange(target, body)
+            if is_late.is_set():
+                raise TimeoutError("what came is cut")
+            return answer
         except (OSError, http.client.HTTPException) as error:
             self.connection.close()
             reason = f"no answer within {self.seconds:g} s" if is_late.is_set() else str(error) or type(error).__name__
@@ -100,14 +105,17 @@ class ClickHouse:
             timer.cancel()
 
     def cut(self, is_late: threading.Event) -> None:
+        """Ends what is under way. The connection forgets its socket when an answer has no length."""
         is_late.set()
-        if sock := self.connection.sock:
+        for used in {self.used, self.connection.sock} - {None}:
             with suppress(OSError):
-                sock.shutdown(socket.SHUT_RDWR)
+                used.shutdown(socket.SHUT_RDWR)
 
     def exchange(self, target: str, body: bytes) -> Answer:
         # It may have closed the connection while nothing was under way.
         self.connection.close()
+        self.connection.connect()
+        self.used = self.connection.sock
         try:
             self.connection.request("POST", self.path + target, body, self.headers)
         except (BrokenPipeError, ConnectionResetError):
