@@ -46,7 +46,7 @@ class Machine:
 
     def __init__(self, path: Path) -> None:
         self.socket = socket.socket(socket.AF_UNIX)
-        self.socket.settimeout(120)
+        self.socket.settimeout(300)
         self.socket.connect(str(path))
         self.file = self.socket.makefile("rb")
         self.greeting = self.line()
@@ -125,7 +125,7 @@ class Collector:
         self.process.wait()
 
     def connect(self, name: str) -> Machine:
-        path, end = self.folder / "sockets" / name, time.monotonic() + 30
+        path, end = self.folder / "sockets" / name, time.monotonic() + 120
         while True:
             try:
                 return Machine(path)

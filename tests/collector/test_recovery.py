@@ -176,7 +176,7 @@ def test_a_copy_by_hard_links_of_an_unfinished_database_stays_as_it_is(collector
 def test_a_full_disk_is_told_later_and_nothing_is_lost(collector: Collector) -> None:
     begun(collector)
     assert collector.stop() == 0
-    collector.values["FREE_BYTES"] = str(1 << 60)
+    collector.values["FREE_BYTES"] = str(10**17)
     collector.start()
     answer = collector.send("web", upload(entries(A, range(1, 5)), 4))
     assert answer.startswith("later only ")

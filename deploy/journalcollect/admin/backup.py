@@ -54,7 +54,7 @@ def forms(folder: Path, name: str) -> list[Path]:
 def is_whole(path: Path, digest: str) -> bool:
     """Whether a database, packed or not, is what it was when it was finished."""
     try:
-        found = databases.unpacked_digest(path) if path.suffix == ".zst" else databases.digest_of(path)
+        found = databases.unpacked_digest(path) if ".zst" in path.suffixes else databases.digest_of(path)
     except databases.Damaged:
         return False
     return found == digest

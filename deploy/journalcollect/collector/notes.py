@@ -123,11 +123,11 @@ class Notes:
         try:
             with databases.unpacked(self.folder, database) as copy:
                 ended = program.run(*program.collecting(self.folder.sequences, copy, 0, "/dev/null")[1:])
+            said = ended.stderr.decode(errors="replace").strip() if ended.returncode else ""
         except Damaged as error:
-            self.state.tell(f"damaged {database}", str(error))
-            return
-        if ended.returncode:
-            said = ended.stderr.decode(errors="replace").strip()
+            said = str(error)
+        if said:
+            self.state.stands(database, "damaged")
             self.state.tell(f"damaged {database}", f"{database} can't be noted: {said}: restore it from a backup")
 
     def of_database(self, name: str) -> list[Name]:

@@ -173,7 +173,12 @@ class Store(threading.Thread):
         except Ended as ended:
             self.state.tell("program", f"{ended}: what it was storing is taken up")
             self.end_present()
+            for each in group:
+                if each.path and not each.reply.done():
+                    each.path = each.path.rename(self.folder.scratch / f"{time.monotonic_ns()}-{each.path.name}")
             self.take_up()
+            with self.notes:
+                self.recovery.mend(str(ended))
             return ended
         return None
 
@@ -194,9 +199,13 @@ class Store(threading.Thread):
 
     def give_name(self, upload: Waiting, database: str) -> bool:
         """Gives an upload a name that none had, as which it can be stored once more. Whether it has one."""
-        upload.path = self.folder.recent / database / f"{next(self.numbers):09}.{upload.machine}"
+        path = self.folder.recent / database / f"{next(self.numbers):09}.{upload.machine}"
         try:
-            files.link(upload.handle, upload.path)
+            if upload.path:
+                upload.path.rename(path)
+            else:
+                files.link(upload.handle, path)
+            upload.path = path
         except OSError as error:
             upload.put(Verdict.LATER, f"the disk of the collector: {error.strerror}")
             return False

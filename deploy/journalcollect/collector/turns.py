@@ -23,6 +23,8 @@ class Waiting:
 
     def put(self, verdict: Verdict, why: str) -> None:
         """It isn't stored."""
+        if self.path:
+            self.path.unlink(missing_ok=True)
         self.reply.set_result(Put(verdict, why))
 
 
