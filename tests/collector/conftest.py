@@ -87,7 +87,6 @@ class Collector:
         self.log = folder / "log"
         self.program = PROGRAM
         self.under: list[str] = []
-        self.remote = "/nonexistent"                    # what makes journal files
 
     def admit(self, *names: str) -> None:
         for name in names:
@@ -97,7 +96,7 @@ class Collector:
         (self.settings / "collector.conf.d").mkdir(exist_ok=True)
         text = "".join(f"{name}={value}\n" for name, value in self.values.items())
         (self.settings / "collector.conf.d" / "10-test.conf").write_text(text)
-        return {**os.environ, "JOURNAL_COLLECT_REMOTE": self.remote, "JOURNAL_COLLECT": str(self.program),
+        return {**os.environ, "JOURNAL_COLLECT": str(self.program),
                 "JOURNAL_COLLECT_SETTINGS": str(self.settings)}
 
     def start(self) -> None:

@@ -83,12 +83,10 @@ def test_a_finished_database_is_packed_once_journal_files_are_made(
         collector: Collector, tmp_path: Path) -> None:
     if not Path("/lib/systemd/systemd-journal-remote").exists():
         pytest.skip("there is no systemd-journal-remote")
-    collector.values["PACK_DAYS"] = "0"
     collector.admit("web")
     stored_by_a_run(collector, range(1, 400))
     [path] = collector.databases()
-    assert not path.with_name(path.name + ".zst").exists()
-    collector.remote = "/lib/systemd/systemd-journal-remote"
+    collector.values["PACK_DAYS"] = "0"
     packed = path.with_name(path.name + ".zst")
     collector.start()
     with contextlib.suppress(AssertionError):

@@ -1,1 +1,1 @@
-"""What people do on the collector: commands, of which most have the service do something; backup and restore."""
+"""What people do on the collector: commands, the socket by which most have the service do something, and backups."""

@@ -15,10 +15,10 @@ from pathlib import Path
 
 from ..collector import databases
 from ..collector.notes import Notes
-from ..collector.operations import No
 from ..collector.settings import Folder
 from ..collector.state import State
 from ..common import files
+from .operations import No
 
 
 def make(folder: Folder, to: Path) -> Iterator[str]:

@@ -10,13 +10,13 @@ from collections.abc import Iterator
 from pathlib import Path
 from typing import Any
 
-from ..collector.operations import No
 from ..collector.settings import Folder, Settings
 from ..collector.settings import read as read_settings
 from ..common import files, names, program, settings
 from ..reading import making
 from ..setup import keys
 from . import backup
+from .operations import No
 
 JOURNAL_FILE, FILE_ID = b"LPKSHHRH", slice(24, 40)
 # What a name of a command has for its words, and what it does.

@@ -129,7 +129,7 @@ def delete(folder: Folder, name: str) -> None:
 def pack(path: Path, digest: str) -> int:
     """Packs a finished database, once what is packed reads as it was finished; how many bytes it takes then."""
     packed, new = beside(path, ".zst"), beside(path, ".zst.new")
-    subprocess.run(["nice", "-n", "19", "zstd", "-qf", "-6", "-T1", "-o", new, path], check=True)
+    subprocess.run(["zstd", "-qf", "-6", "-T1", "-o", new, path], check=True)
     if unpacked_digest(new) != digest:
         new.unlink()
         raise Damaged(f"{path} isn't as it was finished")

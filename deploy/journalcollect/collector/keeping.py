@@ -1,6 +1,5 @@
 """What is done now and then beside storing: old databases go, and finished ones are packed and looked at."""
 import os
-import shutil
 import subprocess
 import threading
 import time
@@ -16,7 +15,6 @@ from .store import Store
 ROUND_SECONDS = 30.0
 # A look at a database is followed by so many times as long of rest: all takes a fourth of a processor at most.
 REST = 3.0
-RECENT_SECONDS = 3600.0
 
 
 class Keeping(threading.Thread):
@@ -50,7 +48,6 @@ class Keeping(threading.Thread):
                 self.pack(age.days)
             finally:
                 os.close(lock)
-        self.clear_recent()
         if int(age.days) != self.notes_day:
             self.notes_day = int(age.days)
             self.mend_notes(REST)
@@ -77,13 +74,6 @@ class Keeping(threading.Thread):
             self.state.stands(name, "deleted")
             databases.delete(self.folder, name)
         log(f"deleted: {name}, {why}")
-
-    def clear_recent(self) -> None:
-        """Uploads of databases that were finished long ago go, though nobody that reads removed them."""
-        for folder in self.folder.recent.iterdir():
-            if self.state.ask("SELECT 1 FROM database WHERE name = ? AND finished < ?", folder.name,
-                              time.time() - RECENT_SECONDS):
-                shutil.rmtree(folder, ignore_errors=True)
 
     def pack(self, age: float) -> None:
         """Finished databases are packed PACK_DAYS after, once journal files are made of them."""

@@ -3,18 +3,17 @@
 What a stop or a failure left is taken up here. All of it is called while no process of the program stores.
 """
 import hashlib
-import shutil
 import threading
 import time
 from pathlib import Path
-from typing import Protocol
 
 from ..common import files, names, program
+from ..reading.present import Present
 from . import databases
 from .databases import Damaged
 from .notes import Notes
 from .process import WINDOW, Process
-from .settings import KEYS, Folder, Settings
+from .settings import KEYS, Settings
 from .state import State, log
 
 TRIES = 5
@@ -25,31 +24,11 @@ class Unrecovered(Exception):
     """A database can't be taken up now: nothing is stored until it is."""
 
 
-class Reader(Protocol):
-    """Whoever shows what is stored: it is told of each upload that is, and of each finished database, whose recent
-    uploads it removes once it doesn't need them."""
-    def feed(self, upload: Path, /) -> None: ...
-    def turn(self, database: str, /) -> None: ...
-
-
-class NoReader:
-    """Nobody reads."""
-
-    def __init__(self, folder: Folder) -> None:
-        self.folder = folder
-
-    def feed(self, upload: Path, /) -> None:
-        pass
-
-    def turn(self, database: str, /) -> None:
-        shutil.rmtree(self.folder.recent / database, ignore_errors=True)
-
-
 class Recovery:
     """Seals, takes up, and sets aside."""
 
-    def __init__(self, settings: Settings, state: State, lock: int, reader: Reader) -> None:
-        self.settings, self.state, self.lock, self.reader = settings, state, lock, reader
+    def __init__(self, settings: Settings, state: State, lock: int, present: Present) -> None:
+        self.settings, self.state, self.lock, self.present = settings, state, lock, present
         self.folder, self.stops = state.folder, threading.Event()
         self.notes = Notes(state, self.stops)
 
@@ -61,7 +40,7 @@ class Recovery:
             databases.delete(self.folder, path.stem)
         else:
             self.adopt(path.stem, databases.finish(path))
-        self.reader.turn(path.stem)
+        self.present.turn(path.stem)
 
     def adopt(self, name: str, digest: str, is_alone: bool = True) -> None:
         """A database that has its digest is known from now on. If no other one is there that isn't finished, the notes
@@ -185,5 +164,5 @@ class Recovery:
             if folder.name in quarantined:
                 uploads += self.uploads(folder.name)
             else:
-                self.reader.turn(folder.name)
+                self.present.turn(folder.name)
         return uploads

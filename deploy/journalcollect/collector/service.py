@@ -9,18 +9,17 @@ from pathlib import Path
 
 import journalcollect
 
+from ..admin.door import Door
+from ..admin.operations import Operations
 from ..common import program
 from ..common.settings import Wrong
 from ..reading.present import Present
-from ..reading.remote import REMOTE
 from . import settings
-from .admin_door import AdminDoor
 from .connection import Connection
 from .doors import Doors
 from .gate import Gate
 from .keeping import Keeping
-from .operations import Operations
-from .recovery import NoReader, Recovery
+from .recovery import Recovery
 from .settings import Folder, Settings
 from .state import State, log
 from .store import Store
@@ -36,8 +35,8 @@ class Service:
         self.folder = Folder(Path(chosen.folder))
         self.folder.make()
         self.state = State(self.folder)
-        self.present = Present(self.folder.path, log, chosen.read_keys) if REMOTE.exists() else None
-        self.store = Store(chosen, Recovery(chosen, self.state, lock, self.present or NoReader(self.folder)))
+        self.present = Present(self.folder.path, log, chosen.read_keys)
+        self.store = Store(chosen, Recovery(chosen, self.state, lock, self.present))
         self.stops, self.gate = self.store.stops, Gate(chosen, self.state)
         self.keeping = Keeping(chosen, self.store)
 
@@ -48,11 +47,10 @@ class Service:
         signal.signal(signal.SIGHUP, lambda *_: self.store.is_asked_to_finish.set())
         threading.stack_size(STACK)
         doors = Doors(self.folder, self.gate)
-        if self.present:
-            self.present.start()
+        self.present.start()
         self.store.start()
         self.keeping.start()
-        AdminDoor(Operations(self.store, self.keeping, self.gate)).start()
+        Door(Operations(self.store, self.keeping, self.gate)).start()
         flushed = time.monotonic()
         while not self.stops.is_set():
             for machine, one in doors.came(1.0):
@@ -67,8 +65,7 @@ class Service:
         doors.close()
         self.store.stop()
         self.state.flush()
-        if self.present:
-            self.present.stop()
+        self.present.stop()
 
 
 def main() -> int:

@@ -1,6 +1,7 @@
 """The store: one thread that has the present database, and stores what waits, in turns."""
 import collections
 import os
+import shutil
 import threading
 import time
 from collections.abc import Callable, Iterator
@@ -111,7 +112,8 @@ class Store(threading.Thread):
             self.close()
             log(f"{len(uploads)} uploads are stored again")
         for folder in {path.parent for _, path in uploads}:
-            self.recovery.reader.turn(folder.name)
+            self.recovery.present.turn(folder.name)
+            shutil.rmtree(folder, ignore_errors=True)
 
     def fail(self, group: list[Waiting], why: str) -> None:
         """Those that wait are told to come again, and so are all that come for some seconds."""
@@ -216,7 +218,7 @@ class Store(threading.Thread):
         """What was answered is on the disk: whatever else fails costs no answer."""
         assert upload.path
         if answer.new:
-            self.recovery.reader.feed(upload.path)
+            self.recovery.present.feed(upload.path)
         else:
             upload.path.unlink(missing_ok=True)
             self.recent_bytes -= upload.size

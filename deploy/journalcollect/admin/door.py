@@ -10,14 +10,14 @@ import threading
 import time
 from collections.abc import Iterator
 
-from .doors import bind
+from ..collector.doors import bind
+from ..collector.state import log
 from .operations import No, Operations
-from .state import log
 
 LONGEST = 1 << 16
 
 
-class AdminDoor(threading.Thread):
+class Door(threading.Thread):
     """Listens for commands, each in a thread of its own."""
 
     def __init__(self, operations: Operations) -> None:

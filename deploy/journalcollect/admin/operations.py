@@ -9,13 +9,13 @@ from typing import Any
 
 import journalcollect
 
+from ..collector import databases
+from ..collector.gate import Gate
+from ..collector.keeping import Keeping
+from ..collector.store import Store
+from ..collector.turns import Waiting
 from ..common import files, names, program
 from ..common.protocol import HEX_ID
-from . import databases
-from .gate import Gate
-from .keeping import Keeping
-from .store import Store
-from .turns import Waiting
 
 PIECE = 1 << 20
 LIBRARY = Path(__file__).resolve().parents[2]
