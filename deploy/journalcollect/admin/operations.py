@@ -140,8 +140,8 @@ class Operations:
 
     def journals(self) -> Iterator[str]:
         """All journal files are made anew of the databases."""
-        making = subprocess.run([sys.executable, "-B", "-m", "journalcollect.reading.making", "--anew", self.folder.path],
-                                cwd=LIBRARY, capture_output=True, text=True, check=False)
+        words = ["-m", "journalcollect.reading.making", "--anew", str(self.folder.path)]
+        making = subprocess.run([sys.executable, "-B", *words], cwd=LIBRARY, capture_output=True, text=True)
         if making.returncode:
             raise No(making.stderr.strip())
         yield "journal files are made anew"

@@ -96,10 +96,18 @@ class Keeping(threading.Thread):
 
     def mend_notes(self, rest: float = 0.0) -> list[str]:
         """Makes notes anew that aren't what they were; which. Done once a day of the collector."""
+        self.look_at_owners()
         bad = sorted({*self.notes.short(), *self.notes.changed(rest)})
         if bad:
             self.store.alone(lambda: self.notes.make_anew(bad, "it isn't as it was"))
         return [f"{sequence}/{window}" for sequence, window in bad]
+
+    def look_at_owners(self) -> None:
+        """Whose a sequence is stands in its notes alone, and can't be made anew: the next that comes has it."""
+        known = dict(self.state.ask("SELECT id, machine FROM sequence GROUP BY id HAVING count(*) = 1"))
+        if gone := sorted(known.keys() - program.owners(self.folder.sequences).keys()):
+            self.state.tell("owners", f"whose sequences are isn't noted any more, as {known[gone[0]]}'s {gone[0]}, of "
+                            f"{len(gone)}: {self.folder.sequences} was damaged: put it back from a backup")
 
     def check_databases(self, last: float) -> None:
         """Looks at each database that wasn't looked at since an age."""

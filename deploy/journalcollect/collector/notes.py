@@ -96,9 +96,13 @@ class Notes:
         """Windows that aren't as they were are put aside, and made anew of the databases that were noted in them. If it
         is stopped, the next start finds them short."""
         wanted: dict[int, str] = {}
-        names = list(names)
+        names = sorted(names)
+        if names:
+            others = f", and so are {len(names) - 1} others" if len(names) > 1 else ""
+            first = self.path(*names[0])
+            self.state.tell(f"notes {first}", f"{first}: {why}: it is put aside, and made anew of the databases{others}")
         for name in names:
-            self.put_aside(*name, why)
+            self.put_aside(self.path(*name))
             for number, database in self.state.ask(
                     "SELECT database.id, name FROM noted JOIN database ON database.id BETWEEN noted.first AND "
                     "noted.last WHERE sequence = ? AND window = ? AND standing = 'finished'", *name):
@@ -112,11 +116,9 @@ class Notes:
             self.state.ask("UPDATE noted SET notes = ?, sum = ? WHERE sequence = ? AND window = ?", notes,
                            self.measured(*name, notes).sum, *name)
 
-    def put_aside(self, sequence: str, window: int, why: str) -> None:
-        path = self.path(sequence, window)
-        self.state.tell(f"notes {sequence}/{window}", f"{path}: {why}: it is put aside, and made anew of the databases")
+    def put_aside(self, path: Path) -> None:
         if path.is_symlink() or path.exists():
-            files.move(path, self.folder.quarantine / f"notes-{sequence}-{window}-{time.time_ns()}")
+            files.move(path, self.folder.quarantine / f"notes-{path.parent.name}-{path.name}-{time.time_ns()}")
 
     def note(self, database: str) -> None:
         """Notes what a finished database has, and isn't noted."""
@@ -147,5 +149,6 @@ class Notes:
                 for path in folder.iterdir():
                     path.unlink()
                 folder.rmdir()
+                self.state.ask("DELETE FROM sequence WHERE id = ?", sequence)
         if old:
             log(f"notes of {len(old)} windows went, their days are over")

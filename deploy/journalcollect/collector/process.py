@@ -83,9 +83,10 @@ class Process:
     def line(self) -> str:
         """The next line that it says."""
         assert self.process.stdout
-        end = time.monotonic() + PATIENCE
+        end, poll = time.monotonic() + PATIENCE, select.poll()
+        poll.register(self.process.stdout, select.POLLIN)
         while b"\n" not in self.output:
-            if not select.select([self.process.stdout], [], [], max(0.0, end - time.monotonic()))[0]:
+            if not poll.poll(max(0.0, end - time.monotonic()) * 1000):
                 raise Ended(f"{self.path.name}: no answer for {PATIENCE:.0f} s")
             piece = os.read(self.process.stdout.fileno(), 1 << 16)
             if not piece:
@@ -97,7 +98,7 @@ class Process:
     def ended(self, why: str) -> Ended:
         """What is to be said of a process that failed; it is ended, if it isn't yet."""
         with contextlib.suppress(subprocess.TimeoutExpired):
-            self.process.wait(1.0)
+            self.process.wait(0.3)
         status = self.process.returncode
         return Ended(f"{self.path.name}: {why}: {self.said() or f'status {status}'}", max(0, -(status or 0)))
 

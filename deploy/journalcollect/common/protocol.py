@@ -1,7 +1,8 @@
 """The lines that a machine and the collector's service say to each other over the machine's socket: version 1.
 
-The service greets. Then the machine asks, `had` or `upload` with its bytes behind it, and each question has one line for
-an answer, in turn. Lines are ASCII, end with a line feed and have at most 200 bytes. What `str` gives is without that.
+The service greets. Then the machine asks, `had` or `upload` with its bytes behind it, and each question has one line
+for an answer, in turn. Lines are ASCII, end with a line feed and have at most 200 bytes. What `str` gives is without
+that.
 """
 import enum
 import re
@@ -99,7 +100,7 @@ class Put:
 
 @dataclass(frozen=True)
 class Answer:
-    """The program's own line about an upload, `ack ..` or `no ..`. What it means, `journal-collect acknowledged` says."""
+    """The program's line about an upload, `ack ..` or `no ..`: `journal-collect acknowledged` says what it means."""
     line: str
 
     def __str__(self) -> str:

@@ -34,7 +34,7 @@ def read(folder: Path, kind: type[S]) -> S:
 
 
 def assignments(path: Path) -> Iterator[tuple[int, str, str]]:
-    """The number of each line that sets something, the name and the value. Empty lines and those with `#` set nothing."""
+    """The number of each line that sets something, the name and the value. Empty lines, and those with `#`, don't."""
     try:
         lines = path.read_text(encoding="utf-8").splitlines()
     except (OSError, UnicodeDecodeError) as error:
