@@ -51,8 +51,8 @@ class Collector:
 
     def begin(self) -> subprocess.Popen[bytes]:
         if self.program is None:
-            self.program = subprocess.Popen([PROGRAM, "collect", "--sequences", self.folder / "sequences", "--tables", "3",
-                                             "--files-from", "-", self.database], stdin=subprocess.PIPE,
+            words = ["collect", "--sequences", self.folder / "sequences", "--tables", "3", "--files-from", "-"]
+            self.program = subprocess.Popen([PROGRAM, *words, self.database], stdin=subprocess.PIPE,
                                             stdout=subprocess.PIPE, bufsize=0)
         return self.program
 
@@ -125,7 +125,8 @@ class Collector:
         self.finish()
         found = []
         for number in range(self.databases):
-            told = subprocess.run([PROGRAM, "show", self.folder / f"{number}.db"], capture_output=True, text=True, check=True)
+            told = subprocess.run([PROGRAM, "show", self.folder / f"{number}.db"], capture_output=True, text=True,
+                                  check=True)
             for line in told.stdout.splitlines():
                 sequence, seqnum, _, _, message = line.split(" ", 4)
                 found.append((sequence, int(seqnum), message.strip()))

@@ -18,6 +18,10 @@ from journals import MACHINE_ID  # noqa: E402
 SEND = ROOT / "deploy/programs/journal-collect-send"
 
 
+Command = tuple[str | Path, ...]
+SENDER: Command = ("/usr/bin/python3", "-IB", SEND)
+
+
 class Machine:
     def __init__(self, folder: Path, connect: str) -> None:
         self.base = folder
@@ -36,11 +40,11 @@ class Machine:
         folder.mkdir(parents=True, exist_ok=True)
         (folder / "10-test.conf").write_text("".join(f"{name}={value}\n" for name, value in self.settings.items()))
 
-    def begin(self, *words: str, command: tuple[str | Path, ...] = ("/usr/bin/python3", "-IB", SEND)) -> subprocess.Popen[str]:
+    def begin(self, *words: str, command: Command = SENDER) -> subprocess.Popen[str]:
         self.write_settings()
         return subprocess.Popen([*command, *words], env=self.environment, stderr=subprocess.PIPE, text=True)
 
-    def send(self, *words: str, command: tuple[str | Path, ...] = ("/usr/bin/python3", "-IB", SEND)) -> int:
+    def send(self, *words: str, command: Command = SENDER) -> int:
         """One run; its status."""
         process = self.begin(*(words or ("--once",)), command=command)
         self.said = process.communicate(timeout=120)[1]

@@ -1,5 +1,5 @@
-"""losing_power.py FOLDER STOP WORD..: runs the sender, which is killed before its step STOP. FOLDER then has what of the
-outbox was on the disk: each file as it was when it was synced last, and the names that a folder had when it was.
+"""losing_power.py FOLDER STOP WORD..: runs the sender, which is killed before its step STOP. FOLDER then has what of
+the outbox was on the disk: each file as it was when it was synced last, and the names that a folder had when it was.
 
 A step is a file that is opened for writing, moved or removed, a sync, a program that is begun, or a use of SQLite.
 """
@@ -23,7 +23,8 @@ def step() -> None:
 
 
 def look(event: str, arguments: tuple[object, ...]) -> None:
-    if event in EVENTS or (event == "open" and isinstance(arguments[2], int) and arguments[2] & (os.O_WRONLY | os.O_RDWR)):
+    flags = arguments[2] if event == "open" else None
+    if event in EVENTS or (isinstance(flags, int) and flags & (os.O_WRONLY | os.O_RDWR)):
         step()
 
 

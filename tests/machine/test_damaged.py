@@ -1,4 +1,4 @@
-"""Journal files that are damaged, and entries that are odd or large: what can be read of them comes, the rest is told."""
+"""Journal files that are damaged, and odd or large entries: what can be read of them comes, the rest is said."""
 import gzip
 import os
 import re
@@ -46,7 +46,8 @@ def test_all_layouts(machine: Machine, collector: Collector) -> None:
     assert numbers(collector) == sorted([1, 2, 3, 4, 5, 6] * 6)
     keys = set()
     for path in machine.journal.iterdir():
-        shown = subprocess.run(["journalctl", "-q", "-o", "export", f"--file={path}"], capture_output=True, check=True).stdout
+        shown = subprocess.run(["journalctl", "-q", "-o", "export", f"--file={path}"], capture_output=True,
+                               check=True).stdout
         keys |= set(re.findall(rb"^__CURSOR=s=([0-9a-f]+);i=([0-9a-f]+)", shown, re.MULTILINE))
     assert {(sequence, number) for sequence, number, _ in collector.stored()} == \
         {(sequence.decode(), int(number, 16)) for sequence, number in keys}
@@ -162,7 +163,8 @@ def test_an_entry_over_a_limit(machine: Machine, collector: Collector, keeps: st
     machine.set(LEAVE_OUT_LARGE=keeps)
     large = Entry("large", BEGIN + 500_000, {"COREDUMP": b"\0" * (20 << 20), "UNIT": "a.service"})
     long = Entry("x" * (20 << 20), BEGIN + 600_000)
-    write(machine.journal / "system.journal", [*entries("one", 1), large, long, *entries("two", 1, begin=BEGIN + 1_000_000)])
+    two = entries("two", 1, begin=BEGIN + 1_000_000)
+    write(machine.journal / "system.journal", [*entries("one", 1), large, long, *two])
     assert machine.send() == 0 and "over a limit" in machine.said
     stored = sorted((number, message) for _, number, message in collector.stored())
     assert stored == [(1, "one 0"), (2, "large"), (3, "x" * 2_048), (4, "two 0")]

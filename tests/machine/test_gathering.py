@@ -5,7 +5,7 @@ from pathlib import Path
 
 from collector import Collector
 from conftest import Machine
-from journals import MACHINE_ID, Entry, entries, offsets, write
+from journals import BEGIN, MACHINE_ID, Entry, entries, offsets, write
 
 
 def texts(logged: list[Entry]) -> list[str]:
@@ -71,7 +71,8 @@ def test_many_files_go_in_few_uploads(machine: Machine, collector: Collector) ->
 def test_a_file_that_is_set_back_goes_once_more(machine: Machine, collector: Collector) -> None:
     """The file alone is set back, and goes on with other entries: these go on in a fork."""
     path = machine.journal / "system.journal"
-    old, mine, other = entries("old", 3), entries("lost", 3, begin=1_700_000_100_000_000), entries("new", 4, begin=1_700_000_200_000_000)
+    old, mine = entries("old", 3), entries("lost", 3, BEGIN + 100_000_000)
+    other = entries("new", 4, BEGIN + 200_000_000)
     write(path, old)
     shutil.copy(path, machine.base / "snapshot")
     write(path, mine)

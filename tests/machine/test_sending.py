@@ -119,7 +119,8 @@ def test_a_key_that_is_taken(machine: Machine, collector: Collector) -> None:
     own = next(sequence for sequence, _, message in stored if message == "six 3")
     assert [(sequence == own, number) for sequence, number, message in sorted(stored) if message.startswith("one")
             and sequence == own] == [(True, 1), (True, 2), (True, 3), (True, 5)]
-    assert sorted((number, message) for sequence, number, message in stored if sequence != own) == [(4, "one 3"), (5, "one 4")]
+    forked = sorted((number, message) for sequence, number, message in stored if sequence != own)
+    assert forked == [(4, "one 3"), (5, "one 4")]
 
 
 def test_a_sequence_of_another_machine(machine: Machine, collector: Collector) -> None:
@@ -183,7 +184,11 @@ def test_a_collector_that_was_restored(machine: Machine, collector: Collector) -
     assert [line for line in collector.heard if line.startswith("had")] == []
     write(machine.journal / "system.journal", entries("two", 1, begin=BEGIN + 1_000_000_000))
     asked: list[tuple[str, int]] = []
-    collector.knows = lambda sequence, number: asked.append((sequence, number)) or len(asked) > 1  # type: ignore[func-returns-value]
+
+    def knows(sequence: str, number: int) -> bool:
+        asked.append((sequence, number))
+        return len(asked) > 1
+    collector.knows = knows
     assert machine.send() == 1 and "lost" in machine.said
     assert machine.send() == 0, machine.said
     assert [number for _, number in asked] == [4, 5]
@@ -251,7 +256,7 @@ def test_what_check_says(machine: Machine, tmp_path: Path) -> None:
     assert machine.send("--check") == 0 and machine.said == ""
     for said, reason in (("Host key verification failed.", "the collector's host key isn't the one in"),
                          ("u@h: Permission denied (publickey).", "doesn't take this machine's key"),
-                         ("nc: /run/x: No such file or directory", "its service doesn't run"),
+                         ("nc.openbsd: /run/x: No such file or directory", "its service doesn't run"),
                          ("ssh: connect to host h port 22: Connection refused", "Connection refused")):
         machine.set(CONNECT=f"sh -c 'echo \"{said}\" >&2; exit 255'")
         assert machine.send("--check") == 3

@@ -11,8 +11,9 @@ from journals import BEGIN, Entry, entries, write
 from test_sending import rest
 
 # Each call is stopped if it is set; else some of them.
-STEP = 1 if os.environ.get("STOPS") == "all" else 7
-CALLS = {"write": 1, "pwrite64": STEP, "fsync": 1, "fdatasync": 1, "rename": 1, "unlink": 1, "ftruncate": 1, "openat": 9 * STEP}
+STEP = 1 if os.environ.get("STOPS") == "all" else 11
+CALLS = {"write": 1, "pwrite64": STEP, "fsync": 1, "fdatasync": 1, "rename": 1, "unlink": 1, "ftruncate": 1,
+         "openat": 9 * STEP}
 
 
 def settle(machine: Machine) -> None:
@@ -32,14 +33,16 @@ def settle(machine: Machine) -> None:
 @pytest.mark.parametrize("call", CALLS)
 def test_a_call_that_is_stopped(machine: Machine, collector: Collector, call: str, how: str) -> None:
     """The sender is killed, or one of the programs that it began; or a call of the sender fails."""
+    if call == "openat" and how != "signal=KILL":
+        pytest.skip("Python's own files are opened, too")
     logged: list[Entry] = []
     log = machine.base / "strace"
     for number in range(1, 2_000, CALLS[call]):
         more = entries(f"call {number}", 2, begin=BEGIN + number * 60_000_000)
         logged += more
         write(machine.journal / "system.journal", more)
-        machine.send("--once", command=("strace", *(["-f"] if how == "signal=KILL" else []), "-qq", "-o", log, f"--inject={call}:{how}:when={number}",
-                                        "/usr/bin/python3", "-IB", SEND))
+        machine.send("--once", command=("strace", *(["-f"] if how == "signal=KILL" else []), "-qq", "-o", log,
+                                        f"--inject={call}:{how}:when={number}", "/usr/bin/python3", "-IB", SEND))
         told = log.read_text()
         if "INJECTED" not in told and "killed by SIGKILL" not in told:
             break
@@ -61,7 +64,8 @@ def test_power_that_is_lost(machine: Machine, collector: Collector) -> None:
         write(machine.journal / "system.journal", more)
         shutil.rmtree(shadow, ignore_errors=True)
         machine.set(CONNECT="false" if stop % 2 else connect)
-        status = machine.send("--once", command=("/usr/bin/python3", "-IB", Path(losing_power.__file__), shadow, str(stop)))
+        command = ("/usr/bin/python3", "-IB", Path(losing_power.__file__), shadow, str(stop))
+        status = machine.send("--once", command=command)
         if status >= 0:
             break
         if machine.folder.exists() and (machine.folder / "outbox").exists():

@@ -19,9 +19,9 @@ LEFT_OUT = b"_JOURNAL_COLLECT_LEFT_OUT"
 # The bytes of a field that is short, and of a message's beginning; how many fields are kept of each sort.
 SHORT, BEGINNING = 4_096, 2_048
 METADATA, TRUSTED, KNOWN, OTHERS = 16, 128, 64, 64
-KNOWN_NAMES = frozenset((b"MESSAGE", b"MESSAGE_ID", b"PRIORITY", b"SYSLOG_IDENTIFIER", b"SYSLOG_FACILITY", b"SYSLOG_PID",
-                         b"CODE_FILE", b"CODE_LINE", b"CODE_FUNC", b"ERRNO", b"UNIT", b"USER_UNIT", b"COREDUMP_EXE",
-                         b"COREDUMP_PID", b"COREDUMP_UID", b"COREDUMP_SIGNAL", b"COREDUMP_COMM", b"COREDUMP_UNIT"))
+KNOWN_NAMES = frozenset((b"MESSAGE", b"MESSAGE_ID", b"PRIORITY", b"SYSLOG_IDENTIFIER", b"SYSLOG_FACILITY",
+                         b"SYSLOG_PID", b"CODE_FILE", b"CODE_LINE", b"CODE_FUNC", b"ERRNO", b"UNIT", b"USER_UNIT",
+                         b"COREDUMP_EXE", b"COREDUMP_PID", b"COREDUMP_UID", b"COREDUMP_SIGNAL", b"COREDUMP_COMM", b"COREDUMP_UNIT"))
 # So many names are told of those that are left out.
 PLAIN, MOST_NAMES = frozenset(b"ABCDEFGHIJKLMNOPQRSTUVWXYZ0123456789_"), 8
 
@@ -84,7 +84,8 @@ class Entry:
         self.counted += 0 if self.is_metadata else length
         # Metadata aren't counted, but they take memory as all else does.
         self.bytes += length
-        if not self.is_large and (is_over or self.fields > FIELDS or self.counted > ENTRY or self.bytes > ENTRY + VALUE):
+        is_over = is_over or self.fields > FIELDS or self.counted > ENTRY or self.bytes > ENTRY + VALUE
+        if is_over and not self.is_large:
             self.shorten()
 
     def add(self, piece: bytes) -> None:

@@ -10,13 +10,13 @@ import time
 
 from journalcollect.common.export_stream import Unfit
 from journalcollect.common.fit import Entry
-from journalcollect.machine import journal, since
-from journalcollect.machine.journal import Journal, JournalFile, Listing, Reading
+from journalcollect.machine import journal
+from journalcollect.machine.journal import Journal, JournalFile, Reading
 from journalcollect.machine.outbox import Making, Outbox, Piece
 from journalcollect.machine.places import Place, Places
 from journalcollect.machine.refused import Refused, Whole
 from journalcollect.machine.report import FINE, LOOK, Report
-from journalcollect.machine.settings import Settings
+from journalcollect.machine.settings import Settings, seconds
 from journalcollect.machine.unreadable import Unreadable, next_readable
 
 
@@ -24,13 +24,8 @@ class Gathering:
     def __init__(self, settings: Settings, report: Report, places: Places, outbox: Outbox, refused: Refused) -> None:
         self.settings, self.report, self.places, self.outbox = settings, report, places, outbox
         self.whole = None if settings.leave_out_large else Whole(refused)
-        self.journal = Journal(settings.journals.split(), settings.namespace, places.machines(journal.machine_id()))
-        self.note_since()
-
-    def note_since(self) -> None:
-        """Looks up once when SINCE is."""
-        if self.settings.since and not self.places.value("since"):
-            self.places.set(since=since.seconds(self.settings.since))
+        self.journal = Journal(settings.journals.split(), settings.namespace)
+        self.since = places.value("since") or (seconds(settings.since) if settings.since else "")
 
     def gather(self, until: float) -> bool:
         """Gathers what is new, up to a time; whether there is more."""
@@ -40,50 +35,50 @@ class Gathering:
         self.moves: dict[str, Place] = {}
         if again := self.places.value("again"):
             self.places.go_back(again)
-        files, known = self.files()
-        for file in files:
+        known = self.look()
+        for file in self.journal.files:
             if self.is_late:
                 break
-            place = known.get(file.id) or self.places.first(file)
+            place = known.get(file.id) or Place.first(file, "")
             if (place.tail, place.is_archived) != (file.tail, file.is_archived) or self.is_other(file, place):
                 self.gather_path(file, place)
         self.put()
         return self.is_late
 
-    def files(self) -> tuple[list[JournalFile], dict[str, Place]]:
-        """The files, and the places of those that have one. All of the first list begin at the time of SINCE."""
-        listing, known = self.journal.listed(), self.places.all()
-        if listing.unread or self.gone(listing, known):
+    def look(self) -> dict[str, Place]:
+        """Lists the files; the places of those that have one. All of the first list begin at the time of SINCE."""
+        known, machines = self.places.all(), self.places.machines(journal.MACHINE_ID.read_text().strip())
+        self.journal.list_files(machines)
+        if self.journal.unread or self.gone(known):
             # while folders were looked through one may have been made, or got another name
-            before, listing = listing.unread, self.journal.listed()
-            for each in sorted(before & listing.unread):
+            before = self.journal.unread
+            self.journal.list_files(machines)
+            for each in sorted(before & self.journal.unread):
                 self.report.say(LOOK, f"a file of the journal can't be read: {each}")
-        if not listing.unread:
-            self.tell_gaps(listing, self.gone(listing, known))
-        if not listing.files:
+        if not self.journal.unread:
+            self.tell_gaps(self.gone(known))
+        if not self.journal.files:
             self.report.say(LOOK, f"no journal file can be read in {self.settings.journals}")
         elif not self.places.value("begun"):
-            self.note_since()
-            self.places.move([self.places.first(file) for file in listing.files if file.id not in known])
-            self.places.set(begun="yes")
+            self.places.move([Place.first(file, self.since) for file in self.journal.files if file.id not in known])
+            self.places.set(begun="yes", since=self.since)
             known = self.places.all()
-        return listing.files, known
+        return known
 
     # Files that are gone
 
-    @staticmethod
-    def gone(listing: Listing, known: dict[str, Place]) -> list[Place]:
-        ids = {file.id for file in listing.files}
+    def gone(self, known: dict[str, Place]) -> list[Place]:
+        ids = {file.id for file in self.journal.files}
         return [place for place in known.values() if place.file not in ids]
 
-    def tell_gaps(self, listing: Listing, gone: list[Place]) -> None:
+    def tell_gaps(self, gone: list[Place]) -> None:
         """Says which files are gone before they were read to their end, and forgets all that are gone. If the next file
         of its kind begins with the very next number, there was nothing more in one."""
-        heads = {(file.sequence, file.kind, file.head) for file in listing.files}
+        heads = {(file.sequence, file.kind, file.head) for file in self.journal.files}
         for place in gone:
             if not place.is_archived and (place.sequence, place.kind, place.number + 1) not in heads:
-                self.report.say(LOOK, "a gap: journald removed a file that wasn't gathered to its end, and perhaps others "
-                                f"after it: {place.kind}, cursor {place.cursor or '-'}")
+                self.report.say(LOOK, "a gap: journald removed a file that wasn't gathered to its end, and perhaps "
+                                f"others after it: {place.kind}, cursor {place.cursor or '-'}")
         self.places.forget(gone)
 
     # One file
@@ -143,8 +138,8 @@ class Gathering:
         """journalctl may pass over a damaged entry without a word. The file's header knows how many there are."""
         unseen = file.entries - place.count if place.count >= 0 else 0
         if unseen > 0:
-            self.report.say(LOOK, f"left out, for journalctl doesn't show them: {unseen} of the entries of {file.path}, "
-                            f"after {first or 'its beginning'} and up to {place.cursor or 'its end'}")
+            self.report.say(LOOK, f"left out, for journalctl doesn't show them: {unseen} of the entries of "
+                            f"{file.path}, after {first or 'its beginning'} and up to {place.cursor or 'its end'}")
             place.see(unseen)
 
     @staticmethod
@@ -171,8 +166,8 @@ class Gathering:
                         return True
                     continue
                 if self.is_stepping and place.count < 0 and number > place.number + 1:
-                    self.report.say(LOOK, f"left out, for journalctl can't read it: what is between {place.cursor or '-'} and "
-                                    f"{cursor}")
+                    self.report.say(LOOK, f"left out, for journalctl can't read it: what is behind "
+                                    f"{place.cursor or '-'} and before {cursor}")
                 self.is_stepping = False
                 if not self.add(self.piece(entry, sequence, number)):
                     break
@@ -185,7 +180,7 @@ class Gathering:
     def piece(self, entry: Entry, sequence: str, number: int) -> Piece:
         """The entry as it goes out."""
         new = self.places.forked(sequence, number)
-        piece = Piece.of(entry, new, number, new != sequence)
+        piece = Piece.of(entry, new if new != sequence else None)
         if entry.is_large:
             kept = self.whole.keep(piece.name) if self.whole else ""
             self.report.say(FINE, f"over a limit, and goes out without what makes it so: {piece.name}{kept}")
@@ -216,8 +211,9 @@ class Gathering:
 
     def is_full(self) -> bool:
         """There is no room for more; journald keeps what isn't gathered, as long as it can."""
-        is_full = bool(self.outbox.sizes) and self.outbox.bytes + self.settings.upload_bytes > self.settings.folder_bytes
+        used, most = self.outbox.bytes, self.settings.folder_bytes
+        is_full = used > 0 and used + self.settings.upload_bytes > most
         if is_full:
-            self.report.say(LOOK, f"paused: {self.outbox.bytes} bytes wait in {self.outbox.folder}; what isn't gathered is "
-                            "in the journal, as long as journald keeps it")
+            self.report.say(LOOK, f"paused: {used} bytes wait in {self.outbox.folder}, and FOLDER_BYTES is {most}; "
+                            "what isn't gathered is in the journal, as long as journald keeps it")
         return is_full

@@ -9,10 +9,9 @@ import os
 import re
 import subprocess
 import time
-from collections.abc import Callable, Iterable, Iterator
-from dataclasses import dataclass, field
+from collections.abc import Callable, Iterator
+from dataclasses import dataclass
 from io import BufferedReader
-from itertools import takewhile
 from pathlib import Path
 from typing import cast
 
@@ -42,14 +41,7 @@ class JournalFile:
     @property
     def kind(self) -> str:
         """`system`, or the user whose it is, in its folder."""
-        return f"{self.path.parent.name}/" + "".join(takewhile(lambda each: each not in "@.", self.path.name))
-
-
-def machine_id() -> str:
-    try:
-        return MACHINE_ID.read_text(encoding="ascii").strip()
-    except (OSError, UnicodeDecodeError):
-        return "-"
+        return f"{self.path.parent.name}/{re.split('[@.]', self.path.name)[0]}"
 
 
 def read_header(path: Path, handle: int) -> JournalFile:
@@ -111,52 +103,46 @@ class Reading:
             self.said = self.errors.read().decode(errors="replace").strip()
 
 
-@dataclass
-class Listing:
-    """The journal's files, those that are written to first, and then the oldest. It isn't whole if some are `unread`."""
-    files: list[JournalFile] = field(default_factory=list)
-    unread: set[str] = field(default_factory=set)
-    folders: dict[Path, int] = field(default_factory=dict)
-    made: float = -LISTED_SECONDS
-
-
 class Journal:
-    """`machines` are the ids that this machine had: after it got another one its older files lie where they were."""
+    """The files, those that are written to first and then the oldest, as they were listed last; the list isn't whole if
+    some are `unread`."""
 
-    def __init__(self, journals: list[str], namespace: str, machines: Iterable[str]) -> None:
-        self.journals, self.namespace = [Path(each) for each in journals], namespace
-        wanted = r"(\..+)?" if namespace == "*" else re.escape(f".{namespace}" if namespace else "")
-        self.own = re.compile(f"({'|'.join(map(re.escape, machines))}){wanted}")
-        self.listing = Listing()
+    def __init__(self, journals: list[str], namespace: str) -> None:
+        self.journals = [Path(each) for each in journals]
+        self.wanted = r"(\..+)?" if namespace == "*" else re.escape(f".{namespace}" if namespace else "")
+        self.files: list[JournalFile] = []
+        self.unread: set[str] = set()
+        self.folders: dict[Path, int] = {}
+        self.made = -LISTED_SECONDS
 
-    def listed(self) -> Listing:
-        """The files as they are now."""
-        self.listing = listing = Listing(made=time.monotonic())
+    def list_files(self, machines: list[str]) -> None:
+        """`machines` are the ids that this machine had: the files of an earlier one lie where they were."""
+        own = re.compile(f"({'|'.join(map(re.escape, machines))}){self.wanted}")
+        self.made, self.unread, self.folders = time.monotonic(), set(), {}
         found: dict[str, JournalFile] = {}
         for journal in self.journals:
-            for folder in (journal, *(journal / each for each in self.names_in(journal) if self.own.fullmatch(each))):
+            for folder in (journal, *(journal / each for each in self.names_in(journal) if own.fullmatch(each))):
                 for name in self.names_in(folder):
                     if name.endswith((".journal", ".journal~")):
                         self.take(folder / name, found)
-        listing.files = sorted(found.values(), key=lambda file: (
+        self.files = sorted(found.values(), key=lambda file: (
             file.is_archived, file.head_realtime if file.is_archived else 0, file.sequence, file.head))
-        return listing
 
     def names_in(self, folder: Path) -> list[str]:
-        self.listing.folders[folder] = changed_at(folder)
+        self.folders[folder] = changed_at(folder)
         try:
             return os.listdir(folder)
         except FileNotFoundError:
             pass
         except OSError as error:
-            self.listing.unread.add(f"{folder}: {error.strerror}")
+            self.unread.add(f"{folder}: {error.strerror}")
         return []
 
     def take(self, path: Path, found: dict[str, JournalFile]) -> None:
         try:
             file = looked_at(path)
         except (OSError, ValueError) as error:
-            self.listing.unread.add(f"{path}: {getattr(error, 'strerror', error)}")
+            self.unread.add(f"{path}: {getattr(error, 'strerror', error)}")
             return
         # Of a file and a copy of it the one counts that went on.
         if file.id not in found or file.tail > found[file.id].tail:
@@ -164,10 +150,9 @@ class Journal:
 
     def has_news(self) -> bool:
         """Something is other than it was in the last list."""
-        seconds = UNREAD_SECONDS if self.listing.unread else LISTED_SECONDS
-        return (time.monotonic() - self.listing.made >= seconds
-                or any(changed_at(path) != before for path, before in self.listing.folders.items())
-                or any(has_changed(file) for file in self.listing.files if not file.is_archived))
+        return (time.monotonic() - self.made >= (UNREAD_SECONDS if self.unread else LISTED_SECONDS)
+                or any(changed_at(path) != before for path, before in self.folders.items())
+                or any(has_changed(file) for file in self.files if not file.is_archived))
 
 
 def has_changed(file: JournalFile) -> bool:

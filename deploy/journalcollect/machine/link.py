@@ -1,28 +1,31 @@
-"""The connection to the collector, whose other end is this machine's socket there. It stays while it carries something."""
+"""The connection to the collector, whose other end is this machine's socket there."""
 import os
 import select
 import shlex
+import socket
 import subprocess
 import time
-from typing import BinaryIO
+from pathlib import Path
 
 from journalcollect.common import protocol
+from journalcollect.common.settings import FOLDER
 from journalcollect.machine.settings import Settings
 
+KEY, KNOWN_HOSTS = FOLDER / "key", FOLDER / "known_hosts"
 LOGIN = "journal-collect-login"
-OPTIONS = ("BatchMode=yes", "ConnectTimeout=20", "ServerAliveInterval=15", "ServerAliveCountMax=4", "IdentitiesOnly=yes",
-           "StrictHostKeyChecking=yes", "ControlPath=none")
+OPTIONS = ("BatchMode=yes", "ConnectTimeout=20", "ServerAliveInterval=15", "ServerAliveCountMax=4",
+           "IdentitiesOnly=yes", "StrictHostKeyChecking=yes", "ControlPath=none")
 # ssh itself sees within a minute that the other side is gone; a collector that is busy may take longer to answer.
 PATIENCE = 300.0
 PIECE = 1 << 16
 # What ssh or the collector's side says, and what it means.
 REASONS = (
-    ("Host key verification failed", "the collector's host key isn't the one in {known_hosts}: compare them before you "
-     "change that file; this machine's own key plays no part"),
-    ("Permission denied", "the collector doesn't take this machine's key: admit {key}.pub there"),
-    ("Load key", "this machine's key {key} can't be read"),
-    ("not accessible", "this machine's key {key} can't be read"),
-    ("nc: ", "the collector's sshd takes this machine's key, and its service doesn't run, or doesn't know this machine"),
+    ("Host key verification failed", f"the collector's host key isn't the one in {KNOWN_HOSTS}: compare them before "
+     "you change that file; this machine's own key plays no part"),
+    ("Permission denied", f"the collector doesn't take this machine's key: admit {KEY}.pub there"),
+    ("Load key", f"this machine's key {KEY} can't be read"),
+    ("not accessible", f"this machine's key {KEY} can't be read"),
+    ("nc.openbsd: ", "the collector's sshd takes this machine's key, and its service doesn't run"),
 )
 
 
@@ -41,33 +44,30 @@ def command(settings: Settings) -> list[str]:
     user, at, rest = settings.collector.rpartition("@")
     host, colon, port = rest.rpartition(":")
     has_port = bool(colon) and port.isdigit() and ":" not in host
-    options = [*OPTIONS, f"UserKnownHostsFile={settings.known_hosts}", *([f"Port={port}"] if has_port else [])]
-    return ["ssh", "-T", "-i", str(settings.key), *(word for option in options for word in ("-o", option)),
+    options = [*OPTIONS, f"UserKnownHostsFile={KNOWN_HOSTS}", *([f"Port={port}"] if has_port else [])]
+    return ["ssh", "-T", "-i", str(KEY), *(word for option in options for word in ("-o", option)),
             f"{user if at else LOGIN}@{host if has_port else rest}"]
 
 
 class Link:
     def __init__(self, settings: Settings) -> None:
-        self.settings = settings
+        self.settings, self.used = settings, 0.0
         self.process: subprocess.Popen[bytes] | None = None
-        self.used = 0.0
 
     @property
     def is_open(self) -> bool:
         """There is a connection that hasn't ended: the other side says nothing unless it is asked."""
-        if self.process and self.process.stdout and select.select([self.process.stdout], [], [], 0)[0]:
+        if self.process and select.select([self.socket], [], [], 0)[0]:
             self.close()
         return self.process is not None
 
     def open(self) -> protocol.Greeting:
-        self.errors: BinaryIO = open(os.memfd_create("errors"), "w+b")
-        try:
-            self.process = subprocess.Popen(command(self.settings), stdin=subprocess.PIPE, stdout=subprocess.PIPE,
-                                            stderr=self.errors, bufsize=0)
-        except OSError as error:
-            raise Lost(f"the collector can't be reached: {error}") from None
-        assert self.process.stdin
-        os.set_blocking(self.process.stdin.fileno(), False)
+        self.errors = os.memfd_create("errors")
+        self.socket, theirs = socket.socketpair()
+        self.socket.setblocking(False)
+        with theirs:
+            self.process = subprocess.Popen(command(self.settings), stdin=theirs.fileno(), stdout=theirs.fileno(),
+                                            stderr=self.errors)
         try:
             return protocol.Greeting.parse(self.line(b""))
         except protocol.NotALine as error:
@@ -82,22 +82,20 @@ class Link:
 
     def line(self, data: bytes) -> str:
         """Sends some bytes and reads a line. If that came before all were sent, no more are read there."""
-        assert self.process and self.process.stdin and self.process.stdout
-        into, out, left, line = self.process.stdin.fileno(), self.process.stdout.fileno(), memoryview(data), b""
+        left, line = memoryview(data), b""
         while not line.endswith(b"\n"):
-            ready, free, _ = select.select([out], [into] if left else [], [], PATIENCE)
+            ready, free, _ = select.select([self.socket], [self.socket] if left else [], [], PATIENCE)
             try:
                 if ready:
-                    piece = os.read(out, protocol.LONGEST_LINE + 1 - len(line))
-                    if not piece:
-                        raise self.lost("the connection ended", len(data) - len(left))
+                    if not (piece := self.socket.recv(protocol.LONGEST_LINE + 1 - len(line))):
+                        raise ConnectionError("the connection ended")
                     line += piece
                 elif free:
-                    left = left[os.write(into, left[:PIECE]):]
+                    left = left[self.socket.send(left[:PIECE]):]
                 else:
-                    raise self.lost(f"nothing came for {PATIENCE:.0f} s", len(data) - len(left))
-            except BrokenPipeError:
-                raise self.lost("the connection ended", len(data) - len(left)) from None
+                    raise TimeoutError(f"nothing came for {PATIENCE:.0f} s")
+            except OSError as error:
+                raise self.lost(error.strerror or str(error), len(data) - len(left)) from None
         self.used = time.monotonic()
         if left:
             self.close()
@@ -105,26 +103,24 @@ class Link:
 
     def lost(self, why: str, went_out: int = 0) -> Lost:
         """Closes the connection; why it was of no use."""
-        self.close()
-        said = self.said.strip().splitlines()
-        known = [text for sign, text in REASONS if sign in self.said]
-        told = [known[0].format(key=self.settings.key, known_hosts=self.settings.known_hosts)] if known else [why]
-        return Lost(": ".join(["no connection to the collector", *told, *said[-1:]]), went_out)
+        said = self.close()
+        told = [text for sign, text in REASONS if sign in said][:1] or [why]
+        return Lost(": ".join(["no connection to the collector", *told, *said.strip().splitlines()[-1:]]), went_out)
 
-    def close(self) -> None:
+    def close(self) -> str:
+        """What was said on its standard error."""
         process, self.process = self.process, None
-        if process:
-            assert process.stdin and process.stdout
-            process.stdin.close()
-            process.stdout.close()
-            try:
-                process.wait(1)
-            except subprocess.TimeoutExpired:
-                process.kill()
-                process.wait()
-            self.errors.seek(0)
-            with self.errors:
-                self.said = self.errors.read(1 << 16).decode(errors="replace")
+        if not process:
+            return ""
+        self.socket.close()
+        try:
+            process.wait(1)
+        except subprocess.TimeoutExpired:
+            process.kill()
+            process.wait()
+        said = Path(f"/proc/self/fd/{self.errors}").read_text(errors="replace")
+        os.close(self.errors)
+        return said
 
     def close_if_idle(self) -> None:
         if self.process and time.monotonic() - self.used >= self.settings.idle_seconds:

@@ -9,7 +9,7 @@ import time
 from collections.abc import Iterable
 from dataclasses import dataclass
 from io import BytesIO
-from itertools import groupby
+from itertools import accumulate, groupby
 from pathlib import Path
 
 from journalcollect.common import files, program
@@ -30,8 +30,10 @@ class Piece:
     text: bytes
 
     @classmethod
-    def of(cls, entry: Entry, sequence: str, number: int, is_other: bool) -> "Piece":
-        return cls(sequence, number, entry.text(sequence.encode() if is_other else None))
+    def of(cls, entry: Entry, sequence: str | None = None) -> "Piece":
+        """The entry, perhaps in another sequence."""
+        own, number = entry.key()
+        return cls(sequence or own.decode("ascii"), int(number), entry.text(sequence.encode() if sequence else None))
 
     @property
     def name(self) -> str:
@@ -40,17 +42,13 @@ class Piece:
     def entry(self) -> Entry:
         return next(entries(BytesIO(self.text)))
 
-    def under(self, sequence: str) -> "Piece":
-        """The same entry in another sequence."""
-        return self if sequence == self.sequence else self.of(self.entry(), sequence, self.number, True)
-
     def shortened(self) -> "Piece | None":
         """What goes out in its place where it is too large; None if that is what it is."""
         entry = self.entry()
         if entry.was_shortened:
             return None
         entry.shorten()
-        return self.of(entry, self.sequence, self.number, False)
+        return self.of(entry)
 
 
 def pieces_in(data: bytes) -> tuple[list[Piece], bytes]:
@@ -60,13 +58,18 @@ def pieces_in(data: bytes) -> tuple[list[Piece], bytes]:
     body.seek(end)
     try:
         for entry in entries(body):
-            sequence, number = entry.key()
-            text = data[end:HEADER_BYTES + entry.end]
+            (sequence, number), text = entry.key(), data[end:HEADER_BYTES + entry.end]
             pieces.append(Piece(sequence.decode("ascii"), int(number), text))
-            end = HEADER_BYTES + entry.end
+            end += len(text)
     except (Unfit, ValueError):
         pass
     return pieces, data[end:]
+
+
+def at_byte(pieces: list[Piece], place: int) -> int:
+    """Which of the entries has a byte of all their text; the last one if none has."""
+    ends = accumulate(len(piece.text) for piece in pieces)
+    return min(sum(end <= place for end in ends), len(pieces) - 1)
 
 
 class Outbox:
@@ -78,8 +81,9 @@ class Outbox:
 
     def look(self) -> None:
         """Which uploads there are."""
-        self.sizes: dict[int, int] = {int(each.stem): files.size(each) for each in self.folder.iterdir()
-                      if each.suffix == ".upload" and each.stem.isascii() and each.stem.isdigit()}
+        self.sizes: dict[int, int] = {
+            int(each.stem): files.size(each) for each in self.folder.iterdir()
+            if each.suffix == ".upload" and each.stem.isascii() and each.stem.isdigit()}
 
     def path(self, number: int) -> Path:
         return self.folder / f"{number}.upload"
@@ -89,8 +93,8 @@ class Outbox:
         return sum(self.sizes.values())
 
     def put(self, pieces: list[Piece]) -> list[int]:
-        """Makes an upload of some entries of one sequence. One that the program can't take is kept for a person, and the
-        others go out. The numbers of what was made: none, or one."""
+        """Makes an upload of some entries of one sequence. One that the program can't take is kept for a person, and
+        the others go out. The numbers of what was made: none, or one."""
         stream, new = self.folder / "stream", self.folder / "new"
         pieces = list(pieces)
         while pieces:
@@ -101,7 +105,8 @@ class Outbox:
                     program.upload(stream, os.urandom(16).hex(), out.fileno())
                     os.fsync(out.fileno())
             except program.Bad as bad:
-                self.leave_out(pieces, bad)
+                piece = pieces.pop(at_byte(pieces, bad.place))
+                self.refused.put(piece.name, piece.text, f"an entry can't be taken (code {bad.code})")
                 continue
             number = max(time.time_ns() // 1_000, max(self.sizes, default=0) + 1)
             size = files.size(new)
@@ -110,41 +115,29 @@ class Outbox:
             return [number]
         return []
 
-    def leave_out(self, pieces: list[Piece], bad: program.Bad) -> None:
-        """Takes the entry with this byte of the stream out of them."""
-        end = 0
-        for at, piece in enumerate(pieces):
-            end += len(piece.text)
-            if bad.place < end or at == len(pieces) - 1:
-                self.refused.put(piece.name, piece.text, f"an entry can't be taken (code {bad.code})")
-                del pieces[at]
-                return
-
     def pieces(self, number: int) -> list[Piece]:
         """The entries of an upload. What can't be followed of it, as after damage, is kept for a person."""
         pieces, rest = pieces_in(self.path(number).read_bytes())
         if rest:
-            self.refused.put(f"{number}.damaged", rest, f"the end of {self.path(number)} is damaged, and `--again` sends "
-                             "what the journal has of it")
+            self.refused.put(f"{number}.damaged", rest, f"the end of {self.path(number)} is damaged, and `--again` "
+                             "sends what the journal has of it")
         return pieces
 
     def replace(self, number: int, groups: Iterable[list[Piece]]) -> None:
-        """Others take an upload's place, one for each group and sequence: whatever stops it, it is there or they are."""
+        """Others take an upload's place, one for each group and sequence: whatever stops it, it or they are there."""
         for group in groups:
             for _, pieces in groupby(group, lambda piece: piece.sequence):
                 self.put(list(pieces))
         self.remove(number)
 
-    def halve(self, number: int, pieces: list[Piece]) -> None:
-        """Two uploads of about the same size take its place; it has more than one entry."""
-        half, at, size = sum(len(piece.text) for piece in pieces) // 2, 1, len(pieces[0].text)
-        while at < len(pieces) - 1 and size < half:
-            at, size = at + 1, size + len(pieces[at].text)
-        self.replace(number, [pieces[:at], pieces[at:]])
-
-    def cut(self, number: int, most: int) -> None:
+    def cut(self, number: int, pieces: list[Piece], most: int) -> None:
         """Uploads of at most so many bytes, or of one entry, take its place."""
-        self.replace(number, parted(self.pieces(number), most))
+        parts = [Making(most)]
+        for piece in pieces:
+            if not parts[-1].fits(piece):
+                parts.append(Making(most))
+            parts[-1].add(piece)
+        self.replace(number, [part.pieces for part in parts])
 
     def remove(self, number: int) -> None:
         self.path(number).unlink(missing_ok=True)
@@ -170,13 +163,3 @@ class Making:
         self.pieces.append(piece)
         self.windows.add(piece.number // WINDOW)
         self.size += len(piece.text)
-
-
-def parted(pieces: list[Piece], most: int) -> list[list[Piece]]:
-    """The same in order, each part as one upload may have."""
-    parts = [Making(most)]
-    for piece in pieces:
-        if not parts[-1].fits(piece):
-            parts.append(Making(most))
-        parts[-1].add(piece)
-    return [part.pieces for part in parts]

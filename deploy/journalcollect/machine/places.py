@@ -5,14 +5,11 @@ So places needn't be on the disk at once; only forks are, before an entry goes o
 
 The table `place` has each journal file, `fork` the sequences that go on as others, and since which number; `try` how
 often an upload went out in vain, and until when it rests; `machine` the machine-ids that this machine had; `head` the
-collector's daily heads, and when each was first told; `told` what somebody has to look at; and `value`, by name:
-
-since, begun    the time that SINCE was when the first gathering began, and that one saw the list of files
-again, answers  since when the journal is to go out once more; lines that were brought by hand
-bound, cuts     how many bytes of an upload the link carries; how often in a row it didn't carry one
-had             SEQUENCE NUMBER TIME of the entry that was acknowledged last
-skew            by how many seconds the collector's clock was ahead
-answered, acknowledged, trouble     when the collector did so last; why nothing goes out, if so
+collector's daily heads, and when each was first told; `told` what somebody has to look at; `value`, by name, the time
+that SINCE was (`since`) and that a first list of files was seen (`begun`); what was asked for by hand (`again`,
+`answers`); how many bytes of an upload the link carries and how often in a row it was cut (`bound`, `cuts`); SEQUENCE
+NUMBER TIME of the entry that was acknowledged last (`had`); by how many seconds the collector's clock was ahead
+(`skew`); when it answered and acknowledged last (`answered`, `acknowledged`), and why nothing goes out (`trouble`).
 """
 import os
 import sqlite3
@@ -39,7 +36,8 @@ CREATE TABLE value(name TEXT PRIMARY KEY, value TEXT);
 PRAGMA user_version={VERSION};
 COMMIT;
 """
-MOST_TOLD, MOST_HEADS, LONGEST_REST = 50, 400, 3600.0
+# How often an upload went out in vain, and until when it rests, if it didn't yet; how long one rests at most.
+NEVER, LONGEST_REST = (0, 0.0), 3600.0
 # Errors of SQLite that say that the file isn't what was made here; others, as of a full disk, may pass.
 DAMAGED = (sqlite3.SQLITE_CORRUPT, sqlite3.SQLITE_NOTADB, sqlite3.SQLITE_ERROR)
 
@@ -58,6 +56,10 @@ class Place:
     is_archived: int = 0
     # The time with which its reading begins, if nothing was gathered.
     since: str = ""
+
+    @classmethod
+    def first(cls, file: JournalFile, since: str) -> "Place":
+        return cls(file.id, file.sequence, file.kind, count=-1 if since else 0, since=since)
 
     def options(self) -> list[str]:
         """What journalctl takes to show what comes from this place on, and perhaps the entry before it."""
@@ -109,8 +111,8 @@ class Places:
         for end in ("-wal", "-shm"):
             self.path.with_name(self.path.name + end).unlink(missing_ok=True)
         self.open()
-        self.report.say(LOOK, f"{self.path} can't be used, and is kept as {aside.name}: {error}. What the journal has goes "
-                        "out once more, and is stored once")
+        self.report.say(LOOK, f"{self.path} can't be used, and is kept as {aside.name}: {error}. What the journal has "
+                        "goes out once more, and is stored once")
         return True
 
     def rows(self, types: list[type], query: str) -> list[Any]:
@@ -129,11 +131,6 @@ class Places:
 
     def move(self, places: Iterable[Place]) -> None:
         self.do("INSERT OR REPLACE INTO place VALUES(?, ?, ?, ?, ?, ?, ?, ?, ?)", map(astuple, places))
-
-    def first(self, file: JournalFile) -> Place:
-        """Where a file begins that has no place: all that the first list has, at the time of SINCE."""
-        since = "" if self.value("begun") else self.value("since")
-        return Place(file.id, file.sequence, file.kind, count=-1 if since else 0, since=since)
 
     def forget(self, places: Iterable[Place]) -> None:
         self.do("DELETE FROM place WHERE file = ?", [[each.file] for each in places])
@@ -177,7 +174,7 @@ class Places:
 
     def tried(self, upload: int, seconds: float) -> None:
         """An upload went out in vain, and rests, each time for twice as long."""
-        count = self.tries().get(upload, (0, 0.0))[0] + 1
+        count = self.tries().get(upload, NEVER)[0] + 1
         until = time.time() + min(seconds * 2 ** min(count - 1, 12), LONGEST_REST)
         self.do("INSERT OR REPLACE INTO try VALUES(?, ?, ?)", [[upload, count, until]])
 
@@ -212,15 +209,14 @@ class Places:
         return [row[0] for row in self.rows([str], "SELECT id FROM machine")]
 
     def see_head(self, head: str) -> None:
-        """Keeps the collector's daily head."""
         if self.rows([str], "SELECT head FROM head ORDER BY rowid DESC LIMIT 1") != [(head,)]:
             self.do("INSERT INTO head VALUES(?, ?)", [[int(time.time()), head]])
-            self.do("DELETE FROM head WHERE rowid <= (SELECT max(rowid) FROM head) - ?", [[MOST_HEADS]])
+            self.do("DELETE FROM head WHERE rowid <= (SELECT max(rowid) FROM head) - 400")
 
     def tell(self, status: int, text: str) -> None:
         """Notes what is said, for `journal-collect-status`; nothing comes of it if it can't be."""
         try:
             self.do("INSERT INTO told VALUES(?, ?, ?)", [[int(time.time()), status, text]])
-            self.do("DELETE FROM told WHERE rowid <= (SELECT max(rowid) FROM told) - ?", [[MOST_TOLD]])
+            self.do("DELETE FROM told WHERE rowid <= (SELECT max(rowid) FROM told) - 50")
         except sqlite3.Error:
             pass

@@ -4,13 +4,13 @@
 - 6: it passes a bound with an entry. It goes on in two parts, split there.
 - 60, 71: an entry's key is taken, or its sequence is another machine's: this machine was set back, or is a clone. What
   its sequence has from there on goes out under another id.
-- Any other code points to a byte. If the text is damaged here, or this comes again, the entry with that byte is kept for
-  a person, or goes out with less if it is too large; the others go on.
+- Any other code points to a byte. If the text is damaged here, or this comes again, the entry with that byte is kept
+  for a person, or goes out with less if it is too large; the others go on.
 - `smaller`, `never`: it is halved, down to the entry that is meant.
 """
 from journalcollect.common import program
 from journalcollect.common.protocol import Answer
-from journalcollect.machine.outbox import Outbox, Piece
+from journalcollect.machine.outbox import Outbox, Piece, at_byte
 from journalcollect.machine.places import Places
 from journalcollect.machine.refused import Refused
 from journalcollect.machine.report import LOOK, Report
@@ -40,26 +40,27 @@ class Refusals:
         return True
 
     def take_conflict(self, number: int, pieces: list[Piece], answer: Answer) -> None:
-        """The upload stays: before it goes out, it is put under the ids that its entries have then. Of a sequence that is
-        another machine's nothing is taken. Two entries with one number part first."""
+        """The upload stays: before it goes out, it is put under the ids that its entries have then. Of a sequence that
+        is another machine's nothing is taken. Two entries with one number part first."""
         piece, code = pieces[answer.place], answer.code
         if any(each.number == piece.number for each in pieces[:answer.place]):
             self.outbox.replace(number, [pieces[:answer.place], pieces[answer.place:]])
         elif self.places.forked(piece.sequence, piece.number) == piece.sequence:
             first = piece.number if code == CONFLICT else 0
             new = self.places.fork(piece.sequence, first)
-            self.report.say(LOOK, f"forked: {piece.sequence} goes on as {new} from entry {first} (code {code}): this machine "
-                            "was set back or cloned, or another one has its journal")
+            self.report.say(LOOK, f"forked: {piece.sequence} goes on as {new} from entry {first} (code {code}): this "
+                            "machine was set back or cloned, or another one has its journal")
 
     def go_on_forked(self, number: int) -> bool:
         """Puts an upload's entries under the ids in which their sequences go on; whether any has another one now."""
         if not self.places.forks:
             return False
         pieces = self.outbox.pieces(number)
-        forked = [piece.under(self.places.forked(piece.sequence, piece.number)) for piece in pieces]
-        if forked != pieces:
-            self.outbox.replace(number, [forked])
-        return forked != pieces
+        news = [self.places.forked(piece.sequence, piece.number) for piece in pieces]
+        if news == [piece.sequence for piece in pieces]:
+            return False
+        self.outbox.replace(number, [[Piece.of(piece.entry(), new) for piece, new in zip(pieces, news)]])
+        return True
 
     def take_byte(self, number: int, answer: Answer, pieces: list[Piece], tries: int) -> bool:
         """The collector can't take what is at a byte. A bit that is lost on the way isn't the entry's fault."""
@@ -70,30 +71,21 @@ class Refusals:
                 return False
         except program.Bad as bad:
             code, place = bad.code, bad.place
-        end, kept = 0, list[Piece]()
-        for piece in pieces:
-            begin, end = end, end + len(piece.text)
-            kept += [piece] if not begin <= place < end or code < OVER_BOUNDS else self.without(piece, code)
-        self.outbox.replace(number, [kept])
+        if pieces and code > OVER_BOUNDS:
+            at = at_byte(pieces, place)
+            pieces[at:at + 1] = self.without(pieces[at], f"code {code}", code in TOO_LARGE)
+        self.outbox.replace(number, [pieces])
         return True
 
-    def without(self, piece: Piece, code: int) -> list[Piece]:
+    def without(self, piece: Piece, why: str, may_shorten: bool) -> list[Piece]:
         """What goes out of an entry that can't be taken as it is."""
-        less = piece.shortened() if code in TOO_LARGE else None
-        self.refused.put(piece.name, piece.text, f"an entry was refused (code {code})" if less is None else
-                         f"an entry is too large for the collector (code {code}), and goes out with less")
+        less = piece.shortened() if may_shorten else None
+        goes = ", and goes out with less" if less else ""
+        self.refused.put(piece.name, piece.text, f"an entry isn't taken{goes}: {why}")
         return [less] if less else []
 
-    def mend(self, number: int) -> None:
-        """An upload that isn't one any more, as after damage, is made anew of what can be followed of it."""
-        self.outbox.replace(number, [self.outbox.pieces(number)])
-
     def halve(self, number: int, pieces: list[Piece], why: str) -> None:
-        """It goes on in two parts; a single entry goes out with less, and then not at all."""
-        if len(pieces) > 1:
-            self.outbox.halve(number, pieces)
-            return
-        less = [each for each in (piece.shortened() for piece in pieces) if each]
-        for piece in pieces:
-            self.refused.put(piece.name, piece.text, f"an entry isn't taken{', and goes out with less' * bool(less)}: {why}")
-        self.outbox.replace(number, [less])
+        """It goes on in parts of half its size; a single entry goes out with less, and then not at all."""
+        if len(pieces) == 1:
+            pieces = self.without(pieces[0], why, True)
+        self.outbox.cut(number, pieces, sum(len(piece.text) for piece in pieces) // 2)

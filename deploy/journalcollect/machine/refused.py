@@ -36,21 +36,20 @@ class Whole:
     def begin(self) -> None:
         """Nothing is kept of an entry yet."""
         self.new.unlink(missing_ok=True)
-        self.left: int | None = None
+        self.left = self.refused.room
 
     def write(self, piece: bytes) -> None:
-        self.left = (self.refused.room if self.left is None else self.left) - len(piece)
+        self.left -= len(piece)
         if self.left >= 0:
             with open(self.new, "ab") as file:
                 file.write(piece)
 
     def keep(self, name: str) -> str:
         """The entry is whole; what is said of it."""
-        if self.left is None or self.left < 0:
-            self.begin()
-            return "; its text isn't kept: there is no room"
         self.write(b"\n")
-        files.sync(self.new)
-        files.move(self.new, self.refused.folder / name)
+        is_kept = self.left >= 0
+        if is_kept:
+            files.sync(self.new)
+            files.move(self.new, self.refused.folder / name)
         self.begin()
-        return f"; its text is in {self.refused.folder}/{name}"
+        return f"; its text is in {self.refused.folder}/{name}" if is_kept else "; there is no room to keep its text"

@@ -15,7 +15,7 @@ from pathlib import Path
 
 from journalcollect.common import files, program
 from journalcollect.common.settings import Wrong
-from journalcollect.machine import settings, since
+from journalcollect.machine import settings
 from journalcollect.machine.gathering import Gathering
 from journalcollect.machine.link import Link
 from journalcollect.machine.outbox import Outbox
@@ -26,6 +26,8 @@ from journalcollect.machine.report import BUSY, FAILED, FINE, LOOK, WRONG, Repor
 from journalcollect.machine.sending import FAILURES, FIRST_PAUSE, Sending
 from journalcollect.machine.settings import Settings
 
+DESCRIPTION = "Sends what is new in this machine's journal to the collector, until it is told to stop."
+STATUS = "Status: 0 all is well; 1 something to look at; 2 the settings are wrong; 3 something failed; 75 another runs."
 # So often the journal's files are looked at, and looking takes such a part of a processor at most.
 LOOK_SECONDS, LOOK_PART = 1.0, 0.0005
 
@@ -105,19 +107,11 @@ def locked(folder: Path) -> bool:
     return True
 
 
-def check(chosen: Settings) -> None:
-    """Returns if the collector answers to this machine's key."""
-    program.version()
-    link = Link(chosen)
-    link.open()
-    link.close()
-
-
 def note(chosen: Settings, report: Report, again: str, answers: str) -> None:
     """Notes what is asked for: who has the folder does it, or the next one."""
     places = Places(Path(chosen.folder), report)
     if again:
-        places.set(again=since.seconds(again))
+        places.set(again=settings.seconds(again))
     if answers:
         text = sys.stdin.read() if answers == "-" else Path(answers).read_text(encoding="ascii", errors="replace")
         places.set(answers=places.value("answers") + text)
@@ -127,7 +121,8 @@ def note(chosen: Settings, report: Report, again: str, answers: str) -> None:
 def run(words: argparse.Namespace, report: Report) -> None:
     chosen = settings.read()
     if words.check:
-        check(chosen)
+        program.version()
+        Link(chosen).open()
         return
     is_free, is_asked = locked(Path(chosen.folder)), bool(words.again or words.answers)
     if is_asked:
@@ -143,15 +138,13 @@ def run(words: argparse.Namespace, report: Report) -> None:
 
 
 def main() -> int:
-    parser = argparse.ArgumentParser(prog="journal-collect-send", description="Sends what is new in this machine's "
-                                     "journal to the collector; the service journal-collect-send runs it.")
+    parser = argparse.ArgumentParser(prog="journal-collect-send", description=DESCRIPTION, epilog=STATUS)
     parser.add_argument("--once", action="store_true", help="send what is there now, and end")
-    parser.add_argument("--check", action="store_true", help="say nothing if the settings are right and the collector "
-                        "answers to this machine's key; nothing is gathered or sent")
-    parser.add_argument("--again", metavar="SINCE", default="", help="also send again what the journal has since a time: "
-                        "yesterday, '2026-12-01 14:00', -2h")
-    parser.add_argument("--answers", metavar="FILE", default="", help="take the collector's answers to what was carried by "
-                        "hand out of the outbox")
+    parser.add_argument("--check", action="store_true", help="only say why, if the settings are wrong or the collector "
+                        "doesn't answer to this machine's key")
+    parser.add_argument("--again", metavar="SINCE", default="", help="send again what the journal has since a time, as "
+                        "yesterday, '2026-12-01 14:00' or -2h")
+    parser.add_argument("--answers", metavar="FILE", default="", help="take answers to what was carried by hand")
     words, report = parser.parse_args(), Report()
     signal.signal(signal.SIGINT, signal.SIG_DFL)
     try:

@@ -13,7 +13,7 @@ from journalcollect.common.export_stream import Unfit
 from journalcollect.common.protocol import LONGEST_LINE, Answer, Greeting, Had, Known, Put, Reply, Upload, Verdict
 from journalcollect.machine.link import Link, Lost
 from journalcollect.machine.outbox import Outbox, pieces_in
-from journalcollect.machine.places import LONGEST_REST, Places
+from journalcollect.machine.places import LONGEST_REST, NEVER, Places
 from journalcollect.machine.refusals import Refusals
 from journalcollect.machine.report import FAILED, LOOK, Report
 from journalcollect.machine.settings import Settings
@@ -39,13 +39,13 @@ class Sending:
 
     def next(self) -> int | None:
         """The upload that goes out next, if one is to go out now."""
-        if not self.outbox.sizes or time.monotonic() < self.resumes or not (self.settings.collector or self.settings.connect):
+        has_link = self.settings.collector or self.settings.connect
+        if not self.outbox.sizes or not has_link or time.monotonic() < self.resumes:
             return None
-        tries, now = self.places.tries(), time.time()
-        rested = [number for number in self.outbox.sizes if not now < tries.get(number, (0, 0.0))[1] <= now + LONGEST_REST]
-        order = 1 if self.is_turn_of_oldest else -1
-        return min(((tries.get(number, (0, 0.0))[0] // CUTS, order * number, number) for number in rested),
-                   default=(0, 0, None))[2]
+        tries, now, order = self.places.tries(), time.time(), 1 if self.is_turn_of_oldest else -1
+        rested = [(tries.get(number, NEVER)[0] // CUTS, order * number, number) for number in self.outbox.sizes
+                  if not now < tries.get(number, NEVER)[1] <= now + LONGEST_REST]
+        return min(rested)[2] if rested else None
 
     def send_next(self) -> bool:
         """Sends an upload, if one is to go out now."""
@@ -55,18 +55,15 @@ class Sending:
         try:
             self.send(number)
         except FAILURES as error:
+            self.outbox.look()                      # somebody may have taken it away
             self.rest(number, f"sending failed: {error}", FAILED)
         return True
 
     def send(self, number: int) -> None:
         bound = self.places.bound(self.settings.upload_bytes)
-        try:
-            data = self.outbox.path(number).read_bytes()
-        except FileNotFoundError:
-            self.outbox.look()                      # somebody took it away
-            return
-        if len(data) > bound and len(pieces_in(data)[0]) > 1:
-            self.outbox.cut(number, bound)
+        data = self.outbox.path(number).read_bytes()
+        if len(data) > bound and len(pieces := self.outbox.pieces(number)) > 1:
+            self.outbox.cut(number, pieces, bound)
             return
         if self.refusals.go_on_forked(number):
             return
@@ -89,13 +86,14 @@ class Sending:
         skew = (greeting.realtime - time.time_ns() // 1_000) // 1_000_000
         self.places.set(skew=skew, answered=int(time.time()))
         if abs(skew) > SKEW_SECONDS:
-            self.report.say(LOOK, f"this machine's clock is {abs(skew)} s {'behind' if skew > 0 else 'ahead of'} the collector's")
+            self.report.say(LOOK, f"this machine's clock is {-skew} s ahead of the collector's" if skew < 0 else
+                            f"this machine's clock is {skew} s behind the collector's")
         if greeting.head:
             self.places.see_head(greeting.head)
         sequence, number, noted = (self.places.value("had").split() + ["0"] * 3)[:3]
         is_recent = number.isdigit() and noted.isdigit() and 0 <= time.time() - int(noted) < HAD_SECONDS
         if is_recent and self.link.ask(Had(sequence, int(number))) is Known.LOST:
-            self.report.say(LOOK, "the collector lost what it had acknowledged: what the journal still has goes out again")
+            self.report.say(LOOK, "the collector lost what it had acknowledged: what the journal still has goes out")
             self.places.forget_all()
 
     def take(self, number: int, data: bytes, reply: Reply) -> bool:
@@ -114,7 +112,7 @@ class Sending:
         try:
             means = program.acknowledged(self.outbox.path(number), lines)
         except program.Failed:
-            self.refusals.mend(number)
+            self.outbox.replace(number, [self.outbox.pieces(number)])    # damaged: what can be followed of it goes on
             raise
         match means:
             case program.Acknowledged():
@@ -122,7 +120,7 @@ class Sending:
                 return True
             case program.Refused(line):
                 answer = Answer(line)
-                tries = self.places.tries().get(number, (0, 0.0))[0] + 1
+                tries = self.places.tries().get(number, NEVER)[0] + 1
                 if not self.refusals.take(number, answer, tries):
                     self.rest(number, f"the collector refuses an upload (code {answer.code})")
             case program.Unanswered() if self.link.is_open:
@@ -151,17 +149,16 @@ class Sending:
             self.places.set(cuts=cuts % CUTS)
             if cuts >= CUTS:
                 self.places.set(bound=max(LEAST_BYTES, min(size, self.places.bound(size)) // 2))
-            self.rest(number, str(lost), FAILED)
-        else:
-            self.wait(str(lost), FAILED)
+            self.places.tried(number, FIRST_PAUSE)
+        self.wait(str(lost), FAILED)
 
     def rest(self, number: int, why: str, status: int = LOOK) -> None:
         self.places.tried(number, FIRST_PAUSE)
         self.wait(why, status)
 
     def wait(self, why: str, status: int) -> None:
-        """Nothing goes out for a while, each time for twice as long; machines that wait for one collector don't all come
-        back at once."""
+        """Nothing goes out for a while, each time for twice as long; machines that wait for one collector don't all
+        come back at once."""
         self.report.say(status, why)
         self.places.set(trouble=why)
         self.pause = min(max(2 * self.pause, FIRST_PAUSE), LONGEST_PAUSE)

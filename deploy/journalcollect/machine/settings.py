@@ -1,11 +1,10 @@
-"""The settings of a machine."""
+"""The settings of a machine, and the times that they name."""
+import re
+import subprocess
 from dataclasses import dataclass
-from pathlib import Path
 
 from journalcollect.common import settings
 from journalcollect.common.settings import Wrong
-
-FILES = "machine.conf.d"
 
 
 @dataclass(frozen=True)
@@ -24,25 +23,30 @@ class Settings:
     folder: str = "/var/lib/journal-collect-send"
     folder_bytes: int = 1 << 30
 
-    @property
-    def key(self) -> Path:
-        return settings.FOLDER / "key"
-
-    @property
-    def known_hosts(self) -> Path:
-        return settings.FOLDER / "known_hosts"
-
 
 def read() -> Settings:
     """This machine's settings; a Wrong if they can't be."""
-    chosen = settings.read(settings.FOLDER / FILES, Settings)
-    for name in ("folder", *(["journals"] if chosen.journals else [])):
-        for path in str(getattr(chosen, name)).split():
-            if not path.startswith("/"):
-                raise Wrong(f"{name.upper()} doesn't begin with a slash: {path}")
-    for name in ("upload_bytes", "folder_bytes"):
-        if getattr(chosen, name) == 0:
-            raise Wrong(f"{name.upper()} is 0")
-    if chosen.upload_bytes > chosen.folder_bytes:
-        raise Wrong(f"UPLOAD_BYTES={chosen.upload_bytes} is over FOLDER_BYTES={chosen.folder_bytes}")
+    chosen = settings.read(settings.FOLDER / "machine.conf.d", Settings)
+    for path in (chosen.folder, *chosen.journals.split()):
+        if not path.startswith("/"):
+            raise Wrong(f"FOLDER and JOURNALS begin with a slash, and this doesn't: {path}")
+    if not 0 < chosen.upload_bytes <= chosen.folder_bytes:
+        raise Wrong(f"UPLOAD_BYTES={chosen.upload_bytes} is 0, or over FOLDER_BYTES={chosen.folder_bytes}")
     return chosen
+
+
+def seconds(since: str) -> str:
+    """A time that SINCE or --again says, as seconds; a Wrong if it is none. It is looked up once: what `today` or `-2h`
+    is moves on, and what was gathered so far mustn't."""
+    fixed = r"@[0-9]+(\.[0-9]{1,6})?"
+    if re.fullmatch(fixed, since, re.ASCII):
+        return since
+    try:
+        told = subprocess.run(["systemd-analyze", "timestamp", "--", since], capture_output=True, text=True,
+                              errors="replace", check=False)
+    except FileNotFoundError:
+        raise Wrong(f"there is no systemd-analyze to look a time up; write it as @SECONDS: {since}") from None
+    found = re.search(rf"^ *UNIX seconds: ({fixed})$", told.stdout, re.MULTILINE | re.ASCII)
+    if not found:
+        raise Wrong(f"this isn't a time: {since}: {told.stderr.strip()}")
+    return found[1]

@@ -23,28 +23,24 @@ class Search:
         # journalctl did something other than fail.
         self.works = False
 
-    def options(self, number: int) -> list[str]:
+    def from_number(self, number: int) -> list[str]:
         return [f"--cursor={cursor_of(self.file.sequence, number)}"]
 
     def shows(self, options: list[str]) -> bool:
         """With these options journalctl shows an entry that is behind."""
         reading, is_shown = Reading(self.handle, options), False
         try:
-            for entry in reading.entries():
-                self.works = True
-                if int(entry.key()[1]) > self.after:
-                    is_shown = True
-                    break
+            is_shown = any(int(entry.key()[1]) > self.after for entry in reading.entries())
         except (Unfit, ValueError):
             pass
         reading.end(not is_shown)
-        self.works = self.works or reading.status == 0 or reading.broken is not None
+        self.works = self.works or is_shown or reading.status == 0 or reading.broken is not None
         return is_shown
 
     def first_shown(self) -> list[str] | None:
         """The options that show the most of what is shown from some number on."""
         fails, tried, step = self.after, self.after + 1, 1
-        while not self.shows(self.options(tried)):
+        while not self.shows(self.from_number(tried)):
             fails = tried
             step = step if tried - self.after < ONE_BY_ONE else 2 * step
             tried += step
@@ -52,11 +48,11 @@ class Search:
                 return None
         while tried - fails > 1:
             middle = (tried + fails) // 2
-            if self.shows(self.options(middle)):
+            if self.shows(self.from_number(middle)):
                 tried = middle
             else:
                 fails = middle
-        return self.options(tried)
+        return self.from_number(tried)
 
 
 def next_readable(handle: int, file: JournalFile, number: int, broken: dict[bytes, bytes] | None) -> list[str] | None:
@@ -64,13 +60,11 @@ def next_readable(handle: int, file: JournalFile, number: int, broken: dict[byte
     it doesn't work at all."""
     at = max(number, cursor_parts((broken or {}).get(b"__CURSOR", b"").decode("ascii", "replace"))[0])
     before, search = Search(handle, file, number), Search(handle, file, at)
-    if broken and before.shows(before.options(at)):
-        return before.options(at)                   # it was only stopped there
+    if broken and before.shows(before.from_number(at)):
+        return before.from_number(at)               # it was only stopped there
     found = search.first_shown() if broken else None
-    if found is None and search.shows([]):
-        return []
-    if not broken:
-        found = search.first_shown()
+    if found is None:
+        found = [] if search.shows([]) else None if broken else search.first_shown()
     if found is None and not search.works:
         raise Unreadable
     return found
