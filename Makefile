@@ -45,7 +45,7 @@ uninstall: ## what install put there, but for the configuration in /etc/journal-
 	rm -f "$(SHARE)/zsh/vendor-completions/_journal-collect"
 	rm -f "$(LIB)/systemd/journald.conf.d/journal-collect.conf"
 	rm -rf "$(DOC)" "$(LIB)/journal-collect"
-	rm -f $(patsubst deploy/%,"$(LIB)/systemd/system/%",$(wildcard deploy/*.service deploy/*.socket deploy/*.timer))
+	rm -f "$(LIB)/systemd/system/journal-collect"*
 
 test: ## the gate: every proof from nothing, the edits, the tests, the scripts; the last line is `N passed, M failed`
 	@tests/run.sh

@@ -26,7 +26,6 @@ sed "s/@version@/$version/" deploy/debian/changelog | gzip -9n > "$documents/cha
 
 install -m 755 deploy/debian/{config,postinst,prerm,postrm} "$tree/DEBIAN"
 install -m 644 deploy/debian/{triggers,templates} "$tree/DEBIAN"
-printf '/etc/journal-collect/%s\n' {machine,collector,journal-files,forward}.conf > "$tree/DEBIAN/conffiles"
 (cd "$tree" && find usr -type f -exec md5sum {} +) > "$tree/DEBIAN/md5sums"
 size=$(du --summarize --block-size=1K --apparent-size "$tree" | cut -f 1)
 sed "s/@version@/$version/; s/@libc@/${libc#GLIBC_}/; s/@architecture@/$architecture/; s/@size@/$size/" \

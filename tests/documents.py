@@ -21,8 +21,8 @@ FIGURES = "docs/PERFORMANCE.md", "Figures to plan with"
 FIGURES_BESIDE = "Limits", "A machine's commands", "The collector's commands"
 FIGURES_IN = (
     "README.md", "CONTRIBUTING.md", "docs/GUIDE.md", "docs/DECISIONS.md", "docs/FORWARDING.md",
-    "docs/ARCHITECTURE.md", "docs/GATE.md", "docs/journal-collect.1", "deploy/collector.conf", "deploy/machine.conf",
-    "deploy/journal-files.conf")
+    "docs/ARCHITECTURE.md", "docs/GATE.md", "docs/journal-collect.1", "deploy/settings/collector.conf",
+    "deploy/settings/machine.conf", "deploy/settings/forward.conf")
 AN_ENTRY = r"(?: of (?:memory|disk|the disk))? (?:an|per|for each(?: [a-z]+)?) entry\b"
 FIGURE = re.compile(
     rf"(?:\b(\d[\d.,]* (?:ms|µs|us)) and )?\b(\d[\d.,]* (?:ms|µs|us|kB|bytes)){AN_ENTRY}"
@@ -71,17 +71,6 @@ def lines_of_table() -> str:
     table = text_of("docs/FORMATS.md").split("\n## Codes\n")[1]
     rows = re.findall(r"^\| (\d+) \| (\w+) \| [a-z ]+ \| (.*) \|$", table, re.MULTILINE)
     return "".join(f"{number:<3} {name:<20}{meaning}\n" for number, name, meaning in rows)
-
-
-def codes_of_guide() -> Iterator[str]:
-    """Codes of which the guide says more than once what to do, or which aren't any."""
-    table = text_of("docs/GUIDE.md").partition("\n## What to do about each code\n")[2]
-    told = [int(it) for row in re.findall(r"^\| ([\d, ]+) \|", table, re.MULTILINE) for it in row.split(", ")]
-    known = {number for number, _ in codes_of_table()}
-    if not told:
-        yield "docs/GUIDE.md says of no code what to do"
-    yield from (f"docs/GUIDE.md doesn't say once what to do about code {it}, or it is none"
-                for it in sorted(set(told)) if told.count(it) != 1 or it not in known)
 
 
 def printed_codes(program: str) -> Iterator[str]:
@@ -195,7 +184,6 @@ def differences(program: str) -> Iterator[str]:
     yield from (f"code {code} isn't in both tables" for code in sorted(codes_of_sources() ^ codes_of_table()))
     if len(text_of("README.md").splitlines()) >= README_LINES:
         yield f"README.md has {README_LINES} lines or more"
-    yield from codes_of_guide()
     yield from printed_codes(program)
     yield from toolchains()
     yield from lists()

@@ -1,7 +1,7 @@
 #!/usr/bin/env bash
 # The gate: every proof from nothing, the tests and the stored run (rt ci); beside it the edits (tests/refused), each
-# crate's from when it is proved; and when rt ci has ended the scripts tests/test-*.sh side by side, over the program
-# that it built. The last line is `N passed, M failed`, over all of them.
+# crate's from when it is proved; and when rt ci has ended the scripts tests/test-*.sh side by side, and tests/python.sh
+# beside them, over the program that it built. The last line is `N passed, M failed`, over all of them.
 set -uo pipefail
 cd "$(dirname "$0")/.." || exit
 
@@ -23,6 +23,11 @@ clean_up() {
 }
 
 # Each part keeps what it says in a file of its name.
+
+# The tests of what stands around the program.
+python() {
+    nice bash tests/python.sh
+} > "$work/python" 2>&1
 
 # One processor for each check: two processes of one check do some of its work twice.
 ci() {
@@ -110,16 +115,19 @@ count ci $ci
 export PROGRAM=$PWD/crates/jc_cli/out/jc_cli
 # Scripts begin Python hundreds of times: one that has the standard library alone, and is found at once. To choose one
 # each time, and to look at what is installed there, can take ten times as long.
-if python3 -ISm venv --without-pip "$work/python" > "$work/venv" 2>&1; then
-    PATH=$work/python/bin:$PATH
+if python3 -ISm venv --without-pip "$work/interpreter" > "$work/venv" 2>&1; then
+    PATH=$work/interpreter/bin:$PATH
 fi
 echo "the scripts, and the edits that are left beside them; what they say follows when they end"
 start scripts
 scripts=$!
+start python
+python=$!
 count edits $edits
 count scripts $scripts
+count python $python
 
 # what no tool was there for, once more above the sum: it isn't among what passed
-grep -h '^skipped: ' "$work/scripts" | sort -u
+grep -h '^skipped: ' "$work/scripts" "$work/python" | sort -u
 echo "$passed passed, $failed failed"
 [[ $failed -eq 0 ]]

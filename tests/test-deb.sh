@@ -17,25 +17,19 @@ package=$(echo "$folder"/*.deb)
 [[ $(dpkg-deb --field "$package" Package Version) == $'Package: journal-collect\nVersion: 0.1.0' ]] ||
     differs "its name and version"
 listed=$(dpkg-deb --contents "$package")
-for path in usr/bin/journal-collect usr/lib/journal-collect/send usr/lib/journal-collect/serve \
-    usr/lib/journal-collect/receive usr/lib/journal-collect/answers usr/lib/journal-collect/collect-incoming \
-    usr/lib/journal-collect/collector/service.py \
-    usr/lib/journal-collect/fit-stream usr/lib/journal-collect/journal-files usr/lib/journal-collect/search \
-    usr/lib/journal-collect/forwarding/forwarder.py usr/lib/journal-collect/forwarding/clickhouse.sql \
-    usr/lib/journal-collect/forwarding/clickhouse-cluster.sql usr/lib/journal-collect/forwarding/elasticsearch.json \
-    usr/bin/journal-collect-forward usr/lib/systemd/system/journal-collect-forward.service \
-    etc/journal-collect/forward.conf \
-    usr/lib/journal-collect/reading/making.py usr/bin/journal-collect-search etc/journal-collect/journal-files.conf \
-    usr/lib/systemd/system/journal-collect-journal-files.service \
-    usr/lib/systemd/system/journal-collect-journal-files.timer usr/lib/systemd/system/journal-collect-send.service \
-    usr/lib/systemd/system/journal-collect-send.timer usr/lib/systemd/system/journal-collect-incoming.service \
-    usr/lib/sysusers.d/journal-collect.conf usr/share/man/man1/journal-collect.1.gz \
-    usr/share/man/man8/journal-collect-send.8.gz usr/share/man/man5/journal-collect-machine.conf.5.gz \
-    usr/bin/journal-collect-status usr/share/bash-completion/completions/journal-collect-search \
-    usr/share/zsh/vendor-completions/_journal-collect usr/share/doc/journal-collect/README.md.gz \
-    usr/lib/systemd/journald.conf.d/journal-collect.conf \
-    usr/share/doc/journal-collect/GUIDE.md.gz usr/share/doc/journal-collect/FORMATS.md.gz \
-    usr/share/doc/journal-collect/copyright etc/journal-collect/machine.conf etc/journal-collect/collector.conf; do
+for path in usr/bin/journal-collect usr/bin/journal-collect-{admin,forward,join,page,search,send,service,status} \
+    usr/lib/journal-collect/journalcollect/{common,collector,machine,reading,forward,setup,status,admin}/__init__.py \
+    usr/lib/journal-collect/programs/fit-stream usr/lib/journal-collect/{sshd,slice}.conf \
+    usr/lib/journal-collect/journalcollect/forward/clickhouse.sql \
+    usr/lib/systemd/system/journal-collect{,-alarm,-forward,-page,-send,-status}.service \
+    usr/lib/systemd/system/journal-collect-page.socket usr/lib/systemd/system/journal-collect-status.timer \
+    usr/lib/sysusers.d/journal-collect.conf usr/lib/systemd/journald.conf.d/journal-collect.conf \
+    usr/share/man/man1/journal-collect.1.gz usr/share/man/man8/journal-collect-{admin,join,send,service}.8.gz \
+    usr/share/man/man5/journal-collect-{collector,forward,machine}.conf.5.gz \
+    usr/share/bash-completion/completions/journal-collect-search usr/share/zsh/vendor-completions/_journal-collect \
+    usr/share/doc/journal-collect/{README,GUIDE,FORMATS,FORWARDING,PERFORMANCE}.md.gz \
+    usr/share/doc/journal-collect/examples/{alerts.yml,alarms.swatch,collector.conf,machine.conf,forward.conf} \
+    usr/share/doc/journal-collect/copyright etc/journal-collect/{collector,forward,machine}.conf.d; do
     [[ $listed == *" ./$path"* ]] || differs "the package lacks $path"
 done
 [[ $listed != *$(pwd)* ]] || differs "the package has a path of the build"
@@ -55,22 +49,23 @@ if [[ $(id -u) -eq 0 ]] && command -v systemd-sysusers > "$folder/told"; then
     expect 0 "~*" "~*" own_dpkg --install "$package"
     expect 0 "journal-collect 0.1.0" "" "$root/usr/bin/journal-collect" --version
     grep -q "^journal-collect:.*:/var/lib/journal-collect:/bin/sh$" "$root/etc/passwd" || differs "the user isn't made"
-    # what the guide sets up; a removal keeps it, and a purge doesn't
+    # what setup and join make; a removal keeps it, and a purge doesn't
+    etc=$root/etc/journal-collect
     set_up() {
-        echo "COLLECTOR=here" >> "$root/etc/journal-collect/machine.conf"
-        touch "$root"/etc/journal-collect/{key,key.pub,known_hosts}
-        mkdir -p "$root/etc/systemd/system/timers.target.wants" "$root/var/lib/journal-collect/.ssh"
-        touch "$root/var/lib/journal-collect/.ssh/authorized_keys"
-        ln -sf /usr/lib/systemd/system/journal-collect-send.timer "$root/etc/systemd/system/timers.target.wants/"
+        mkdir -p "$etc/keys" "$root/etc/systemd/system/multi-user.target.wants" "$root/etc/ssh/sshd_config.d"
+        touch "$etc"/{key,key.pub,known_hosts,authorized_keys} "$etc/keys/web.pub" \
+            "$root/etc/ssh/sshd_config.d/journal-collect.conf"
+        echo "COLLECTOR=here" > "$etc/machine.conf.d/10-join.conf"
+        ln -sf /usr/lib/systemd/system/journal-collect-send.service "$root/etc/systemd/system/multi-user.target.wants/"
     }
-    left() { (cd "$root" && find usr etc/journal-collect etc/systemd var/lib/journal-* -not -type d 2> /dev/null); }
+    left() { (cd "$root" && find usr etc/journal-collect etc/ssh etc/systemd var/lib/journal-* -not -type d 2> /dev/null); }
     has_user() { grep -q "^journal-collect:" "$root/etc/passwd"; }
     set_up
     expect 0 "~*" "~*" own_dpkg --remove journal-collect
-    grep -q "^COLLECTOR=here$" "$root/etc/journal-collect/machine.conf" || differs "the configuration isn't kept"
-    [[ $(left | wc -l) -eq 10 ]] || differs "left by a removal: $(left)"
+    grep -q "^COLLECTOR=here$" "$etc/machine.conf.d/10-join.conf" || differs "the settings aren't kept"
+    [[ $(left | wc -l) -eq 9 ]] || differs "left by a removal: $(left)"
     expect 0 "~*" "~*" own_dpkg --install "$package"
-    expect 0 "~*" "~*the logs below /var/lib/journal-collect are kept, and so is their user*" \
+    expect 0 "~*" "~*the logs below /var/lib/journal-collect are kept, and so are their users*" \
         own_dpkg --purge journal-collect
     [[ $(left) == var/lib/journal-collect/kept ]] || differs "left by a purge: $(left)"
     has_user || differs "the user that has logs is gone"

@@ -22,7 +22,7 @@ changed() {
     rm -rf "$folder/tree"
     mkdir -p "$folder/tree/crates/jc_base/specs" "$folder/tree/tests" "$folder/tree/tools" "$folder/tree/deploy"
     cp -r README.md CHANGELOG.md CONTRIBUTING.md crates.txt docs "$folder/tree/"
-    cp deploy/*.conf "$folder/tree/deploy/"
+    cp -r deploy/settings "$folder/tree/deploy/"
     cp --parents crates/*/refused/*.edit "$folder/tree/"
     cp crates/jc_base/specs/Fault.antt "$folder/tree/crates/jc_base/specs/"
     cp --parents crates/jc_collector/specs/Inspected.antt "$folder/tree/"
@@ -38,23 +38,21 @@ changed docs/PROOFS.md 's/rattle-kit-\w+//' "docs/PROOFS.md is for None, which t
 changed crates.txt 's/^jc_file:/jc_files:/' \
     "docs/ARCHITECTURE.md: the crate jc_file isn't both there and listed
 docs/ARCHITECTURE.md: the crate jc_files isn't both there and listed"
-changed docs/ARCHITECTURE.md 's/`test-send.sh`/`test-sends.sh`/' \
-    "docs/ARCHITECTURE.md: there is no script test-sends.sh"
+changed docs/ARCHITECTURE.md 's/`test-stops.sh`/`test-stop.sh`/' \
+    "docs/ARCHITECTURE.md: there is no script test-stop.sh"
 changed tests/test-stops.sh '2s/^.*$/set -u/' "tests/test-stops.sh doesn't begin with what it tests"
 changed docs/GUIDE.md '$a An open takes 9.9 ms and 4.4\nkB of memory an entry, at 9,999 entries in a second.' \
     "docs/GUIDE.md: the figure '9,999 entries' isn't in the table of docs/PERFORMANCE.md
 docs/GUIDE.md: the figure '9.9 ms' isn't in the table of docs/PERFORMANCE.md"
-changed deploy/collector.conf '$a # 1,234 bytes for each entry, and 7.5 million entries a day' \
-    "deploy/collector.conf: the figure '1,234 bytes' isn't in the table of docs/PERFORMANCE.md
-deploy/collector.conf: the figure '7.5 million' isn't in the table of docs/PERFORMANCE.md"
+changed deploy/settings/collector.conf '$a # 1,234 bytes for each entry, and 7.5 million entries a day' \
+    "deploy/settings/collector.conf: the figure '1,234 bytes' isn't in the table of docs/PERFORMANCE.md
+deploy/settings/collector.conf: the figure '7.5 million' isn't in the table of docs/PERFORMANCE.md"
 changed docs/PERFORMANCE.md 's/^## A machine.s commands$/&\n\nIt takes 9.8 ms an entry./' \
     "docs/PERFORMANCE.md, A machine's commands: the figure '9.8 ms' isn't in the table of docs/PERFORMANCE.md"
 changed docs/PERFORMANCE.md 's/^## Limits$/## Bounds/' "~docs/PERFORMANCE.md has no part 'Limits'*"
 changed docs/PERFORMANCE.md 's/^## Figures to plan with$/## Others/' \
     "~docs/PERFORMANCE.md has no figures under 'Figures to plan with'*"
-changed docs/GUIDE.md 's/^## Sizing$/## Size/' \
-    "docs/PERFORMANCE.md: there is no GUIDE.md#sizing"
-changed docs/GUIDE.md 's/\]\(#an-engine\)/](#engine)/' "docs/GUIDE.md: there is no #engine"
+changed docs/GUIDE.md 's/\]\(#at-three-in-the-morning\)/](#at-four)/' "docs/GUIDE.md: there is no #at-four"
 changed docs/GATE.md 's/^There are [0-9]+\.$/There are 7./' "~docs/GATE.md tells of 7 edits, and there are *"
 changed crates/jc_base/refused/limit-off-by-one.edit '/^goal:/d' \
     "crates/jc_base/refused/limit-off-by-one.edit names no goal that has to refuse it"
@@ -63,8 +61,4 @@ changed docs/CONTRACTS.md 's/\*\*`export_reads_back`\*\*/**`export_reads`**/' \
 changed README.md 's/\(`Keeper::absorb`, /(`Keeper::absorbs`, /' \
     "README.md names Keeper::absorbs for a claim, and docs/CONTRACTS.md doesn't have it"
 changed docs/FORMATS.md 's/^\| 60 \|/| 59 |/' "~code (59, *code (60, *"
-changed docs/GUIDE.md 's/^\| 33, 34, 36 \|/| 33, 16, 64 |/' \
-    "docs/GUIDE.md doesn't say once what to do about code 16, or it is none
-docs/GUIDE.md doesn't say once what to do about code 64, or it is none"
-changed docs/GUIDE.md 's/^## What to do about each code$/## Codes/' "docs/GUIDE.md says of no code what to do"
 finish

@@ -6,7 +6,7 @@ set -uo pipefail
 . "$(dirname "$0")/expect.sh"
 
 fixtures=$PWD/tests/fixtures
-fit_stream=$PWD/deploy/fit-stream
+fit_stream=$PWD/deploy/programs/fit-stream
 expected_text=$PWD/tests/collect/expected_text.py
 source=a0a1a2a3a4a5a6a7a8a9aaabacadaeaf
 new_folder

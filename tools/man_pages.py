@@ -49,8 +49,10 @@ def read_help(parts: list[str]) -> Help:
     """The parts of a help, between empty lines."""
     found = Help()
     for part in parts:
-        if part.startswith("usage: "):
-            found.calls = calls_in(part)
+        if part.lower().startswith("usage: "):
+            found.calls = calls_in(part[len("usage: "):])
+        elif all(re.match(" {2,6}-", line) for line in part.split("\n")):
+            found.options.append(("options", options_in(part.split("\n"))))
         elif re.match(r"[^\n]*:\n {2,6}(-|[A-Z])", part):
             heading, *lines = part.split("\n")
             found.options.append((heading.rstrip(":"), options_in(lines)))
@@ -65,7 +67,7 @@ def read_help(parts: list[str]) -> Help:
 def calls_in(usage: str) -> list[str]:
     """The calls of a usage, each on one line. A line that stands deeper goes on with the one before."""
     calls: list[str] = []
-    for line in usage.removeprefix("usage: ").split("\n"):
+    for line in usage.split("\n"):
         if line.startswith(" " * 8) and calls:
             calls[-1] += " " + line.strip()
         else:
@@ -77,7 +79,7 @@ def options_in(lines: list[str]) -> list[tuple[str, str]]:
     """The options of a list, each with what it means."""
     found: list[tuple[str, str]] = []
     for line in lines:
-        match = re.match(r"(?:  | {2,6}(?=-))(\S.*)$", line)
+        match = re.match(r"(?:  | {2,6}(?=-)| {4}(?=[a-z]+ {2,}))(\S.*)$", line)
         if match:
             told = re.match(r"(.*?)\s{2,}(.*)$|(-\S+) ([a-z].*)$", match[1])
             found.append((told[1] or told[3], told[2] or told[4]) if told else (match[1], ""))
@@ -163,7 +165,8 @@ def program_page(page: dict) -> Iterator[str]:
     for call in told.calls:
         _, _, rest = call.partition(" ")
         yield f".Nm {page['path']}"
-        yield from map(marked, re.findall(r"\[(?:[^][]|\[[^][]*\])*\]|[^][ ]\S*", rest))
+        words = re.findall(r"\[(?:[^][]|\[[^][]*\])*\]|[^][ ]\S*", rest)
+        yield from ("\\&" + word if word.startswith(".") else marked(word) for word in words)
         if call != told.calls[-1]:
             yield ".br"
     yield ".Sh DESCRIPTION"

@@ -122,7 +122,8 @@ class Machine(Computer):
         (folder / "journal-collect").write_text(WITNESS.format(program=PROGRAM, ledger=self.ledger))
         (folder / "journal-collect").chmod(0o755)
         self.heal()
-        super().__init__(folder, disk, self.settings(folder, disk), {"JOURNAL_COLLECT": str(folder / "journal-collect")})
+        witness = {"JOURNAL_COLLECT": str(folder / "journal-collect")}
+        super().__init__(folder, disk, self.settings(folder, disk), witness)
         self.journal = Journal(disk, name, dice)
 
     def settings(self, folder: Path, disk: Disk) -> dict[str, object]:

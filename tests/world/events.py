@@ -28,7 +28,8 @@ def clock_library(folder: Path) -> str:
     if not shutil.which("rt"):
         return ""
     library = preload.built(str(HERE / "clock.c"), str(folder))
-    told = subprocess.run([PROGRAM, "--version"], env={**os.environ, "LD_PRELOAD": library}, capture_output=True, check=False)
+    environment = {**os.environ, "LD_PRELOAD": library}
+    told = subprocess.run([PROGRAM, "--version"], env=environment, capture_output=True, check=False)
     return "" if told.returncode else library
 
 
@@ -240,7 +241,8 @@ class World:
 
     def collector_hostile(self) -> None:
         self.end_hostile()
-        words = [str(self.collector.socket("evil")), str(self.dice.random()), *(str(each.ledger) for each in self.machines)]
+        ledgers = [str(each.ledger) for each in self.machines]
+        words = [str(self.collector.socket("evil")), str(self.dice.random()), *ledgers]
         self.hostile = subprocess.Popen([sys.executable, "-B", HERE / "hostile.py", *words], stderr=subprocess.DEVNULL)
 
     def end_hostile(self) -> None:

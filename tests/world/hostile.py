@@ -1,6 +1,6 @@
 #!/usr/bin/python3 -B
-"""One hostile machine: hostile.py SOCKET SEED LEDGERS.. It has a key, so a socket, and does to it what it likes until it
-is killed. LEDGERS are folders with uploads of other machines, whose sequences it names."""
+"""One hostile machine: hostile.py SOCKET SEED LEDGERS.. It has a key, so a socket, and does to it what it likes
+until it is killed. LEDGERS are folders with uploads of other machines, whose sequences it names."""
 from __future__ import annotations
 
 import hashlib
@@ -20,17 +20,18 @@ def upload(body: bytes, count: int, kind: int = 1, start: int = 0) -> bytes:
 
 
 def entry(sequence: bytes, number: int, more: bytes = b"") -> bytes:
-    return (b"__REALTIME_TIMESTAMP=%d\n__MONOTONIC_TIMESTAMP=1\n_BOOT_ID=%032d\n__SEQNUM=%d\n__SEQNUM_ID=%s\nMESSAGE=%s\n"
-            b"%s\n" % (1_700_000_000_000_000 + number, 1, number, sequence, MESSAGE, more))
+    return (b"__REALTIME_TIMESTAMP=%d\n__MONOTONIC_TIMESTAMP=1\n_BOOT_ID=%032d\n__SEQNUM=%d\n__SEQNUM_ID=%s\n"
+            b"MESSAGE=%s\n%s\n" % (1_700_000_000_000_000 + number, 1, number, sequence, MESSAGE, more))
 
 
 class Hostile:
     def __init__(self, path: str, seed: str, ledgers: list[str]) -> None:
         self.path, self.dice, self.ledgers = path, random.Random(seed), [Path(each) for each in ledgers]
         self.held: list[socket.socket] = []
-        self.deeds = [self.garbage, self.endless_line, self.too_large, self.wrong_digest, self.half, self.many_sequences,
-                      self.many_windows, self.large_entry, self.short_fields, self.others, self.slowly, self.hold,
-                      self.no_export, self.late_start, self.asks, self.plain]
+        self.deeds = [
+            self.garbage, self.endless_line, self.too_large, self.wrong_digest, self.half, self.many_sequences,
+            self.many_windows, self.large_entry, self.short_fields, self.others, self.slowly, self.hold,
+            self.no_export, self.late_start, self.asks, self.plain]
 
     def id(self) -> bytes:
         return self.dice.randbytes(16).hex().encode()

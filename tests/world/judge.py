@@ -5,7 +5,6 @@ import hashlib
 import subprocess
 from collections import Counter
 from collections.abc import Iterator
-from pathlib import Path
 from typing import NamedTuple
 
 from computers import PROGRAM, Collector, Machine

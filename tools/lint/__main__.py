@@ -5,8 +5,8 @@ usage: python3 tools/lint [FOLDER]
 The checks are: `width`, lines of at most 120 characters; `blanks`, no tabs, no blanks at an end; `steps` of four blanks
 in shell; `types` at public functions of Python; `visible`, that an item of a library is `pub` if its `lib.rt` hands it
 on, and only then; `printed`, that docs/CONTRACTS.md is as tools/contracts.py prints it; `shell`, what shellcheck says;
-`python`, what pyflakes says; `layout`, what `rattle fmt` says, without which no crate is proved. What they pass over is
-in tools/lint/exceptions.txt of the folder. A line is printed for each mistake, and one that begins with `skipped:` for
+`python`, what pyflakes says; `strict`, what mypy says of deploy/journalcollect and some tests; `layout`, what `rattle
+fmt` says, without which no crate is proved. What they pass over is in tools/lint/exceptions.txt of the folder. A line is printed for each mistake, and one that begins with `skipped:` for
 a program that isn't installed. The last line says how many texts were read and what was found.
 """
 
@@ -15,6 +15,7 @@ from __future__ import annotations
 import sys
 from collections.abc import Callable, Iterator
 
+from checked import mistakes_in_strict
 from exceptions import read_exceptions, without_exceptions
 from layout import mistakes_in_blanks, mistakes_in_steps, mistakes_in_width
 from printed import mistakes_in_printed
@@ -42,6 +43,9 @@ def main(top: str) -> int:
         before = len(skipped)
         mistakes += mistakes_by(program, top, texts, skipped.append)
         made |= {program.check} if len(skipped) == before else set()
+    before = len(skipped)
+    mistakes += mistakes_in_strict(top, skipped.append)
+    made |= {"strict"} if len(skipped) == before else set()
     exceptions = read_exceptions(top)
     left = sorted(without_exceptions(mistakes, exceptions, made))
     for mistake in left:

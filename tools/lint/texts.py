@@ -8,7 +8,7 @@ from collections.abc import Iterator
 from dataclasses import dataclass
 
 # What .gitignore names: folders of any place, and those of one.
-BUILT = {".git", "out", "__pycache__"}
+BUILT = {".git", "out", "__pycache__", ".mypy_cache"}
 BUILT_AT = {"build", "bench/out"}
 KINDS = {".sh": "shell", ".py": "python", ".rt": "rattle", ".antt": "rattle"}
 PROGRAMS = ((re.compile(r"#!.*\b(ba|da)?sh\b"), "shell"), (re.compile(r"#!.*\bpython3\b"), "python"))

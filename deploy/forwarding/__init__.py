@@ -1,1 +1,0 @@
-"""What brings what was collected to an engine: journal-collect-forward."""

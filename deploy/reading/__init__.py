@@ -1,1 +1,0 @@
-"""What looks at collected databases: journal-files makes journal files of them, search shows their entries."""
