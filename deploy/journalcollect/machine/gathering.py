@@ -10,12 +10,12 @@ import time
 
 from journalcollect.common.export_stream import Unfit
 from journalcollect.common.fit import Entry
+from journalcollect.common.report import FINE, LOOK, Report
 from journalcollect.machine import journal
 from journalcollect.machine.journal import Journal, JournalFile, Reading
 from journalcollect.machine.outbox import Making, Outbox, Piece
 from journalcollect.machine.places import Place, Places
 from journalcollect.machine.refused import Refused, Whole
-from journalcollect.machine.report import FINE, LOOK, Report
 from journalcollect.machine.settings import Settings, seconds
 from journalcollect.machine.unreadable import Unreadable, next_readable
 
@@ -65,8 +65,6 @@ class Gathering:
             known = self.places.all()
         return known
 
-    # Files that are gone
-
     def gone(self, known: dict[str, Place]) -> list[Place]:
         ids = {file.id for file in self.journal.files}
         return [place for place in known.values() if place.file not in ids]
@@ -80,8 +78,6 @@ class Gathering:
                 self.report.say(LOOK, "a gap: journald removed a file that wasn't gathered to its end, and perhaps "
                                 f"others after it: {place.kind}, cursor {place.cursor or '-'}")
         self.places.forget(gone)
-
-    # One file
 
     def gather_path(self, file: JournalFile, place: Place) -> None:
         try:
@@ -149,8 +145,6 @@ class Gathering:
         is_whole = reading.status == 0 and reading.broken is None
         is_nothing = not place.number and bool(place.since)
         return place.number >= file.tail or (is_whole and (is_nothing or place.realtime == file.tail_realtime))
-
-    # Entries
 
     def take(self, reading: Reading, place: Place) -> bool:
         """Takes a reading's entries, up to where no more are wanted; whether the file has other ones than were gathered

@@ -19,8 +19,8 @@ from dataclasses import astuple, dataclass
 from pathlib import Path
 from typing import Any
 
+from journalcollect.common.report import LOOK, Report
 from journalcollect.machine.journal import JournalFile, cursor_of, cursor_parts
-from journalcollect.machine.report import LOOK, Report
 
 VERSION = 1
 TABLES = f"""
@@ -123,8 +123,6 @@ class Places:
         with self.database:
             self.database.executemany(statement, rows)
 
-    # Places
-
     def all(self) -> dict[str, Place]:
         return {row[0]: Place(*row) for row in
                 self.rows([str, str, str, int, str, int, int, int, str], "SELECT * FROM place")}
@@ -137,15 +135,13 @@ class Places:
 
     def forget_all(self) -> None:
         """What the journal has goes out once more."""
-        self.do("DELETE FROM value WHERE name IN ('begun', 'had')")
         self.do("DELETE FROM place")
+        self.do("DELETE FROM value WHERE name IN ('begun', 'had')")
 
     def go_back(self, since: str) -> None:
         """What the journal has since a time goes out once more."""
         self.do("UPDATE place SET number = 0, cursor = '', count = -1, tail = 0, since = ?", [[since]])
         self.set(again="")
-
-    # Forks
 
     def forked(self, sequence: str, number: int) -> str:
         """The sequence that an entry goes out in: its own, or the last fork of those that begin nearest before it."""
@@ -167,8 +163,6 @@ class Places:
         self.forks = sorted([*self.forks, (sequence, number, new)], key=lambda fork: fork[1])
         return new
 
-    # Uploads that went out in vain
-
     def tries(self) -> dict[int, tuple[int, float]]:
         return {upload: (count, until) for upload, count, until in self.rows([int, int, float], "SELECT * FROM try")}
 
@@ -181,8 +175,6 @@ class Places:
     def forget_tries(self, uploads: Iterable[int]) -> None:
         """Only these uploads are there still."""
         self.do("DELETE FROM try WHERE upload = ?", [[each] for each in self.tries().keys() - set(uploads)])
-
-    # Values, and what is told
 
     def value(self, name: str) -> str:
         return str((self.database.execute("SELECT value FROM value WHERE name = ?", [name]).fetchone() or [""])[0])

@@ -10,10 +10,10 @@
 """
 from journalcollect.common import program
 from journalcollect.common.protocol import Answer
+from journalcollect.common.report import LOOK, Report
 from journalcollect.machine.outbox import Outbox, Piece, at_byte
 from journalcollect.machine.places import Places
 from journalcollect.machine.refused import Refused
-from journalcollect.machine.report import LOOK, Report
 
 FAILURES, OVER_BOUNDS, CONFLICT, NOT_THE_OWNER, TOO_LARGE = (61, 62, 63), 6, 60, 71, (11, 12, 14, 15)
 # An entry whose text is whole here is believed to be at fault once the collector said so as often.

@@ -3,7 +3,7 @@ are, each in a file SEQUENCE-NUMBER.export. It takes a part of what the machine'
 from pathlib import Path
 
 from journalcollect.common import files
-from journalcollect.machine.report import LOOK, Report
+from journalcollect.common.report import LOOK, Report
 
 PART = 8
 

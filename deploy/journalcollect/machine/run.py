@@ -14,6 +14,7 @@ from collections.abc import Callable
 from pathlib import Path
 
 from journalcollect.common import files, program
+from journalcollect.common.report import BUSY, FAILED, FINE, LOOK, WRONG, Report
 from journalcollect.common.settings import Wrong
 from journalcollect.machine import settings
 from journalcollect.machine.gathering import Gathering
@@ -22,7 +23,6 @@ from journalcollect.machine.outbox import Outbox
 from journalcollect.machine.places import Places
 from journalcollect.machine.refusals import Refusals
 from journalcollect.machine.refused import Refused
-from journalcollect.machine.report import BUSY, FAILED, FINE, LOOK, WRONG, Report
 from journalcollect.machine.sending import FAILURES, FIRST_PAUSE, Sending
 from journalcollect.machine.settings import Settings
 

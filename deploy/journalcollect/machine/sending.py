@@ -11,11 +11,11 @@ import time
 from journalcollect.common import program
 from journalcollect.common.export_stream import Unfit
 from journalcollect.common.protocol import LONGEST_LINE, Answer, Greeting, Had, Known, Put, Reply, Upload, Verdict
+from journalcollect.common.report import FAILED, LOOK, Report
 from journalcollect.machine.link import Link, Lost
 from journalcollect.machine.outbox import Outbox, pieces_in
 from journalcollect.machine.places import LONGEST_REST, NEVER, Places
 from journalcollect.machine.refusals import Refusals
-from journalcollect.machine.report import FAILED, LOOK, Report
 from journalcollect.machine.settings import Settings
 
 # A link that is lost as often in a row, with an upload under way, carries half of its bytes, or so many at least.
