@@ -14,7 +14,7 @@ import pytest
 from conftest import Collector, Machine, entries, entry, sequence, upload
 
 SECONDS = float(os.environ.get("HOSTILE_SECONDS", "4"))
-WORST = float(os.environ.get("HOSTILE_WORST", "20"))
+WORST = float(os.environ.get("HOSTILE_WORST", "30"))
 HEALTHY, HOSTILE = 20, 8
 
 Deed = Callable[[Machine, int, int], None]

@@ -100,7 +100,7 @@ class Notes:
         if names:
             others = f", and so are {len(names) - 1} others" if len(names) > 1 else ""
             first = self.path(*names[0])
-            self.state.tell(f"notes {first}", f"{first}: {why}: it is put aside, and made anew of the databases{others}")
+            self.state.tell(f"notes {first}", f"{first}: {why}: it is put aside, and made anew of databases{others}")
         for name in names:
             self.put_aside(self.path(*name))
             for number, database in self.state.ask(

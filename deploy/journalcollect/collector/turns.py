@@ -1,4 +1,4 @@
-"""Uploads that wait, and whose turn it is: next is the machine that had the least of the store's time."""
+"""Uploads that wait, and whose turn it is: next is the machine that has the least of the store's time then."""
 import collections
 import threading
 from concurrent.futures import Future
@@ -10,6 +10,8 @@ from ..common.protocol import Answer, Put, Verdict
 # So many uploads and bytes are handed to the program at once, one of each machine; a machine whose last upload took
 # longer than HEAVY has its turn alone.
 MOST, MOST_BYTES, HEAVY = 64, 1 << 20, 0.3
+# Seconds that a byte of an upload is likely to take.
+OF_A_BYTE = 1e-7
 
 
 @dataclass(eq=False)
@@ -58,7 +60,7 @@ class Turns:
                 self.changed.wait(seconds)
             group: list[Waiting] = []
             size = 0
-            for machine in sorted(self.waiting, key=self.had.__getitem__)[:MOST]:
+            for machine in sorted(self.waiting, key=self.wanted)[:MOST]:
                 upload, is_heavy = self.waiting[machine][0], self.last.get(machine, 0.0) > HEAVY
                 if group and (is_heavy or size + upload.size > MOST_BYTES):
                     continue
@@ -68,6 +70,10 @@ class Turns:
                 if is_heavy:
                     break
             return group
+
+    def wanted(self, machine: str) -> float:
+        """What a machine had, and what its next upload is likely to take."""
+        return self.had[machine] + OF_A_BYTE * self.waiting[machine][0].size
 
     def take(self, machine: str) -> None:
         self.waiting[machine].popleft()
