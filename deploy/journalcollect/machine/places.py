@@ -37,7 +37,7 @@ PRAGMA user_version={VERSION};
 COMMIT;
 """
 # How often an upload went out in vain, and until when it rests, if it didn't yet; how long one rests at most.
-NEVER, LONGEST_REST = (0, 0.0), 3600.0
+NEVER, LONGEST_REST = (0, 0.0), 300.0
 # Errors of SQLite that say that the file isn't what was made here; others, as of a full disk, may pass.
 DAMAGED = (sqlite3.SQLITE_CORRUPT, sqlite3.SQLITE_NOTADB, sqlite3.SQLITE_ERROR)
 

@@ -100,6 +100,8 @@ def locked(folder: Path) -> bool:
     os.umask(0o077)
     folder.mkdir(parents=True, exist_ok=True)
     files.sync(folder.parent)
+    if folder.stat().st_uid != os.geteuid():
+        raise Wrong(f"{folder} is of another user: runuser -u {folder.owner()} -G systemd-journal -- {' '.join(sys.argv)}")
     try:
         fcntl.flock(os.open(folder, os.O_RDONLY | os.O_DIRECTORY | os.O_CLOEXEC), fcntl.LOCK_EX | fcntl.LOCK_NB)
     except BlockingIOError:
