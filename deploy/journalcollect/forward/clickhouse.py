@@ -53,8 +53,8 @@ class Answer:
 class ClickHouse:
     """One table, over one connection."""
 
-    def __init__(self, chosen: Settings) -> None:
-        parts, context, self.seconds = chosen.parts, settings.encryption(chosen), chosen.timeout_seconds
+    def __init__(self, chosen: Settings, seconds: float) -> None:
+        parts, context, self.seconds = chosen.parts, settings.encryption(chosen), seconds
         self.table, self.path, self.headers = chosen.table, parts.path.rstrip("/"), settings.headers(chosen)
         host, port = parts.hostname or "", parts.port
         self.connection = http.client.HTTPSConnection(host, port, timeout=self.seconds, context=context) if context \

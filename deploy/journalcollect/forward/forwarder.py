@@ -17,7 +17,7 @@ from ..collector import settings as collector_settings
 from ..collector.settings import Folder
 from ..common import files, program
 from ..common.settings import Wrong
-from ..reading.entries import Malformed, spans
+from ..common.entries import Malformed, spans
 from . import settings
 from .clickhouse import ClickHouse, Refused, Unavailable
 from .place import Kept, Place
@@ -44,8 +44,8 @@ class GaveUp(Exception):
 class Forwarder:
     """One run."""
 
-    def __init__(self, chosen: Settings, folder: Path, once: bool) -> None:
-        self.chosen, self.once = chosen, once
+    def __init__(self, chosen: Settings, folder: Path, once: bool, seconds: float) -> None:
+        self.chosen, self.once, self.seconds = chosen, once, seconds
         self.folder, self.state = Folder(folder), folder / "forward"
         self.folder.scratch, self.kept = self.state, Kept(self.state)
         self.place, self.status, self.waits_for = Place(), 0, ""
@@ -56,11 +56,12 @@ class Forwarder:
 
     def finished(self) -> dict[str, str]:
         """The finished databases and their digests."""
-        paths = self.folder.databases.glob("*.db.sha256")
-        return {path.name.removesuffix(".db.sha256"): path.read_text(errors="replace").partition(" ")[0] for path in paths}
+        return {path.name.removesuffix(".db.sha256"): path.read_text(errors="replace").partition(" ")[0]
+                for path in self.folder.databases.glob("*.db.sha256")}
 
     def run(self, place: Place) -> int:
-        self.place, engine = place, ClickHouse(self.chosen)
+        self.place, engine = place, ClickHouse(self.chosen, self.seconds)
+        self.kept.problem.unlink(missing_ok=True)
         self.insist(engine.look)
         while True:
             finished = self.finished()
@@ -92,7 +93,7 @@ class Forwarder:
     def rows(self, name: str, skipped: int) -> Iterator[Row]:
         """The entries of a database but for the first ones, in the order of their keys."""
         with databases.unpacked(self.folder, name) as database, files.unnamed(self.state) as handle:
-            ended = subprocess.run([program.path(), "export", database], stdout=handle, stderr=subprocess.PIPE, check=False)
+            ended = subprocess.run([program.path(), "export", database], stdout=handle, stderr=subprocess.PIPE)
             if ended.returncode:
                 raise program.Failed(ended.stderr.decode(errors="replace").strip())
             begun = self.begun(name)
@@ -191,8 +192,8 @@ def place_for(chosen: Settings, kept: Kept, again: list[str], keeps: bool) -> Pl
     if ALL in again:
         place = Place(aside=place.aside, aside_bytes=place.aside_bytes)
     elif place.target not in ("", chosen.target) and not keeps:
-        raise Wrong(f"`{place.target}` has what was forwarded, and the settings name `{chosen.target}`: call --again {ALL} "
-                    "to forward all to it, or --keep-place if it has the same")
+        raise Wrong(f"`{place.target}` has what was forwarded, and the settings name `{chosen.target}`: call "
+                    f"--again {ALL} to forward all to it, or --keep-place if it has the same")
     for name in again:
         if name != ALL and not (place.done.pop(name, None) or place.bad.pop(name, None)):
             raise Wrong(f"{name} wasn't forwarded")
@@ -210,6 +211,8 @@ def arguments() -> argparse.Namespace:
     parser.add_argument("--schema", action="store_true", help="print what the engine has to be set up with")
     parser.add_argument("--again", metavar="DATABASE", action="append", default=[],
                         help=f"forward this database once more, or all that are there (`{ALL}`)")
+    parser.add_argument("--timeout", metavar="SECONDS", type=float, default=60.0,
+                        help="a request with its answer takes at most so long (60)")
     parser.add_argument("--keep-place", action="store_true", help="go on with another engine as with the last one")
     return parser.parse_args()
 
@@ -229,7 +232,7 @@ def main() -> int:
         if not chosen.url:
             print("forward: URL isn't set; nothing is forwarded", file=sys.stderr)
             return 0
-        run = Forwarder(chosen, Path(collector_settings.read().folder), asked.once)
+        run = Forwarder(chosen, Path(collector_settings.read().folder), asked.once, asked.timeout)
         if asked.status:
             return run.say_status()
         run.state.mkdir(exist_ok=True)

@@ -27,7 +27,8 @@ class Place:
 
     def waiting(self, finished: dict[str, str]) -> list[str]:
         """The databases that wait, the oldest first."""
-        return sorted(name for name, digest in finished.items() if digest not in (self.done.get(name), self.bad.get(name)))
+        return sorted(name for name, digest in finished.items()
+                      if digest not in (self.done.get(name), self.bad.get(name)))
 
     def note(self, finished: dict[str, str]) -> list[str]:
         """These are there now; those that waited and went."""
@@ -69,7 +70,8 @@ class Kept:
             file.truncate(begin)
             file.seek(begin)
             for row, why in rows:
-                file.write(json.dumps({"database": place.database, "why": why, "row": json.loads(row.data)}).encode() + b"\n")
+                said = {"database": place.database, "why": why, "row": json.loads(row.data)}
+                file.write(json.dumps(said).encode() + b"\n")
             file.flush()
             os.fsync(file.fileno())
             place.aside_bytes = file.tell()

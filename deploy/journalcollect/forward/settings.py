@@ -24,7 +24,6 @@ class Settings:
     authorization_file: str = ""
     ca_file: str = ""
     certificate_file: str = ""
-    timeout_seconds: float = 60.0
 
     @property
     def target(self) -> str:
@@ -41,8 +40,6 @@ def read(folder: Path | None = None) -> Settings:
     chosen = settings.read(folder or settings.FOLDER / "forward.conf.d", Settings)
     if not TABLE.fullmatch(chosen.table):
         raise Wrong(f"TABLE can't be {chosen.table}: it is NAME or DATABASE.NAME")
-    if not chosen.timeout_seconds:
-        raise Wrong("TIMEOUT_SECONDS is more than 0")
     if chosen.url:
         look_at_url(chosen)
     return chosen

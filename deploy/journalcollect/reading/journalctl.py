@@ -1,15 +1,17 @@
 """journalctl over chosen files: one after the other, or parts of the time on all processors."""
 import json
+import math
 import os
 import subprocess
 import sys
 import tempfile
+import threading
+import time
 from collections import Counter
 from collections.abc import Iterator
 from concurrent.futures import ProcessPoolExecutor, ThreadPoolExecutor
-from contextlib import contextmanager
-from dataclasses import dataclass
-from typing import IO, Any
+from itertools import product
+from typing import IO, Any, NamedTuple
 
 from .choosing import FOREVER, File, Standing
 from .words import Call
@@ -18,23 +20,20 @@ PROGRAM = "journalctl"
 CURSORS = ("cursor", "after-cursor", "cursor-file", "show-cursor")
 
 
-@dataclass(frozen=True)
-class Window:
+class Window(NamedTuple):
     """Some files, and the span of which entries of them are asked for, in microseconds."""
     files: list[File]
     since: int
     until: int
 
-    def call(self, call: Call) -> Call:
-        """A call for this span."""
+    def words(self, call: Call) -> list[str]:
+        """The words for this span."""
         if self.since:
             call = call.without("since").plus(("since", moment(self.since)))
         if self.until < FOREVER:
             call = call.without("until").plus(("until", moment(self.until)))
-        return call
-
-    def words(self, call: Call) -> list[str]:
-        return [PROGRAM, *(file.word for file in self.files), "--merge", "--no-pager", *self.call(call).words()]
+        files = [f"--file=/proc/self/fd/{handle}" for handle in self.handles]
+        return [PROGRAM, *files, "--merge", "--no-pager", *call.words()]
 
     @property
     def handles(self) -> list[int]:
@@ -78,36 +77,30 @@ def windows(standing: Standing, since: int, until: int, many: int) -> list[Windo
     return [*found, *([Window(standing.present, since, until)] if standing.present else [])]
 
 
-def replace(window: Window, call: Call, *more: str) -> None:
-    """This process becomes journalctl."""
+def become(window: Window, call: Call) -> int:
+    """This process becomes journalctl, with its pager."""
     for handle in window.handles:
         os.set_inheritable(handle, True)
-    words = window.words(call)
-    words.remove("--no-pager")
-    os.execvp(PROGRAM, [words[0], *more, *words[1:]])
+    os.execvp(PROGRAM, [word for word in window.words(call) if word != "--no-pager" or call.has("no-pager")])
 
 
-Entries = Iterator[dict[str, Any]]
-
-
-@contextmanager
-def reading(window: Window, call: Call, *fields: str) -> Iterator[tuple[subprocess.Popen[bytes], Entries]]:
-    """A journalctl, and the entries as it says them in JSON, with some fields alone if these are named."""
+def entries(window: Window, call: Call, *fields: str, end: float = math.inf) -> Iterator[dict[str, Any]]:
+    """The entries as JSON says them, with some fields alone if these are named; those that come until a moment of the
+    monotonic clock."""
     call = call.without("output", "output-fields", "quiet").plus(("output", "json"), ("quiet", None))
     if fields:
         call = call.plus(("output-fields", ",".join(fields)))
     with subprocess.Popen(window.words(call), stdout=subprocess.PIPE, stderr=subprocess.DEVNULL,
                           pass_fds=window.handles) as process:
         assert process.stdout
+        timer = threading.Timer(max(end - time.monotonic(), 0.0), process.kill)
+        if end < math.inf:
+            timer.start()
         try:
-            yield process, (json.loads(line) for line in process.stdout if line.endswith(b"}\n"))
+            yield from (json.loads(line) for line in process.stdout if line.endswith(b"}\n"))
         finally:
+            timer.cancel()
             process.terminate()
-
-
-def entries(window: Window, call: Call, *fields: str) -> Entries:
-    with reading(window, call, *fields) as (_, found):
-        yield from found
 
 
 def side_by_side(found: list[Window], call: Call) -> int:
@@ -152,23 +145,25 @@ def newest(found: list[Window], call: Call, lines: int) -> int:
     return 0
 
 
-def count_one(window: Window, call: Call, name: str | None) -> Counter[tuple[int, str]]:
-    """How many entries each second has, by the value of a field."""
-    found: Counter[tuple[int, str]] = Counter()
-    for entry in entries(window, call, name or "_BOOT_ID"):
-        value = entry.get(name, "-") if name else ""
-        for each in value if isinstance(value, list) and value and isinstance(value[0], str) else [value]:
-            found[int(entry["__REALTIME_TIMESTAMP"]) // 1_000_000, each if isinstance(each, str) else "?"] += 1
+def count_one(window: Window, call: Call, names: list[str]) -> Counter[tuple[int, tuple[str, ...]]]:
+    """How many entries each second has, by the values of some fields. Of several values of a field each counts."""
+    found: Counter[tuple[int, tuple[str, ...]]] = Counter()
+    for entry in entries(window, call, *(names or ["_BOOT_ID"])):
+        second = int(entry["__REALTIME_TIMESTAMP"]) // 1_000_000
+        found.update((second, each) for each in product(*(texts(entry.get(name, "-")) for name in names)))
     return found
 
 
-def count(found: list[Window], call: Call, name: str | None) -> Counter[tuple[int, str]]:
+def texts(value: Any) -> list[str]:
+    """A value, or several, as JSON says it; what is no text is a list of bytes there."""
+    several = value if isinstance(value, list) and value and not isinstance(value[0], int) else [value]
+    return [each if isinstance(each, str) else "?" for each in several]
+
+
+def count(found: list[Window], call: Call, *names: str) -> Counter[tuple[int, tuple[str, ...]]]:
     """The same of all windows, on all processors."""
-    together: Counter[tuple[int, str]] = Counter()
     for window in found:
         for handle in window.handles:
             os.set_inheritable(handle, True)
     with ProcessPoolExecutor(os.cpu_count()) as pool:
-        for part in pool.map(count_one, found, [call] * len(found), [name] * len(found)):
-            together.update(part)
-    return together
+        return sum(pool.map(count_one, found, [call] * len(found), [list(names)] * len(found)), Counter())

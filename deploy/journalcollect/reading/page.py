@@ -17,9 +17,9 @@ import socketserver
 import subprocess
 import threading
 import time
+from collections import Counter
 from collections.abc import Iterator
 from concurrent.futures import ThreadPoolExecutor
-from dataclasses import dataclass
 from http import HTTPStatus
 from http.server import BaseHTTPRequestHandler
 from pathlib import Path
@@ -38,8 +38,8 @@ SECONDS, LINES, BARS, AT_ONCE = 10.0, 500, 60, 4
 HOSTS = re.compile(r"(localhost|127\.0\.0\.1|\[::1\])(:\d{1,5})?", re.ASCII)
 NUMBER = re.compile(r"i=([0-9a-f]+)")
 MATCH = re.compile(r"[A-Z_][A-Z0-9_]{0,63}=.*", re.DOTALL | re.ASCII)
-HERE = Path(__file__).parent
 Asked = dict[str, list[str]]
+Entry = dict[str, Any]
 
 
 class Refused(Exception):
@@ -52,15 +52,16 @@ class Refused(Exception):
 
 def page() -> tuple[bytes, str]:
     """The page, and what a browser is to run of it: its own script and style, and nothing else."""
-    text = (HERE / "page.html").read_bytes()
+    text = Path(__file__).with_name("page.html").read_bytes()
 
     def digest(tag: bytes) -> str:
         found = re.search(b"<%s>(.*?)</%s>" % (tag, tag), text, re.DOTALL)
         assert found
         return base64.b64encode(hashlib.sha256(found[1]).digest()).decode()
 
-    return text, (f"default-src 'none'; script-src 'sha256-{digest(b'script')}'; style-src 'sha256-{digest(b'style')}'; "
-                  "connect-src 'self'; img-src data:; base-uri 'none'; form-action 'none'; frame-ancestors 'none'")
+    script, style = digest(b"script"), digest(b"style")
+    return text, (f"default-src 'none'; script-src 'sha256-{script}'; style-src 'sha256-{style}'; connect-src 'self'; "
+                  "img-src data:; base-uri 'none'; form-action 'none'; frame-ancestors 'none'")
 
 
 def one(asked: Asked, name: str) -> str:
@@ -90,26 +91,6 @@ def call_of(asked: Asked) -> Call:
     return call
 
 
-@dataclass
-class Deadline:
-    """A request ends with what it has by then."""
-    end: float
-
-    @property
-    def is_over(self) -> bool:
-        return time.monotonic() > self.end
-
-    def of(self, window: Window, call: Call, *fields: str) -> Iterator[dict[str, Any]]:
-        """The entries that come before it is over."""
-        with journalctl.reading(window, call, *fields) as (process, found):
-            timer = threading.Timer(max(self.end - time.monotonic(), 0.0), process.kill)
-            timer.start()
-            try:
-                yield from found
-            finally:
-                timer.cancel()
-
-
 class Reader:
     """What the page asks for. Each answer is an object of JSON."""
 
@@ -124,78 +105,68 @@ class Reader:
             chosen = standing.since(since, until)
             yield journalctl.windows(chosen, since, until, many or len(chosen.files) // 32 + 1)[::-1]
         finally:
-            for file in standing.files:
-                os.close(file.handle)
+            choosing.close(standing.files)
 
-    def entries(self, asked: Asked, deadline: Deadline) -> Any:
+    def entries(self, asked: Asked, end: float) -> Any:
         """The newest entries, the newest first."""
-        lines, call = min(number(asked, "lines", 100), LINES), call_of(asked)
-        found: list[dict[str, Any]] = []
-        tail = self.tail()
+        lines, call, tail, found = min(number(asked, "lines", 100), LINES), call_of(asked), self.tail(), list[Entry]()
         with self.windows(number(asked, "since", 0), number(asked, "until", FOREVER), 0) as windows:
             for window in windows:
                 left = lines - len(found)
-                if left > 0 and not deadline.is_over:
-                    found += deadline.of(window, call.plus(("reverse", None), ("lines", str(left))))
-        return {"entries": found, "tail": tail, "is_cut": deadline.is_over, "has_more": len(found) == lines}
+                if left > 0 and time.monotonic() < end:
+                    found += journalctl.entries(window, call.plus(("reverse", None), ("lines", str(left))), end=end)
+        return {"entries": found, "tail": tail, "is_cut": time.monotonic() > end, "has_more": len(found) == lines}
 
     def tail(self) -> int:
         """The number of the present's last entry."""
         heads = map(remote.header, self.places.present.glob("*.journal"))
         return max((head.last_number for head in heads if head), default=0)
 
-    def live(self, asked: Asked, deadline: Deadline) -> Any:
+    def live(self, asked: Asked, end: float) -> Any:
         """What came after a number of the present, in the order in which it came."""
-        after, tail = number(asked, "tail", 0), self.tail()
-        if tail <= after:
-            return {"entries": [], "tail": tail}
+        after, tail, opened = number(asked, "tail", 0), self.tail(), list[File]()
         call = call_of(asked).plus(("cursor", f"s={sequence_id()};i={after + 1:x}"), ("lines", str(LINES)))
-        opened: list[File] = []
         try:
-            choosing.open_all(sorted(self.places.present.glob("*.journal")), opened, True)
-            found = list(deadline.of(Window(opened, 0, FOREVER), call)) if opened else []
+            choosing.open_all(sorted(self.places.present.glob("*.journal")) if tail > after else [], opened)
+            found = list(journalctl.entries(Window(opened, 0, FOREVER), call, end=end)) if opened else []
         finally:
-            for file in opened:
-                os.close(file.handle)
+            choosing.close(opened)
         reached = [int(part[1], 16) for each in found if (part := NUMBER.search(each["__CURSOR"]))]
         return {"entries": found, "tail": max(reached) if len(found) == LINES else max([tail, *reached])}
 
-    def histogram(self, asked: Asked, deadline: Deadline) -> Any:
+    def histogram(self, asked: Asked, end: float) -> Any:
         """How many entries each part of a span has, warnings and errors among them; and from when on that is so."""
         since, until = number(asked, "since", 0), number(asked, "until", time.time_ns() // 1000)
         call = call_of(asked)
-        with self.windows(since, until, 16) as windows:
+        with self.windows(since, until, 16) as windows, ThreadPoolExecutor(os.cpu_count()) as pool:
             since = since or min((file.first for window in windows for file in window.files), default=until)
-            step = max((until - since) // BARS, 1)
-            bars, counted_from = [[0, 0, 0] for _ in range(BARS)], since
-            with ThreadPoolExecutor(os.cpu_count()) as pool:
-                counts = pool.map(lambda window: self.count(window, call, deadline, since, step), windows)
-                for window, (of_window, is_whole) in zip(windows, counts):
-                    for bar, more in zip(bars, of_window):
-                        bar[:] = [old + new for old, new in zip(bar, more)]
-                    if not is_whole:
-                        counted_from = max(counted_from, window.until if window.until < FOREVER else until)
+            step, bars, counted_from = max((until - since) // BARS, 1), [[0, 0, 0] for _ in range(BARS)], since
+            found = [journalctl.entries(window, call, "PRIORITY", end=end) for window in windows]
+            for window, (counts, is_whole) in zip(windows, pool.map(lambda each: count(each, since, step, end), found)):
+                for (bar, kind), many in counts.items():
+                    bars[bar][kind] += many
+                if not is_whole:
+                    counted_from = max(counted_from, min(window.until, until))
         return {"since": since, "step": step, "bars": bars, "counted_from": counted_from}
 
-    @staticmethod
-    def count(window: Window, call: Call, deadline: Deadline, since: int, step: int) -> tuple[list[list[int]], bool]:
-        bars = [[0, 0, 0] for _ in range(BARS)]
-        for entry in deadline.of(window, call, "PRIORITY"):
-            place = (int(entry["__REALTIME_TIMESTAMP"]) - since) // step
-            if 0 <= place < BARS:
-                priority = str(entry.get("PRIORITY", "6"))
-                bars[place][2 if priority <= "3" else 1 if priority == "4" else 0] += 1
-        return bars, not deadline.is_over
-
-    def names(self, _asked: Asked, _deadline: Deadline) -> Any:
+    def names(self, _asked: Asked, _end: float) -> Any:
         """The machines, and the units of the newest files, to complete what is typed."""
+        units: set[str] = set()
         with self.windows(0, FOREVER, 0) as windows:
-            units: set[str] = set()
             for window in windows[:2]:
                 ended = subprocess.run(window.words(Call([("field", "_SYSTEMD_UNIT")])), capture_output=True, text=True,
                                        errors="replace", check=False, timeout=SECONDS, pass_fds=window.handles)
                 units.update(ended.stdout.splitlines())
         return {"machines": sorted(filter(None, choosing.about(self.places).boots)), "units": sorted(units)[:2000]}
+
+
+def count(found: Iterator[Entry], since: int, step: int, end: float) -> tuple[Counter[tuple[int, int]], bool]:
+    """How many entries each bar has of each kind: others, warnings, errors. Whether all were counted."""
+    bars = Counter[tuple[int, int]]()
+    for entry in found:
+        place, priority = (int(entry["__REALTIME_TIMESTAMP"]) - since) // step, str(entry.get("PRIORITY", "6"))
+        bars[min(max(place, 0), BARS - 1), 2 if priority <= "3" else 1 if priority == "4" else 0] += 1
+    return bars, time.monotonic() < end
 
 
 class Handler(BaseHTTPRequestHandler):
@@ -206,10 +177,9 @@ class Handler(BaseHTTPRequestHandler):
     def do_GET(self) -> None:
         try:
             status, kind, body = self.answer()
-        except Refused as refused:
-            status, kind, body = refused.status, "text/plain; charset=utf-8", f"{refused}\n".encode()
-        except (OSError, ValueError) as error:
-            status, kind, body = HTTPStatus.INTERNAL_SERVER_ERROR, "text/plain; charset=utf-8", f"{error}\n".encode()
+        except (Refused, OSError, ValueError) as error:
+            status = error.status if isinstance(error, Refused) else HTTPStatus.INTERNAL_SERVER_ERROR
+            kind, body = "text/plain; charset=utf-8", f"{error}\n".encode()
         self.send_response(status)
         for name, value in (("Content-Type", kind), ("Content-Length", str(len(body))), ("Cache-Control", "no-store"),
                             ("Content-Security-Policy", self.server.policy), ("X-Content-Type-Options", "nosniff"),
@@ -220,7 +190,7 @@ class Handler(BaseHTTPRequestHandler):
 
     def answer(self) -> tuple[HTTPStatus, str, bytes]:
         host = self.headers.get("Host", "")
-        if not HOSTS.fullmatch(host) and host != self.server.host:
+        if not HOSTS.fullmatch(host) and host not in self.server.hosts:
             raise Refused(HTTPStatus.MISDIRECTED_REQUEST, "this page isn't reached by that name")
         if self.headers.get("Sec-Fetch-Site", "same-origin") not in ("same-origin", "none"):
             raise Refused(HTTPStatus.FORBIDDEN, "another page asks")
@@ -232,13 +202,10 @@ class Handler(BaseHTTPRequestHandler):
         if not self.server.turns.acquire(timeout=SECONDS):
             raise Refused(HTTPStatus.SERVICE_UNAVAILABLE, "too many requests are under way")
         try:
-            found = CALLS[asked.path](self.server.reader, parse_qs(asked.query), Deadline(time.monotonic() + SECONDS))
+            found = CALLS[asked.path](self.server.reader, parse_qs(asked.query), time.monotonic() + SECONDS)
         finally:
             self.server.turns.release()
         return HTTPStatus.OK, "application/json", json.dumps(found, separators=(",", ":")).encode()
-
-    def address_string(self) -> str:
-        return "-"
 
     def log_request(self, code: int | str = "-", size: int | str = "-") -> None:
         """What is asked for stays between who asks and the journal."""
@@ -249,20 +216,14 @@ CALLS = {"/entries": Reader.entries, "/live": Reader.live, "/histogram": Reader.
 
 class Server(socketserver.ThreadingMixIn, socketserver.UnixStreamServer):
     """A thread for each connection, a few of which read at once."""
-    daemon_threads, request_queue_size = True, 64
+    daemon_threads = True
 
-    def __init__(self, given: Path | socket.socket, folder: Path, host: str) -> None:
-        super().__init__(str(given) if isinstance(given, Path) else "", Handler, bind_and_activate=False)
-        self.reader, self.host, self.turns = Reader(folder), host, threading.BoundedSemaphore(AT_ONCE)
+    def __init__(self, listening: socket.socket, folder: Path, host: str) -> None:
+        super().__init__("", Handler, bind_and_activate=False)
+        self.socket.close()
+        self.socket, self.reader, self.turns = listening, Reader(folder), threading.BoundedSemaphore(AT_ONCE)
+        self.hosts = {host} - {""}
         self.page, self.policy = page()
-        if isinstance(given, Path):
-            given.unlink(missing_ok=True)
-            self.server_bind()
-            given.chmod(0o660)
-            self.server_activate()
-        else:
-            self.socket.close()
-            self.socket = given
 
     def get_request(self) -> tuple[socket.socket, str]:
         return self.socket.accept()[0], "-"
@@ -271,16 +232,10 @@ class Server(socketserver.ThreadingMixIn, socketserver.UnixStreamServer):
 def main() -> int:
     parser = argparse.ArgumentParser(prog="journal-collect-page", description=__doc__,
                                      formatter_class=argparse.RawDescriptionHelpFormatter)
-    parser.add_argument("--socket", type=Path, help="where it listens, if systemd hands it no socket")
     parser.add_argument("--host", default="", help="the name under which a proxy, which says who reads, is reached")
-    parser.add_argument("--folder", type=Path, help="the collector's folder, or a copy of it")
     asked = parser.parse_args()
-    os.umask(0o077)
-    if asked.socket is None and os.environ.get("LISTEN_FDS") != "1":
-        parser.error("--socket says where it listens")
-    given = asked.socket or socket.socket(fileno=3)
-    server = Server(given, asked.folder or Path(settings.read().folder), asked.host)
+    if os.environ.get("LISTEN_FDS") != "1":
+        parser.error("journal-collect-page.socket starts it: it takes the socket that systemd hands over")
     signal.signal(signal.SIGTERM, lambda *_: os._exit(0))
-    with contextlib.suppress(KeyboardInterrupt):
-        server.serve_forever()
+    Server(socket.socket(fileno=3), Path(settings.read().folder), asked.host).serve_forever()
     return 0

@@ -1,9 +1,9 @@
 """Where journal files stand in a collector's folder.
 
-    journals/present/NAME.journal    what is acknowledged of a database that isn't finished, in the order in which it came
+    journals/present/NAME.journal    what is acknowledged of a database that isn't finished, in the order of its coming
     journals/today/NAME.journal      the entries of a finished database by their times
     journals/today/NAME.json         what these files have: it comes last
-    journals/today/NAME.zst          their text, packed, of which a day is made
+    journals/today/NAME.gz           their text, packed, of which a day is made
     journals/DAY/all.journal         the databases that began on one day: one sequence of files by time
     journals/DAY/about.json          what these have
 
@@ -34,30 +34,22 @@ class About:
     untaken: dict[str, int] = field(default_factory=dict)
     boots: dict[str, dict[str, list[int]]] = field(default_factory=dict)
 
-    def add(self, machine: str, boot: str, realtime: int) -> None:
-        """An entry is in the files."""
-        self.entries += 1
+    def add(self, machine: str, boot: str, first: int, last: int) -> None:
+        """Entries of a boot are in the files."""
         boots = self.boots.setdefault(machine, {})
-        times = boots.get(boot)
-        if times:
-            times[0], times[1] = min(times[0], realtime), max(times[1], realtime)
+        if times := boots.get(boot):
+            times[:] = min(times[0], first), max(times[1], last)
         elif len(boots) < MOST_BOOTS:
-            boots[boot] = [realtime, realtime]
+            boots[boot] = [first, last]
 
     def leave_out(self, reason: str, count: int = 1) -> None:
         self.untaken[reason] = self.untaken.get(reason, 0) + count
 
     def join(self, other: "About") -> None:
-        """What the other has is added."""
-        self.databases += other.databases
-        self.entries += other.entries
-        for reason, count in other.untaken.items():
-            self.leave_out(reason, count)
+        """The machines and boots of the other are added."""
         for machine, boots in other.boots.items():
-            mine = self.boots.setdefault(machine, {})
             for boot, (first, last) in boots.items():
-                times = mine.setdefault(boot, [first, last])
-                times[0], times[1] = min(times[0], first), max(times[1], last)
+                self.add(machine, boot, first, last)
 
     def write(self, path: Path, is_synced: bool = True) -> None:
         data = json.dumps(asdict(self), separators=(",", ":")).encode()
@@ -74,27 +66,14 @@ def about(path: Path) -> About:
     return About(**json.loads(path.read_bytes()))
 
 
-@dataclass(frozen=True)
 class Places:
     """The folders below one collector's."""
-    folder: Path
 
-    @property
-    def journals(self) -> Path:
-        return self.folder / "journals"
-
-    @property
-    def present(self) -> Path:
-        return self.journals / "present"
-
-    @property
-    def today(self) -> Path:
-        return self.journals / "today"
-
-    @property
-    def making(self) -> Path:
-        """Where files are made that don't count yet."""
-        return self.journals / ".making"
+    def __init__(self, folder: Path) -> None:
+        self.folder, self.journals = folder, folder / "journals"
+        self.present, self.today = self.journals / "present", self.journals / "today"
+        # Where files are made that don't count yet.
+        self.making = self.journals / ".making"
 
     def make(self) -> None:
         for folder in (self.journals, self.present, self.today):
@@ -104,15 +83,15 @@ class Places:
 
     def days(self) -> list[Path]:
         """The folders of days, the newest first."""
-        try:
-            names = os.listdir(self.journals)
-        except FileNotFoundError:
-            return []
+        names = os.listdir(self.journals) if self.journals.exists() else []
         return [self.journals / name for name in sorted(names, reverse=True) if DAY.fullmatch(name)]
+
+    def of_today(self) -> set[str]:
+        return {path.stem for path in self.today.glob("*.json")}
 
     def made(self) -> dict[str, Path]:
         """The databases whose journal files stand, each with what says so."""
-        found = {path.stem: path for path in self.today.glob("*.json")}
+        found = {name: self.today / f"{name}.json" for name in self.of_today()}
         for day in self.days():
             found |= dict.fromkeys(about(day / ABOUT).databases, day / ABOUT)
         return found

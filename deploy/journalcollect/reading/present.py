@@ -14,19 +14,18 @@ import time
 from collections.abc import Callable
 from pathlib import Path
 
-from . import entries, remote
-from .entries import Malformed, Untaken
+from ..common import entries
+from ..common.entries import Malformed, Untaken
+from . import remote
 from .places import About, Places
 from .remote import Failed, Remote
 
 # The upload's header, and the kind of those that are export streams.
-HEADER, STREAM = 48, 1
-# So long the present of a finished database stays, for who follows it.
+HEADER, STREAM = 48, b"\1"
+# So long the present of a finished database stays, for who follows it; nothing waits for what fails so often in a row.
 SECONDS_STANDING = 3600.0
 SECONDS_WAITING = 60.0
-# When it failed so often in a row, nothing waits for it any more.
 MOST_FAILURES = 10
-MOST_TOGETHER = 1 << 18
 
 
 def sequence_id() -> str:
@@ -40,8 +39,7 @@ class Live:
     def __init__(self, places: Places, name: str, with_keys: bool) -> None:
         self.name, self.with_keys = name, with_keys
         self.keys: set[tuple[str, int]] = set()
-        self.about, self.path_of_about = About([name]), places.present / f"{name}.json"
-        self.is_told = True
+        self.about, self.path_of_about, self.is_told = About([name]), places.present / f"{name}.json", True
         self.remote = Remote(places.present / f"{name}.journal", sequence_id(), self.before(places))
 
     def before(self, places: Places) -> int:
@@ -54,28 +52,20 @@ class Live:
 
     def add(self, upload: Path) -> None:
         """The entries of an upload that weren't there before."""
-        data = upload.read_bytes()
-        if data[8] != STREAM:
-            return
-        texts: list[bytes] = []
-        held = 0
-        for span in entries.spans(data, HEADER):
-            try:
-                entry = entries.entry(data, span)
-            except Untaken as reason:
-                self.about.leave_out(str(reason))
-                continue
-            key = entry.sequence, entry.number
-            if key in self.keys:
-                continue
-            self.keys.add(key)
-            machine = upload.name.partition(".")[2]
-            self.about.add(machine, entry.boot, entry.realtime)
-            texts.append(entry.text(machine, self.with_keys))
-            held += len(texts[-1])
-            if held > MOST_TOGETHER:
-                self.remote.write(b"".join(texts))
-                texts, held = [], 0
+        data, machine, texts = upload.read_bytes(), upload.name.partition(".")[2], list[bytes]()
+        try:
+            for span in entries.spans(data, HEADER) if data[8:9] == STREAM else ():
+                try:
+                    entry = entries.entry(data, span)
+                except Untaken as reason:
+                    self.about.leave_out(str(reason))
+                    continue
+                if (entry.sequence, entry.number) not in self.keys:
+                    self.keys.add((entry.sequence, entry.number))
+                    self.about.add(machine, entry.boot, entry.realtime, entry.realtime)
+                    texts.append(entry.text(machine, self.with_keys))
+        except Malformed as fault:
+            self.about.leave_out(f"their upload can't be read: {fault}")
         self.remote.write(b"".join(texts))
         self.is_told = False
 
@@ -113,19 +103,20 @@ class Present(threading.Thread):
 
     def run(self) -> None:
         """Whatever fails, the present is made anew some time later; what is stored doesn't depend on it."""
-        failures, is_stopping = 0, False
-        while not is_stopping:
+        failures = 0
+        while True:
             try:
                 self.places.make()
                 self.begin()
                 failures = 0
                 self.follow()
-                is_stopping = True
-            except (Failed, Malformed, OSError) as error:
+                break
+            except (Failed, OSError) as error:
                 failures += 1
                 if failures in (1, MOST_FAILURES):
                     self.tell(f"the present in journal files is made anew: {error}")
-                is_stopping = failures >= MOST_FAILURES and self.let_go()
+                if failures >= MOST_FAILURES and self.let_go():
+                    break
                 time.sleep(min(failures, SECONDS_WAITING))
         for live in self.lives.values():
             live.remote.kill()
@@ -184,7 +175,7 @@ class Present(threading.Thread):
         self.looked = now
         for live in self.lives.values():
             live.say()
-            if live.remote.is_gone:
+            if live.remote.process.poll() is not None:
                 raise Failed("systemd-journal-remote ended")
         self.make()
         if now - self.cleaned > SECONDS_WAITING:
@@ -197,12 +188,9 @@ class Present(threading.Thread):
             live.say()
         shutil.rmtree(self.recent / name, ignore_errors=True)
 
-    def is_making(self) -> bool:
-        return self.maker is not None and self.maker.poll() is None
-
     def make(self) -> None:
         """Journal files of finished databases, by a process of its own; one at a time."""
-        if self.makes_again and not self.is_making():
+        if self.makes_again and (self.maker is None or self.maker.poll() is not None):
             self.makes_again = False
             self.maker = subprocess.Popen(
                 ["nice", "-n", "10", sys.executable, "-B", "-m", "journalcollect.reading.making", self.places.folder],

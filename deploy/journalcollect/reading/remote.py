@@ -8,9 +8,8 @@ from typing import NamedTuple
 
 from ..common import files
 
-REMOTE = Path(os.environ.get("JOURNAL_COLLECT_REMOTE", "/lib/systemd/systemd-journal-remote"))
-SIGNATURE, HEADER = b"LPKSHHRH", 208
-SEQUENCE_AT, LAST_AT = 72, 160
+REMOTE = Path("/lib/systemd/systemd-journal-remote")
+SIGNATURE, HEADER, SEQUENCE_AT, LAST_AT, MANY_AT = b"LPKSHHRH", 208, 72, 160, 152
 # How it names a file that was full: of NAME.journal it is NAME@SEQUENCE-NUMBER-TIME.journal.
 PART = re.compile(r"(.+?)(?:@[0-9a-f]{32}-[0-9a-f]{16}-[0-9a-f]{16})?\.journal")
 
@@ -21,7 +20,6 @@ class Failed(Exception):
 
 class Header(NamedTuple):
     """What the header of a journal file says; times in microseconds."""
-    sequence: str
     entries: int
     last_number: int
     first_number: int
@@ -32,18 +30,17 @@ class Header(NamedTuple):
 def header(file: Path | int) -> Header | None:
     """What a journal file has, of a path or an open file; nothing if it is none."""
     try:
-        handle = os.open(file, os.O_RDONLY | os.O_CLOEXEC) if isinstance(file, Path) else file
-        try:
-            head = os.pread(handle, HEADER, 0)
-        finally:
-            if isinstance(file, Path):
-                os.close(handle)
+        if isinstance(file, int):
+            head = os.pread(file, HEADER, 0)
+        else:
+            with open(file, "rb") as opened:
+                head = opened.read(HEADER)
     except OSError:
         return None
     if len(head) < HEADER or not head.startswith(SIGNATURE):
         return None
-    entries, last_number, first_number, _, first, last = struct.unpack_from("<6Q", head, 152)
-    return Header(head[SEQUENCE_AT:SEQUENCE_AT + 16].hex(), entries, last_number, first_number, first, last)
+    entries, last_number, first_number, _, first, last = struct.unpack_from("<6Q", head, MANY_AT)
+    return Header(entries, last_number, first_number, first, last)
 
 
 def stem(path: Path) -> str:
@@ -57,11 +54,6 @@ def parts(folder: Path, name: str) -> list[Path]:
     return [*sorted(folder.glob(f"{name}@*.journal")), *folder.glob(f"{name}.journal")]
 
 
-def count(folder: Path, name: str) -> int:
-    """How many entries the files of a name have."""
-    return sum(found.entries for path in parts(folder, name) if (found := header(path)))
-
-
 class Remote:
     """One that writes NAME.journal, and further files when one is full. Its numbers go on from those of a sequence, if
     that is given."""
@@ -72,8 +64,8 @@ class Remote:
         self.process = self.started(path, subprocess.PIPE)
 
     def begin(self, path: Path, sequence: str, last_number: int) -> None:
-        """A file without entries, whose next one has a number of this sequence. It takes the place of what had its name,
-        so that at each moment a file says which number comes first."""
+        """A file without entries, whose next one has a number of this sequence. It takes the place of what had its
+        name, so that at each moment a file says which number comes first."""
         new = path.with_name(f".{path.name}")
         new.unlink(missing_ok=True)
         if self.started(new, subprocess.DEVNULL).wait():
@@ -95,10 +87,6 @@ class Remote:
         except OSError as error:
             raise Failed(f"systemd-journal-remote, of the package of that name, can't be run: {error}") from error
 
-    @property
-    def is_gone(self) -> bool:
-        return self.process.poll() is not None
-
     def write(self, text: bytes) -> None:
         assert self.process.stdin
         try:
@@ -116,6 +104,4 @@ class Remote:
 
     def kill(self) -> None:
         self.process.kill()
-        assert self.process.stdin
-        self.process.stdin.close()
-        self.process.wait()
+        self.process.communicate()

@@ -9,7 +9,9 @@ import sqlite3
 import sys
 import time
 from collections import Counter
+from collections.abc import Iterable
 from contextlib import closing
+from operator import itemgetter
 from pathlib import Path
 
 from ..collector import settings
@@ -18,7 +20,7 @@ from . import choosing, journalctl, words
 from .choosing import FOREVER, Standing
 from .journalctl import Window
 from .places import About, Places
-from .words import Call, Wrong
+from .words import FOLLOWS, Call, Wrong
 
 HELP = """\
 Usage: journal-collect-search [OPTIONS..] [MATCHES..]
@@ -32,17 +34,21 @@ What was collected, by journalctl: all its options for showing entries, and
      --histogram[=SECONDS]  how many entries each span of time has; together with --count-by, by value
      --failed               which units failed, how often, and when last
      --folder=FOLDER        what another collector, or its copy, has
+  -f --follow               what comes, after the last entries of those that came within an hour
 
+journalctl has -S --since, -U --until, -u --unit, -p --priority, -g --grep, -t --identifier, -k --dmesg, -b --boot,
+-n --lines, -r --reverse, -f --follow, -o --output, -F --field, -e --pager-end, --utc, --no-pager and others.
 The files are in /var/lib/journal-collect/journals: journalctl -D FOLDER/journals/DAY works, too.
 `-o export` has the journal files' own cursors: `journal-collect export DATABASE` is the canonical text.
 """
 SHORT = {"machine": "_COLLECTED_FROM", "unit": "_SYSTEMD_UNIT", "boot": "_BOOT_ID", "priority": "PRIORITY",
          "host": "_HOSTNAME", "identifier": "SYSLOG_IDENTIFIER"}
 UNIT_FAILED = "MESSAGE_ID=d9b373ed55a64feb8242e02dbe79a49c"
+OF_FAILED = ["_COLLECTED_FROM", "UNIT", "USER_UNIT", "UNIT_RESULT"]
 # From so many files on it is found out first which of them the newest entries are in.
 MANY_FILES = 200
 # A histogram has at most so many lines, each with a bar of so many characters, or so many columns of values.
-BARS, WIDTH, COLUMNS, OTHERS = 40, 40, 8, "(others)"
+BARS, WIDTH, COLUMNS, OTHERS = 40, 40, 8, ("(others)",)
 STEPS = [1, 10, 60, 600, 3600, 6 * 3600, 86400, 7 * 86400]
 
 
@@ -65,7 +71,7 @@ class Search:
 
     def machines(self) -> list[str]:
         """The machines asked for; none if all are."""
-        patterns = self.asked.values("machine")
+        patterns = list(filter(None, self.asked.values("machine")))
         if not patterns:
             return []
         known = [name for name in choosing.about(self.at).boots if name]
@@ -76,15 +82,17 @@ class Search:
 
     def boots(self) -> dict[str, list[tuple[str, int, int]]]:
         """The boots of each machine asked for, in their order, with their first and last time."""
-        chosen, about = set(self.machines()), choosing.about(self.at)
-        return {machine: sorted(((boot, first, last) for boot, (first, last) in boots.items()), key=lambda each: each[1:])
+        chosen, about = self.machines(), choosing.about(self.at)
+        return {machine: sorted(((boot, first, last) for boot, (first, last) in boots.items()), key=itemgetter(1, 2))
                 for machine, boots in sorted(about.boots.items()) if not chosen or machine in chosen}
 
     def of_boots(self) -> Call:
         """The boot that is asked for, of each machine that has it."""
         said = self.asked.value("boot") or "0"
-        is_named = len(said) >= 32 and all(each in "0123456789abcdefABCDEF" for each in said[:32])
-        boot, offset = (said[:32].lower(), int(said[32:] or 0)) if is_named else ("", int(said))
+        match = FOLLOWS["boot"].fullmatch(said)
+        if not match:
+            raise Wrong(f"{said} is no boot")
+        boot, offset = (match[1] or "").lower(), int(match[2] or 0)
         found: dict[str, int] = {}
         for boots in self.boots().values():
             ids = [each[0] for each in boots]
@@ -106,62 +114,41 @@ class Search:
         return journalctl.windows(self.standing(), self.since, self.until, 4 * (os.cpu_count() or 1))
 
     def run(self) -> int:
-        if self.asked.has("list-machines"):
-            return self.list_machines()
-        if self.asked.has("list-boots"):
-            return self.list_boots()
-        if self.asked.has("failed"):
-            return self.failed()
-        if self.asked.has("count-by", "histogram"):
-            return self.count()
+        for name, do in (("list-machines", self.list_machines), ("list-boots", self.list_boots), 
+                         ("failed", self.failed), ("count-by", self.count), ("histogram", self.count),
+                         ("follow", self.follow)):
+            if self.asked.has(name):
+                return do()
         if self.asked.has("field") and self.call.matches:
-            name = self.asked.value("field")
-            print(*sorted({value for _, value in journalctl.count(self.windows(), self.call.without("field"), name)
-                           if value != "-"}), sep="\n")
-            return 0
-        if self.asked.has("follow"):
-            return self.follow()
+            return self.list_values(self.asked.value("field") or "")
         return self.show()
 
     def show(self) -> int:
         """journalctl itself; on all processors, if a word is looked for."""
         call, is_plain = self.call, self.asked.has(*journalctl.CURSORS, "field", "fields", "header", "verify")
-        if call.has("grep") and not is_plain and not call.lines:
+        if call.has("grep") and not is_plain and call.lines is None:
             return journalctl.side_by_side(self.windows(), call)
         standing = self.standing()
         if call.lines and not is_plain and (call.has("grep") or len(standing.files) > MANY_FILES):
-            found = journalctl.windows(standing, self.since, self.until, max(len(standing.files), 1))
+            found = journalctl.windows(standing, self.since, self.until, len(standing.files))
             self.since = max(self.since, journalctl.newest(found, call, call.lines))
             standing = standing.since(self.since, self.until)
         files = standing.files or choosing.standing(self.at).files[:1]
-        if not files:
-            print("-- No entries --")
-            return 0
-        journalctl.replace(Window(files, 0, FOREVER), call)
-        return 3
+        if files:
+            return journalctl.become(Window(files, 0, FOREVER), call)
+        print("-- No entries --")
+        return 0
+
+    def list_values(self, name: str) -> int:
+        """The values of a field, of what is asked for; journalctl says those of all files."""
+        found = {value for _, (value,) in journalctl.count(self.windows(), self.call.without("field"), name)}
+        print(*sorted(found - {"-"}), sep="\n")
+        return 0
 
     def follow(self) -> int:
-        """First the last entries of what is finished, then the present, from its beginning or its last entries on."""
-        call, standing = self.call, self.standing()
-        sys.stdout.flush()
-        lines = None if call.has("no-tail") else call.lines if call.has("lines") else 10
-        of_present = Window(standing.present, self.since, self.until)
-        here = sum(1 for _ in journalctl.entries(of_present, call.without("follow"), "_BOOT_ID")
-                   ) if standing.present and lines is not None else 0
-        call = call.without("lines", "no-tail")
-        if lines is None or here < lines:
-            before = call.without("follow", "show-cursor")
-            if lines is not None:
-                before = before.plus(("lines", str(lines - here)))
-            if standing.finished and lines != 0:
-                journalctl.side_by_side([Window(standing.finished, self.since, self.until)],
-                                        before.plus(("quiet", None)))
-                sys.stdout.flush()
-            call = call.plus(("no-tail", None))
-        else:
-            call = call.plus(("lines", str(lines)))
-        os.execvp(journalctl.PROGRAM, [journalctl.PROGRAM, f"--directory={self.at.present}", "--merge", "--no-pager",
-                                       *call.words()])
+        """The present, of which all that came within an hour is there."""
+        words = [f"--directory={self.at.present}", "--merge", *self.call.words()]
+        os.execvp(journalctl.PROGRAM, [journalctl.PROGRAM, *words])
 
     def list_boots(self) -> int:
         boots = self.boots()
@@ -185,7 +172,7 @@ class Search:
             last = self.at_time(max(span[1] for span in spans)) if spans else "-"
             at, skew = seen.get(name, (0.0, 0.0))
             print(f"{name:<24} {first:<27} {last:<27} {self.at_time(int(at * 1e6)) if at else '-':<27} "
-                  f"{skew:+.1f} s" if at else f"{name:<24} {first:<27} {last:<27} {'-':<27} -")
+                  f"{f'{skew:+.1f} s' if at else '-'}")
         return 0
 
     def at_time(self, microseconds: int) -> str:
@@ -198,23 +185,21 @@ class Search:
     def count(self) -> int:
         """--count-by, --histogram, or both."""
         said = self.asked.value("count-by")
-        found = journalctl.count(self.windows(), self.call, SHORT.get(said, said) if said else None)
-        by_value: Counter[str] = Counter()
+        found = journalctl.count(self.windows(), self.call, *([SHORT.get(said, said)] if said else []))
+        by_value: Counter[tuple[str, ...]] = Counter()
         for (_, value), count in found.items():
             by_value[value] += count
         if not self.asked.has("histogram"):
             for value, count in by_value.most_common():
-                print(f"{count:>10} {one_line(value)}")
+                print(f"{count:>10} {one_line(*value)}")
             return 0
-        step, bars = self.step(found), Counter[tuple[int, str]]()
-        for (second, value), count in found.items():
-            bars[second // step * step, value] += count
+        step, bars = self.step(found), Counter[tuple[int, tuple[str, ...]]]()
         names = [value for value, _ in by_value.most_common(COLUMNS)]
-        for (second, value), count in list(bars.items()) if len(by_value) > COLUMNS else ():
-            bars[second, OTHERS] += count if value not in names else 0
-        names += [OTHERS] * (len(by_value) > COLUMNS)
+        for (second, value), count in found.items():
+            bars[second // step * step, value if value in names else OTHERS] += count
+        names += [OTHERS] if len(by_value) > COLUMNS else []
         if said:
-            print(f"{'TIME':<27}", *(f"{one_line(name)[:16]:>16}" for name in names))
+            print(f"{'TIME':<27}", *(f"{one_line(*name)[:16]:>16}" for name in names))
         most = max(bars.values(), default=1)
         for second in sorted({second for second, _ in bars}):
             counts = [bars[second, name] for name in names]
@@ -222,31 +207,26 @@ class Search:
                   *([] if said else ["#" * (counts[0] * WIDTH // most)]))
         return 0
 
-    def step(self, found: Counter[tuple[int, str]]) -> int:
+    def step(self, found: Iterable[tuple[int, object]]) -> int:
         """How many seconds a line of the histogram has."""
         said = self.asked.value("histogram")
-        if said is not None:
-            if not said.isdigit() or not int(said):
-                raise Wrong(f"--histogram={said} is no number of seconds")
-            return int(said)
+        if said is not None and (not said.isdigit() or not int(said)):
+            raise Wrong(f"--histogram={said} is no number of seconds")
         seconds = [second for second, _ in found] or [0]
-        return next((step for step in STEPS if (max(seconds) - min(seconds)) // step < BARS), STEPS[-1])
+        span = max(seconds) - min(seconds)
+        return int(said) if said else next((step for step in STEPS if span // step < BARS), STEPS[-1])
 
     def failed(self) -> int:
         """Which units failed, by what systemd says of them."""
-        last: dict[tuple[str, str, str], int] = {}
-        times: Counter[tuple[str, str, str]] = Counter()
-        call = self.call.of([UNIT_FAILED])
-        for window in self.windows():
-            for entry in journalctl.entries(window, call, "_COLLECTED_FROM", "UNIT", "USER_UNIT", "UNIT_RESULT"):
-                key = (str(entry.get("_COLLECTED_FROM", "")), str(entry.get("UNIT") or entry.get("USER_UNIT") or "?"),
-                       str(entry.get("UNIT_RESULT", "?")))
-                times[key] += 1
-                last[key] = max(last.get(key, 0), int(entry["__REALTIME_TIMESTAMP"]))
+        last, times = dict[tuple[str, ...], int](), Counter[tuple[str, ...]]()
+        for (second, key), count in journalctl.count(self.windows(), self.call.of([UNIT_FAILED]), *OF_FAILED).items():
+            times[key] += count
+            last[key] = max(last.get(key, 0), second)
         print(f"{'LAST':<27} {'TIMES':>6} {'MACHINE':<16} {'RESULT':<14} UNIT")
-        for key, at in sorted(last.items(), key=lambda each: -each[1]):
-            machine, unit, result = map(one_line, key)
-            print(f"{self.at_time(at):<27} {times[key]:>6} {machine:<16} {result:<14} {unit}")
+        for key, second in sorted(last.items(), key=lambda each: -each[1]):
+            machine, unit, user_unit, result = map(one_line, key)
+            print(f"{self.at_time(second * 1_000_000):<27} {times[key]:>6} {machine:<16} {result:<14} "
+                  f"{unit if unit != '-' else user_unit}")
         return 0
 
 
@@ -265,19 +245,13 @@ def machines(state: Path) -> dict[str, tuple[float, float]]:
         return {}
 
 
-def folder(named: str | None) -> Path:
-    return Path(named or settings.read().folder)
-
-
 def main() -> int:
     try:
         call = words.read(sys.argv[1:])
         if call.has("help"):
             sys.stdout.write(HELP)
             return 0
-        if call.has("version", "list-catalog", "dump-catalog"):
-            os.execvp(journalctl.PROGRAM, [journalctl.PROGRAM, *call.words()])
-        return Search(call, Places(folder(call.value("folder")))).run()
+        return Search(call, Places(Path(call.value("folder") or settings.read().folder))).run()
     except (Wrong, WrongSettings) as wrong:
         print(f"journal-collect-search: {wrong}", file=sys.stderr)
         return 2

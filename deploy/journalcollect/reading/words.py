@@ -1,29 +1,21 @@
 """The words of a call, as journalctl reads them, and what this front takes for itself."""
+import re
 from dataclasses import dataclass, field, replace
 
-# How an option takes a value.
-NONE, VALUE, MAYBE = range(3)
-# What journalctl has, each with its letter.
-OPTIONS = {
-    "help": ("h", NONE), "version": ("", NONE), "pager-end": ("e", NONE), "follow": ("f", NONE), "output": ("o", VALUE),
-    "output-fields": ("", VALUE), "all": ("a", NONE), "full": ("l", NONE), "no-full": ("", NONE), "lines": ("n", MAYBE),
-    "quiet": ("q", NONE), "merge": ("m", NONE), "boot": ("b", MAYBE), "list-boots": ("", NONE), "dmesg": ("k", NONE),
-    "header": ("", NONE), "identifier": ("t", VALUE), "priority": ("p", VALUE), "facility": ("", VALUE),
-    "grep": ("g", VALUE), "case-sensitive": ("", MAYBE), "cursor": ("c", VALUE), "cursor-file": ("", VALUE),
-    "after-cursor": ("", VALUE), "show-cursor": ("", NONE), "since": ("S", VALUE), "until": ("U", VALUE),
-    "unit": ("u", VALUE), "user-unit": ("", VALUE), "field": ("F", VALUE), "fields": ("N", NONE), "catalog": ("x", NONE),
-    "list-catalog": ("", NONE), "dump-catalog": ("", NONE), "reverse": ("r", NONE), "machine": ("M", VALUE),
-    "utc": ("", NONE), "no-hostname": ("", NONE), "no-tail": ("", NONE), "no-pager": ("", NONE), "verify": ("", NONE),
-    "disk-usage": ("", NONE)}
-# What it hasn't.
-OWN = {"list-machines": ("", NONE), "count-by": ("", VALUE), "histogram": ("", MAYBE), "failed": ("", NONE),
-       "folder": ("", VALUE)}
-ALL = OPTIONS | OWN
-LETTERS = {letter: name for name, (letter, _) in ALL.items() if letter}
-# What is about the journal of a machine itself, or names other files.
-NOT_HERE = {"D", "directory", "file", "root", "image", "namespace", "system", "user", "vacuum-size", "vacuum-files",
-            "vacuum-time", "sync", "flush", "rotate", "relinquish-var", "smart-relinquish-var", "setup-keys",
-            "update-catalog", "interval", "verify-key", "force", "new-id128"}
+# What journalctl has, and this front's own: options without a value, with one, and with one that may be left out.
+# Behind a name stands its letter.
+NONE = ("help h, version, pager-end e, follow f, all a, full l, no-full, quiet q, merge m, list-boots, dmesg k, "
+        "header, show-cursor, fields N, catalog x, list-catalog, dump-catalog, reverse r, utc, no-hostname, no-tail, "
+        "no-pager, verify, disk-usage, list-machines, failed")
+VALUE = ("output o, output-fields, identifier t, priority p, facility, grep g, cursor c, cursor-file, after-cursor, "
+         "since S, until U, unit u, user-unit, field F, machine M, count-by, folder")
+MAYBE = "lines n, boot b, case-sensitive, histogram"
+OWN = {"list-machines", "failed", "count-by", "folder", "histogram", "machine"}
+KINDS = {words[0]: (kind, words[1] if len(words) > 1 else "") for kind in (NONE, VALUE, MAYBE)
+         for words in (each.split() for each in kind.split(", "))}
+LETTERS = {letter: name for name, (_, letter) in KINDS.items() if letter}
+# What may be the value of an option that can stand without one.
+FOLLOWS = {"lines": re.compile(r"\d+|all"), "boot": re.compile(r"all|(?=.)([0-9a-fA-F]{32})?([+-]?\d+)?")}
 
 
 class Wrong(Exception):
@@ -39,12 +31,12 @@ class Call:
     def has(self, *names: str) -> bool:
         return any(name in names for name, _ in self.options)
 
+    def values(self, name: str) -> list[str | None]:
+        return [value for each, value in self.options if each == name]
+
     def value(self, name: str) -> str | None:
         """The last one, as journalctl takes it."""
-        return next((value for each, value in reversed(self.options) if each == name), None)
-
-    def values(self, name: str) -> list[str]:
-        return [value or "" for each, value in self.options if each == name]
+        return next(reversed(self.values(name)), None)
 
     def without(self, *names: str) -> "Call":
         return replace(self, options=[each for each in self.options if each[0] not in names])
@@ -54,8 +46,6 @@ class Call:
 
     def of(self, matches: list[str]) -> "Call":
         """Narrowed down: `+` is an alternative to all before it, so each alternative gets the matches."""
-        if not matches:
-            return self
         narrowed = list(matches)
         for match in self.matches:
             narrowed += ["+", *matches] if match == "+" else [match]
@@ -64,15 +54,13 @@ class Call:
     @property
     def lines(self) -> int | None:
         """How many entries are asked for; None if all are."""
-        said = self.value("lines") if self.has("lines") else ("1000" if self.has("pager-end") else None)
-        if self.has("lines") and said is None:
-            return 10
-        return int(said) if said is not None and said.isdigit() else None
+        said = (self.value("lines") or "10") if self.has("lines") else "1000" if self.has("pager-end") else "all"
+        return int(said) if said.isdigit() else None
 
     def words(self) -> list[str]:
         """What journalctl is called with."""
-        found = [f"--{name}" if value is None else f"--{name}={value}"
-                 for name, value in self.options if name not in OWN and name != "machine"]
+        given = [(name, value) for name, value in self.options if name not in OWN]
+        found = [f"--{name}" if value is None else f"--{name}={value}" for name, value in given]
         return [*found, "--", *self.matches] if self.matches else found
 
 
@@ -85,61 +73,37 @@ def read(words: list[str]) -> Call:
             call.matches.extend(left)
             break
         if word.startswith("--"):
-            call.options.append(long(word[2:], left))
+            said, equals, value = word[2:].partition("=")
+            name = whole(said)
+            if equals and KINDS[name][0] == NONE:
+                raise Wrong(f"--{name} takes no value")
+            call.options.append((name, value if equals else following(name, left)))
         elif word.startswith("-") and word != "-":
-            short(word[1:], left, call)
+            letters = word[1:]
+            while letters:
+                if letters[0] not in LETTERS:
+                    raise Wrong(f"-{letters[0]} is no option here")
+                name, letters = LETTERS[letters[0]], letters[1:]
+                takes_rest = bool(letters) and KINDS[name][0] is not NONE
+                call.options.append((name, letters if takes_rest else following(name, left)))
+                letters = "" if takes_rest else letters
         else:
             call.matches.append(word)
     return call
 
 
-def long(word: str, left: list[str]) -> tuple[str, str | None]:
-    """An option by its name, or by a beginning of it that no other one has."""
-    said, equals, value = word.partition("=")
-    if said in NOT_HERE:
-        raise Wrong(f"--{said} isn't about what was collected")
-    found = [said] if said in ALL else [name for name in ALL if name.startswith(said)]
+def whole(said: str) -> str:
+    """The name of an option, which may be said by a beginning that no other one has."""
+    found = [said] if said in KINDS else [name for name in KINDS if name.startswith(said)]
     if len(found) != 1:
-        raise Wrong(f"--{said} is {'more than one option' if found else 'no option'}")
-    name = found[0]
-    kind = ALL[name][1]
-    if equals:
-        if kind == NONE:
-            raise Wrong(f"--{name} takes no value")
-        return name, value
-    return name, following(name, kind, left)
+        raise Wrong(f"--{said} is {'more than one option' if found else 'no option here'}")
+    return found[0]
 
 
-def short(letters: str, left: list[str], call: Call) -> None:
-    """Options by their letters, of which the last one may have a value behind it."""
-    for place, letter in enumerate(letters):
-        if letter in NOT_HERE:
-            raise Wrong(f"-{letter} isn't about what was collected")
-        if letter not in LETTERS:
-            raise Wrong(f"-{letter} is no option")
-        name = LETTERS[letter]
-        kind, rest = ALL[name][1], letters[place + 1:]
-        if kind != NONE and rest:
-            call.options.append((name, rest))
-            return
-        call.options.append((name, following(name, kind, left)))
-
-
-def following(name: str, kind: int, left: list[str]) -> str | None:
+def following(name: str, left: list[str]) -> str | None:
     """The value of an option that has none of its own: the next word, where that is to be one."""
-    if kind == VALUE:
-        if not left:
-            raise Wrong(f"--{name} takes a value")
-        return left.pop(0)
-    if name == "lines" and left and (left[0].isdigit() or left[0] == "all"):
-        return left.pop(0)
-    if name == "boot" and left and is_boot(left[0]):
+    if KINDS[name][0] == VALUE and not left:
+        raise Wrong(f"--{name} takes a value")
+    if KINDS[name][0] == VALUE or left and name in FOLLOWS and FOLLOWS[name].fullmatch(left[0]):
         return left.pop(0)
     return None
-
-
-def is_boot(word: str) -> bool:
-    """Whether a word says a boot: an id of 32 digits, a number, both, or all of them."""
-    said = word[32:] if len(word) >= 32 and all(each in "0123456789abcdefABCDEF" for each in word[:32]) else word
-    return word == "all" or not said and bool(word) or said.lstrip("+-").isdigit() and len(said) - len(
-        said.lstrip("+-")) <= 1

@@ -2,6 +2,7 @@
 import json
 import shutil
 import subprocess
+import sys
 import time
 from pathlib import Path
 
@@ -130,7 +131,7 @@ def test_a_run_that_is_killed_leaves_nothing_that_counts(collector: Collector) -
     for number, name in enumerate(names):
         database(collector, name, *(plain("web", number * 40 + each, f"{name} {each}") for each in range(1, 21)))
     for seconds in (0.15, 0.2, 0.25, 0.3, 0.35, 0.4, 0.5, 0.6):
-        run = subprocess.Popen(["python3", "-B", "-m", "journalcollect.reading.making", collector.path],
+        run = subprocess.Popen([sys.executable, "-B", "-m", "journalcollect.reading.making", collector.path],
                                env=collector.environment, stderr=subprocess.DEVNULL)
         time.sleep(seconds)
         run.kill()

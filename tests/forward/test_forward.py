@@ -122,10 +122,10 @@ def test_what_isnt_taken_is_put_aside_and_the_rest_comes(forwarding: Forwarding,
 
 def test_a_request_has_a_deadline_as_a_whole(forwarding: Forwarding, engine: StandIn) -> None:
     """A server that sends a byte now and then holds nobody longer than that, and SIGTERM ends it at once."""
-    forwarding.set(URL=engine.url, TIMEOUT_SECONDS=1)
+    forwarding.set(URL=engine.url)
     forwarding.database(NAMES[0], plain("web", 1, "m"))
     engine.drip = 0.2
-    process = forwarding.start()
+    process = forwarding.start("--timeout", "1")
     wait_until(lambda: len(engine.held) == 2, 60)
     assert max(engine.held) < 4 and "no answer within 1 s" in forwarding.call("--status").stdout
     requests = engine.requests
@@ -190,8 +190,9 @@ def test_a_database_that_went_or_is_damaged_is_told(forwarding: Forwarding, engi
 
 
 @pytest.mark.parametrize("values", [{"URL": "ftp://x"}, {"URL": "http://x:0"}, {"URL": "http://x/?a"}, {"URL": "http://u@x"},
-                                    {"TABLE": "a;b"}, {"TIMEOUT_SECONDS": "0"}, {"ENGINE": "loki"},
-                                    {"URL": "http://other", "AUTHORIZATION_FILE": "/x"}, {"URL": "https://x", "CA_FILE": "/x"}], ids=str)
+                                    {"TABLE": "a;b"}, {"ENGINE": "loki"},
+                                    {"URL": "http://other", "AUTHORIZATION_FILE": "/x"},
+                                    {"URL": "https://x", "CA_FILE": "/x"}], ids=str)
 def test_wrong_settings(forwarding: Forwarding, values: dict[str, str]) -> None:
     forwarding.set(**values)
     done = forwarding.call("--once")
@@ -249,7 +250,7 @@ def clickhouse(tmp_path: Path) -> Iterator[server.ClickHouse]:
 
 @needs_clickhouse
 def test_clickhouse_has_each_entry_once_over_kills_of_both(forwarding: Forwarding, clickhouse: server.ClickHouse) -> None:
-    forwarding.set(URL=clickhouse.url, TIMEOUT_SECONDS=10)
+    forwarding.set(URL=clickhouse.url)
     assert "isn't there" in look(forwarding)
     clickhouse.run(forwarding.call("--schema").stdout)
     for place, name in enumerate(NAMES):

@@ -4,8 +4,8 @@ import struct
 import pytest
 from collecting import digits, plain
 
-from journalcollect.reading import entries
-from journalcollect.reading.entries import Malformed, Untaken
+from journalcollect.common import entries
+from journalcollect.common.entries import Malformed, Untaken
 
 BOOT = digits("boot", "web")
 
@@ -58,3 +58,10 @@ def test_a_stream_that_is_cut_is_none(cut: int) -> None:
 def test_a_length_that_goes_too_far_is_found() -> None:
     with pytest.raises(Malformed):
         list(entries.spans(b"MESSAGE\n" + struct.pack("<Q", 1 << 40) + b"abc\n\n"))
+
+
+@pytest.mark.parametrize("name", ["__SEQNUM", "__SEQNUM_ID", "__REALTIME_TIMESTAMP", "__MONOTONIC_TIMESTAMP"])
+def test_an_entry_without_its_key_or_its_times_is_none(name: str) -> None:
+    lines = plain("web", 1, "m").text().splitlines(keepends=True)
+    with pytest.raises(Malformed):
+        of(b"".join(line for line in lines if not line.startswith(f"{name}=".encode())))

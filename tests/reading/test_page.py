@@ -1,7 +1,6 @@
 """journal-collect-page: what its server answers, and the page in a headless Chromium."""
 import http.client
 import json
-import os
 import shutil
 import socket
 import subprocess
@@ -41,7 +40,9 @@ class Served:
 
     def __init__(self, collector: Collector, folder: Path) -> None:
         self.collector, self.path = collector, folder / "socket"
-        self.process = subprocess.Popen([PAGE, "--socket", self.path, "--host", "logs.example.org"], env=collector.environment)
+        words = [f"--setenv={name}={value}" for name, value in collector.environment.items()]
+        self.process = subprocess.Popen(["systemd-socket-activate", f"--listen={self.path}", *words, PAGE, "--host",
+                                         "logs.example.org"], stderr=subprocess.DEVNULL)
         wait_until(self.path.exists)
         self.listening = socket.create_server(("127.0.0.1", 0))
         self.url = f"http://localhost:{self.listening.getsockname()[1]}/"
@@ -165,7 +166,6 @@ def test_what_is_answered_at_all(served: Served) -> None:
     assert served.json("entries", words="--rotate")["entries"] == []
     policy = served.ask("/")[2]["Content-Security-Policy"]
     assert "default-src 'none'" in policy and "unsafe" not in policy and "*" not in policy
-    assert os.stat(served.path).st_mode & 0o777 == 0o660
 
 
 def test_a_request_has_a_bound_of_lines(served: Served) -> None:

@@ -127,26 +127,24 @@ def test_each_entry_once_through_kills_turns_and_restarts(collector: Collector, 
         assert each.lines == expected
 
 
-def test_the_front_shows_the_last_entries_first_and_then_follows(collector: Collector) -> None:
-    for number in range(1, 31):
-        collector.recent(NAMES[0], [plain("web", number, f"m{number}")])
-    collector.finish(NAMES[0])
-    assert collector.make().returncode == 0
-    (collector.path / "recent" / NAMES[0]).rename(collector.path / "gone")
+def test_the_front_shows_the_last_entries_and_then_follows(collector: Collector) -> None:
     with present(collector) as running:
-        for number in range(31, 35):
-            running.feed(collector.recent(NAMES[1], [plain("web", number, f"m{number}")]))
-        wait_until(lambda: collector.messages("-n", "1") == ["m34"])
+        for number in range(1, 35):
+            running.feed(collector.recent(NAMES[number > 30], [plain("web", number, f"m{number}")]))
+        collector.finish(NAMES[0])
+        running.turn(NAMES[0])
+        wait_until(lambda: (collector.path / "journals" / "today" / f"{NAMES[0]}.json").exists())
         known = [f"m{number}" for number in range(1, 35)]
-        for number, (words, lines) in enumerate(((["-n", "10"], 10), (["-n3"], 3), (["--no-tail"], 50), (["-n", "0"], 0),
-                                                 ([], 10), (["-n", "all"], 50))):
+        wait_until(lambda: collector.messages() == known)
+        for number, (words, lines) in enumerate(((["-n", "10"], 10), (["-n3"], 3), (["--no-tail"], 50), ([], 10),
+                                                 (["-n", "all"], 50))):
             one = Followed(collector.path / f"said{number}", [SEARCH, "-f", "-q", "-o", "cat", *words], collector.environment)
-            time.sleep(1.0)
+            wait_until(lambda: one.lines == known[-lines:])
             running.feed(collector.recent(NAMES[1], [plain("db", number + 1, f"new{number}")]))
-            wait_until(lambda: f"new{number}" in one.lines)
-            one.end()
-            assert one.lines == [*(known[-lines:] if lines else []), f"new{number}"]
             known.append(f"new{number}")
+            wait_until(lambda: one.lines[-1] == known[-1])
+            one.end()
+            assert one.lines == known[-lines - 1:]
 
 
 def test_a_finished_database_takes_the_place_of_its_present(collector: Collector) -> None:
@@ -164,18 +162,14 @@ def test_a_finished_database_takes_the_place_of_its_present(collector: Collector
         assert collector.messages("--until", f"@{BEGIN // 1_000_000}") == ["late"]
 
 
-def test_what_isnt_readable_costs_nothing(collector: Collector) -> None:
-    """A remote that can't be run is told, and nobody waits."""
-    told: list[str] = []
-    with present(collector, told) as running:
-        path = collector.recent(NAMES[0], [plain("web", 1, "one")])
-        path.write_bytes(path.read_bytes()[:-20])
-        running.feed(path)
-        wait_until(lambda: bool(told))
-        assert "made anew" in told[0]
-        path.unlink()
-        running.feed(collector.recent(NAMES[0], [plain("web", 2, "two")]))
-        wait_until(lambda: collector.messages() == ["two"])
+def test_an_upload_that_cant_be_read_costs_no_other(collector: Collector) -> None:
+    with present(collector) as running:
+        for number, cut in enumerate((20, 1, 10_000), 1):
+            path = collector.recent(NAMES[0], [plain("web", number * 2, f"m{number * 2}"), plain("web", number * 2 + 1, "cut")])
+            path.write_bytes(path.read_bytes()[:-cut])
+            running.feed(path)
+        running.feed(collector.recent(NAMES[0], [plain("web", 8, "m8")]))
+        wait_until(lambda: collector.messages() == ["m2", "m4", "m8"])
 
 
 def test_without_a_remote_nothing_of_a_finished_database_waits(

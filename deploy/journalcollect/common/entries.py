@@ -93,15 +93,18 @@ def entry(data: Data, span: Span) -> Entry:
     else:
         about, kept = by_fields(text)
         fields, boots, count = b"".join(kept), [each[9:-1] for each in kept if each[:9] == b"_BOOT_ID="], len(kept)
-    realtime, monotonic = int(about[b"__REALTIME_TIMESTAMP"]), int(about[b"__MONOTONIC_TIMESTAMP"])
+    try:
+        realtime, monotonic = int(about[b"__REALTIME_TIMESTAMP"]), int(about[b"__MONOTONIC_TIMESTAMP"])
+        sequence, number = about[b"__SEQNUM_ID"].decode("ascii").lower(), int(about[b"__SEQNUM"])
+    except (KeyError, ValueError) as error:
+        raise Malformed(f"an entry without its key or its times: {error}") from error
     if realtime not in TIMES or monotonic and monotonic not in TIMES:
         raise Untaken("their time is none that a journal file can have")
     if len(boots) != 1 or not BOOT_ID.fullmatch(boots[0]) or boots[0] == NO_BOOT:
         raise Untaken("they aren't of one boot")
     if count > MOST_FIELDS:
         raise Untaken(f"they have over {MOST_FIELDS} fields")
-    return Entry(realtime, monotonic, about[b"__SEQNUM_ID"].decode("ascii").lower(), int(about[b"__SEQNUM"]),
-                 boots[0].decode("ascii"), fields)
+    return Entry(realtime, monotonic, sequence, number, boots[0].decode("ascii"), fields)
 
 
 def by_fields(data: bytes) -> tuple[dict[bytes, bytes], list[bytes]]:
