@@ -32,7 +32,7 @@ for page in docs/man/*.[1-8]; do
 done
 completions=$root$prefix/share/bash-completion/completions
 install -D -m 644 deploy/completions/journal-collect.bash "$completions/journal-collect"
-for program in deploy/programs/*; do
+for program in deploy/programs/journal-collect-*; do
     ln -sf journal-collect "$completions/${program##*/}"
 done
 install -D -m 644 deploy/completions/_journal-collect "$root$prefix/share/zsh/vendor-completions/_journal-collect"

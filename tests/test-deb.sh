@@ -48,7 +48,7 @@ if [[ $(id -u) -eq 0 ]] && command -v systemd-sysusers > "$folder/told"; then
     own_dpkg() { dpkg --root="$root" --force-depends --force-script-chrootless --log=/dev/null "$@"; }
     expect 0 "~*" "~*" own_dpkg --install "$package"
     expect 0 "journal-collect 0.1.0" "" "$root/usr/bin/journal-collect" --version
-    grep -q "^journal-collect:.*:/var/lib/journal-collect:/bin/sh$" "$root/etc/passwd" || differs "the user isn't made"
+    grep -q "^journal-collect-login:.*:/bin/sh$" "$root/etc/passwd" || differs "the user isn't made"
     # what setup and join make; a removal keeps it, and a purge doesn't
     etc=$root/etc/journal-collect
     set_up() {

@@ -63,10 +63,11 @@ def not_at_rest(world: World, machine: Machine) -> str:
         time.sleep(0.5)
 
 
-def lost(world: World) -> set[Entry]:
+def lost(world: World, stored: list[Entry]) -> set[Entry]:
     """What may be missing: acknowledged before the collector was set back, and in no journal any more, or under another
     key since."""
     there = {message for machine in world.machines for message in machine.journal.messages()}
+    there -= {entry.message for entry in stored}
     return {entry for entry in world.at_risk if entry.message not in there}
 
 
@@ -75,7 +76,7 @@ def judged(world: World, rounds: int) -> list[str]:
         world.round()
     wrong = calm(world)
     judge = Judge(world.collector, world.machines)
-    wrong += judge.judge(lost(world))
+    wrong += judge.judge(lost(world, judge.stored))
     wrong += [f"{computer.folder.name}: it failed: {computer.said[computer.said.index('Traceback'):][:1500]}"
               for computer in world.computers() if "Traceback" in computer.said]
     count = sum(len(acknowledged(machine)) for machine in world.machines)

@@ -61,9 +61,9 @@ def look(now: float, findings: Findings) -> Machine:
         findings.wrong("settings", "machine", str(fault), f"change it below {settings.FOLDER}/{machine_settings.FILES}")
         return Machine()
     found = Machine(chosen.collector, chosen.folder, folder_bytes=chosen.folder_bytes)
-    for what, path in (("key", chosen.key), ("known_hosts", chosen.known_hosts)):
-        if not path.exists() and not chosen.connect:
-            findings.wrong(what, "machine", f"there is no {path}", JOIN)
+    for name in ("key", "known_hosts"):
+        if not (settings.FOLDER / name).exists() and not chosen.connect:
+            findings.wrong(name, "machine", f"there is no {settings.FOLDER / name}", JOIN)
     look_at_service(found, findings)
     look_at_folder(found, Path(chosen.folder), now, findings)
     judge(found, now, findings)
