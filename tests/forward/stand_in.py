@@ -11,7 +11,8 @@ from journalcollect.forward.rows import COLUMNS, OWN
 
 
 class StandIn:
-    """`bad` is a word that no row may have; `answer` takes the place of an answer; `drip` seconds pass between bytes."""
+    """`bad` is a word that no row may have; `answer` takes the place of an answer; `drip` seconds pass between two
+    bytes."""
 
     def __init__(self, certificate: Path | None = None, client: Path | None = None) -> None:
         self.rows: list[dict[str, Any]] = []

@@ -34,8 +34,8 @@ class Forwarding:
                                 stderr=subprocess.PIPE)
 
     def call(self, *words: str) -> subprocess.CompletedProcess[str]:
-        return subprocess.run([FORWARD, *words], env=self.collector.environment, text=True, capture_output=True, check=False,
-                              timeout=120)
+        return subprocess.run([FORWARD, *words], env=self.collector.environment, text=True, capture_output=True,
+                              check=False, timeout=120)
 
     def database(self, name: str, *entries: Entry) -> None:
         self.collector.recent(name, list(entries))
@@ -60,7 +60,7 @@ def odd(number: int) -> Entry:
     entry = plain("web", number, f"m{number}")
     entry.fields |= [{"EMPTY": "", "UNIT": ""}, {"MESSAGE": b"\x00\xff\xfe \\ raw"}, {"MESSAGE": "bytes:as it is \\"},
                      {"MESSAGE": "tab\t\nline\n\n\"quotes\" ünï\u2028"}, {"with space": "x", "lower": "y"},
-                     {b"na\xffme".decode("latin-1"): "z"}, {"MESSAGE": "", "PRIORITY": ""}, {"MESSAGE": "x" * 70_000}][number % 8]
+                     {"n\u00ffme": "z"}, {"MESSAGE": "", "PRIORITY": ""}, {"MESSAGE": "x" * 70_000}][number % 8]
     return entry
 
 
@@ -106,11 +106,13 @@ def test_it_goes_on_where_it_was_killed(forwarding: Forwarding, engine: StandIn)
 def test_what_isnt_taken_is_put_aside_and_the_rest_comes(forwarding: Forwarding, engine: StandIn) -> None:
     forwarding.set(URL=engine.url)
     engine.bad = "poison"
-    forwarding.database(NAMES[0], *(plain("web", number, "poison" if number in (7, 40) else "m") for number in range(1, 101)))
+    forwarding.database(NAMES[0], *(plain("web", number, "poison" if number in (7, 40) else "m")
+                                    for number in range(1, 101)))
     done = forwarding.call("--once")
     assert done.returncode == 1 and done.stderr.count("isn't taken") == 2
     assert numbers(engine.rows) == [number for number in range(1, 101) if number not in (7, 40)]
-    aside = [json.loads(line) for line in (forwarding.collector.path / "forward" / "aside.json").read_text().splitlines()]
+    lines = (forwarding.collector.path / "forward" / "aside.json").read_text().splitlines()
+    aside = [json.loads(line) for line in lines]
     assert [(line["database"], line["row"]["number"], "Cannot parse" in line["why"]) for line in aside] == [
         (NAMES[0], 7, True), (NAMES[0], 40, True)]
     status = forwarding.call("--status")
@@ -189,7 +191,8 @@ def test_a_database_that_went_or_is_damaged_is_told(forwarding: Forwarding, engi
     assert {f"missed {NAMES[0]}", f"damaged {NAMES[1]}"} <= set(forwarding.call("--status").stdout.splitlines())
 
 
-@pytest.mark.parametrize("values", [{"URL": "ftp://x"}, {"URL": "http://x:0"}, {"URL": "http://x/?a"}, {"URL": "http://u@x"},
+@pytest.mark.parametrize("values", [{"URL": "ftp://x"}, {"URL": "http://x:0"}, {"URL": "http://x/?a"},
+                                    {"URL": "http://u@x"},
                                     {"TABLE": "a;b"}, {"ENGINE": "loki"},
                                     {"URL": "http://other", "AUTHORIZATION_FILE": "/x"},
                                     {"URL": "https://x", "CA_FILE": "/x"}], ids=str)
@@ -204,8 +207,9 @@ def test_nothing_goes_out_without_a_url(forwarding: Forwarding) -> None:
 
 
 def certificate(folder: Path, name: str) -> Path:
-    subprocess.run(["openssl", "req", "-x509", "-newkey", "rsa:2048", "-nodes", "-days", "2", "-subj", f"/CN={name}", "-addext",
-                    f"subjectAltName=DNS:{name}", "-keyout", folder / "key", "-out", folder / "cert"], check=True, capture_output=True)
+    subprocess.run(["openssl", "req", "-x509", "-newkey", "rsa:2048", "-nodes", "-days", "2", "-subj", f"/CN={name}",
+                    "-addext", f"subjectAltName=DNS:{name}", "-keyout", folder / "key", "-out", folder / "cert"],
+                   check=True, capture_output=True)
     path = folder / f"{name}.pem"
     path.write_bytes((folder / "cert").read_bytes() + (folder / "key").read_bytes())
     path.chmod(0o600)
@@ -249,7 +253,8 @@ def clickhouse(tmp_path: Path) -> Iterator[server.ClickHouse]:
 
 
 @needs_clickhouse
-def test_clickhouse_has_each_entry_once_over_kills_of_both(forwarding: Forwarding, clickhouse: server.ClickHouse) -> None:
+def test_clickhouse_has_each_entry_once_over_kills_of_both(
+        forwarding: Forwarding, clickhouse: server.ClickHouse) -> None:
     forwarding.set(URL=clickhouse.url)
     assert "isn't there" in look(forwarding)
     clickhouse.run(forwarding.call("--schema").stdout)
@@ -269,7 +274,8 @@ def test_clickhouse_has_each_entry_once_over_kills_of_both(forwarding: Forwardin
     found = clickhouse.rows("SELECT * FROM journal LIMIT 1 BY realtime, sequence, number, content")
     assert numbers(found) == list(range(1, 3001)) and len(found) == 3000
     by_number = {int(row["number"]): row for row in found}
-    assert by_number[7]["message"] == "x" * 70_000 and by_number[3]["message"] == "tab\t\nline\n\n\"quotes\" ünï\u2028"
+    assert by_number[7]["message"] == "x" * 70_000
+    assert by_number[3]["message"] == "tab\t\nline\n\n\"quotes\" ünï\u2028"
     for view in ("lines", "errors", "hours"):
         clickhouse.query(f"SELECT count() FROM journal_{view}")
 

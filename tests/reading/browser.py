@@ -26,8 +26,9 @@ class Browser:
             os.dup2(write, 4)
 
         self.process = subprocess.Popen(
-            [PROGRAM, "--headless=new", "--no-sandbox", "--disable-gpu", "--remote-debugging-pipe", "--window-size=1280,800",
-             f"--user-data-dir={self.folder}", "about:blank"], pass_fds=(3, 4), preexec_fn=at_3_and_4,
+            [PROGRAM, "--headless=new", "--no-sandbox", "--disable-gpu", "--remote-debugging-pipe",
+             "--window-size=1280,800", f"--user-data-dir={self.folder}", "about:blank"],
+            pass_fds=(3, 4), preexec_fn=at_3_and_4,
             stdout=subprocess.DEVNULL, stderr=subprocess.DEVNULL)
         os.close(its_in)
         os.close(its_out)
@@ -39,7 +40,8 @@ class Browser:
 
     def ask(self, method: str, **given: Any) -> Any:
         self.number += 1
-        asked = {"id": self.number, "method": method, "params": given} | ({"sessionId": self.session} if self.session else {})
+        asked = {"id": self.number, "method": method, "params": given}
+        asked |= {"sessionId": self.session} if self.session else {}
         os.write(self.out, json.dumps(asked).encode() + b"\0")
         while True:
             said = json.loads(self.message())

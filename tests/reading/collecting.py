@@ -14,7 +14,6 @@ ROOT = Path(__file__).resolve().parents[2]
 sys.path.insert(0, str(ROOT / "deploy"))
 os.environ["PYTHONPATH"] = str(ROOT / "deploy")
 
-from journalcollect.reading import making  # noqa: E402
 from journalcollect.reading.present import Present  # noqa: E402
 
 REMOTE = Path("/lib/systemd/systemd-journal-remote")
@@ -40,10 +39,12 @@ class Entry:
     sequence: str = ""
 
     def text(self, with_key: bool = True) -> bytes:
-        key = f"__SEQNUM={self.number}\n__SEQNUM_ID={self.sequence or digits('sequence', self.machine)}\n" if with_key else ""
+        sequence = self.sequence or digits("sequence", self.machine)
+        key = f"__SEQNUM={self.number}\n__SEQNUM_ID={sequence}\n" if with_key else ""
         head = f"__REALTIME_TIMESTAMP={self.realtime}\n__MONOTONIC_TIMESTAMP={self.monotonic}\n{key}"
-        own = {"_BOOT_ID": self.boot, "_MACHINE_ID": digits("machine", self.machine), "_HOSTNAME": f"{self.machine}.lan"}
-        return head.encode() + b"".join(spelled(*each) for each in (own | self.fields).items() if each[1] is not None) + b"\n"
+        own = {"_BOOT_ID": self.boot, "_MACHINE_ID": digits("machine", self.machine),
+               "_HOSTNAME": f"{self.machine}.lan"}
+        return head.encode() + b"".join(spelled(*each) for each in (own | self.fields).items()) + b"\n"
 
 
 def spelled(name: str, value: bytes | str) -> bytes:
@@ -106,8 +107,8 @@ class Collector:
 
     def store(self, name: str, uploads: list[Path]) -> None:
         database = self.path / "databases" / f"{name}.db"
-        said = subprocess.run([os.environ["JOURNAL_COLLECT"], "collect", "--sequences", self.path / "sequences", "--tables",
-                               "3", "--files-from", "-", database], input="".join(f"{path}\n" for path in uploads),
+        words = [os.environ["JOURNAL_COLLECT"], "collect", "--sequences", self.path / "sequences", "--tables", "3"]
+        said = subprocess.run([*words, "--files-from", "-", database], input="".join(f"{path}\n" for path in uploads),
                               text=True, capture_output=True, check=True)
         assert all(line.startswith("ack ") for line in said.stdout.splitlines()), said.stdout
         Path(f"{database}-wal").unlink(missing_ok=True)
@@ -136,4 +137,4 @@ def wait_until(is_so: object, seconds: float = 20.0) -> None:
         time.sleep(0.05)
 
 
-__all__ = ["BEGIN", "Collector", "Entry", "Present", "REMOTE", "ROOT", "SEARCH", "digits", "making", "plain", "wait_until"]
+__all__ = ["BEGIN", "Collector", "Entry", "Present", "REMOTE", "ROOT", "SEARCH", "digits", "plain", "wait_until"]

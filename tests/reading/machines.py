@@ -27,11 +27,12 @@ def fields(choose: random.Random, number: int) -> dict[str, bytes | str]:
             return {"_TRANSPORT": "kernel", "PRIORITY": str(choose.randrange(8)), "SYSLOG_FACILITY": "0",
                     "SYSLOG_IDENTIFIER": "kernel", "MESSAGE": f"usb {number}: device"}
         case 1:
-            return {"_TRANSPORT": "audit", "_AUDIT_TYPE": "1400", "_AUDIT_TYPE_NAME": "AVC", "MESSAGE": f"AVC {message}",
-                    "_UID": "1000", "SYSLOG_FACILITY": "4", "SYSLOG_IDENTIFIER": "audit"}
+            return {"_TRANSPORT": "audit", "_AUDIT_TYPE": "1400", "_AUDIT_TYPE_NAME": "AVC",
+                    "MESSAGE": f"AVC {message}", "_UID": "1000", "SYSLOG_FACILITY": "4", "SYSLOG_IDENTIFIER": "audit"}
         case 2:
             return {**of_unit, "MESSAGE_ID": "fc2e22bc6ee647b6b90729ab34a250b1", "COREDUMP_UNIT": unit, "PRIORITY": "2",
-                    "_UID": "0", "COREDUMP_EXE": "/usr/bin/app", "MESSAGE": f"Process {pid} of {message} dumped core.\n\nStack"}
+                    "_UID": "0", "COREDUMP_EXE": "/usr/bin/app",
+                    "MESSAGE": f"Process {pid} of {message} dumped core.\n\nStack"}
         case 3:
             return {"_TRANSPORT": "journal", "_SYSTEMD_UNIT": "init.scope", "_PID": "1", "_UID": "0", "PRIORITY": "4",
                     "UNIT": unit, "MESSAGE_ID": "d9b373ed55a64feb8242e02dbe79a49c", "UNIT_RESULT": "exit-code",
@@ -47,9 +48,11 @@ def fields(choose: random.Random, number: int) -> dict[str, bytes | str]:
 
 
 def of_user(choose: random.Random, number: int, user: str) -> dict[str, bytes | str]:
-    return {"_UID": user, "_PID": "900", "_SYSTEMD_UNIT": f"user@{user}.service", "_SYSTEMD_USER_UNIT": "pipewire.service",
-            "_SYSTEMD_OWNER_UID": user, "_SYSTEMD_SLICE": f"user-{user}.slice", "_TRANSPORT": "stdout",
-            "SYSLOG_IDENTIFIER": "pipewire", "PRIORITY": "6", "SYSLOG_FACILITY": "3", "MESSAGE": f"user {user} {number}"}
+    return {"_UID": user, "_PID": "900", "_SYSTEMD_UNIT": f"user@{user}.service",
+            "_SYSTEMD_USER_UNIT": "pipewire.service", "_SYSTEMD_OWNER_UID": user,
+            "_SYSTEMD_SLICE": f"user-{user}.slice", "_TRANSPORT": "stdout",
+            "SYSLOG_IDENTIFIER": "pipewire", "PRIORITY": "6", "SYSLOG_FACILITY": "3",
+            "MESSAGE": f"user {user} {number}"}
 
 
 def journals() -> dict[tuple[str, str], list[Entry]]:
@@ -73,15 +76,16 @@ def original(folder: Path, found: dict[tuple[str, str], list[Entry]]) -> None:
     """The machines' own journal files."""
     for (machine, journal), entries in found.items():
         (folder / machine).mkdir(parents=True, exist_ok=True)
-        subprocess.run([REMOTE, f"--output={folder / machine / journal}.journal", "-"], check=True, stderr=subprocess.DEVNULL,
-                       input=b"".join(each.text(with_key=False) for each in entries))
+        subprocess.run([REMOTE, f"--output={folder / machine / journal}.journal", "-"], check=True,
+                       input=b"".join(each.text(with_key=False) for each in entries), stderr=subprocess.DEVNULL)
 
 
 def collect(collector: Collector, found: dict[tuple[str, str], list[Entry]], has_present: bool) -> Present | None:
     """The same, collected in some databases of each day; the last of it may be in the present."""
     choose = random.Random(94)
-    for (machine, journal), _ in found.items():
-        collector.state.execute("INSERT OR IGNORE INTO sequence VALUES(?, ?)", (digits("sequence", machine, journal), machine))
+    for machine, journal in found:
+        sequence = digits("sequence", machine, journal)
+        collector.state.execute("INSERT OR IGNORE INTO sequence VALUES(?, ?)", (sequence, machine))
     present, expected = Present(collector.path, print) if has_present else None, 0
     for day, name in enumerate(DAYS):
         for part in range(3):
@@ -103,6 +107,6 @@ def collect(collector: Collector, found: dict[tuple[str, str], list[Entry]], has
                 shutil.rmtree(collector.path / "recent" / database)
     assert collector.make().returncode == 0
     if present:
-        words = ["journalctl", "-D", collector.path / "journals" / "present", "-m", "-q", "-o", "json", "--output-fields=_PID"]
+        words = ["journalctl", "-D", collector.path / "journals" / "present", "-m", "-q", "-o", "json"]
         wait_until(lambda: subprocess.run(words, capture_output=True, check=True).stdout.count(b"\n") == expected)
     return present

@@ -14,7 +14,7 @@ from urllib.parse import urlencode
 import browser
 import pytest
 from browser import Browser
-from collecting import ROOT, Collector, Present, plain, wait_until
+from collecting import ROOT, Collector, Entry, Present, plain, wait_until
 
 PAGE = ROOT / "deploy" / "programs" / "journal-collect-page"
 NAMES = ["2026-11-20T10-00-00", "2026-11-20T10-10-00", "2026-11-20T10-20-00"]
@@ -38,8 +38,8 @@ class Over(http.client.HTTPConnection):
 class Served:
     """A page over a collector, which is also reached by a port."""
 
-    def __init__(self, collector: Collector, folder: Path) -> None:
-        self.collector, self.path = collector, folder / "socket"
+    def __init__(self, collector: Collector, present: Present, folder: Path) -> None:
+        self.collector, self.present, self.path = collector, present, folder / "socket"
         words = [f"--setenv={name}={value}" for name, value in collector.environment.items()]
         self.process = subprocess.Popen(["systemd-socket-activate", f"--listen={self.path}", *words, PAGE, "--host",
                                          "logs.example.org"], stderr=subprocess.DEVNULL)
@@ -61,7 +61,8 @@ class Served:
 
     def ask(self, path: str, host: str = "localhost", method: str = "GET", **headers: str) -> tuple[int, bytes, Any]:
         connection = Over(self.path)
-        connection.request(method, path, headers={"Host": host, **{name.replace("_", "-"): value for name, value in headers.items()}})
+        more = {name.replace("_", "-"): value for name, value in headers.items()}
+        connection.request(method, path, headers={"Host": host, **more})
         answer = connection.getresponse()
         return answer.status, answer.read(), answer.headers
 
@@ -69,6 +70,9 @@ class Served:
         status, body, _ = self.ask(f"/{path}?{urlencode(asked, doseq=True)}")
         assert status == 200, body
         return json.loads(body)
+
+    def feed(self, entry: Entry) -> None:
+        self.present.feed(self.collector.recent(NAMES[2], [entry]))
 
     def end(self) -> None:
         self.listening.close()
@@ -102,8 +106,7 @@ def served(collector: Collector, tmp_path: Path) -> Iterator[Served]:
     present = Present(collector.path, print)
     present.start()
     wait_until(lambda: len(collector.messages("_COLLECTED_FROM=web")) >= 37)
-    one = Served(collector, tmp_path)
-    one.present = present  # type: ignore[attr-defined]
+    one = Served(collector, present, tmp_path)
     yield one
     one.end()
     present.stop()
@@ -118,7 +121,8 @@ def test_entries_come_newest_first_and_by_what_is_asked(served: Served) -> None:
     assert messages(served.json("entries", machine="db", unit="cron.service", lines=2)) == ["db 29", "db 27"]
     assert set(messages(served.json("entries", machine=["db", "web"], words="WEB 1"))) == set()
     assert len(messages(served.json("entries", words="web 1"))) == 11
-    assert messages(served.json("entries", match="_HOSTNAME=db.lan", priority=2, lines=9)) == ["db 27", "db 21", "db 12", "db 6"]
+    critical = served.json("entries", match="_HOSTNAME=db.lan", priority=2, lines=9)
+    assert messages(critical) == ["db 27", "db 21", "db 12", "db 6"]
     found = served.json("entries", machine="db", since=NOW - 20 * 60_000_000, until=NOW - 15 * 60_000_000)
     assert messages(found) == [f"db {number}" for number in range(25, 19, -1)]
     assert served.json("entries", lines=2)["has_more"] and not served.json("entries", lines=200)["has_more"]
@@ -135,7 +139,7 @@ def test_what_came_after_a_number_comes_once(served: Served) -> None:
     tail = served.json("entries")["tail"]
     assert served.json("live", tail=tail) == {"entries": [], "tail": tail}
     for number in range(3):
-        served.present.feed(served.collector.recent(NAMES[2], [plain("db", 200 + number, f"new {number}")]))  # type: ignore[attr-defined]
+        served.feed(plain("db", 200 + number, f"new {number}"))
     wait_until(lambda: len(served.json("live", tail=tail)["entries"]) == 3)
     told = served.json("live", tail=tail)
     assert messages(told) == ["new 0", "new 1", "new 2"]
@@ -147,7 +151,8 @@ def test_names(served: Served) -> None:
     assert served.json("names") == {"machines": ["db", "web"], "units": ["cron.service", "nginx.service"]}
 
 
-@pytest.mark.parametrize("host", ["evil.example", "localhost.evil.example", "localhost:80:80", "", "127.0.0.1.nip.io", "[::2]"])
+@pytest.mark.parametrize("host", ["evil.example", "localhost.evil.example", "localhost:80:80", "", "127.0.0.1.nip.io",
+                                  "[::2]"])
 def test_other_hosts_are_refused(served: Served, host: str) -> None:
     assert served.ask("/", host)[0] == served.ask("/entries", host)[0] == 421
 
@@ -193,8 +198,8 @@ def shown(one: Browser) -> list[str]:
 
 @needs_browser
 def test_the_page_shows_values_as_text(opened: Browser) -> None:
-    assert shown(opened)[:len(HOSTILE)] == [each.replace("\u202e", "\ufffd").replace("\x1b", "\ufffd").replace("\x07", "\ufffd")
-                                            for each in reversed(HOSTILE)]
+    marked = str.maketrans("\u202e\x1b\x07", "\ufffd" * 3)
+    assert shown(opened)[:len(HOSTILE)] == [each.translate(marked) for each in reversed(HOSTILE)]
     assert opened.run("[window.broken, document.querySelectorAll('b, h1, td img, td script').length]") == [None, 0]
     assert len(shown(opened)) == 60 + len(HOSTILE)
 
@@ -241,7 +246,7 @@ def test_it_is_followed_live(opened: Browser, served: Served) -> None:
     opened.run("$('live').click()")
     wait_until(lambda: opened.run("$('live').getAttribute('aria-pressed')") == "true" and shown(opened) == before)
     for number in range(5):
-        served.present.feed(served.collector.recent(NAMES[2], [plain("db", 300 + number, f"live {number}", NOW)]))  # type: ignore[attr-defined]
+        served.feed(plain("db", 300 + number, f"live {number}", NOW))
         time.sleep(0.3)
     wait_until(lambda: len(shown(opened)) >= len(before) + 5)
     assert shown(opened) == [f"live {number}" for number in range(4, -1, -1)] + before

@@ -138,7 +138,8 @@ def test_the_front_shows_the_last_entries_and_then_follows(collector: Collector)
         wait_until(lambda: collector.messages() == known)
         for number, (words, lines) in enumerate(((["-n", "10"], 10), (["-n3"], 3), (["--no-tail"], 50), ([], 10),
                                                  (["-n", "all"], 50))):
-            one = Followed(collector.path / f"said{number}", [SEARCH, "-f", "-q", "-o", "cat", *words], collector.environment)
+            one = Followed(collector.path / f"said{number}", [SEARCH, "-f", "-q", "-o", "cat", *words],
+                           collector.environment)
             wait_until(lambda: one.lines == known[-lines:])
             running.feed(collector.recent(NAMES[1], [plain("db", number + 1, f"new{number}")]))
             known.append(f"new{number}")
@@ -165,7 +166,8 @@ def test_a_finished_database_takes_the_place_of_its_present(collector: Collector
 def test_an_upload_that_cant_be_read_costs_no_other(collector: Collector) -> None:
     with present(collector) as running:
         for number, cut in enumerate((20, 1, 10_000), 1):
-            path = collector.recent(NAMES[0], [plain("web", number * 2, f"m{number * 2}"), plain("web", number * 2 + 1, "cut")])
+            pair = [plain("web", number * 2, f"m{number * 2}"), plain("web", number * 2 + 1, "cut")]
+            path = collector.recent(NAMES[0], pair)
             path.write_bytes(path.read_bytes()[:-cut])
             running.feed(path)
         running.feed(collector.recent(NAMES[0], [plain("web", 8, "m8")]))
