@@ -19,7 +19,8 @@ OLD = b"__CURSOR=s=%s;i=1;b=0\n%sMESSAGE=hi\n\n" % (ID, TIMES) + \
 def fit(stream: bytes, *words: str, most: int = 0) -> tuple[int, bytes, str]:
     def limit() -> None:
         resource.setrlimit(resource.RLIMIT_AS, (most, most))
-    told = subprocess.run([*FIT, *words], input=stream, capture_output=True, preexec_fn=limit if most else None, check=False)
+    told = subprocess.run([*FIT, *words], input=stream, capture_output=True, check=False,
+                          preexec_fn=limit if most else None)
     return told.returncode, told.stdout, told.stderr.decode()
 
 
@@ -74,17 +75,18 @@ def test_memory_is_bounded(field: bytes) -> None:
 
 
 def test_random_entries(tmp_path: Path) -> None:
-    """Fields around the lengths of a block, in either spelling, with empty lines in them: nothing changes but the key."""
+    """Fields around the lengths of a block, in either spelling, with empty lines in them: nothing changes."""
     seed = random.randrange(1 << 30)
     draw, stream = random.Random(seed), b""
     for number in range(1, 60):
         fields = []
         for _ in range(draw.randrange(1, 6)):
             name = draw.choice([b"MESSAGE", b"A", b"_PID", b"LONG" * 20])
-            value = draw.choice([b"", b"hi", b"A=b\n\nC=d\n\n", b"\n", b"=", b"\0\n\n", b"x" * draw.randrange(65_000, 66_000),
-                                 b"x\n" * draw.randrange(400), b"\n\n" * 300])
-            fields.append(name + b"\n" + len(value).to_bytes(8, "little") + value + b"\n" if b"\n" in value or draw.random() < .3
-                          else name + b"=" + value + b"\n")
+            value = draw.choice([b"", b"hi", b"A=b\n\nC=d\n\n", b"\n", b"=", b"\0\n\n", b"x\n" * draw.randrange(400),
+                                 b"x" * draw.randrange(65_000, 66_000), b"\n\n" * 300])
+            is_binary = b"\n" in value or draw.random() < 0.3
+            fields.append(name + b"\n" + len(value).to_bytes(8, "little") + value + b"\n" if is_binary else
+                          name + b"=" + value + b"\n")
         stream += b"__SEQNUM=%d\n__SEQNUM_ID=%s\n%s%s\n" % (number, ID, TIMES, b"".join(fields))
     assert fit(stream) == (0, stream, ""), f"seed {seed}"
     assert verified(stream, tmp_path) == "ok 59 0", f"seed {seed}"

@@ -46,7 +46,7 @@ def test_one_namespace(machine: Machine, collector: Collector) -> None:
     for name in (".apart", ".other"):
         write(machine.journals / (MACHINE_ID + name) / "system.journal", entries(f"apart of {name}", 1))
     write(machine.journal / "system.journal", entries("own", 1))
-    machine.set(NAMESPACE="apart")
+    machine.set(JOURNALS=machine.journals / f"{MACHINE_ID}.apart")
     assert machine.send() == 0, machine.said
     assert collector.messages() == ["apart of .apart 0"]
 

@@ -21,7 +21,8 @@ SHORT, BEGINNING = 4_096, 2_048
 METADATA, TRUSTED, KNOWN, OTHERS = 16, 128, 64, 64
 KNOWN_NAMES = frozenset((b"MESSAGE", b"MESSAGE_ID", b"PRIORITY", b"SYSLOG_IDENTIFIER", b"SYSLOG_FACILITY",
                          b"SYSLOG_PID", b"CODE_FILE", b"CODE_LINE", b"CODE_FUNC", b"ERRNO", b"UNIT", b"USER_UNIT",
-                         b"COREDUMP_EXE", b"COREDUMP_PID", b"COREDUMP_UID", b"COREDUMP_SIGNAL", b"COREDUMP_COMM", b"COREDUMP_UNIT"))
+                         b"COREDUMP_EXE", b"COREDUMP_PID", b"COREDUMP_UID", b"COREDUMP_SIGNAL", b"COREDUMP_COMM",
+                         b"COREDUMP_UNIT"))
 # So many names are told of those that are left out.
 PLAIN, MOST_NAMES = frozenset(b"ABCDEFGHIJKLMNOPQRSTUVWXYZ0123456789_"), 8
 

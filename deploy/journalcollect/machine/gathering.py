@@ -24,7 +24,7 @@ class Gathering:
     def __init__(self, settings: Settings, report: Report, places: Places, outbox: Outbox, refused: Refused) -> None:
         self.settings, self.report, self.places, self.outbox = settings, report, places, outbox
         self.whole = None if settings.leave_out_large else Whole(refused)
-        self.journal = Journal(settings.journals.split(), settings.namespace)
+        self.journal = Journal(settings.journals.split())
         self.since = places.value("since") or (seconds(settings.since) if settings.since else "")
 
     def gather(self, until: float) -> bool:

@@ -107,9 +107,8 @@ class Journal:
     """The files, those that are written to first and then the oldest, as they were listed last; the list isn't whole if
     some are `unread`."""
 
-    def __init__(self, journals: list[str], namespace: str) -> None:
+    def __init__(self, journals: list[str]) -> None:
         self.journals = [Path(each) for each in journals]
-        self.wanted = r"(\..+)?" if namespace == "*" else re.escape(f".{namespace}" if namespace else "")
         self.files: list[JournalFile] = []
         self.unread: set[str] = set()
         self.folders: dict[Path, int] = {}
@@ -117,7 +116,7 @@ class Journal:
 
     def list_files(self, machines: list[str]) -> None:
         """`machines` are the ids that this machine had: the files of an earlier one lie where they were."""
-        own = re.compile(f"({'|'.join(map(re.escape, machines))}){self.wanted}")
+        own = re.compile(f"({'|'.join(map(re.escape, machines))})(\\..+)?")
         self.made, self.unread, self.folders = time.monotonic(), set(), {}
         found: dict[str, JournalFile] = {}
         for journal in self.journals:

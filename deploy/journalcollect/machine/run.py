@@ -101,7 +101,7 @@ def locked(folder: Path) -> bool:
     folder.mkdir(parents=True, exist_ok=True)
     files.sync(folder.parent)
     if folder.stat().st_uid != os.geteuid():
-        raise Wrong(f"{folder} is of another user: runuser -u {folder.owner()} -G systemd-journal -- {' '.join(sys.argv)}")
+        raise Wrong(f"{folder} is {folder.owner()}'s: runuser -u {folder.owner()} -G systemd-journal -- {sys.argv[0]}")
     try:
         fcntl.flock(os.open(folder, os.O_RDONLY | os.O_DIRECTORY | os.O_CLOEXEC), fcntl.LOCK_EX | fcntl.LOCK_NB)
     except BlockingIOError:

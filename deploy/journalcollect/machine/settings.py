@@ -10,11 +10,10 @@ from journalcollect.common.settings import Wrong
 @dataclass(frozen=True)
 class Settings:
     """COLLECTOR is [USER@]HOST[:PORT]; CONNECT a command that reaches the collector in place of ssh. JOURNALS are
-    folders of journal files; NAMESPACE is one, `*` for all of them, or nothing for the default one."""
+    folders with journal files, or with a folder of them for each id of this machine and each of its namespaces."""
     collector: str = ""
     connect: str = ""
     journals: str = "/var/log/journal /run/log/journal"
-    namespace: str = "*"
     since: str = ""
     leave_out_large: bool = True
     every_seconds: float = 5
