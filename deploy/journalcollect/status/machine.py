@@ -9,7 +9,7 @@ from journalcollect.machine import settings as machine_settings
 from journalcollect.status import looking, words
 from journalcollect.status.findings import Findings
 
-SERVICE = "journal-collect-send.service"
+SERVICE, FILES = "journal-collect-send.service", "machine.conf.d"
 HOUR, DAY = 3600.0, 86400.0
 STALE_SECONDS, SKEW_SECONDS = HOUR, 60.0
 JOIN = "journal-collect-join HOST, as the guide has it"
@@ -49,7 +49,7 @@ class Machine:
 
 def is_set_up(etc: Path) -> bool:
     try:
-        return bool(settings.read(etc / machine_settings.FILES, machine_settings.Settings).collector)
+        return bool(settings.read(etc / FILES, machine_settings.Settings).collector)
     except settings.Wrong:
         return True
 
@@ -58,7 +58,7 @@ def look(now: float, findings: Findings) -> Machine:
     try:
         chosen = machine_settings.read()
     except settings.Wrong as fault:
-        findings.wrong("settings", "machine", str(fault), f"change it below {settings.FOLDER}/{machine_settings.FILES}")
+        findings.wrong("settings", "machine", str(fault), f"change it below {settings.FOLDER}/{FILES}")
         return Machine()
     found = Machine(chosen.collector, chosen.folder, folder_bytes=chosen.folder_bytes)
     for name in ("key", "known_hosts"):
