@@ -1,6 +1,7 @@
 """Kills, failures of calls and losses of power at each step: all that was logged comes, and comes once."""
 import os
 import shutil
+import time
 from pathlib import Path
 
 import losing_power
@@ -78,3 +79,33 @@ def test_power_that_is_lost(machine: Machine, collector: Collector) -> None:
     settle(machine)
     assert stop > 20
     assert collector.messages() == sorted(each.message for each in logged)
+
+
+def test_places_that_are_damaged_while_it_runs(machine: Machine, collector: Collector) -> None:
+    """A sender that stays goes on; whoever reads the file next puts it aside, and says so."""
+    machine.set(EVERY_SECONDS=0.2)
+    write(machine.journal / "system.journal", entries("one", 3))
+    process = machine.begin()
+    try:
+        wait_for("one 2", collector)
+        for name in ("places.sqlite", "places.sqlite-wal"):
+            path = machine.folder / name
+            if path.exists():
+                path.write_bytes(b"\xff" * path.stat().st_size)
+        write(machine.journal / "system.journal", entries("two", 3, BEGIN + 60_000_000))
+        wait_for("two 2", collector)
+    finally:
+        process.kill()
+        said = process.communicate()[1]
+    assert "Traceback" not in said
+    machine.send()
+    assert "places.damaged" in said + machine.said
+    settle(machine)
+    assert collector.messages() == ["one 0", "one 1", "one 2", "two 0", "two 1", "two 2"]
+
+
+def wait_for(message: str, collector: Collector) -> None:
+    end = time.monotonic() + 90
+    while not any(f"MESSAGE={message}\n".encode() in data for data in collector.uploads):
+        assert time.monotonic() < end, f"{message} doesn't come"
+        time.sleep(0.05)

@@ -107,7 +107,8 @@ class Places:
             return False
         self.database.close()
         aside = self.path.with_name("places.damaged")
-        os.replace(self.path, aside)
+        if self.path.exists():
+            os.replace(self.path, aside)
         for end in ("-wal", "-shm"):
             self.path.with_name(self.path.name + end).unlink(missing_ok=True)
         self.open()

@@ -11,6 +11,7 @@ import sqlite3
 import sys
 import time
 from collections.abc import Callable
+from contextlib import suppress
 from pathlib import Path
 
 from journalcollect.common import files, program
@@ -79,7 +80,8 @@ class Machine:
             self.report.say(FAILED, f"failed, and is tried again: {error}")
             self.sending.resumes = time.monotonic() + FIRST_PAUSE
             if isinstance(error, sqlite3.DatabaseError):
-                self.places.mend(error)
+                with suppress(OSError, sqlite3.Error):
+                    self.places.mend(error)
         return False
 
     def once(self) -> None:
