@@ -126,6 +126,8 @@ class Notes:
             with databases.unpacked(self.folder, database) as copy:
                 ended = program.run(*program.collecting(self.folder.sequences, copy, 0, "/dev/null")[1:])
             said = ended.stderr.decode(errors="replace").strip() if ended.returncode else ""
+            if ended.returncode not in (program.OK, program.REFUSED):
+                raise program.Failed(f"{database} isn't noted: status {ended.returncode}: {said}")
         except Damaged as error:
             said = str(error)
         if said:

@@ -20,7 +20,7 @@ from .turns import Turns, Waiting
 # So often an upload may be there alone when somebody kills the program, before it is held to be the cause.
 KILLS = 3
 # So long a stop waits for what is being stored, and so long a database that can't be taken up is left alone.
-LAST_SECONDS, REST_SECONDS = 10.0, 3.0
+LAST_SECONDS, REST_SECONDS = 30.0, 3.0
 CLOSED_WELL = (0, 1)
 
 
@@ -248,6 +248,7 @@ class Store(threading.Thread):
                 try:
                     done.set_result(task())
                 except Exception as error:
+                    self.is_taken_up = False           # what it left is looked at
                     done.set_exception(error)
 
     def is_full(self) -> bool:
