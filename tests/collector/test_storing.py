@@ -54,6 +54,24 @@ def test_a_sequence_is_its_first_machine_s_and_an_entry_stays_what_it_was(collec
     assert {"refused web", "refused mail"} <= told
 
 
+def test_whose_a_sequence_is_is_told_to_people_and_not_to_another_machine(collector: Collector) -> None:
+    collector.admit("web", "mail")
+    collector.start()
+    assert collector.send("web", upload(entries(A, [1]), 1)).startswith("ack")
+    assert collector.stop() == 0
+    collector.start()
+    mail, web = collector.connect("mail"), collector.connect("web")
+    assert mail.send(upload(entries(A, [2]), 1)) == f"no {ID} 0 71 0"
+    assert (mail.had(A, 1), web.had(A, 1), web.had(A, 2)) == ("lost", "had", "lost")
+    assert f"mail: refused: no {ID} 0 71 0: {A} came with web" in collector.said()
+    for path in (collector.folder / "sequences" / A).iterdir():
+        path.unlink()
+    assert collector.ask("check")[-1]["status"] == 1
+    assert f"isn't noted any more, as web's {A}" in collector.said()
+    assert web.had(A, 1) == "had"
+    assert collector.stop() == 0
+
+
 def test_all_sequences_of_an_upload_are_its_machine_s(collector: Collector) -> None:
     """As of a machine whose two users' journals came in one upload."""
     collector.admit("web")

@@ -60,7 +60,9 @@ class Connection(threading.Thread):
         return self.upload(request)
 
     def known(self, key: Had) -> Known:
-        """Whether an entry that was acknowledged is known still."""
+        """Whether an entry that was acknowledged is known still. Of another machine's sequence nothing is told."""
+        if not {self.machine, ""} & (self.store.state.came_with(key.sequence) or {""}):
+            return Known.LOST
         if self.store.knows(key.sequence, key.number):
             return Known.HAD
         self.store.state.tell(f"lost {self.machine}", f"{self.machine}: entry {key.number} of {key.sequence} was "

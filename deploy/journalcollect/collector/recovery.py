@@ -55,7 +55,8 @@ class Recovery:
             return databases.delete(self.folder, name)
         windows = self.notes.after(had)
         sequences = {each.sequence for each in windows}
-        owners = self.owners() if self.state.lack_owners(sequences) else {}
+        is_lacking = any("" in (known := self.state.came_with(each)) or not known for each in sequences)
+        owners = self.owners() if is_lacking else {}
         self.state.finished(name, had, windows, owners, packed)
         log(f"finished: {name} with {had.entries} entries")
         if is_alone and (unlike := self.notes.unlike(windows)):

@@ -222,10 +222,9 @@ class State:
                 self.ask("INSERT OR IGNORE INTO sequence VALUES(?, ?)", sequence, owners[sequence])
                 self.ask("DELETE FROM sequence WHERE id = ? AND machine = ''", sequence)
 
-    def lack_owners(self, sequences: set[str]) -> bool:
-        """Whether some of these sequences are of machines that aren't known yet, or were released."""
-        return any(not (found := self.ask("SELECT machine FROM sequence WHERE id = ?", each)) or ("",) in found
-                   for each in sequences)
+    def came_with(self, sequence: str) -> set[str]:
+        """The machines with which entries of a sequence came; an empty name among them if it was released."""
+        return {machine for machine, in self.ask("SELECT machine FROM sequence WHERE id = ?", sequence)}
 
     def released(self, sequence: str) -> None:
         """A sequence may be another machine's from now on."""

@@ -11,9 +11,10 @@ from pathlib import Path
 from ..common import files, program
 from ..common.protocol import Answer, Put, Verdict
 from . import databases
+from .gate import IDS
 from .process import OWN, UNREAD, Ended, Process
 from .recovery import Recovery, Unrecovered
-from .settings import NOTES_DAYS, Settings
+from .settings import HEADER, MOST_WINDOWS, NOTES_DAYS, Settings
 from .state import log
 from .turns import Turns, Waiting
 
@@ -21,7 +22,7 @@ from .turns import Turns, Waiting
 KILLS = 3
 # So long a stop waits for what is being stored, and so long a database that can't be taken up is left alone.
 LAST_SECONDS, REST_SECONDS = 30.0, 3.0
-CLOSED_WELL = (0, 1)
+CLOSED_WELL, NOT_THE_OWNER = (0, 1), 71
 
 
 class Store(threading.Thread):
@@ -233,7 +234,14 @@ class Store(threading.Thread):
             machine.stored = time.time()
         if not answer.is_ack:
             machine.refused += 1
-            self.state.tell(f"refused {upload.machine}", f"{upload.machine}: refused: {answer.line}")
+            whose = self.whose(upload) if answer.code == NOT_THE_OWNER else ""
+            self.state.tell(f"refused {upload.machine}", f"{upload.machine}: refused: {answer.line}{whose}")
+
+    def whose(self, upload: Waiting) -> str:
+        """What is said of an upload with entries of another machine's sequence: whose it is, if that is known."""
+        ids = {each.decode("ascii").lower() for each in IDS.findall(os.pread(upload.handle, upload.size, HEADER))}
+        known = {each: self.state.came_with(each) - {upload.machine, ""} for each in sorted(ids)[:MOST_WINDOWS]}
+        return "".join(f": {each} came with {' and '.join(sorted(others))}" for each, others in known.items() if others)
 
     # Turning ----------------------------------------------------------------------------------------------------------
 
