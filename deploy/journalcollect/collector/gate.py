@@ -8,7 +8,7 @@ import threading
 import time
 from collections.abc import Iterator
 
-from ..common import program
+from ..common import entries, note_files
 from ..common.protocol import Put, Verdict
 from . import databases
 from .settings import CONNECTIONS, HEADER, LARGE, MIB, MOST_WINDOWS, UPLOAD_BYTES, WINDOWS_A_DAY, Settings
@@ -21,7 +21,7 @@ START, COUNT = slice(32, 40), slice(40, 48)
 # The lines that say which entry it is. A message may have such lines, too, so these are at least all there are.
 NUMBERS = re.compile(rb"^__SEQNUM(?:=|\n.{8})([0-9]{1,20})\n", re.MULTILINE | re.DOTALL)
 IDS = re.compile(rb"^__SEQNUM_ID(?:=|\n.{8})([0-9A-Fa-f]{32})\n", re.MULTILINE | re.DOTALL)
-# Of so many files of notes at most it is looked up whether they are new; the program counts more than these.
+# Up to so many files of notes an upload isn't read entry by entry.
 LOOKED_UP = 2
 
 
@@ -87,19 +87,14 @@ class Gate:
         if len(header) < HEADER or not header.startswith(WHOLE) or any(header[START]):
             return self.refuse(machine, Verdict.NEVER, "it is no upload of a stream that is to be whole")
         if size <= LARGE:
-            self.state.machine(machine).windows += self.new_windows(handle, size)
+            touched = windows(os.pread(handle, size, HEADER))
+            if len(touched) > MOST_WINDOWS:
+                return self.refuse(machine, Verdict.NEVER, f"it touches over {MOST_WINDOWS} files of notes")
+            self.state.machine(machine).windows += sum(
+                not (self.folder.sequences / sequence / str(window)).exists() for sequence, window in touched)
         elif int.from_bytes(header[COUNT], "little") != 1:
             return self.refuse(machine, Verdict.NEVER, f"it has over {LARGE // MIB} MiB, and more than one entry")
         return None
-
-    def new_windows(self, handle: int, size: int) -> int:
-        """How many files of notes an upload makes: exactly, or how many it touches if these are many."""
-        body = os.pread(handle, size, HEADER)
-        numbers = {int(number) // databases.WINDOW for number in NUMBERS.findall(body)}
-        ids = {each.decode("ascii").lower() for each in IDS.findall(body)}
-        if len(ids) * len(numbers) > LOOKED_UP:
-            return min(program.touched(handle), MOST_WINDOWS)
-        return sum(not (self.folder.sequences / each / str(number)).exists() for each in ids for number in numbers)
 
     def told_time(self, machine: str, realtime: float) -> None:
         """A machine says what its clock says."""
@@ -111,6 +106,16 @@ class Gate:
 
     def bounded(self, machine: str, cause: str, why: str) -> None:
         self.state.tell(f"{cause} {machine}", f"{machine}: {why}")
+
+
+def windows(body: bytes) -> set[tuple[str, int]]:
+    """The windows of sequences that the entries of an upload are in, or more if they are few or it has a fault."""
+    numbers = {int(number) // note_files.WINDOW for number in NUMBERS.findall(body)}
+    ids = {each.decode("ascii").lower() for each in IDS.findall(body)}
+    if len(ids) * len(numbers) > LOOKED_UP:
+        with contextlib.suppress(entries.Malformed):
+            return note_files.windows(body)
+    return {(each, number) for each in ids for number in numbers}
 
 
 def end(one: socket.socket) -> None:

@@ -4,7 +4,7 @@ import subprocess
 import threading
 import time
 
-from ..common import program
+from ..common import note_files, program
 from ..reading.places import made
 from . import databases
 from .databases import Damaged
@@ -105,7 +105,7 @@ class Keeping(threading.Thread):
     def look_at_owners(self) -> None:
         """Whose a sequence is stands in its notes alone, and can't be made anew: the next that comes has it."""
         known = dict(self.state.ask("SELECT id, machine FROM sequence GROUP BY id HAVING count(*) = 1"))
-        if gone := sorted(known.keys() - program.owners(self.folder.sequences).keys()):
+        if gone := sorted(known.keys() - note_files.owners(self.folder.sequences).keys()):
             self.state.tell("owners", f"whose sequences are isn't noted any more, as {known[gone[0]]}'s {gone[0]}, of "
                             f"{len(gone)}: {self.folder.sequences} was damaged: put it back from a backup")
 

@@ -1,6 +1,6 @@
 """The files of notes, sequences/SEQUENCE/WINDOW: whether each is as it was when its databases were finished.
 
-The program alone writes and reads notes. Here is known that a file is a row of blocks of 41 bytes with one byte behind
+The program writes notes as it stores. Here is known that a file is a row of blocks of 41 bytes with one byte behind
 them, that it is only added to, and that it has the notes of one database after the other. So what finished databases
 were noted in is told by a number of notes and a digest of their bytes, and they are made anew by opening databases.
 """
@@ -12,14 +12,12 @@ import time
 from collections.abc import Iterable, Iterator
 from pathlib import Path
 
-from ..common import files, program
+from ..common import files, note_files, program
 from . import databases
 from .databases import Damaged, Summary
 from .state import State, Window, log
 
-NOTE = 41
-# The file that says whose a sequence is has the number of this window, and is never made anew.
-OWNER = str(2**63 // databases.WINDOW)
+NOTE = note_files.NOTE.size
 
 Name = tuple[str, int]
 
@@ -83,14 +81,15 @@ class Notes:
     def forget(self) -> None:
         """Only notes of finished databases stay, which stand first in each file."""
         found = [(path.parent.name, int(path.name)) for path in self.files()]
-        known = [(*name, self.state.notes_of(*name)) for name in found]
-        if more := [each for each in known if self.size(*each[:2]) > NOTE * each[2] + 1]:
-            program.forget_after(self.folder.sequences, more)
+        for name in found:
+            notes = self.state.notes_of(*name)
+            if self.size(*name) > NOTE * notes + 1:
+                note_files.keep(self.path(*name), notes)
 
     def files(self) -> Iterator[Path]:
         """All files of notes but those that say whose a sequence is."""
         return (path for path in self.folder.sequences.glob("*/*")
-                if path.name.isascii() and path.name.isdigit() and path.name != OWNER)
+                if path.name.isascii() and path.name.isdigit() and path.name != note_files.OWNED)
 
     def make_anew(self, names: Iterable[Name], why: str) -> None:
         """Windows that aren't as they were are put aside, and made anew of the databases that were noted in them. If it
@@ -124,7 +123,7 @@ class Notes:
         """Notes what a finished database has, and isn't noted."""
         try:
             with databases.unpacked(self.folder, database) as copy:
-                ended = program.run(*program.collecting(self.folder.sequences, copy, 0, "/dev/null")[1:])
+                ended = program.run(*program.collecting(self.folder.sequences, copy, "/dev/null")[1:])
             said = ended.stderr.decode(errors="replace").strip() if ended.returncode else ""
             if ended.returncode not in (program.OK, program.REFUSED):
                 raise program.Failed(f"{database} isn't noted: status {ended.returncode}: {said}")
@@ -147,7 +146,7 @@ class Notes:
             self.state.ask("DELETE FROM noted WHERE sequence = ? AND window = ?", sequence, window)
         for sequence in {sequence for sequence, _ in old}:
             folder = self.folder.sequences / sequence
-            if [path.name for path in folder.glob("*") if path.name.isdigit()] == [OWNER]:
+            if [path.name for path in folder.glob("*") if path.name.isdigit()] == [note_files.OWNED]:
                 for path in folder.iterdir():
                     path.unlink()
                 folder.rmdir()

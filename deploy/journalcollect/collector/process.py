@@ -13,7 +13,7 @@ from collections.abc import Iterator, Sequence
 from pathlib import Path
 
 from ..common import program, protocol
-from .settings import CPU_SECONDS, MEMORY, MOST_WINDOWS, Folder
+from .settings import CPU_SECONDS, MEMORY, Folder
 
 # So long it may take for its next answer, and to note what a database has.
 PATIENCE, LONGEST = 180.0, 3600.0
@@ -40,7 +40,7 @@ class Process:
         self.path, self.begun, self.output = path, time.monotonic(), b""
         self.errors = tempfile.TemporaryFile()
         self.process = subprocess.Popen(
-            program.collecting(folder.sequences, path, MOST_WINDOWS, names), stdin=subprocess.PIPE,
+            program.collecting(folder.sequences, path, names), stdin=subprocess.PIPE,
             stdout=subprocess.PIPE, stderr=self.errors, bufsize=0, start_new_session=True, pass_fds=[lock])
         self.bound(resource.RLIMIT_AS, MEMORY)
 

@@ -2,12 +2,11 @@
 
 What a stop or a failure left is taken up here. All of it is called while no process of the program stores.
 """
-import hashlib
 import threading
 import time
 from pathlib import Path
 
-from ..common import files, names, program
+from ..common import files, names, note_files
 from ..reading.present import Present
 from . import databases
 from .databases import Damaged
@@ -65,8 +64,8 @@ class Recovery:
     def owners(self) -> dict[str, str]:
         """Whose each sequence is, by name, as far as the machine is known."""
         known = {path.stem for path in KEYS.glob("*.pub") if names.is_machine(path.stem)} | self.state.machines.keys()
-        digests = {hashlib.sha256(name.encode("ascii")).hexdigest(): name for name in known}
-        found = program.owners(self.folder.sequences)
+        digests = {note_files.name_digest(name): name for name in known}
+        found = note_files.owners(self.folder.sequences)
         return {sequence: digests[digest] for sequence, digest in found.items() if digest in digests}
 
     # What a start finds -----------------------------------------------------------------------------------------------

@@ -8,7 +8,7 @@ from collections.abc import Callable, Iterator
 from concurrent.futures import Future
 from pathlib import Path
 
-from ..common import files, program
+from ..common import files, note_files, program
 from ..common.protocol import Answer, Put, Verdict
 from . import databases
 from .gate import IDS
@@ -58,7 +58,7 @@ class Store(threading.Thread):
         """Whether an entry is noted as stored."""
         self.is_begun.wait()
         with self.notes:
-            return program.has_note(self.folder.sequences, sequence, number)
+            return note_files.note(self.folder.sequences, sequence, number) is not None
 
     def stop(self) -> None:
         """What is being stored is brought to its end, for some seconds. What isn't answered comes again."""

@@ -1,13 +1,20 @@
 """The program journal-collect: every call of it is made here."""
+import mmap
 import os
 import subprocess
+import tempfile
 from collections.abc import Iterable
 from dataclasses import dataclass
 from pathlib import Path
 
+from . import note_files
+from .protocol import ANSWER
+
 # The environment variable that names another program than the installed one, as tests do.
 VARIABLE = "JOURNAL_COLLECT"
-OK, REFUSED, USAGE, FAILED, NONE = range(5)
+OK, REFUSED, USAGE, FAILED = range(4)
+# What an upload of an export stream that is to be whole begins with, and how long its header is.
+HEADER, WHOLE = 48, b"JCUPLD02\1\1" + bytes(6)
 
 
 class Failed(Exception):
@@ -55,65 +62,40 @@ class Unanswered:
 
 
 def acknowledged(upload: Path, answers: str) -> Acknowledged | Refused | Unanswered:
-    """What some answers, a line each, mean to an upload."""
-    ended = run("acknowledged", upload, given=answers.encode())
-    match ended.returncode:
-        case 0:
-            return Acknowledged()
-        case 1:
-            return Refused(ended.stdout.decode(errors="replace").strip())
-        case 4:
-            return Unanswered()
-    raise Failed(f"journal-collect acknowledged {upload}: status {ended.returncode}: "
-                 f"{ended.stderr.decode(errors='replace').strip()}")
+    """What some answers, a line each, mean to an upload that is to be whole: all of it is acknowledged by an answer to
+    its source, from its first entry on, that counts as many as its header, and leaves no byte."""
+    with open(upload, "rb") as file:
+        head = file.read(HEADER)
+    if len(head) < HEADER or not head.startswith(WHOLE) or any(head[32:40]):
+        raise Failed(f"{upload} isn't an upload of a stream that is to be whole")
+    source, count = head[16:32].hex(), int.from_bytes(head[40:48], "little")
+    lines = [line.split(" ") for line in answers.splitlines() if ANSWER.fullmatch(line)]
+    own = [words for words in lines if words[1:3] == [source, "0"]]
+    if any(words[0] == "ack" and words[3] == str(count) and words[5] == "0" for words in own):
+        return Acknowledged()
+    refusals = [words for words in own if words[0] == "no"]
+    return Refused(" ".join(refusals[-1])) if refusals else Unanswered()
 
 
 # What the collector asks ----------------------------------------------------------------------------------------------
 
 
-def collecting(sequences: Path, database: Path, most_windows: int, names: str = "-") -> list[str | Path]:
+def collecting(sequences: Path, database: Path, names: str = "-") -> list[str | Path]:
     """The call that stores the uploads that are named in a file, by lines `MACHINE<tab>PATH`, and answers each."""
-    return [path(), "collect", "--sequences", sequences, "--tables", "3", "--most-windows", str(most_windows),
-            "--files-from", names, database]
-
-
-def has_note(sequences: Path, sequence: str, number: int) -> bool:
-    """Whether an entry is noted as stored."""
-    return said("notes", "--sequences", sequences, "has", given=f"{sequence} {number}\n".encode()).strip() == "noted"
-
-
-def forget_after(sequences: Path, windows: Iterable[tuple[str, int, int]]) -> None:
-    """Of each window of a sequence only the first so many notes stay. Nobody may store meanwhile."""
-    lines = "".join(f"{sequence} {window} {count}\n" for sequence, window, count in windows)
-    said("notes", "--sequences", sequences, "forget-after", given=lines.encode())
-
-
-def owners(sequences: Path) -> dict[str, str]:
-    """Of each sequence that is a machine's, the SHA-256 digest of the machine's name."""
-    return dict(line.split(" ") for line in said("owners", "--sequences", sequences).splitlines())
-
-
-def rename_owner(sequences: Path, old: str, new: str) -> None:
-    """What was a machine's is its own under another name. Nobody may store meanwhile."""
-    said("owners", "--sequences", sequences, "--rename", old, new)
-
-
-def release(sequences: Path, sequence: str) -> None:
-    """A sequence is nobody's, and then the machine's that brings a new entry of it. Nobody may store meanwhile."""
-    said("owners", "--sequences", sequences, "--release", sequence)
+    return [path(), "collect", "--sequences", sequences, "--tables", "3", "--files-from", names, database]
 
 
 def differs(sequences: Path, database: Path) -> str | None:
-    """How a database differs from its notes; None if it doesn't."""
-    ended = run("check", "--sequences", sequences, database)
-    return None if ended.returncode == OK else (ended.stdout + ended.stderr).decode(errors="replace").strip()
-
-
-def touched(upload: int) -> int:
-    """How many files of notes an upload touches, which is in an open file; 0 if it has a fault."""
-    ended = subprocess.run([path(), "inspect", "/dev/stdin"], stdin=upload, capture_output=True, check=False)
-    words = ended.stdout.split()
-    return int(words[7]) if ended.returncode == OK else 0
+    """How a database differs from its notes; None if each of its entries is noted as it is."""
+    with tempfile.TemporaryFile(dir=database.parent) as out:
+        ended = subprocess.run([path(), "export", database], stdout=out, stderr=subprocess.PIPE, check=False)
+        if ended.returncode:
+            return ended.stderr.decode(errors="replace").strip()
+        if not out.seek(0, os.SEEK_END):
+            return None
+        with mmap.mmap(out.fileno(), 0, access=mmap.ACCESS_READ) as stream:
+            found = next(note_files.unlike(sequences, stream), None)
+    return f"entry {found[1]} of {found[0]} isn't the one that is noted" if found else None
 
 
 class Bad(Exception):
@@ -127,8 +109,9 @@ class Bad(Exception):
 def upload(stream: Path, source: str, out: int) -> None:
     """Writes all of an export stream to an open file, as an upload that is to be whole; a Bad if it has a fault."""
     nothing = stream.with_name(stream.name + ".resume")
-    ended = subprocess.run([path(), "upload", "--source", source, "--resume", nothing, "--limit", str(2**63 - 1), "--whole",
-                            "export", stream], stdout=out, stderr=subprocess.PIPE, check=False)
+    bounds = ["--resume", str(nothing), "--limit", str(2**63 - 1), "--whole"]
+    ended = subprocess.run([path(), "upload", "--source", source, *bounds, "export", stream], stdout=out,
+                           stderr=subprocess.PIPE, check=False)
     raise_if_bad(ended.stderr, ended.returncode)
 
 
