@@ -59,7 +59,7 @@ for name, kind in (("machine", Machine), ("collector", Collector), ("forward", F
             print(f"{name}.conf: {field.name.upper()} is {value}, and {wanted} in the program", file=sys.stderr)
     for left in told:
         print(f"{name}.conf: {left} is no setting", file=sys.stderr)
-if count > 27:
-    print(f"there are {count} settings, and 27 are enough", file=sys.stderr)
+if count > 25:
+    print(f"there are {count} settings, and 25 are enough", file=sys.stderr)
 END_OF_PYTHON
 finish
