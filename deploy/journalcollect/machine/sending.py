@@ -91,7 +91,7 @@ class Sending:
         if greeting.head:
             self.places.see_head(greeting.head)
         sequence, number, noted = (self.places.value("had").split() + ["0"] * 3)[:3]
-        is_recent = number.isdigit() and noted.isdigit() and 0 <= time.time() - int(noted) < HAD_SECONDS
+        is_recent = number.isdigit() and noted.isdigit() and time.time() - int(noted) < HAD_SECONDS
         if is_recent and self.link.ask(Had(sequence, int(number))) is Known.LOST:
             self.report.say(LOOK, "the collector lost what it had acknowledged: what the journal still has goes out")
             self.places.forget_all()
@@ -116,7 +116,9 @@ class Sending:
             raise
         match means:
             case program.Acknowledged():
-                self.acknowledge(number, data)
+                own = f"ack {data[16:32].hex()} "
+                is_new = any(Answer(line).new for line in lines.splitlines() if line.startswith(own))
+                self.acknowledge(number, data, is_new)
                 return True
             case program.Refused(line):
                 answer = Answer(line)
@@ -133,9 +135,10 @@ class Sending:
         for number in sorted(self.outbox.sizes):
             self.take_answer(number, self.outbox.path(number).read_bytes(), lines)
 
-    def acknowledge(self, number: int, data: bytes) -> None:
+    def acknowledge(self, number: int, data: bytes, is_new: bool) -> None:
+        """What was stored before may be known to a collector that was set back, so it isn't what is asked for next."""
         pieces, _ = pieces_in(data)
-        if pieces:
+        if pieces and (is_new or not self.places.value("had")):
             self.places.set(had=f"{pieces[-1].sequence} {pieces[-1].number} {int(time.time())}")
         self.outbox.remove(number)
         self.places.forget_tries(self.outbox.sizes)
