@@ -1,6 +1,7 @@
 """Journal files that are damaged, and odd or large entries: what can be read of them comes, the rest is said."""
 import gzip
 import os
+import random
 import re
 import shutil
 import subprocess
@@ -10,6 +11,7 @@ import pytest
 from collector import Collector
 from conftest import ROOT, Machine
 from journals import BEGIN, Entry, entries, offsets, write
+from test_stops import settle
 
 REAL = shutil.which("journalctl")
 
@@ -173,3 +175,36 @@ def test_an_entry_over_a_limit(machine: Machine, collector: Collector, keeps: st
     assert exported.count(b"_JOURNAL_COLLECT_LEFT_OUT=1 fields, ") == 2 and b"UNIT=a.service\n" in exported
     kept = [(machine.folder / "refused" / name).stat().st_size > (20 << 20) for name in machine.refused()]
     assert kept == ([True, True] if keeps == "no" else [])
+
+
+def test_a_folder_that_is_damaged(machine: Machine, collector: Collector) -> None:
+    """A byte, a part or a file of what the machine keeps is other than it was: no run ends by a traceback, and all that
+    the journal has is stored in the end. A changed value within an upload can't be noticed, and is stored, too."""
+    seed = int(os.environ.get("SEED", random.randrange(1 << 30)))
+    draw, logged = random.Random(seed), list[Entry]()
+    connect = machine.settings["CONNECT"]
+    for round in range(int(os.environ.get("EDITS", "25"))):
+        more = entries(f"round {round}", 2, BEGIN + 60_000_000 * round)
+        logged += more
+        write(machine.journal / "system.journal", more)
+        machine.set(CONNECT=draw.choice([connect, "false"]))
+        machine.send()
+        for path in draw.sample(kept := [each for each in machine.folder.rglob("*") if each.is_file()], min(2, len(kept))):
+            data = bytearray(path.read_bytes())
+            at = draw.randrange(len(data)) if data else 0
+            match draw.choice(["bit", "cut", "gone", "page"]):
+                case "bit" if data:
+                    data[at] ^= 1 << draw.randrange(8)
+                case "cut":
+                    del data[at:]
+                case "page":
+                    data[at:at + 512] = draw.randbytes(512)
+                case "gone":
+                    path.unlink()
+                    continue
+            path.write_bytes(data)
+    machine.set(CONNECT=connect)
+    settle(machine)
+    assert machine.send("--again", "@0", "--once") in (0, 1), machine.said
+    settle(machine)
+    assert set(collector.messages()) >= {each.message for each in logged}, f"SEED={seed}"
