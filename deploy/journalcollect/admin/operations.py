@@ -14,7 +14,7 @@ from ..collector.gate import Gate
 from ..collector.keeping import Keeping
 from ..collector.store import Store
 from ..collector.turns import Waiting
-from ..common import files, names, note_files, program
+from ..common import files, names, note_files
 from ..common.protocol import HEX_ID
 
 PIECE = 1 << 20

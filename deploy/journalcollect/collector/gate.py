@@ -10,7 +10,6 @@ from collections.abc import Iterator
 
 from ..common import entries, note_files
 from ..common.protocol import Put, Verdict
-from . import databases
 from .settings import CONNECTIONS, HEADER, LARGE, MIB, MOST_WINDOWS, UPLOAD_BYTES, WINDOWS_A_DAY, Settings
 from .state import State
 

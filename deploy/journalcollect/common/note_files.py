@@ -57,9 +57,10 @@ def owners(sequences: Path) -> dict[str, str]:
 
 def rename_owner(sequences: Path, old: str, new: str) -> None:
     """What was a machine's is its own under another name."""
+    owned = NOTE.pack(OPEN, OWNER, bytes.fromhex(name_digest(new))) + CLOSED
     for sequence, digest in owners(sequences).items():
         if digest == name_digest(old):
-            files.replace(sequences / sequence / OWNED, NOTE.pack(OPEN, OWNER, bytes.fromhex(name_digest(new))) + CLOSED)
+            files.replace(sequences / sequence / OWNED, owned)
 
 
 def release(sequences: Path, sequence: str) -> None:
