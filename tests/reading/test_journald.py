@@ -1,4 +1,4 @@
-"""What a real journald wrote, of the system and of users, is read as journalctl reads the machine's own files."""
+"""What a real journald wrote is read as journalctl reads the machine's own files."""
 import re
 import shutil
 import struct
@@ -18,11 +18,11 @@ from journalcollect.common import entries  # noqa: E402
 
 CURSOR = re.compile(rb"__CURSOR=s=([0-9a-f]{32});i=([0-9a-f]+);[^\n]*\n")
 NAME = "2097-01-01T10-00-00"
-CALLS = [[], ["_UID=1000"], ["_UID=0"], ["-p", "err"], ["-p", "4..5"], ["-t", "app1"], ["-g", "word3"], ["-g", "nothing"],
-         ["MESSAGE_ID=fc2e22bc6ee647b6b90729ab34a250b1"], ["COREDUMP_UNIT=app.service"], ["-u", "app"], ["-n", "5"],
-         ["-r", "-n", "9"], ["-b"], ["-b", "-p3"], ["--facility=daemon"], ["_UID=1001", "+", "PRIORITY=2"], ["-o", "verbose"],
-         ["-o", "short-full"], ["-o", "cat"], ["_TRANSPORT=journal", "-o", "short-iso"], ["--since", "1 hour ago"],
-         ["--until", "yesterday"], ["-k"]]
+CALLS = [[], ["TWICE=two"], ["EMPTY="], ["-p", "err"], ["-p", "4..5"], ["-t", "app1"], ["-g", "word3"], ["-b"],
+         ["-g", "nothing"], ["MESSAGE_ID=fc2e22bc6ee647b6b90729ab34a250b1"], ["COREDUMP_UNIT=app.service"], ["-k"],
+         ["-n", "5"], ["-r", "-n", "9"], ["-b", "-p3"], ["--facility=daemon"], ["TWICE=one", "+", "PRIORITY=2"],
+         ["-o", "verbose"], ["-o", "short-full"], ["-o", "cat"], ["_TRANSPORT=journal", "-o", "short-iso"],
+         ["--since", "1 hour ago"], ["--until", "yesterday"]]
 
 
 def native(number: int) -> bytes:
@@ -86,7 +86,6 @@ def test_it_is_what_journalctl_gives(both: tuple[str, Collector], words: list[st
     assert as_said(said.stdout) == as_said(plain.stdout), said.stderr
 
 
-def test_there_is_something_of_each_user(both: tuple[str, Collector]) -> None:
-    _, collector = both
-    for user in ("0", "1000", "1001"):
-        assert len(collector.messages("-o", "json", f"_UID={user}", "_TRANSPORT=journal")) >= 60
+def test_all_that_was_logged_is_there(both: tuple[str, Collector]) -> None:
+    """Its journald is in a namespace of its own, and doesn't see whose the senders are."""
+    assert len(both[1].search("-o", "json", "_TRANSPORT=journal").stdout.splitlines()) == 301
