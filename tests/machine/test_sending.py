@@ -1,4 +1,5 @@
 """Answers, refusals and links: what is logged comes in the end, and nothing waits behind what can't be sent."""
+import sqlite3
 import time
 from pathlib import Path
 
@@ -9,7 +10,6 @@ from journals import BEGIN, Entry, entries, write
 
 def rest(machine: Machine) -> None:
     """What rests may go out now."""
-    import sqlite3
     with sqlite3.connect(machine.folder / "places.sqlite") as rows:
         rows.execute("UPDATE try SET until = 0")
     rows.close()
@@ -200,7 +200,7 @@ def test_a_clock_that_is_wrong(machine: Machine, collector: Collector) -> None:
     write(machine.journal / "system.journal", entries("one", 1))
     collector.greeting = lambda: f"journal-collect 1 {time.time_ns() // 1000 + 3 * 86_400_000_000} {'ab' * 32}"
     assert machine.send() == 1
-    assert "clock is 2591" in machine.said or "clock is 2592" in machine.said
+    assert "clock is +2591" in machine.said or "clock is +2592" in machine.said
     assert collector.messages() == ["one 0"]
 
 
@@ -271,3 +271,32 @@ def test_the_program_is_not_there(machine: Machine, collector: Collector) -> Non
     machine.environment["JOURNAL_COLLECT"] = PROGRAM
     assert machine.send() == 0, machine.said
     assert collector.messages() == ["one 0"]
+
+
+def test_a_repeat_says_nothing_of_a_collector_that_was_restored(machine: Machine, collector: Collector) -> None:
+    """What is asked for is the last entry that was new: one that was stored before may be in the backup."""
+    write(machine.journal / "system.journal", entries("one", 4))
+    assert machine.send() == 0, machine.said
+    assert machine.send("--again", "@1700000001", "--once") == 0, machine.said
+    asked: list[int] = []
+
+    def knows(sequence: str, number: int) -> bool:
+        asked.append(number)
+        return True
+    collector.knows = knows
+    write(machine.journal / "user-1.journal", entries("two", 1))
+    assert machine.send() == 0, machine.said
+    assert asked == [4]
+
+
+def test_a_clock_that_goes_back(machine: Machine, collector: Collector) -> None:
+    """The last key was acknowledged a day ahead by this clock: it is asked for nevertheless."""
+    write(machine.journal / "system.journal", entries("one", 2))
+    assert machine.send() == 0, machine.said
+    with sqlite3.connect(machine.folder / "places.sqlite") as rows:
+        had = str(rows.execute("SELECT value FROM value WHERE name = 'had'").fetchone()[0]).split()
+        rows.execute("UPDATE value SET value = ? WHERE name = 'had'", [f"{had[0]} {had[1]} {int(had[2]) + 86_400}"])
+    rows.close()
+    collector.knows = lambda sequence, number: False
+    write(machine.journal / "system.journal", entries("two", 1, BEGIN + 60_000_000))
+    assert machine.send() == 1 and "lost" in machine.said

@@ -34,8 +34,7 @@ class Sending:
     def __init__(self, settings: Settings, report: Report, places: Places, outbox: Outbox, refusals: Refusals) -> None:
         self.settings, self.report, self.places, self.outbox = settings, report, places, outbox
         self.refusals, self.link = refusals, Link(settings)
-        self.pause, self.resumes = 0.0, 0.0
-        self.is_turn_of_oldest = False
+        self.pause, self.resumes, self.is_turn_of_oldest = 0.0, 0.0, False
 
     def next(self) -> int | None:
         """The upload that goes out next, if one is to go out now."""
@@ -86,8 +85,7 @@ class Sending:
         skew = (greeting.realtime - time.time_ns() // 1_000) // 1_000_000
         self.places.set(skew=skew, answered=int(time.time()))
         if abs(skew) > SKEW_SECONDS:
-            self.report.say(LOOK, f"this machine's clock is {-skew} s ahead of the collector's" if skew < 0 else
-                            f"this machine's clock is {skew} s behind the collector's")
+            self.report.say(LOOK, f"the collector's clock is {skew:+} s from this machine's: set the one that is wrong")
         if greeting.head:
             self.places.see_head(greeting.head)
         sequence, number, noted = (self.places.value("had").split() + ["0"] * 3)[:3]
@@ -116,9 +114,8 @@ class Sending:
             raise
         match means:
             case program.Acknowledged():
-                own = f"ack {data[16:32].hex()} "
-                is_new = any(Answer(line).new for line in lines.splitlines() if line.startswith(own))
-                self.acknowledge(number, data, is_new)
+                acks = [line.split(" ") for line in lines.splitlines() if line.startswith(f"ack {data[16:32].hex()} ")]
+                self.acknowledge(number, data, any(words[4:5] not in ([], ["0"]) for words in acks))
                 return True
             case program.Refused(line):
                 answer = Answer(line)
