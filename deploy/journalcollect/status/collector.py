@@ -116,7 +116,7 @@ def judge_machine(machine: Machine, now: float, findings: Findings) -> None:
     elif now - machine.seen > SILENT_SECONDS:
         findings.look("silent", name, f"it called {words.ago(machine.seen, now)} for the last time",
                       f"on {name}: journal-collect-status; gone for good: journal-collect-admin retire {name}")
-    elif now - machine.stored > DAY:
+    elif machine.stored and now - machine.stored > DAY:
         findings.look("old", name, f"its last new entry came {words.ago(machine.stored, now)}, though it calls",
                       f"on {name}: journal-collect-status")
     if machine.seen and abs(machine.skew) > SKEW_SECONDS:
