@@ -189,7 +189,8 @@ def test_a_folder_that_is_damaged(machine: Machine, collector: Collector) -> Non
         write(machine.journal / "system.journal", more)
         machine.set(CONNECT=draw.choice([connect, "false"]))
         machine.send()
-        for path in draw.sample(kept := [each for each in machine.folder.rglob("*") if each.is_file()], min(2, len(kept))):
+        kept = [each for each in machine.folder.rglob("*") if each.is_file()]
+        for path in draw.sample(kept, min(2, len(kept))):
             data = bytearray(path.read_bytes())
             at = draw.randrange(len(data)) if data else 0
             match draw.choice(["bit", "cut", "gone", "page"]):

@@ -16,8 +16,7 @@ LOGIN = "journal-collect-login"
 OPTIONS = ("BatchMode=yes", "ConnectTimeout=20", "ServerAliveInterval=15", "ServerAliveCountMax=4",
            "IdentitiesOnly=yes", "StrictHostKeyChecking=yes", "ControlPath=none")
 # ssh itself sees within a minute that the other side is gone; a collector that is busy may take longer to answer.
-PATIENCE = 300.0
-PIECE = 1 << 16
+PATIENCE, PIECE = 300.0, 1 << 16
 # What ssh or the collector's side says, and what it means.
 REASONS = (
     ("Host key verification failed", f"the collector's host key isn't the one in {KNOWN_HOSTS}: compare them before "

@@ -5,6 +5,7 @@ program writes them, so it alone decides what an upload looks like, and none get
 is on the disk before it has its name, and has its name on the disk before `put` returns.
 """
 import os
+import re
 import time
 from collections.abc import Iterable
 from dataclasses import dataclass
@@ -83,7 +84,7 @@ class Outbox:
         """Which uploads there are."""
         self.sizes: dict[int, int] = {
             int(each.stem): files.size(each) for each in self.folder.iterdir()
-            if each.suffix == ".upload" and each.stem.isascii() and each.stem.isdigit()}
+            if re.fullmatch(r"[0-9]{1,18}\.upload", each.name, re.ASCII)}
 
     def path(self, number: int) -> Path:
         return self.folder / f"{number}.upload"
