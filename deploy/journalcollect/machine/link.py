@@ -5,7 +5,6 @@ import shlex
 import socket
 import subprocess
 import time
-from pathlib import Path
 
 from journalcollect.common import protocol
 from journalcollect.common.settings import FOLDER
@@ -61,7 +60,7 @@ class Link:
         return self.process is not None
 
     def open(self) -> protocol.Greeting:
-        self.errors = os.memfd_create("errors")
+        self.errors = open(os.memfd_create("errors"), "w+b")
         self.socket, theirs = socket.socketpair()
         self.socket.setblocking(False)
         with theirs:
@@ -117,9 +116,9 @@ class Link:
         except subprocess.TimeoutExpired:
             process.kill()
             process.wait()
-        said = Path(f"/proc/self/fd/{self.errors}").read_text(errors="replace")
-        os.close(self.errors)
-        return said
+        self.errors.seek(0)
+        with self.errors:
+            return self.errors.read().decode(errors="replace")
 
     def close_if_idle(self) -> None:
         if self.process and time.monotonic() - self.used >= self.settings.idle_seconds:
