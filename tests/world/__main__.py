@@ -5,8 +5,8 @@ usage: python3 tests/world [--rounds ROUNDS] [--seed SEED] [--only EVENT,..] [--
 Everything runs as it is installed, by its public commands: journal-collect-send with its service, the collector's
 service, and journal-collect-admin; PROGRAM names the proved program. Journals are real journal files. Each computer has
 a disk of its own, so power is lost by what had reached the disk. In the end faults cease, machines send what they have,
-and: what `journal-collect acknowledged` said is stored is in one database, with its key and content; nothing is stored
-twice; what a journal has is stored. It takes root, loop devices and systemd-journal-remote.
+and: what was acknowledged is in one database, with its key and content; nothing is stored twice; what a journal has is
+stored. It takes root, loop devices and systemd-journal-remote.
 """
 from __future__ import annotations
 

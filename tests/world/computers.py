@@ -14,19 +14,6 @@ from journals import Journal
 HERE = Path(__file__).resolve().parent
 PROGRAMS = Path(os.environ.get("PROGRAMS", HERE.parents[1] / "deploy" / "programs"))
 PROGRAM = Path(os.environ["PROGRAM"])
-# `acknowledged` of a machine is what counts: an upload for which it ends with 0 is kept beside the world.
-WITNESS = """#!/bin/sh
-[ "$1" = acknowledged ] || exec {program} "$@"
-shift
-for upload in "$@"; do
-    case $upload in -*) ;; *) break ;; esac
-done
-cp "$upload" {ledger}/new.$$
-{program} acknowledged "$@"
-status=$?
-if [ $status = 0 ]; then mv {ledger}/new.$$ "$(mktemp {ledger}/XXXXXXXX)"; else rm {ledger}/new.$$; fi
-exit $status
-"""
 
 
 class Computer:
@@ -119,16 +106,13 @@ class Machine(Computer):
         self.name, self.collector = name, collector
         self.ledger, self.fault = folder / "ledger", folder / "fault"
         self.ledger.mkdir()
-        (folder / "journal-collect").write_text(WITNESS.format(program=PROGRAM, ledger=self.ledger))
-        (folder / "journal-collect").chmod(0o755)
         self.heal()
-        witness = {"JOURNAL_COLLECT": str(folder / "journal-collect")}
-        super().__init__(folder, disk, self.settings(folder, disk), witness)
+        super().__init__(folder, disk, self.settings(folder, disk), {})
         self.journal = Journal(disk, name, dice)
 
     def settings(self, folder: Path, disk: Disk) -> dict[str, object]:
         return {"FOLDER": disk.at / "data", "JOURNALS": disk.at / "journal", "COLLECTOR": "logs.example.org",
-                "CONNECT": f"{HERE / 'link.py'} {self.collector.socket(self.name)} {folder / 'fault'}",
+                "CONNECT": f"{HERE / 'link.py'} {self.collector.socket(self.name)} {self.fault} {self.ledger}",
                 "EVERY_SECONDS": 1, "IDLE_SECONDS": 3, "FOLDER_BYTES": 3_000_000}
 
     def rename(self, name: str) -> None:

@@ -50,7 +50,7 @@ def entries_of(text: bytes) -> Iterator[Entry]:
 
 
 def acknowledged(machine: Machine) -> set[Entry]:
-    """The entries of all uploads that `journal-collect acknowledged` said are acknowledged."""
+    """The entries of all uploads that the collector acknowledged, as their link saw it."""
     return {entry for path in machine.ledger.iterdir() if not path.name.startswith("new.")
             for entry in entries_of(path.read_bytes()[HEAD:])}
 
