@@ -72,9 +72,9 @@ def test_thousands_of_sequences_and_windows_are_refused_at_once_beside_others(co
     for number, other in enumerate(others):
         other.put(upload(entries(f"{number:032d}", [1]), 1))
     begun = time.monotonic()
-    assert hostile.line() == f"no {ID} 0 6 16"
+    assert hostile.line() == "never it touches over 16 files of notes"
     assert all(other.line() == f"ack {ID} 0 1 1 0" for other in others)
-    assert hostile.send(upload(windows, 3900)) == f"no {ID} 0 6 16"
+    assert hostile.send(upload(windows, 3900)) == "never it touches over 16 files of notes"
     taken = time.monotonic() - begun
     print(f"{taken:.2f} s")
     assert not (collector.folder / "sequences" / A).exists()
@@ -165,4 +165,40 @@ def test_a_disk_without_files_left_is_told_later(collector: Collector, tmp_path:
         assert "more files can be made" in collector.said()
         assert collector.stop() == 0
     finally:
+        if collector.runs():
+            collector.kill()
+        subprocess.run(["umount", disk], check=True)
+
+
+def test_a_disk_that_is_full_loses_nothing_and_all_goes_on_when_it_has_room(collector: Collector, tmp_path: Path) -> None:
+    """A file system of 6 MiB, filled to its last byte, as no FREE_BYTES keeps anything free."""
+    disk = tmp_path / "disk"
+    disk.mkdir()
+    if subprocess.run(["mount", "-t", "tmpfs", "-o", "size=6m", "tmpfs", disk], capture_output=True).returncode:
+        pytest.skip("no file system can be mounted here")
+    try:
+        collector.folder = disk
+        collector.values |= {"FOLDER": str(disk), "DATABASE_BYTES": "1000000"}
+        collector.admit("web")
+        collector.start()
+        acknowledged, first, end = 0, 1, time.monotonic() + 120
+        while time.monotonic() < end:
+            answer = collector.send("web", upload(entries(A, range(first, first + 500), "x" * 300), 500))
+            if not answer.startswith("ack"):
+                break
+            acknowledged, first = first + 499, first + 500
+        assert answer.startswith("later"), answer
+        assert collector.send("web", upload(entries(A, range(first, first + 500), "x" * 300), 500)).startswith("later")
+        subprocess.run(["mount", "-o", "remount,size=64m", disk], check=True)
+        while not answer.startswith("ack"):
+            assert time.monotonic() < end + 120, answer
+            answer = collector.send("web", upload(entries(A, range(first, first + 500), "x" * 300), 500))
+        assert answer == f"ack {ID} 0 500 500 0"
+        assert acknowledged >= 500
+        assert collector.stop() == 0
+        assert [number for _, number, _ in collector.stored()] == list(range(1, first + 500))
+        assert collector.rows("SELECT name FROM database WHERE standing <> 'finished'") == []
+    finally:
+        if collector.runs():
+            collector.kill()
         subprocess.run(["umount", disk], check=True)

@@ -114,7 +114,8 @@ class State:
             try:
                 yield
             except BaseException:
-                self.rows.execute("ROLLBACK")
+                if self.rows.in_transaction:           # a full disk has ended it already
+                    self.rows.execute("ROLLBACK")
                 raise
             self.rows.execute("COMMIT")
 
