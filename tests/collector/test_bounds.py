@@ -170,7 +170,7 @@ def test_a_disk_without_files_left_is_told_later(collector: Collector, tmp_path:
         subprocess.run(["umount", disk], check=True)
 
 
-def test_a_disk_that_is_full_loses_nothing_and_all_goes_on_when_it_has_room(collector: Collector, tmp_path: Path) -> None:
+def test_a_full_disk_loses_nothing_and_all_goes_on_when_it_has_room(collector: Collector, tmp_path: Path) -> None:
     """A file system of 6 MiB, filled to its last byte, as no FREE_BYTES keeps anything free."""
     disk = tmp_path / "disk"
     disk.mkdir()
