@@ -1,5 +1,6 @@
 """Machines that are cloned, set back or renamed: each entry that any of them logged is stored once."""
 import shutil
+import sqlite3
 from pathlib import Path
 
 from collector import Collector
@@ -38,14 +39,18 @@ def test_a_clone_with_the_same_key(machine: Machine, collector: Collector) -> No
 
 
 def test_a_clone_with_a_name_of_its_own(machine: Machine, collector: Collector, tmp_path: Path) -> None:
-    """What the other one's sequence has is refused with 71: the clone's goes on in one fork."""
+    """What the other one's sequence has is refused with 71: the clone's goes on in one fork. It has a machine-id of its
+    own, so it doesn't ask for what the other one sent, which the collector wouldn't tell it."""
     write(machine.journal / "system.journal", entries("before", 3))
     assert machine.send() == 0, machine.said
     clone = copied(machine, machine.base / "clone")
     write(machine.journal / "system.journal", entries("one", 2, BEGIN + 10_000_000))
     write(clone.journal / "system.journal", entries("two", 2, BEGIN + 10_000_000))
     settle(machine)
-    collector.name = "clone"
+    with sqlite3.connect(clone.folder / "places.sqlite") as rows:
+        rows.execute("UPDATE machine SET id = ?", ["ab" * 16])
+    rows.close()
+    collector.name, collector.knows = "clone", lambda sequence, number: False
     settle(clone)
     collector.name = "web"
     settle(machine)

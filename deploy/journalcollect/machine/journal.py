@@ -131,10 +131,9 @@ class Journal:
         self.folders[folder] = changed_at(folder)
         try:
             return os.listdir(folder)
-        except FileNotFoundError:
-            pass
         except OSError as error:
-            self.unread.add(f"{folder}: {error.strerror}")
+            if os.path.exists(folder):
+                self.unread.add(f"{folder}: {error.strerror}")
         return []
 
     def take(self, path: Path, found: dict[str, JournalFile]) -> None:

@@ -197,12 +197,15 @@ class Places:
         return not self.value("begun") or bool(self.value("again") or self.value("answers"))
 
     def machines(self, now: str) -> list[str]:
-        """The ids that this machine had, with the one that it has."""
-        self.do("INSERT OR IGNORE INTO machine VALUES(?)", [[now]])
-        return [row[0] for row in self.rows([str], "SELECT id FROM machine")]
+        """The ids that this machine had. With a new one it may be a clone, and doesn't ask for what the other one sent."""
+        known = [row[0] for row in self.rows([str], "SELECT id FROM machine")]
+        if now not in known:
+            self.do("INSERT INTO machine VALUES(?)", [[now]])
+            self.set(had="")
+        return [*known, now]
 
     def see_head(self, head: str) -> None:
-        if self.rows([str], "SELECT head FROM head ORDER BY rowid DESC LIMIT 1") != [(head,)]:
+        if head and self.rows([str], "SELECT head FROM head ORDER BY rowid DESC LIMIT 1") != [(head,)]:
             self.do("INSERT INTO head VALUES(?, ?)", [[int(time.time()), head]])
             self.do("DELETE FROM head WHERE rowid <= (SELECT max(rowid) FROM head) - 400")
 

@@ -86,8 +86,7 @@ class Sending:
         self.places.set(skew=skew, answered=int(time.time()))
         if abs(skew) > SKEW_SECONDS:
             self.report.say(LOOK, f"the collector's clock is {skew:+} s from this machine's: set the one that is wrong")
-        if greeting.head:
-            self.places.see_head(greeting.head)
+        self.places.see_head(greeting.head or "")
         sequence, number, noted = (self.places.value("had").split() + ["0"] * 3)[:3]
         is_recent = number.isdigit() and noted.isdigit() and time.time() - int(noted) < HAD_SECONDS
         if is_recent and self.link.ask(Had(sequence, int(number))) is Known.LOST:
