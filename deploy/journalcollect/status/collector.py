@@ -1,4 +1,5 @@
 """How the collector stands: its service, its machines, its databases, its disk, and what it told of."""
+from collections import Counter
 from dataclasses import asdict, dataclass, field
 from pathlib import Path
 from typing import Any
@@ -60,7 +61,8 @@ def look(now: float, findings: Findings) -> Collector:
     found, folder = Collector(chosen.folder), Path(chosen.folder)
     look_at_service(found, folder, findings)
     look_at_machines(found, folder, settings.FOLDER / "keys", now, findings)
-    look_at_databases(found, folder, now, findings)
+    look_at_databases(found, folder, chosen.read_days * DAY, now, findings)
+    look_at_what_is_in_databases_alone(folder, findings)
     look_at_disk(found, folder, chosen, now, findings)
     look_at_what_was_told(found, folder, now, findings)
     return found
@@ -125,15 +127,19 @@ def judge_machine(machine: Machine, now: float, findings: Findings) -> None:
                       "timedatectl on both says which is wrong; timedatectl set-ntp yes mends it")
 
 
-def look_at_databases(found: Collector, folder: Path, now: float, findings: Findings) -> None:
+STANDINGS = {"missing": "it is gone, and nobody said so", "quarantined": "it can't be opened, and is set aside",
+             "damaged": "it isn't as it was finished"}
+
+
+def look_at_databases(found: Collector, folder: Path, shown: float, now: float, findings: Findings) -> None:
+    """Journal files are made of those that were finished within so many seconds."""
     rows = looking.rows(folder / "state.sqlite",
                         "SELECT name, standing, finished, entries, bytes FROM database")
     for row in rows:
         standing = str(row["standing"])
         found.databases[standing] = found.databases.get(standing, 0) + 1
-        if standing in ("missing", "quarantined"):
-            text = "it is gone, and nobody said so" if standing == "missing" else "it can't be opened, and is set aside"
-            findings.look(standing, str(row["name"]), text, REBUILD)
+        if standing in STANDINGS:
+            findings.look(standing, str(row["name"]), STANDINGS[standing], REBUILD)
     finished = [row for row in rows if row["standing"] == "finished"]
     found.entries = sum(number(row["entries"]) for row in finished)
     found.bytes = sum(number(row["bytes"]) for row in finished)
@@ -141,11 +147,22 @@ def look_at_databases(found: Collector, folder: Path, now: float, findings: Find
     if recent and (days := (now - min(number(row["finished"]) for row in recent)) / DAY) > 0.25:
         found.bytes_a_day = sum(number(row["bytes"]) for row in recent) / days
     done = places.made(folder)
-    waiting = [number(row["finished"]) for row in finished if row["name"] not in done]
+    waiting = [number(row["finished"]) for row in finished
+               if row["name"] not in done and now - number(row["finished"]) < shown]
     found.waiting_for_files = len(waiting)
     if waiting and now - min(waiting) > BEHIND_SECONDS:
         findings.look("behind", "collector", f"{len(waiting)} databases wait for their journal files, the oldest for "
                       f"{words.span(now - min(waiting))}", f"journalctl -u {SERVICE} says why; apt install systemd-journal-remote if it isn't there")
+
+
+def look_at_what_is_in_databases_alone(folder: Path, findings: Findings) -> None:
+    """What systemd-journal-remote doesn't take, by the reason."""
+    counts: Counter[str] = Counter()
+    for path in set(places.Places(folder).made().values()):
+        counts.update(places.about(path).untaken)
+    for reason, count in counts.items():
+        findings.look("untaken", "collector", f"{count} entries aren't in journal files, since {reason}",
+                      "databases have them: journal-collect export DATABASE")
 
 
 def number(value: Any) -> Any:
