@@ -197,7 +197,7 @@ class Places:
         return not self.value("begun") or bool(self.value("again") or self.value("answers"))
 
     def machines(self, now: str) -> list[str]:
-        """The ids that this machine had. With a new one it may be a clone, and doesn't ask for what the other one sent."""
+        """The ids that this machine had. With a new one it may be a clone: it doesn't ask for what the other sent."""
         known = [row[0] for row in self.rows([str], "SELECT id FROM machine")]
         if now not in known:
             self.do("INSERT INTO machine VALUES(?)", [[now]])
