@@ -1,6 +1,6 @@
 #!/usr/bin/env bash
-# The tests of deploy/journalcollect, by Debian's pytest (python3-pytest), over the program that PROGRAM names: folders of
-# tests, or all. The last line is `N passed, M failed`.
+# The tests of deploy/journalcollect, by Debian's pytest (python3-pytest), over the program that PROGRAM names: folders
+# of tests, or all. The last line is `N passed, M failed`.
 set -uo pipefail
 cd "$(dirname "$0")/.." || exit
 

@@ -58,7 +58,9 @@ if [[ $(id -u) -eq 0 ]] && command -v systemd-sysusers > "$folder/told"; then
         echo "COLLECTOR=here" > "$etc/machine.conf.d/10-join.conf"
         ln -sf /usr/lib/systemd/system/journal-collect-send.service "$root/etc/systemd/system/multi-user.target.wants/"
     }
-    left() { (cd "$root" && find usr etc/journal-collect etc/ssh etc/systemd var/lib/journal-* -not -type d 2> /dev/null); }
+    left() {
+        (cd "$root" && find usr etc/journal-collect etc/ssh etc/systemd var/lib/journal-* -not -type d 2> /dev/null)
+    }
     has_user() { grep -q "^journal-collect:" "$root/etc/passwd"; }
     set_up
     expect 0 "~*" "~*" own_dpkg --remove journal-collect

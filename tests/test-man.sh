@@ -35,7 +35,8 @@ for unit in deploy/units/*.{service,socket,timer}; do
 done
 for program in deploy/programs/*; do
     name=journal-collect-${program##*/}
-    compgen -G "$pages/man?/${name/journal-collect-journal-/journal-}.?" > "$folder/told" || differs "no page is about $name"
+    name=${name/journal-collect-journal-/journal-}
+    compgen -G "$pages/man?/$name.?" > "$folder/told" || differs "no page is about $name"
 done
 for conf in deploy/settings/*.conf; do
     there "journal-collect-${conf##*/}" 5 || differs "there is no page of ${conf##*/}"

@@ -33,7 +33,8 @@ class Wrong(Exception):
 def prepare(collector: Booted, web: Booted) -> None:
     """The administrator can log in at the collector by ssh, as the guide supposes."""
     collector.shell("ssh-keygen -A && systemctl start systemd-user-sessions ssh && mkdir -p /etc/cron.hourly")
-    web.shell("mkdir -p -m 700 /root/.ssh && rm -f /root/.ssh/* && ssh-keygen -q -t ed25519 -N '' -f /root/.ssh/id_ed25519")
+    web.shell("mkdir -p -m 700 /root/.ssh && rm -f /root/.ssh/*")
+    web.shell("ssh-keygen -q -t ed25519 -N '' -f /root/.ssh/id_ed25519")
     key = web.call("cat", "/root/.ssh/id_ed25519.pub").stdout.decode()
     collector.shell(f"mkdir -p -m 700 /root/.ssh && printf '%s' '{key}' > /root/.ssh/authorized_keys")
     hosts = collector.shell("cat /etc/ssh/ssh_host_*_key.pub").stdout.decode()

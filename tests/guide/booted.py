@@ -1,5 +1,5 @@
-"""Computers that systemd starts: each is a container with a copy of this computer's own system, in which nothing that is
-written stays, and all share a network of their own. They have what `make install` installs."""
+"""Computers that systemd starts: each is a container with a copy of this computer's own system, in which nothing that
+is written stays, and all share a network of their own. They have what `make install` installs."""
 from __future__ import annotations
 
 import os
@@ -12,7 +12,7 @@ from pathlib import Path
 HERE = Path(__file__).resolve().parent
 DEPLOY = HERE.parents[1] / "deploy"
 NETWORK = "journal-collect-guide"
-# What of this computer isn't to be there: its own logs, units that wait for hardware, and what earlier installations left.
+# What of this computer isn't to be there: its own logs, and what earlier installations left; and units not to start.
 EMPTY = ("var/log/journal", "var/lib/journal-collect", "var/lib/journal-collect-send", "etc/journal-collect")
 MASKED = ("systemd-timesyncd.service", "systemd-networkd-wait-online.service", "getty.target", "console-getty.service",
           "systemd-resolved.service")

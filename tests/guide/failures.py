@@ -11,7 +11,7 @@ from life import does
 
 @dataclass(frozen=True)
 class Failure:
-    """`begin` and `end` are commands at the computer `at`. A finding of `side` has this name, and its remedy this word."""
+    """`begin` and `end` are commands at the computer `at`. A finding of `side` has this name, its remedy this word."""
     name: str
     at: str
     begin: str
@@ -41,8 +41,8 @@ FAILURES = [
             "collector", "service", "systemctl enable --now"),
     Failure("the service isn't enabled", "collector", "systemctl disable -q journal-collect",
             "systemctl enable -q journal-collect", "collector", "service", "systemctl enable"),
-    Failure("the sender is stopped", "web", "systemctl stop journal-collect-send", "systemctl start journal-collect-send",
-            "web", "service", "systemctl enable --now"),
+    Failure("the sender is stopped", "web", "systemctl stop journal-collect-send",
+            "systemctl start journal-collect-send", "web", "service", "systemctl enable --now"),
     Failure("sshd is down, seen at the collector", "collector", "systemctl stop ssh.socket ssh.service",
             "systemctl start ssh.service", "collector", "sshd", "systemctl enable --now ssh"),
     Failure("sshd is down, seen at the machine", "web",
@@ -54,7 +54,8 @@ FAILURES = [
     Failure("another host key answers", "web",
             f"cp {SETTINGS}/known_hosts /root/known; sed -i 's/ AAAA.*/ '$(cut -d ' ' -f 2 /root/.ssh/id_ed25519.pub)/ "
             f"{SETTINGS}/known_hosts; systemctl restart journal-collect-send; {LOG}",
-            f"cp /root/known {SETTINGS}/known_hosts; systemctl restart journal-collect-send", "web", "trouble", "compare"),
+            f"cp /root/known {SETTINGS}/known_hosts; systemctl restart journal-collect-send", "web", "trouble",
+            "compare"),
     Failure("the key isn't admitted", "collector",
             f"mv {SETTINGS}/authorized_keys /root/keys; touch {SETTINGS}/authorized_keys",
             f"mv /root/keys {SETTINGS}/authorized_keys", "collector", "key", "admit"),
@@ -77,13 +78,14 @@ FAILURES = [
     Failure("the disk is full", "collector",
             f"echo FREE_BYTES=900000000000000 > {SETTINGS}/collector.conf.d/90.conf",
             f"rm {SETTINGS}/collector.conf.d/90.conf", "collector", "disk", "make room"),
-    Failure("sshd isn't set up for machines", "collector", "mv /etc/ssh/sshd_config.d/journal-collect.conf /root/sshd.conf",
+    Failure("sshd isn't set up for machines", "collector",
+            "mv /etc/ssh/sshd_config.d/journal-collect.conf /root/sshd.conf",
             "mv /root/sshd.conf /etc/ssh/sshd_config.d/journal-collect.conf", "collector", "sshd",
             "journal-collect-admin setup"),
     Failure("a machine that never called", "collector", f"cp {SETTINGS}/keys/web.pub {SETTINGS}/keys/mail.pub",
             f"rm {SETTINGS}/keys/mail.pub", "collector", "never", "retire mail"),
-    Failure("a file that is no key", "collector", f"echo nothing > {SETTINGS}/keys/db.pub", f"rm {SETTINGS}/keys/db.pub",
-            "collector", "key", "admit db"),
+    Failure("a file that is no key", "collector", f"echo nothing > {SETTINGS}/keys/db.pub",
+            f"rm {SETTINGS}/keys/db.pub", "collector", "key", "admit db"),
     Failure("entries that no collector takes", "web", "touch /var/lib/journal-collect-send/refused/x",
             "rm /var/lib/journal-collect-send/refused/x", "web", "refused", "verify"),
 ]

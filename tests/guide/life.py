@@ -25,8 +25,8 @@ def arrives(collector: Booted, web: Booted, machine: str = "web") -> None:
     """What is logged on web is found at the collector, under this name of the machine."""
     word = does(web, "head -c 8 /dev/urandom | od -An -tx1 | tr -d ' \\n'").strip()
     does(web, f"logger -t guide {word}")
-    collector.wait_for(lambda: word in does(collector, f"journal-collect-search -M {machine} -t guide -o cat --no-pager || true"),
-                       f"an entry of {machine}")
+    search = f"journal-collect-search -M {machine} -t guide -o cat --no-pager || true"
+    collector.wait_for(lambda: word in does(collector, search), f"an entry of {machine}")
 
 
 @event
@@ -113,8 +113,8 @@ def retired(collector: Booted, web: Booted) -> None:
 def moved_away(collector: Booted, web: Booted) -> None:
     """A finished database is moved to another disk, and nobody misses it."""
     does(collector, "systemctl reload journal-collect; sleep 2")
-    name = does(collector, "cd /var/lib/journal-collect/databases; ls *.sha256 | head -n 1").strip().removesuffix(".db.sha256")
-    does(collector, f"journal-collect-admin moved {name} && mkdir -p /srv/old && mv /var/lib/journal-collect/databases/{name}.* "
-         "/srv/old")
+    folder = "/var/lib/journal-collect/databases"
+    name = does(collector, f"cd {folder}; ls *.sha256 | head -n 1").strip().removesuffix(".db.sha256")
+    does(collector, f"journal-collect-admin moved {name} && mkdir -p /srv/old && mv {folder}/{name}.* /srv/old")
     does(collector, "systemctl restart journal-collect")
     arrives(collector, web)

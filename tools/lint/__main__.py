@@ -6,8 +6,9 @@ The checks are: `width`, lines of at most 120 characters; `blanks`, no tabs, no 
 in shell; `types` at public functions of Python; `visible`, that an item of a library is `pub` if its `lib.rt` hands it
 on, and only then; `printed`, that docs/CONTRACTS.md is as tools/contracts.py prints it; `shell`, what shellcheck says;
 `python`, what pyflakes says; `strict`, what mypy says of deploy/journalcollect and some tests; `layout`, what `rattle
-fmt` says, without which no crate is proved. What they pass over is in tools/lint/exceptions.txt of the folder. A line is printed for each mistake, and one that begins with `skipped:` for
-a program that isn't installed. The last line says how many texts were read and what was found.
+fmt` says, without which no crate is proved. What they pass over is in tools/lint/exceptions.txt of the folder. A line
+is printed for each mistake, and one that begins with `skipped:` for a program that isn't installed. The last line says
+how many texts were read and what was found.
 """
 
 from __future__ import annotations

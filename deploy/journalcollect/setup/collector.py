@@ -104,7 +104,8 @@ def check_sshd(etc: Path) -> None:
 
 def fingerprints() -> list[str]:
     """The host keys of this computer, as who joins is shown them."""
-    return [output("ssh-keygen", "-l", "-f", path).strip() for path in sorted(Path("/etc/ssh").glob("ssh_host_*_key.pub"))]
+    paths = sorted(Path("/etc/ssh").glob("ssh_host_*_key.pub"))
+    return [output("ssh-keygen", "-l", "-f", path).strip() for path in paths]
 
 
 if __name__ == "__main__":

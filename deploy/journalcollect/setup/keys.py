@@ -1,4 +1,4 @@
-"""The keys by which machines log in. Each is a file of root's, keys/NAME.pub; sshd reads one file that is made of them."""
+"""The keys by which machines log in. Each is a file of root's, keys/NAME.pub; sshd reads one file made of them."""
 import re
 from pathlib import Path
 

@@ -78,7 +78,8 @@ def look_at_service(found: Collector, folder: Path, findings: Findings) -> None:
         findings.failed("service", "collector", f"{SERVICE} doesn't run",
                         f"systemctl enable --now {SERVICE}; journalctl -u {SERVICE} says why it ended")
     elif unit and unit.enabled != "enabled":
-        findings.look("service", "collector", f"{SERVICE} isn't started with the computer", f"systemctl enable {SERVICE}")
+        findings.look("service", "collector", f"{SERVICE} isn't started with the computer",
+                      f"systemctl enable {SERVICE}")
     if unit and not SSHD.exists():
         findings.failed("sshd", "collector", f"sshd doesn't take machines' keys: there is no {SSHD}",
                         "journal-collect-admin setup")
@@ -86,7 +87,8 @@ def look_at_service(found: Collector, folder: Path, findings: Findings) -> None:
         if (sshd := looking.unit(name)) and sshd.runs:
             return
     if unit:
-        findings.failed("sshd", "collector", "sshd doesn't run, so no machine can send", "systemctl enable --now ssh.service")
+        findings.failed("sshd", "collector", "sshd doesn't run, so no machine can send",
+                        "systemctl enable --now ssh.service")
 
 
 def look_at_machines(found: Collector, folder: Path, there: Path, now: float, findings: Findings) -> None:
@@ -152,7 +154,8 @@ def look_at_databases(found: Collector, folder: Path, shown: float, now: float, 
     found.waiting_for_files = len(waiting)
     if waiting and now - min(waiting) > BEHIND_SECONDS:
         findings.look("behind", "collector", f"{len(waiting)} databases wait for their journal files, the oldest for "
-                      f"{words.span(now - min(waiting))}", f"journalctl -u {SERVICE} says why; apt install systemd-journal-remote if it isn't there")
+                      f"{words.span(now - min(waiting))}",
+                      f"journalctl -u {SERVICE} says why; is systemd-journal-remote installed?")
 
 
 def look_at_what_is_in_databases_alone(folder: Path, findings: Findings) -> None:
@@ -178,8 +181,9 @@ def look_at_disk(found: Collector, folder: Path, chosen: collector_settings.Sett
     room = found.free_bytes - chosen.free_bytes
     remedy = "make room, or lower KEEP_DAYS or KEEP_BYTES in collector.conf.d and restart the service"
     if room <= 0 or free_files <= collector_settings.FREE_FILES:
-        findings.failed("disk", "collector", f"{words.size(found.free_bytes)} and {free_files} files are free, and below "
-                        f"{words.size(chosen.free_bytes)} and {collector_settings.FREE_FILES} nothing is stored", remedy)
+        least = f"{words.size(chosen.free_bytes)} and {collector_settings.FREE_FILES} files"
+        findings.failed("disk", "collector", f"{words.size(found.free_bytes)} and {free_files} files are free, and "
+                        f"with less than {least} nothing is stored", remedy)
     elif found.bytes_a_day and found.bytes_a_day * chosen.keep_days - found.bytes > room:
         found.days_left = room / found.bytes_a_day
         if found.days_left < LEAST_DAYS:

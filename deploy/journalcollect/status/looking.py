@@ -42,7 +42,7 @@ def is_readable(rows: sqlite3.Connection) -> bool:
 
 @contextmanager
 def table(path: Path) -> Iterator[sqlite3.Connection]:
-    """A file of SQLite, which stays as it is. Nobody may write its log while nobody has it open: a copy is read then."""
+    """A file of SQLite, which stays as it is. If nobody has it open, its log can't be read beside it: a copy is read."""
     with closing(sqlite3.connect(f"file:{path}?mode=ro", uri=True, timeout=SECONDS)) as rows:
         if is_readable(rows):
             yield rows
@@ -55,7 +55,7 @@ def table(path: Path) -> Iterator[sqlite3.Connection]:
 
 
 def rows(path: Path, query: str) -> list[dict[str, Any]]:
-    """What a question finds, each row by its columns' names; nothing of a file that isn't there, or has no such table."""
+    """What a question finds, each row by its columns' names; nothing of a file that isn't there or has no such one."""
     if not path.exists():
         return []
     try:

@@ -20,10 +20,12 @@ REMEDIES = (
      "{host} --host-keys FILE"),
     (r"permission denied", "on {host}: journal-collect-admin admit NAME, with what /etc/journal-collect/key.pub has"),
     (r"connection refused", "sshd doesn't run on {host}, or listens at another port"),
-    (r"could not resolve|name or service not known|temporary failure in name", "{host} has no address: look at the DNS"),
+    (r"could not resolve|name or service not known|temporary failure in name",
+     "{host} has no address: look at the DNS"),
     (r"timed out|no route|unreachable", "{host} isn't reached: look at the network and its firewall"),
     (r"room|free", "on {host}: make room; journal-collect-status says how much"),
-    (r"no such file|connection closed|ended|broken pipe|reset", "on {host}: journal-collect-status; its service may not run"),
+    (r"no such file|connection closed|ended|broken pipe|reset",
+     "on {host}: journal-collect-status; its service may not run"),
 )
 
 
@@ -78,7 +80,8 @@ def look_at_service(found: Machine, findings: Findings) -> None:
             findings.failed("service", "machine", f"{SERVICE} doesn't run",
                             f"systemctl enable --now {SERVICE}; journalctl -u {SERVICE} says why it ended")
         elif unit.enabled != "enabled":
-            findings.look("service", "machine", f"{SERVICE} isn't started with the computer", f"systemctl enable {SERVICE}")
+            findings.look("service", "machine", f"{SERVICE} isn't started with the computer",
+                          f"systemctl enable {SERVICE}")
 
 
 def look_at_folder(found: Machine, folder: Path, now: float, findings: Findings) -> None:
@@ -109,16 +112,17 @@ def judge(found: Machine, now: float, findings: Findings) -> None:
     if found.trouble:
         findings.failed("trouble", "machine", f"nothing goes out: {found.trouble}", remedy(found.trouble, host))
     elif not found.acknowledged:
-        findings.look("never", "machine", "nothing was acknowledged yet", "wait a minute; then journalctl -u " + SERVICE)
+        findings.look("never", "machine", "nothing was acknowledged yet",
+                      f"wait a minute; then journalctl -u {SERVICE}")
     elif found.waiting and now - max(found.acknowledged, found.waiting_since) > STALE_SECONDS:
         findings.look("waits", "machine", f"{found.waiting} uploads wait since {words.day(found.waiting_since)}",
                       f"on {host}: journal-collect-status; here: journalctl -u {SERVICE}")
     if found.waiting_bytes >= found.folder_bytes > 0:
-        findings.look("full", "machine", f"{words.size(found.waiting_bytes)} wait, so nothing more is gathered until they "
-                      "went out; journald keeps what it can", "mend what holds them up, or raise FOLDER_BYTES")
+        findings.look("full", "machine", f"{words.size(found.waiting_bytes)} wait, so nothing more is gathered until "
+                      "they went out; journald keeps what it can", "mend what holds them up, or raise FOLDER_BYTES")
     if found.refused:
-        findings.look("refused", "machine", f"{found.refused} files in {found.folder}/refused: entries that no collector "
-                      "takes", "journal-collect verify export FILE says why; remove them once you saw them")
+        findings.look("refused", "machine", f"{found.refused} files in {found.folder}/refused: entries that no "
+                      "collector takes", "journal-collect verify export FILE says why; remove them once you saw them")
     if abs(found.skew) > SKEW_SECONDS:
         side = "behind" if found.skew > 0 else "ahead of"
         findings.look("clock", "machine", f"this clock is {words.span(abs(found.skew))} {side} the collector's",

@@ -14,8 +14,8 @@ from journalcollect.status.findings import Findings, Status
 VERSION = 1
 DESCRIPTION = """\
 Says how the collecting of journals stands on this computer, and what to do: on a collector which machines call, what is
-stored, how long the disk has room; on a machine what was acknowledged, and what waits. It finds out which of both it is.
-It only reads, also while services run. Run it as root."""
+stored, how long the disk has room; on a machine what was acknowledged, and what waits. It finds out which of both it
+is. It only reads, also while services run. Run it as root."""
 ENDING = "Status: 0 all is well; 1 something to look at; 2 the settings or the call are wrong; 3 something failed."
 
 

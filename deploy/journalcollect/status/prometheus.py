@@ -35,8 +35,7 @@ def text(collector: Collector | None, machine: Machine | None, findings: Finding
     samples += of_machine(machine) if machine else []
     lines = []
     for name, words in HELP.items():
-        found = [f"{PREFIX}{name}{labels(marks)} {value:g}" if value < 1e6 else f"{PREFIX}{name}{labels(marks)} {value:.0f}"
-                 for sample, marks, value in samples if sample == name]
+        found = [f"{PREFIX}{name}{labels(marks)} {plain(value)}" for sample, marks, value in samples if sample == name]
         if found:
             kind = "counter" if name.endswith("_total") else "gauge"
             lines += [f"# HELP {PREFIX}{name} {words}", f"# TYPE {PREFIX}{name} {kind}", *found]
@@ -71,6 +70,10 @@ def of_machine(machine: Machine) -> Iterator[Sample]:
     yield "outbox_uploads", {}, machine.waiting
     yield "outbox_bytes", {}, machine.waiting_bytes
     yield "refused_files", {}, machine.refused
+
+
+def plain(value: float) -> str:
+    return f"{value:g}" if abs(value) < 1e6 else f"{value:.0f}"
 
 
 def labels(marks: dict[str, str]) -> str:
