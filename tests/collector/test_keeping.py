@@ -40,9 +40,8 @@ def test_databases_and_notes_go_after_their_days(collector: Collector) -> None:
     collector.rows("UPDATE noted SET age = age + 20 WHERE sequence = ?", B)
     grow_older(collector, 30.5)
     collector.start()
-    wait_for(lambda: not first.exists())
-    assert not first.with_name(first.name + ".sha256").exists() and second.exists()
-    assert f"deleted: {first.stem}, 30.5 days after" in collector.said()
+    wait_for(lambda: f"deleted: {first.stem}, 30.5 days after" in collector.said())
+    assert not first.exists() and not first.with_name(first.name + ".sha256").exists() and second.exists()
     assert collector.send("web", upload(entries(B, [9]), 1)) == f"ack {ID} 0 1 1 0"
     assert collector.stop() == 0
     assert not (collector.folder / "sequences" / A).exists()
@@ -74,7 +73,7 @@ def test_the_oldest_go_if_all_have_too_many_bytes(collector: Collector) -> None:
     names = [path.name for path in collector.databases()]
     collector.values["KEEP_BYTES"] = str(size)
     collector.start()
-    wait_for(lambda: len(collector.databases()) == 2)
+    wait_for(lambda: "over KEEP_BYTES" in collector.said())
     assert [path.name for path in collector.databases()] == names[1:]
     assert collector.stop() == 0
 

@@ -60,6 +60,8 @@ class Keeping(threading.Thread):
         for name, since in self.state.ask("SELECT name, age FROM database WHERE standing = 'finished' AND age < ? "
                                           "ORDER BY id", age - self.settings.keep_days):
             self.delete(name, f"{age - since:.1f} days after it was finished")
+        if not self.settings.keep_bytes:
+            return
         total, = self.state.ask("SELECT sum(coalesce(packed, bytes)) FROM database WHERE standing = 'finished'")[0]
         if total and total > self.settings.keep_bytes:
             for name, size in self.state.ask("SELECT name, coalesce(packed, bytes) FROM database WHERE "
@@ -111,8 +113,8 @@ class Keeping(threading.Thread):
 
     def check_databases(self, last: float) -> None:
         """Looks at each database that wasn't looked at since an age."""
-        for name, in self.state.ask("SELECT name FROM database WHERE standing = 'finished' "
-                                    "AND coalesce(checked, age) < ? ORDER BY checked", last):
+        for name, in self.state.ask("SELECT name FROM database WHERE standing = 'finished' AND checked < ? "
+                                    "ORDER BY checked", last):
             begun = time.monotonic()
             self.check(name)
             if self.store.stops.wait(REST * (time.monotonic() - begun)):

@@ -2,8 +2,7 @@
 import fcntl
 import os
 import shutil
-import sys
-from dataclasses import dataclass, replace
+from dataclasses import dataclass
 from pathlib import Path
 
 from ..common import files, settings
@@ -45,7 +44,7 @@ def read() -> Settings:
         raise settings.Wrong(f"FOLDER doesn't begin with a slash: {chosen.folder}")
     if not chosen.database_seconds or not chosen.database_bytes:
         raise settings.Wrong("DATABASE_SECONDS and DATABASE_BYTES are at least 1")
-    return replace(chosen, keep_bytes=chosen.keep_bytes or sys.maxsize)
+    return chosen
 
 
 class Folder:

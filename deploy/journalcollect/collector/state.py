@@ -21,7 +21,9 @@ SCHEMA = """
 CREATE TABLE IF NOT EXISTS database(id INTEGER PRIMARY KEY, name TEXT NOT NULL UNIQUE, standing TEXT NOT NULL,
     finished REAL, age REAL, first INTEGER, last INTEGER, entries INTEGER, bytes INTEGER, digest TEXT, packed INTEGER,
     checked REAL);
-CREATE INDEX IF NOT EXISTS standing ON database(standing, age);
+CREATE INDEX IF NOT EXISTS old ON database(standing, age);
+CREATE INDEX IF NOT EXISTS unchecked ON database(standing, checked);
+CREATE INDEX IF NOT EXISTS unpacked ON database(standing, age) WHERE packed IS NULL;
 CREATE TABLE IF NOT EXISTS machine(name TEXT PRIMARY KEY, seen REAL, stored REAL, entries INTEGER, refused INTEGER,
     skew REAL, day TEXT, bytes INTEGER, windows INTEGER) WITHOUT ROWID;
 CREATE TABLE IF NOT EXISTS sequence(id TEXT, machine TEXT, PRIMARY KEY(id, machine)) WITHOUT ROWID;
@@ -212,9 +214,9 @@ class State:
         age = self.age.grown().days
         with self.together():
             self.ask("DELETE FROM database WHERE name = ?", name)
-            self.ask("INSERT INTO database(name, standing, finished, age, first, last, entries, bytes, digest, packed) "
-                     "VALUES(?, 'finished', ?, ?, ?, ?, ?, ?, ?, ?)", name, time.time(), age, had.first, had.last,
-                     had.entries, had.bytes, had.digest, packed)
+            self.ask("INSERT INTO database(name, standing, finished, age, checked, first, last, entries, bytes, "
+                     "digest, packed) VALUES(?1, 'finished', ?2, ?3, ?3, ?4, ?5, ?6, ?7, ?8, ?9)", name, time.time(),
+                     age, had.first, had.last, had.entries, had.bytes, had.digest, packed)
             number, = self.ask("SELECT id FROM database WHERE name = ?", name)[0]
             for each in windows:
                 self.ask("INSERT INTO noted VALUES(?1, ?2, ?3, ?4, ?5, ?6, ?6) ON CONFLICT DO UPDATE SET notes = ?3, "
