@@ -42,7 +42,7 @@ def is_readable(rows: sqlite3.Connection) -> bool:
 
 @contextmanager
 def table(path: Path) -> Iterator[sqlite3.Connection]:
-    """A file of SQLite, which stays as it is. If nobody has it open, its log can't be read beside it: a copy is read."""
+    """A file of SQLite, which stays as it is. If nobody has it open, its log can't be read there: a copy is read."""
     with closing(sqlite3.connect(f"file:{path}?mode=ro", uri=True, timeout=SECONDS)) as rows:
         if is_readable(rows):
             yield rows
