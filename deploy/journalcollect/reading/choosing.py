@@ -5,7 +5,6 @@ Files are opened as they are chosen, so that none is missing when a database get
 import os
 import resource
 from collections.abc import Iterable
-from contextlib import suppress
 from pathlib import Path
 from typing import NamedTuple
 
@@ -81,6 +80,5 @@ def about(at: Places) -> About:
     """What all files have together: machines and their boots."""
     joined, told = About(), at.made()
     for path in {*told.values(), *(path for path in at.present.glob("*.json") if path.stem not in told)}:
-        with suppress(FileNotFoundError):
-            joined.join(places.about(path))
+        joined.join(places.about(path))
     return joined

@@ -104,8 +104,7 @@ def entries(window: Window, call: Call, *fields: str, end: float = math.inf) -> 
 
 
 def side_by_side(found: list[Window], call: Call) -> int:
-    """Says what each window has, one behind the other, read on all processors. The status is journalctl's: 1 if a word
-    isn't found."""
+    """Says what each window has in turn, read on all processors; the status is 1 if a word isn't found."""
     if os.isatty(1):
         os.environ.setdefault("SYSTEMD_COLORS", "1")
 

@@ -15,7 +15,6 @@ import sys
 import time
 from collections.abc import Iterable, Iterator
 from contextlib import closing
-from itertools import chain, count
 from pathlib import Path
 from typing import NamedTuple
 
@@ -98,9 +97,9 @@ class Maker:
                 return told(f"FREE_BYTES is {self.chosen.free_bytes}, and fewer are free: none are made")
             try:
                 self.make(name)
-            except (OSError, program.Failed, databases.Damaged, remote.Failed, Malformed) as error:
+            except (OSError, program.Failed, databases.Damaged, remote.Failed, Malformed, ValueError) as error:
                 status = told(f"none are made of {name}: {error}")
-        for day in sorted(map(self.day_of, self.places.of_today()), reverse=True):
+        for day in sorted(set(map(self.day_of, self.places.of_today())), reverse=True):
             if self.is_over(day):
                 self.make_day(day)
         self.forget()
@@ -133,14 +132,14 @@ class Maker:
         if not os.fstat(handle).st_size:
             return
         with mmap.mmap(handle, 0, access=mmap.ACCESS_READ) as data:
-            found: list[tuple[int, entries.Span]] = []
-            for span in entries.spans(data):
+            found = sorted((int(data[span.begin + len("__REALTIME_TIMESTAMP="):data.find(b"\n", span.begin)]), span)
+                           for span in entries.spans(data))
+            for realtime, span in found:
                 try:
-                    found.append((entries.entry(data, span).realtime, span))
+                    entry = entries.entry(data, span)
                 except Untaken as reason:
                     about.leave_out(str(reason))
-            for realtime, span in sorted(found):
-                entry = entries.entry(data, span)
+                    continue
                 machine = self.owners.get(entry.sequence, "")
                 yield Said(realtime, machine.encode(), entry.boot.encode(), entry.text(machine, self.chosen.read_keys))
 
@@ -159,8 +158,6 @@ class Maker:
         """One sequence of files of a day's databases takes the place of theirs. A day that was made before, as with a
         database that was recovered late, has a further folder."""
         names = sorted(name for name in self.places.of_today() if self.day_of(name) == day)
-        if not names:
-            return
         making, about = self.places.making / day, About(names)
         making.mkdir()
         spools = [spooled(self.places.today / f"{name}.gz") for name in names]
@@ -169,7 +166,7 @@ class Maker:
             for reason, many in places.about(self.places.today / f"{name}.json").untaken.items():
                 about.leave_out(reason, many if reason != UNKNOWN else 0)
         about.write(making / ABOUT)
-        ends = chain([""], (f".{number}" for number in count(2)))
+        ends = ["", *(f".{number}" for number in range(2, 10_000))]
         making.rename(next(path for end in ends if not (path := self.places.journals / (day + end)).exists()))
         self.clean()
 

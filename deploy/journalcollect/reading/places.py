@@ -63,7 +63,8 @@ class About:
 
 
 def about(path: Path) -> About:
-    return About(**json.loads(path.read_bytes()))
+    """What a file says; nothing if it went meanwhile."""
+    return About(**json.loads(path.read_bytes())) if path.exists() else About()
 
 
 class Places:

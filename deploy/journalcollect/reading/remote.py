@@ -45,8 +45,7 @@ def header(file: Path | int) -> Header | None:
 
 def stem(path: Path) -> str:
     """The name that a file and its further parts have in common."""
-    found = PART.fullmatch(path.name)
-    return found[1] if found else path.stem
+    return found[1] if (found := PART.fullmatch(path.name)) else path.stem
 
 
 def parts(folder: Path, name: str) -> list[Path]:

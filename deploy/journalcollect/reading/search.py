@@ -41,8 +41,7 @@ journalctl has -S --since, -U --until, -u --unit, -p --priority, -g --grep, -t -
 The files are in /var/lib/journal-collect/journals: journalctl -D FOLDER/journals/DAY works, too.
 `-o export` has the journal files' own cursors: `journal-collect export DATABASE` is the canonical text.
 """
-SHORT = {"machine": "_COLLECTED_FROM", "unit": "_SYSTEMD_UNIT", "boot": "_BOOT_ID", "priority": "PRIORITY",
-         "host": "_HOSTNAME", "identifier": "SYSLOG_IDENTIFIER"}
+SHORT = {"machine": "_COLLECTED_FROM", "unit": "_SYSTEMD_UNIT", "boot": "_BOOT_ID", "priority": "PRIORITY"}
 UNIT_FAILED = "MESSAGE_ID=d9b373ed55a64feb8242e02dbe79a49c"
 OF_FAILED = ["_COLLECTED_FROM", "UNIT", "USER_UNIT", "UNIT_RESULT"]
 # From so many files on it is found out first which of them the newest entries are in.
