@@ -285,5 +285,3 @@ def look(forwarding: Forwarding) -> str:
     wait_until((forwarding.collector.path / "forward" / "problem").exists, 60)
     process.terminate()
     return process.communicate()[1]
-
-

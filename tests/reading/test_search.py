@@ -10,7 +10,7 @@ from typing import Any
 
 import machines
 import pytest
-from collecting import BEGIN, SEARCH, Collector, Entry, Present, digits
+from collecting import BEGIN, SEARCH, Collector, Entry, digits
 
 DAY = 86_400
 AT = BEGIN // 1_000_000

@@ -19,7 +19,7 @@ from ..common.settings import Wrong as WrongSettings
 from . import choosing, journalctl, words
 from .choosing import FOREVER, Standing
 from .journalctl import Window
-from .places import About, Places
+from .places import Places
 from .words import FOLLOWS, Call, Wrong
 
 HELP = """\
@@ -113,7 +113,7 @@ class Search:
         return journalctl.windows(self.standing(), self.since, self.until, 4 * (os.cpu_count() or 1))
 
     def run(self) -> int:
-        for name, do in (("list-machines", self.list_machines), ("list-boots", self.list_boots), 
+        for name, do in (("list-machines", self.list_machines), ("list-boots", self.list_boots),
                          ("failed", self.failed), ("count-by", self.count), ("histogram", self.count),
                          ("follow", self.follow)):
             if self.asked.has(name):
