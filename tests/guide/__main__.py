@@ -85,7 +85,7 @@ def main() -> int:
         return 0
     program = Path(os.environ["PROGRAM"]).resolve()
     folder = Path(tempfile.mkdtemp(prefix="guide-"))
-    wrong = 0
+    wrong, events = 0, [] if "--failures" in sys.argv else EVENTS
     with Network(), Booted(folder, "collector", program) as collector, Booted(folder, "web", program) as web:
         prepare(collector, web)
         computers = {"collector": collector, "web": web}
@@ -94,7 +94,7 @@ def main() -> int:
         except (Wrong, TimeoutError) as error:
             print(f"WRONG: {error}\n{collector.shell(LOGS).stdout.decode()}{web.shell(LOGS).stdout.decode()}")
             return 1
-        for event in [] if "--failures" in sys.argv else EVENTS:
+        for event in events:
             print(f"event: {event.__doc__}", flush=True)
             try:
                 event(collector, web)
@@ -114,7 +114,7 @@ def main() -> int:
             except (AssertionError, TimeoutError) as error:
                 wrong += 1
                 print(f"WRONG: {failure.name}: {error}")
-    print(f"{len(EVENTS) + len(FAILURES) + 1 - wrong} passed, {wrong} failed")
+    print(f"{len(events) + len(FAILURES) + 1 - wrong} passed, {wrong} failed")
     return 1 if wrong else 0
 
 
