@@ -38,12 +38,13 @@ mkdir -p "$gate/tests/refused" "$gate/crates/jc_cli/out" "$folder/slow"
 cp tests/run.sh "$gate/tests/"
 echo 'print(1)' > "$gate/tests/refused/parallel.py"
 echo 'print("2 passed, 0 failed")' > "$gate/tests/refused/__main__.py"
+echo 'echo 4 passed, 0 failed' > "$gate/tests/python.sh"
 printf '#!/bin/sh\necho begun\nsleep 2\necho goes on\nsleep 2\necho 3 passed, 0 failed\n' > "$folder/slow/rt"
 for program in "$gate/tests/test-nothing.sh" "$gate/crates/jc_cli/out/jc_cli"; do
     echo '#!/bin/sh' > "$program"
 done
 chmod 755 "$folder/slow/rt" "$gate/tests/test-nothing.sh" "$gate/crates/jc_cli/out/jc_cli"
-expect 0 "~*6 passed, 0 failed" "" env PATH="$folder/slow:$PATH" "$gate/tests/run.sh"
+expect 0 "~*10 passed, 0 failed" "" env PATH="$folder/slow:$PATH" "$gate/tests/run.sh"
 
 # which libraries are built at one time, with how many processors and at what priority: `a` is what the longest chain
 # waits for, `lone` is not; `large` takes the memory of two jobs; what stands on one that isn't built is left out

@@ -2,6 +2,7 @@
 are what they are on real computers: operations on that image. It takes root and loop devices."""
 from __future__ import annotations
 
+import contextlib
 import filecmp
 import os
 import shutil
@@ -127,12 +128,9 @@ class Disk:
     def fill(self, left: int) -> None:
         """Another program takes all room of the disk but some bytes."""
         piece = b"x" * (1 << 20)
-        with (self.at / "filled").open("ab", buffering=0) as file:
-            try:
-                while (room := self.room() - left) > 0:
-                    file.write(piece[:room])
-            except OSError:
-                pass                    # somebody else took the last of it
+        with contextlib.suppress(OSError), (self.at / "filled").open("ab", buffering=0) as file:
+            while (room := self.room() - left) > 0:     # somebody else may take the last of it, or the last name
+                file.write(piece[:room])
 
     def room(self) -> int:
         told = os.statvfs(self.at)
