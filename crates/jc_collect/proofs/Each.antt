@@ -18,8 +18,8 @@ use Rattle.jc_upload.specs.declared.answer.Answer.TheVariants.{Ack, No}
 use Rattle.jc_collect.specs.Answer.{IsTaken}
 use Rattle.jc_collect.specs.Chain.{is_acknowledged}
 use Rattle.jc_collect.specs.Crash.{TakesUpload}
-use Rattle.jc_collect.specs.Each.{CollectsEach, StoresEach, KeepsEach, Held, HoldsEach, RanEach, StoppedEach}
-use Rattle.jc_collect.specs.EachLaws.{holds_none, holds_then}
+use Rattle.jc_collect.specs.Each.{CollectsEach, Held, HoldsCollected, KeepsCollected, RanEach, StoppedEach}
+use Rattle.jc_collect.specs.EachLaws.{collected_none, collected_then}
 use Rattle.jc_collect.specs.Position.{Collects, Joins, LeavesUnknown}
 use Rattle.jc_collect.specs.Run.{lines_of_answers}
 use Rattle.jc_collect.proofs.Lists.{some_same, none_not_some, length_more, take_more}
@@ -54,58 +54,69 @@ unknown_of once limits (Some upload) before (Ack source start count new left) af
           },
         )
 
-pub holds_one : SaysOnce → (limits : Limits) (known : Option (List ℕ)) (before now : Held) (answer : Answer)
+pub collected_one : (limits : Limits) (known : Option (List ℕ)) (before now : Held) (answer : Answer)
     → (now.Sound → Collects limits known before.journal answer now.journal)
     → AddsOnly before.may_leave now.may_leave (λ found. before.Sound × TakesUpload limits known before.journal answer found)
     → (IsTrue (is_acknowledged answer) → now.Sound) → (now.Sound → before.Sound)
     → (now.Sound → (found : Journal) → now.may_leave found → found ≡ now.journal)
-    → HoldsEach before now (answer ∷ [])
-holds_one once limits known before now (Ack source start count new left) position crash acks earlier durable =
+    → HoldsCollected limits (known ∷ []) before now (answer ∷ [])
+collected_one limits known before now (Ack source start count new left) position crash acks earlier durable =
     let sound : now.Sound = acks refl in
-    let stored : StoresEach before.journal (Ack source start count new left ∷ []) now.journal =
-    (now.journal, unknown_of once limits known before.journal (Ack source start count new left) now.journal (position sound), refl) in
+    let collected : CollectsEach limits (known ∷ []) before.journal (Ack source start count new left ∷ []) now.journal =
+    (now.journal, position sound, refl) in
     record {
-      stored = λ _. stored;
-      found = λ found may. inr (earlier sound, record { last = now.journal; stored = stored; is = inl (durable sound found may) });
+      collected = λ _. collected;
+      found = λ found may. inr (
+        earlier sound,
+        record {
+          ahead = known ∷ [];
+          others = [];
+          are = refl;
+          front = Ack source start count new left ∷ [];
+          behind = [];
+          whole = refl;
+          last = now.journal;
+          collected = collected;
+          none = tt;
+          is = inl (durable sound found may);
+        },
+      );
     }
-holds_one once limits known before now (No of code place) position crash acks earlier durable = record {
-  stored = λ sound. (now.journal, unknown_of once limits known before.journal (No of code place) now.journal (position sound), refl);
+collected_one limits known before now (No of code place) position crash acks earlier durable = record {
+  collected = λ sound. (now.journal, position sound, refl);
   found = λ found may. ⊎_elim (λ was. inl (was, tt)) (λ added. inr (added.0, one_more found added.1)) (crash found may);
 }
   where
     one_more : (found : Journal) → TakesUpload limits known before.journal (No of code place) found
-        → KeepsEach before.journal (No of code place ∷ []) found
-    one_more found t =
-        let taken = unknown_of once limits known before.journal (Ack t.source t.start t.count t.new t.left) found t.collects in
-        record {
-          last = before.journal;
-          stored = (before.journal, refl, refl);
-          is = inr (record {
-            front = [];
-            of = of;
-            code = code;
-            place = place;
-            behind = [];
-            whole = refl;
-            may = t.answered;
-            none = tt;
-            reading = taken.0;
-            count = t.count;
-            new = t.new;
-            left = t.left;
-            takes = taken.1;
-          });
-        }
-
-collects_more : (limits : Limits) (knowns : List (Option (List ℕ))) (known : Option (List ℕ)) (start mid after : Journal) (answers : List Answer) (answer : Answer)
-    → CollectsEach limits knowns start answers mid → Collects limits known mid answer after
-    → CollectsEach limits (knowns ++ known ∷ []) start (answers ++ answer ∷ []) after
-collects_more limits [] known start mid after [] answer same one =
-    (after, subst (λ (m : Journal). Collects limits known m answer after) same one, refl)
-collects_more limits [] known start mid after (a ∷ answers) answer so_far one = absurd so_far
-collects_more limits (k ∷ knowns) known start mid after [] answer so_far one = absurd so_far
-collects_more limits (k ∷ knowns) known start mid after (a ∷ answers) answer (next, first, more) one =
-    (next, first, collects_more limits knowns known next mid after answers answer more one)
+        → KeepsCollected limits (known ∷ []) before.journal (No of code place ∷ []) found
+    one_more found t = record {
+      ahead = [];
+      others = known ∷ [];
+      are = refl;
+      front = [];
+      behind = No of code place ∷ [];
+      whole = refl;
+      last = before.journal;
+      collected = refl;
+      none = tt;
+      is = inr (record {
+        upload = known;
+        others = [];
+        are = refl;
+        of = of;
+        code = code;
+        place = place;
+        behind = [];
+        whole = refl;
+        may = t.answered;
+        source = t.source;
+        start = t.start;
+        count = t.count;
+        new = t.new;
+        left = t.left;
+        collects = t.collects;
+      });
+    }
 
 -- ---- a run
 
@@ -117,8 +128,7 @@ get_map f (y ∷ ys) (suc i) x h = get_map f ys i x h
 pub ran_none : (limits : Limits) (now : Held) (written : Option (List ℕ)) → RanEach limits [] 0 now now written written
 ran_none limits now written = record {
   wrote = record { answers = []; number = refl; lawful = λ i d within. absurd (omega (arith, within)); lines = Appends-nil written };
-  collected = λ sound. refl;
-  holds = holds_none now;
+  holds = collected_none limits now;
 }
 
 module _ {D : Type 0} (known_of : D → Option (List ℕ)) (limits : Limits) (first : List D) where
@@ -131,7 +141,7 @@ module _ {D : Type 0} (known_of : D → Option (List ℕ)) (limits : Limits) (fi
       (subst (λ (ks : List (Option (List ℕ))). RanEach limits ks done before now written written_now)
       (take_all done (map known_of first) (omega (arith, all, size))) ran)
 
-  module _ (once : SaysOnce) (done : ℕ) (present : List D) (was : D) (rest : (i : ℕ) → done ≤ i → slice_get present i ≡ slice_get first i)
+  module _ (done : ℕ) (present : List D) (was : D) (rest : (i : ℕ) → done ≤ i → slice_get present i ≡ slice_get first i)
       (at : slice_get present done ≡ Some was) (before mid now : Held) (written mid_written written_now : Option (List ℕ)) (answer : Answer)
       (lawful : IsAnswer answer)
       (way : RanEach limits (take done (map known_of first)) done before mid written mid_written)
@@ -143,17 +153,12 @@ module _ {D : Type 0} (known_of : D → Option (List ℕ)) (limits : Limits) (fi
     said : slice_get (map known_of first) done ≡ Some (known_of was)
     said = get_map known_of first done was (sym (rest done (omega arith)) ∙ at)
 
-    collected_more : now.Sound → CollectsEach limits (take (done + 1) (map known_of first)) before.journal (way.wrote.answers ++ answer ∷ []) now.journal
-    collected_more sound =
-        subst (λ (ks : List (Option (List ℕ))). CollectsEach limits ks before.journal (way.wrote.answers ++ answer ∷ []) now.journal)
-        (sym (take_more (map known_of first) done (known_of was) said))
-        (collects_more limits (take done (map known_of first)) (known_of was) before.journal mid.journal now.journal way.wrote.answers answer
-        (way.collected (later sound)) (position sound))
-
-    holds_more : HoldsEach before now (way.wrote.answers ++ answer ∷ [])
+    holds_more : HoldsCollected limits (take (done + 1) (map known_of first)) before now (way.wrote.answers ++ answer ∷ [])
     holds_more =
-        holds_then before mid now way.wrote.answers (answer ∷ []) way.holds
-        (holds_one once limits (known_of was) mid now answer position crash acks later durable) earlier later
+        subst (λ (ks : List (Option (List ℕ))). HoldsCollected limits ks before now (way.wrote.answers ++ answer ∷ []))
+        (sym (take_more (map known_of first) done (known_of was) said))
+        (collected_then limits (take done (map known_of first)) (known_of was ∷ []) before mid now way.wrote.answers (answer ∷ []) way.holds
+        (collected_one limits (known_of was) mid now answer position crash acks later durable) earlier later)
 
     pub ran_more : Appends mid_written written_now (answer_text answer)
         → RanEach limits (take (done + 1) (map known_of first)) (done + 1) before now written written_now
@@ -165,7 +170,6 @@ module _ {D : Type 0} (known_of : D → Option (List ℕ)) (limits : Limits) (fi
         lines = subst (λ (l : List ℕ). Appends written written_now l) (sym (lines_more way.wrote.answers answer))
             (Appends-trans written mid_written written_now (lines_of_answers way.wrote.answers) (answer_text answer) way.wrote.lines out);
       };
-      collected = collected_more;
       holds = holds_more;
     }
 
@@ -182,6 +186,5 @@ module _ {D : Type 0} (known_of : D → Option (List ℕ)) (limits : Limits) (fi
         lines = Appends-trans written mid_written written_now (lines_of_answers way.wrote.answers) (take bytes (answer_text answer))
             way.wrote.lines out.front;
       };
-      collected = collected_more;
       holds = holds_more;
     }

@@ -1,5 +1,5 @@
 -- What follows of deliveries one after the other.
-use Rattle.std.proofs.Common.{◌≡◌, ℕ, zero, suc, List, [], ◌∷◌, Option, Some, length, map, refl, sym, ap, subst, ◌∙◌, inl, inr, ⊎_elim}
+use Rattle.std.proofs.Common.{◌≡◌, ℕ, zero, suc, List, [], ◌∷◌, ◌++◌, Option, Some, length, map, refl, sym, ap, subst, ◌∙◌, inl, inr, ⊎_elim}
 use Rattle.std.specs.List.{All, slice_get}
 use Rattle.std.proofs.lemmas.List.Elements.{All-contains_itself}
 use Rattle.jc_base.specs.declared.id.Id128.{Id128}
@@ -10,7 +10,7 @@ use Rattle.jc_base.specs.Reading.{Reading}
 use Rattle.jc_keeper.specs.Agree.{IsStored}
 use Rattle.jc_upload.specs.declared.answer.Answer.{Answer}
 use Rattle.jc_upload.specs.declared.answer.Answer.TheVariants.{Ack, No}
-use Rattle.jc_collect.specs.Each.{CollectsEach, HasAcknowledged, IsKnownChain, KeepsEach, StoresEach, TakesOneMore}
+use Rattle.jc_collect.specs.Each.{CollectsEach, CollectsOneMore, HasAcknowledged, IsKnownChain, KeepsCollected, KeepsEach, NoneAcknowledged, StoresEach, TakesOneMore}
 use Rattle.jc_collect.specs.Position.{LeavesUnknown}
 use Rattle.jc_collect.proofs.Each.{unknown_of}
 use Rattle.jc_collect.proofs.Lists.{none_not_some, some_same}
@@ -38,6 +38,41 @@ stores_of once limits [] start last (answer ∷ answers) none = absurd none
 stores_of once limits (k ∷ known) start last [] none = absurd none
 stores_of once limits (k ∷ known) start last (answer ∷ answers) (after, position, more) =
     (after, unknown_of once limits k start answer after position, stores_of once limits known after last answers more)
+
+stores_behind : (start last : Journal) (answers others : List Answer) → StoresEach start answers last → NoneAcknowledged others
+    → StoresEach start (answers ++ others) last
+stores_behind start last [] [] same none = same
+stores_behind start last [] (Ack source from count new left ∷ others) same none = absurd none
+stores_behind start last [] (No of code place ∷ others) same none = (start, refl, stores_behind start last [] others same none)
+stores_behind start last (answer ∷ answers) others (after, leaves, more) none = (after, leaves, stores_behind after last answers others more none)
+
+pub keeps_of : SaysOnce → (limits : Limits) (known : List (Option (List ℕ))) (start found : Journal) (answers : List Answer)
+    → KeepsCollected limits known start answers found → KeepsEach start answers found
+keeps_of once limits known start found answers keeps = record {
+  last = keeps.last;
+  stored = subst (λ (l : List Answer). StoresEach start l keeps.last) (sym keeps.whole)
+      (stores_behind start keeps.last keeps.front keeps.behind (stores_of once limits keeps.ahead start keeps.last keeps.front keeps.collected) keeps.none);
+  is = ⊎_elim (λ same. inl same) (λ (t : CollectsOneMore limits keeps.others keeps.behind keeps.last found). inr (one_more t)) keeps.is;
+}
+  where
+    one_more : CollectsOneMore limits keeps.others keeps.behind keeps.last found → TakesOneMore answers keeps.last found
+    one_more t =
+        let taken = unknown_of once limits t.upload keeps.last (Ack t.source t.start t.count t.new t.left) found t.collects in
+        record {
+          front = keeps.front;
+          of = t.of;
+          code = t.code;
+          place = t.place;
+          behind = t.behind;
+          whole = keeps.whole ∙ ap (λ (l : List Answer). keeps.front ++ l) t.whole;
+          may = t.may;
+          none = subst (λ (l : List Answer). NoneAcknowledged l) t.whole keeps.none;
+          reading = taken.0;
+          count = t.count;
+          new = t.new;
+          left = t.left;
+          takes = taken.1;
+        }
 
 kept_one : (start : Journal) (answer : Answer) (after : Journal) → LeavesUnknown start answer after → (e : LogEntry) → IsStored start e → IsStored after e
 kept_one start (Ack source from count new left) after h e s = (h.1.has e).1 (inl s)

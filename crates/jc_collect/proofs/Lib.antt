@@ -22,3 +22,4 @@ pub mod Inspecting
 pub mod Losing
 pub mod Each
 pub mod EachKnown
+pub mod Widening

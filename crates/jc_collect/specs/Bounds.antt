@@ -3,6 +3,7 @@ use Rattle.std.specs.Prelude.{ℕ, ◌≡◌, ◌+◌, ◌≤◌, List, [], ◌�
 use Rattle.std.specs.List.{sum_by}
 use Rattle.jc_base.specs.LogEntry.{LogEntry}
 use Rattle.jc_base.specs.Pair.{weight}
+use Rattle.jc_collect.specs.Touched.{window_count}
 use Rattle.jc_collect.specs.declared.bounds.Bounds.{Bounds}
 
 -- the fields of some entries
@@ -13,11 +14,16 @@ field_count entries = sum_by (λ e. length e.body.pairs) entries
 abbrev pub value_bytes : List LogEntry → ℕ
 value_bytes entries = sum_by (λ e. sum_by weight e.body.pairs) entries
 
--- The entries keep the bounds.
-pub record AreWithin (bounds : Bounds) (entries : List LogEntry) : Type 0 where
+-- The entries keep the bounds but that on windows.
+pub record AreFew (bounds : Bounds) (entries : List LogEntry) : Type 0 where
   pub number : length entries ≤ bounds.entries
   pub fields : field_count entries ≤ bounds.fields
   pub bytes : value_bytes entries ≤ bounds.bytes
+
+-- ... and that on windows.
+pub record AreWithin (bounds : Bounds) (entries : List LogEntry) : Type 0 where
+  pub few : AreFew bounds entries
+  pub windows : window_count entries ≤ bounds.windows
 
 -- The entry at this place, from 0, is the first one with which the entries pass a bound.
 pub record PassesAt (bounds : Bounds) (entries : List LogEntry) (place : ℕ) : Type 0 where
@@ -29,7 +35,7 @@ pub record PassesAt (bounds : Bounds) (entries : List LogEntry) (place : ℕ) : 
   pub within : AreWithin bounds before
   pub passes : ¬ AreWithin bounds (before ++ entry ∷ [])
 
--- These bounds are left behind some entries.
+-- These bounds are left behind some entries, but for that on windows.
 pub record IsLeft (bounds : Bounds) (given : List LogEntry) (left : Bounds) : Type 0 where
   pub number : left.entries + length given ≡ bounds.entries
   pub fields : left.fields + field_count given ≡ bounds.fields

@@ -61,6 +61,39 @@ pub record KeepsEach (start : Journal) (answers : List Answer) (found : Journal)
   pub stored : StoresEach start answers last
   pub is : (found ≡ last) ⊎ TakesOneMore answers last found
 
+-- ... and what it reads as is known, if its bytes are: it is the first of these uploads, and was given the first of these
+-- answers.
+pub record CollectsOneMore (limits : Limits) (known : List (Option (List ℕ))) (answers : List Answer) (last found : Journal) : Type 0 where
+  pub upload : Option (List ℕ)
+  pub others : List (Option (List ℕ))
+  pub are : known ≡ upload ∷ others
+  pub of : Option (Id128 × ℕ)
+  pub code : ℕ
+  pub place : ℕ
+  pub behind : List Answer
+  pub whole : answers ≡ No of code place ∷ behind
+  pub may : MayBeKept (No of code place)
+  pub source : Id128
+  pub start : ℕ
+  pub count : ℕ
+  pub new : ℕ
+  pub left : ℕ
+  pub collects : Collects limits upload last (Ack source start count new left) found
+
+-- A journal is what the first of these uploads made of the first journal; or it has all of the next one, too. No answer
+-- behind theirs acknowledges.
+pub record KeepsCollected (limits : Limits) (known : List (Option (List ℕ))) (start : Journal) (answers : List Answer) (found : Journal) : Type 0 where
+  pub ahead : List (Option (List ℕ))
+  pub others : List (Option (List ℕ))
+  pub are : known ≡ ahead ++ others
+  pub front : List Answer
+  pub behind : List Answer
+  pub whole : answers ≡ front ++ behind
+  pub last : Journal
+  pub collected : CollectsEach limits ahead start front last
+  pub none : NoneAcknowledged behind
+  pub is : (found ≡ last) ⊎ CollectsOneMore limits others behind last found
+
 -- ---- over a keeper
 
 -- What contracts see of a keeper: what it has stored, whether its device is sound, and what a crash may leave.
@@ -72,13 +105,14 @@ pub record Held : Type 1 where
 abbrev pub held : Journal → (Sound : Type 0) → (may_leave : Journal → Type 0) → Held
 held journal Sound may_leave = record { journal = journal; Sound = Sound; may_leave = may_leave }
 
--- These were answered between two moments of a keeper. While its device is sound, it has stored what they made of the first
--- journal. What a crash leaves now was possible before, and none of them acknowledges; or the device was sound before, and
--- the crash leaves what they made of the first journal, or that with one more reading.
-pub record HoldsEach (before now : Held) (answers : List Answer) : Type 0 where
-  pub stored : now.Sound → StoresEach before.journal answers now.journal
+-- Uploads were answered so between two moments of a keeper, of each of which the bytes are known or not. While its device is
+-- sound, it has stored what they made of the first journal. What a crash leaves now was possible before, and none of the
+-- answers acknowledges; or the device was sound before, and the crash leaves what the first of them made of the first journal,
+-- or that with one more.
+pub record HoldsCollected (limits : Limits) (known : List (Option (List ℕ))) (before now : Held) (answers : List Answer) : Type 0 where
+  pub collected : now.Sound → CollectsEach limits known before.journal answers now.journal
   pub found : (left : Journal) → now.may_leave left
-      → (before.may_leave left × NoneAcknowledged answers) ⊎ (before.Sound × KeepsEach before.journal answers left)
+      → (before.may_leave left × NoneAcknowledged answers) ⊎ (before.Sound × KeepsCollected limits known before.journal answers left)
 
 -- ---- a run
 
@@ -86,17 +120,14 @@ pub record HoldsEach (before now : Held) (answers : List Answer) : Type 0 where
 pub record RanEach (limits : Limits) (known : List (Option (List ℕ))) (count : ℕ) (before now : Held) (written written_now : Option (List ℕ))
     : Type 0 where
   pub wrote : AreWritten count written written_now
-  pub collected : now.Sound → CollectsEach limits known before.journal wrote.answers now.journal
-  pub holds : HoldsEach before now wrote.answers
+  pub holds : HoldsCollected limits known before now wrote.answers
 
 -- The sink failed in the line of the delivery with this number, from 0, which was already collected.
 pub record StoppedEach (limits : Limits) (known : List (Option (List ℕ))) (before now : Held) (written written_now : Option (List ℕ)) (done bytes : ℕ)
     : Type 0 where
   pub inside : done < length known
   pub wrote : AreWrittenUpTo done bytes written written_now
-  pub collected : now.Sound
-      → CollectsEach limits (take (done + 1) known) before.journal (wrote.answers ++ wrote.last ∷ []) now.journal
-  pub holds : HoldsEach before now (wrote.answers ++ wrote.last ∷ [])
+  pub holds : HoldsCollected limits (take (done + 1) known) before now (wrote.answers ++ wrote.last ∷ [])
 
 -- A run over deliveries, of each of which the bytes are known or not, and how it ended.
 abbrev pub RunsEach : Limits → (known : List (Option (List ℕ))) → (before now : Held) → (written : Option (List ℕ)) → RunEnd

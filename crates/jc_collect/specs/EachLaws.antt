@@ -1,91 +1,93 @@
--- Answers one after the other. (own)
-use Rattle.std.proofs.Common.{List, [], ◌∷◌, ◌++◌, refl, sym, ap, subst, ◌∙◌, inl, inr, ⊎_elim, append_assoc}
+-- Uploads one after the other, of each of which the bytes are known or not. (own)
+use Rattle.std.proofs.Common.{ℕ, List, [], ◌∷◌, ◌++◌, Option, refl, sym, ap, subst, ◌∙◌, inl, inr, ⊎_elim, append_assoc}
+use Rattle.jc_base.specs.declared.limits.Limits.{Limits}
 use Rattle.jc_base.specs.Journal.{Journal}
 use Rattle.jc_upload.specs.declared.answer.Answer.{Answer}
 use Rattle.jc_upload.specs.declared.answer.Answer.TheVariants.{Ack, No}
-use Rattle.jc_collect.specs.Each.{StoresEach, NoneAcknowledged, TakesOneMore, KeepsEach, Held, HoldsEach}
-
--- ---- answers one after the other
-
-pub stores_then : (start mid last : Journal) (one other : List Answer) → StoresEach start one mid → StoresEach mid other last
-    → StoresEach start (one ++ other) last
-stores_then start mid last [] other e s = subst (λ (m : Journal). StoresEach m other last) e s
-stores_then start mid last (answer ∷ one) other (after, leaves, more) s = (after, leaves, stores_then after mid last one other more s)
-
-stores_none : (start : Journal) (answers : List Answer) → NoneAcknowledged answers → StoresEach start answers start
-stores_none start [] none = refl
-stores_none start (Ack source from count new left ∷ answers) none = absurd none
-stores_none start (No of code place ∷ answers) none = (start, refl, stores_none start answers none)
+use Rattle.jc_collect.specs.Each.{CollectsEach, CollectsOneMore, NoneAcknowledged, KeepsCollected, Held, HoldsCollected}
 
 none_both : (one other : List Answer) → NoneAcknowledged one → NoneAcknowledged other → NoneAcknowledged (one ++ other)
 none_both [] other none also = also
 none_both (Ack source from count new left ∷ one) other none also = absurd none
 none_both (No of code place ∷ one) other none also = none_both one other none also
 
-keeps_behind : (start : Journal) (one other : List Answer) (found : Journal) → KeepsEach start one found → NoneAcknowledged other
-    → KeepsEach start (one ++ other) found
-keeps_behind start one other found keeps none = record {
-  last = keeps.last;
-  stored = stores_then start keeps.last keeps.last one other keeps.stored (stores_none keeps.last other none);
-  is = ⊎_elim (λ same. inl same) (λ (t : TakesOneMore one keeps.last found). inr (record {
-    front = t.front;
-    of = t.of;
-    code = t.code;
-    place = t.place;
-    behind = t.behind ++ other;
-    whole = ap (λ (l : List Answer). l ++ other) t.whole ∙ append_assoc t.front (No t.of t.code t.place ∷ t.behind) other;
-    may = t.may;
-    none = none_both t.behind other t.none none;
-    reading = t.reading;
-    count = t.count;
-    new = t.new;
-    left = t.left;
-    takes = t.takes;
-  })) keeps.is;
-}
+pub collects_then : (limits : Limits) (known others : List (Option (List ℕ))) (start mid last : Journal) (one more : List Answer)
+    → CollectsEach limits known start one mid → CollectsEach limits others mid more last
+    → CollectsEach limits (known ++ others) start (one ++ more) last
+collects_then limits [] others start mid last [] more same rest = subst (λ (m : Journal). CollectsEach limits others m more last) same rest
+collects_then limits [] others start mid last (a ∷ one) more none rest = absurd none
+collects_then limits (k ∷ known) others start mid last [] more none rest = absurd none
+collects_then limits (k ∷ known) others start mid last (a ∷ one) more (after, first, so) rest =
+    (after, first, collects_then limits known others after mid last one more so rest)
 
-keeps_before : (start mid : Journal) (one other : List Answer) (found : Journal) → StoresEach start one mid → KeepsEach mid other found
-    → KeepsEach start (one ++ other) found
-keeps_before start mid one other found stored keeps = record {
-  last = keeps.last;
-  stored = stores_then start mid keeps.last one other stored keeps.stored;
-  is = ⊎_elim (λ same. inl same) (λ (t : TakesOneMore other keeps.last found). inr (record {
-    front = one ++ t.front;
-    of = t.of;
-    code = t.code;
-    place = t.place;
-    behind = t.behind;
-    whole = ap (λ (l : List Answer). one ++ l) t.whole ∙ sym (append_assoc one t.front (No t.of t.code t.place ∷ t.behind));
-    may = t.may;
-    none = t.none;
-    reading = t.reading;
-    count = t.count;
-    new = t.new;
-    left = t.left;
-    takes = t.takes;
-  })) keeps.is;
-}
+module _ (limits : Limits) where
+  kept_behind : (known others : List (Option (List ℕ))) (start : Journal) (one more : List Answer) (found : Journal)
+      → KeepsCollected limits known start one found → NoneAcknowledged more → KeepsCollected limits (known ++ others) start (one ++ more) found
+  kept_behind known others start one more found keeps none = record {
+    ahead = keeps.ahead;
+    others = keeps.others ++ others;
+    are = ap (λ (l : List (Option (List ℕ))). l ++ others) keeps.are ∙ append_assoc keeps.ahead keeps.others others;
+    front = keeps.front;
+    behind = keeps.behind ++ more;
+    whole = ap (λ (l : List Answer). l ++ more) keeps.whole ∙ append_assoc keeps.front keeps.behind more;
+    last = keeps.last;
+    collected = keeps.collected;
+    none = none_both keeps.behind more keeps.none none;
+    is = ⊎_elim (λ same. inl same) (λ (t : CollectsOneMore limits keeps.others keeps.behind keeps.last found). inr (record {
+      upload = t.upload;
+      others = t.others ++ others;
+      are = ap (λ (l : List (Option (List ℕ))). l ++ others) t.are;
+      of = t.of;
+      code = t.code;
+      place = t.place;
+      behind = t.behind ++ more;
+      whole = ap (λ (l : List Answer). l ++ more) t.whole;
+      may = t.may;
+      source = t.source;
+      start = t.start;
+      count = t.count;
+      new = t.new;
+      left = t.left;
+      collects = t.collects;
+    })) keeps.is;
+  }
 
--- ---- over a keeper
+  kept_before : (known others : List (Option (List ℕ))) (start mid : Journal) (one more : List Answer) (found : Journal)
+      → CollectsEach limits known start one mid → KeepsCollected limits others mid more found
+      → KeepsCollected limits (known ++ others) start (one ++ more) found
+  kept_before known others start mid one more found first keeps = record {
+    ahead = known ++ keeps.ahead;
+    others = keeps.others;
+    are = ap (λ (l : List (Option (List ℕ))). known ++ l) keeps.are ∙ sym (append_assoc known keeps.ahead keeps.others);
+    front = one ++ keeps.front;
+    behind = keeps.behind;
+    whole = ap (λ (l : List Answer). one ++ l) keeps.whole ∙ sym (append_assoc one keeps.front keeps.behind);
+    last = keeps.last;
+    collected = collects_then limits known keeps.ahead start mid keeps.last one keeps.front first keeps.collected;
+    none = keeps.none;
+    is = keeps.is;
+  }
 
-pub holds_none : (now : Held) → HoldsEach now now []
-holds_none now = record { stored = λ sound. refl; found = λ left may. inl (may, tt) }
+  -- ---- over a keeper
 
--- none of these acknowledges, and the keeper is as it was
-pub holds_refused : (now : Held) (answers : List Answer) → NoneAcknowledged answers → HoldsEach now now answers
-holds_refused now answers none = record {
-  stored = λ sound. stores_none now.journal answers none;
-  found = λ left may. inl (may, none);
-}
+  pub collected_none : (now : Held) → HoldsCollected limits [] now now []
+  collected_none now = record { collected = λ sound. refl; found = λ left may. inl (may, tt) }
 
-pub holds_then : (before mid now : Held) (one other : List Answer) → HoldsEach before mid one → HoldsEach mid now other
-    → (mid.Sound → before.Sound) → (now.Sound → mid.Sound) → HoldsEach before now (one ++ other)
-holds_then before mid now one other first then earlier later = record {
-  stored = λ sound. stores_then before.journal mid.journal now.journal one other (first.stored (later sound)) (then.stored sound);
-  found = λ left may.
-      ⊎_elim
-      (λ was. ⊎_elim (λ at_first. inl (at_first.0, none_both one other at_first.1 was.1))
-      (λ kept. inr (kept.0, keeps_behind before.journal one other left kept.1 was.1)) (first.found left was.0))
-      (λ kept. inr (earlier kept.0, keeps_before before.journal mid.journal one other left (first.stored kept.0) kept.1))
-      (then.found left may);
-}
+  -- none of these acknowledges, and the keeper is as it was
+  pub collected_refused : (known : List (Option (List ℕ))) (now : Held) (answers : List Answer) → CollectsEach limits known now.journal answers now.journal
+      → NoneAcknowledged answers → HoldsCollected limits known now now answers
+  collected_refused known now answers each none = record { collected = λ sound. each; found = λ left may. inl (may, none) }
+
+  pub collected_then : (known others : List (Option (List ℕ))) (before mid now : Held) (one more : List Answer)
+      → HoldsCollected limits known before mid one → HoldsCollected limits others mid now more
+      → (mid.Sound → before.Sound) → (now.Sound → mid.Sound) → HoldsCollected limits (known ++ others) before now (one ++ more)
+  collected_then known others before mid now one more first then earlier later = record {
+    collected = λ sound.
+        collects_then limits known others before.journal mid.journal now.journal one more (first.collected (later sound)) (then.collected sound);
+    found = λ left may.
+        ⊎_elim
+        (λ was. ⊎_elim (λ at_first. inl (at_first.0, none_both one more at_first.1 was.1))
+        (λ kept. inr (kept.0, kept_behind known others before.journal one more left kept.1 was.1)) (first.found left was.0))
+        (λ kept. inr (earlier kept.0, kept_before known others before.journal mid.journal one more left (first.collected kept.0) kept.1))
+        (then.found left may);
+  }

@@ -17,6 +17,7 @@ use Rattle.jc_upload.specs.Says.{BodySays, Says, SaysBehind}
 use Rattle.jc_upload.specs.Upload.{key_before}
 use Rattle.jc_collect.specs.Answer.{named_by}
 use Rattle.jc_collect.specs.Bounds.{AreWithin, PassesAt}
+use Rattle.jc_collect.specs.Touched.{window_count}
 use Rattle.jc_collect.specs.declared.bounds.Bounds.{Bounds}
 use Rattle.jc_collect.specs.declared.head.Unread.{Unread}
 use Rattle.jc_collect.specs.declared.head.Unread.TheVariants as unread
@@ -30,9 +31,9 @@ use Rattle.jc_collect.specs.declared.inspect.Inspected.TheVariants.{Bad, Over, U
 abbrev pub last_key : List LogEntry → Option Key
 last_key entries = key_before entries (length entries)
 
--- The upload's header names this source and this start, and its body has so many entries, within the bounds, and ends
--- without a fault.
-pub record IsWell (limits : Limits) (bounds : Bounds) (upload : List ℕ) (of : Id128 × ℕ) (count left : ℕ) (last : Option Key) : Type 0 where
+-- The upload's header names this source and this start, and its body has so many entries, in so many windows, within the
+-- bounds, and ends without a fault.
+pub record IsWell (limits : Limits) (bounds : Bounds) (upload : List ℕ) (of : Id128 × ℕ) (count left : ℕ) (last : Option Key) (windows : ℕ) : Type 0 where
   pub head : UploadHead
   pub reading : Reading
   pub says : SaysBehind limits upload head reading
@@ -40,6 +41,7 @@ pub record IsWell (limits : Limits) (bounds : Bounds) (upload : List ℕ) (of : 
   pub ended : reading.ending ≡ ending.End left
   pub counted : count ≡ length reading.entries
   pub key : last ≡ last_key reading.entries
+  pub wide : windows ≡ window_count reading.entries
   pub within : AreWithin bounds reading.entries
 
 -- What the upload says ends in this fault, of its header or its body, and its entries before keep the bounds.
@@ -57,13 +59,13 @@ pub record IsOver (limits : Limits) (bounds : Bounds) (upload : List ℕ) (place
 
 -- What is answered of an upload is what it says.
 abbrev pub IsInspected : Limits → Bounds → (upload : List ℕ) → Inspected → Type 0
-IsInspected limits bounds upload (Upload source start count left last) = IsWell limits bounds upload (source, start) count left last
+IsInspected limits bounds upload (Upload source start count left last windows) = IsWell limits bounds upload (source, start) count left last windows
 IsInspected limits bounds upload (Bad fault) = IsFaulty limits bounds upload (ending.Bad fault)
 IsInspected limits bounds upload (Over place) = IsOver limits bounds upload place
 
 -- A fault that is answered is one of an upload.
 abbrev pub HasFormatCode : Inspected → Type 0
-HasFormatCode (Upload source start count left last) = ⊤
+HasFormatCode (Upload source start count left last windows) = ⊤
 HasFormatCode (Bad fault) = IsFormatCode fault.code
 HasFormatCode (Over place) = ⊤
 
@@ -75,29 +77,30 @@ inspected_unread (unread.Fault fault) = Ok (Bad fault)
 inspected_unread unread.ReadFailed = Err stop.ReadFailed
 
 -- what is answered of one with this header and this body
-abbrev pub inspected_by : UploadHead → (count : ℕ) → Option Key → BodyEnding → Inspected
-inspected_by head count last (Ended (ending.End left)) = Upload head.source head.start count left last
-inspected_by head count last (Ended (ending.Bad fault)) = Bad fault
-inspected_by head count last OverBounds = Over count
+abbrev pub inspected_by : UploadHead → (count : ℕ) → Option Key → (windows : ℕ) → BodyEnding → Inspected
+inspected_by head count last windows (Ended (ending.End left)) = Upload head.source head.start count left last windows
+inspected_by head count last windows (Ended (ending.Bad fault)) = Bad fault
+inspected_by head count last windows OverBounds = Over count
 
 abbrev pub inspected_of : UploadHead → Body → Inspected
-inspected_of head body = inspected_by head body.count body.last body.ending
+inspected_of head body = inspected_by head body.count body.last body.windows body.ending
 
--- A reading has so many entries, within the bounds, this last key, and this ending.
-pub record IsRead (bounds : Bounds) (reading : Reading) (count : ℕ) (last : Option Key) (ending : Ending) : Type 0 where
+-- A reading has so many entries, within the bounds, this last key, so many windows, and this ending.
+pub record IsRead (bounds : Bounds) (reading : Reading) (count : ℕ) (last : Option Key) (windows : ℕ) (ending : Ending) : Type 0 where
   pub counted : count ≡ length reading.entries
   pub key : last ≡ last_key reading.entries
+  pub wide : windows ≡ window_count reading.entries
   pub ended : ending ≡ reading.ending
   pub within : AreWithin bounds reading.entries
 
 -- ... or passes a bound with the entry behind so many.
-abbrev pub IsReadTo : Bounds → Reading → (count : ℕ) → Option Key → BodyEnding → Type 0
-IsReadTo bounds reading count last (Ended ending) = IsRead bounds reading count last ending
-IsReadTo bounds reading count last OverBounds = PassesAt bounds reading.entries count
+abbrev pub IsReadTo : Bounds → Reading → (count : ℕ) → Option Key → (windows : ℕ) → BodyEnding → Type 0
+IsReadTo bounds reading count last windows (Ended ending) = IsRead bounds reading count last windows ending
+IsReadTo bounds reading count last windows OverBounds = PassesAt bounds reading.entries count
 
 -- The body is what the reading has, as far as the bounds go.
 abbrev pub IsBody : Bounds → Reading → Body → Type 0
-IsBody bounds reading body = IsReadTo bounds reading body.count body.last body.ending
+IsBody bounds reading body = IsReadTo bounds reading body.count body.last body.windows body.ending
 
 -- ... of a reading that may not be known
 abbrev pub HasBody : Bounds → Option Reading → Body → Type 0

@@ -11,7 +11,9 @@ pub mod Whole
 pub mod Begun
 pub mod Body
 pub mod Chain
+pub mod Touched
 pub mod Bounds
 pub mod Inspected
+pub mod Wide
 pub mod Each
 pub mod EachLaws

@@ -1,24 +1,25 @@
 //! Bounds on what an upload has.
 
-ghost use Rattle.std.specs.Prelude.{◌≡◌, ◌⊎◌, ◌+◌, ◌<◌, [], ◌∷◌, MatchOption};
+ghost use Rattle.std.specs.Prelude.{◌≡◌, ◌⊎◌, ◌+◌, ◌<◌, ◌≤◌, [], ◌∷◌, MatchOption};
 ghost use Rattle.jc_base.specs.Pair.{weight};
-ghost use Rattle.jc_collect.specs.Bounds.{AreWithin, IsLeft};
+ghost use Rattle.jc_collect.specs.Bounds.{AreFew, IsLeft};
 
 use jc_base::{Entry, FieldRef};
 
-/// The most that an upload may have in its body: entries, fields of all of them, and bytes of the names and values of
-/// these fields. What entries of a journal file share counts for each of them. (own)
+/// The most that an upload may have in its body: entries, fields of all of them, bytes of the names and values of these
+/// fields, and windows of sequences that it touches. What entries of a journal file share counts for each of them. (own)
 #[derive(Clone, Copy, Debug)]
 pub struct Bounds {
     pub entries: u64,
     pub fields: u64,
     pub bytes: u64,
+    pub windows: u64,
 }
 
 impl Bounds {
-    /// What is left of the bounds behind an entry; `None` if it passes one of them. Takes no memory.
+    /// What is left of the bounds behind an entry, but for windows; `None` if it passes one of the others. Takes no memory.
     pub(crate) fn behind(self, entry: &Entry) -> Option<Bounds>
-        ensures { MatchOption result (¬ AreWithin self (entry.now ∷ [])) (IsLeft self (entry.now ∷ [])) }
+        ensures { MatchOption result (¬ AreFew self (entry.now ∷ [])) (IsLeft self (entry.now ∷ [])) }
     {
         let entries = self.entries.checked_sub(1)?;
         let mut left = Bounds { entries, ..self };
@@ -26,6 +27,22 @@ impl Bounds {
             left = left.behind_field(&field)?;
         }
         Some(left)
+    }
+
+    /// The same of an entry with which so many windows are touched.
+    pub(crate) fn behind_within(
+        self,
+        entry: &Entry,
+        windows: u64,
+        most_windows: u64,
+    ) -> Option<Bounds>
+        ensures { MatchOption result ((most_windows < windows) ⊎ ¬ AreFew self (entry.now ∷ []))
+            (λ left. IsLeft self (entry.now ∷ []) left × (windows ≤ most_windows)) }
+    {
+        if windows > most_windows {
+            return None;
+        }
+        self.behind(entry)
     }
 
     /// What is left of the bounds behind a field; `None` if it passes one of them.

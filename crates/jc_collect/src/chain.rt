@@ -5,7 +5,7 @@ ghost use Rattle.jc_base.specs.declared.limits.Limits.{Limits};
 ghost use Rattle.jc_base.specs.Journal.{Journal};
 ghost use Rattle.jc_upload.specs.declared.answer.Answer.{Answer};
 ghost use Rattle.jc_collect.specs.Chain.{AreTaken, IsChain, Turn};
-ghost use Rattle.jc_collect.specs.Each.{CollectsEach, HasAcknowledged, IsKnownChain, KeepsEach, StoresEach};
+ghost use Rattle.jc_collect.specs.Each.{CollectsEach, HasAcknowledged, IsKnownChain, KeepsCollected, KeepsEach, StoresEach};
 
 use jc_upload::one_saying;
 
@@ -26,10 +26,12 @@ pub fn known_chain()
 {}
 
 /// Whether bytes are known or not, there is a reading for each acknowledgement, and the journal is what these make of the
-/// first one. Does nothing.
+/// first one. So it is of what a crash leaves. Does nothing.
 pub fn each_stored()
-    ensures { (limits : Limits) (known : List (Option (List ℕ))) (start last : Journal) (answers : List Answer) →
+    ensures stored { (limits : Limits) (known : List (Option (List ℕ))) (start last : Journal) (answers : List Answer) →
         CollectsEach limits known start answers last → StoresEach start answers last }
+    ensures kept { (limits : Limits) (known : List (Option (List ℕ))) (start found : Journal) (answers : List Answer) →
+        KeepsCollected limits known start answers found → KeepsEach start answers found }
 {
     // Does nothing: from its contract the proof has that no upload says two things.
     one_saying();

@@ -1,9 +1,10 @@
 //! What an upload says, without its being taken up.
 
-ghost use Rattle.std.specs.Prelude.{◌≡◌, ℕ, List, Some, IfOk};
+ghost use Rattle.std.specs.Prelude.{◌≡◌, ℕ, List, Ok, Option, Some, IfOk};
 ghost use Rattle.std.specs.Option.{option_map};
 ghost use Rattle.jc_upload.specs.declared.head.Kind.TheVariants.{Export, File};
 ghost use Rattle.jc_upload.specs.Says.{reading_under};
+ghost use Rattle.jc_collect.specs.Begun.{BeginsUpload};
 ghost use Rattle.jc_collect.specs.Delivered.{of_delivery};
 ghost use Rattle.jc_collect.specs.Inspected.{EndsInFormat, HasBody, HasFormatCode, IsInspected, SaysBodyOf, inspected_of, inspected_unread};
 ghost use Rattle.jc_collect.specs.Part.{known_from};
@@ -12,6 +13,7 @@ use crate::borrowed_device::BorrowedPart;
 use crate::gather::read_whole;
 use crate::head::{HEAD_LENGTH, Unread, read_head, read_head_at};
 use crate::space_stream::SpaceStream;
+use crate::touched::Touched;
 use crate::{Bounds, Delivery, Whole};
 use jc_base::{ByteStream, Ending, EntrySource, Fault, Id128, Key, Limits, Step, Stop};
 use jc_file::{ByteSpace, FileEntries, SliceSpace};
@@ -32,6 +34,8 @@ pub enum Inspected {
         left: u64,
         /// The key of the last complete entry.
         last: Option<Key>,
+        /// How many windows of sequences its entries are in.
+        windows: u64,
     },
     /// What is wrong with its header or its body.
     Bad(Fault),
@@ -44,6 +48,7 @@ pub enum Inspected {
 struct Body {
     count: u64,
     last: Option<Key>,
+    windows: u64,
     ending: BodyEnding,
 }
 
@@ -113,6 +118,21 @@ fn inspect_space<B: ByteSpace + Drop>(
         Err(unread) => return inspect_unread(unread),
     };
     let part = BorrowedPart::new(&mut space, HEAD_LENGTH);
+    inspect_part(alloc, head, part, limits, bounds)
+}
+
+/// What an upload with this header says whose body a space has.
+pub(crate) fn inspect_part<B: ByteSpace + Drop>(
+    alloc: Global,
+    head: UploadHead,
+    part: B,
+    limits: &Limits,
+    bounds: &Bounds,
+) -> Result<Inspected, Stop>
+    ensures says { (upload : List ℕ) (before : Option (List ℕ)) → before ≡ Some upload → BeginsUpload before (B.bytes part) (Ok head)
+        → IfOk result (IsInspected limits.now bounds.now upload) }
+    ensures format { IfOk result HasFormatCode }
+{
     match head.kind {
         Kind::Export => {
             let body = export_body(alloc, SpaceStream::new(part), limits, bounds, head.version)?;
@@ -143,6 +163,7 @@ fn as_inspected(head: UploadHead, body: Body) -> Inspected
     let Body {
         count,
         last,
+        windows,
         ending,
     } = body;
     match ending {
@@ -152,6 +173,7 @@ fn as_inspected(head: UploadHead, body: Body) -> Inspected
             count,
             left,
             last,
+            windows,
         },
         BodyEnding::Ended(Ending::Bad(fault)) => Inspected::Bad(fault),
         BodyEnding::OverBounds => Inspected::Over(count),
@@ -170,7 +192,7 @@ fn export_body<R: ByteStream + Drop>(
     ensures format { IfOk result EndsInFormat }
 {
     let stream = Stream::new(alloc, device, *limits)?;
-    read_body(stream, bounds, version)
+    read_body(alloc, stream, bounds, version)
 }
 
 /// What a space has, as the journal file of an upload of this version.
@@ -184,7 +206,8 @@ fn file_body<B: ByteSpace + Drop>(
     ensures says { IfOk result (SaysBodyOf limits.now bounds.now version File (B.bytes space)) }
     ensures format { IfOk result EndsInFormat }
 {
-    read_body(FileEntries::new(alloc, space, *limits), bounds, version)
+    let entries = FileEntries::new(alloc, space, *limits);
+    read_body(alloc, entries, bounds, version)
 }
 
 /// What a stream gives from here on, as the journal file of an upload of this version. It is read whole first, up to one
@@ -205,6 +228,7 @@ fn gathered_body<R: ByteStream + Drop>(
 
 /// What a source gives, as the body of an upload of this version.
 fn read_body<S: EntrySource + Drop>(
+    alloc: Global,
     mut source: S,
     bounds: &Bounds,
     version: Version,
@@ -213,38 +237,59 @@ fn read_body<S: EntrySource + Drop>(
     ensures format { IfOk result EndsInFormat }
 {
     match version.whole_entries() {
-        Some(entries) => body_of(&mut Whole::new(source, entries), bounds),
-        None => body_of(&mut source, bounds),
+        Some(entries) => body_of(alloc, &mut Whole::new(source, entries), bounds),
+        None => body_of(alloc, &mut source, bounds),
     }
 }
 
 /// How many entries a source gives, the last of them, and how they end, up to the first one that passes a bound.
-fn body_of<S: EntrySource>(source: &mut S, bounds: &Bounds) -> Result<Body, Stop>
+fn body_of<S: EntrySource>(alloc: Global, source: &mut S, bounds: &Bounds) -> Result<Body, Stop>
     ensures has { IfOk result (HasBody bounds.now (S.remaining source.old)) }
     ensures format { IfOk result EndsInFormat }
 {
     let mut room = *bounds;
     let mut count = 0;
     let mut last = None;
+    let mut touched = Touched::new(alloc);
+    let mut windows = 0;
     'entries: loop {
         let step = source.next()?;
-        let ending = match step {
-            Step::Entry(entry) => match room.behind(&entry) {
-                Some(less) => {
-                    room = less;
-                    count += 1;
-                    last = Some(entry.key());
-                    continue 'entries;
+        match step {
+            Step::Entry(entry) => {
+                let touching = touched.touch(&entry)?;
+                match room.behind_within(&entry, touching, bounds.windows) {
+                    Some(less) => {
+                        room = less;
+                        windows = touching;
+                        count += 1;
+                        last = Some(entry.key());
+                    }
+                    None => {
+                        return Ok(Body {
+                            count,
+                            last,
+                            windows,
+                            ending: BodyEnding::OverBounds,
+                        });
+                    }
                 }
-                None => BodyEnding::OverBounds,
-            },
-            Step::End { left } => BodyEnding::Ended(Ending::End { left }),
-            Step::Bad(fault) => BodyEnding::Ended(Ending::Bad(fault)),
-        };
-        return Ok(Body {
-            count,
-            last,
-            ending,
-        });
+            }
+            Step::End { left } => {
+                return Ok(Body {
+                    count,
+                    last,
+                    windows,
+                    ending: BodyEnding::Ended(Ending::End { left }),
+                });
+            }
+            Step::Bad(fault) => {
+                return Ok(Body {
+                    count,
+                    last,
+                    windows,
+                    ending: BodyEnding::Ended(Ending::Bad(fault)),
+                });
+            }
+        }
     }
 }

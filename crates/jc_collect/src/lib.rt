@@ -14,6 +14,8 @@ mod inspect;
 mod law;
 mod runs;
 mod space_stream;
+mod touched;
+mod wide;
 
 pub use bounds::Bounds;
 pub use chain::{acknowledged_stored, chain_stored, each_stored, known_chain};
@@ -23,3 +25,4 @@ pub use delivery::Delivery;
 pub use inspect::{Inspected, inspect_one};
 pub use law::{one_answer, one_journal_stored, one_set_accepted};
 pub use runs::{RunEnd, run};
+pub use wide::refuse_wide;

@@ -16,7 +16,8 @@ use Rattle.jc_collector.proofs.Open.{on_ok_each}
 module _ {S : Type 0} {g : Ghosts S} (m : Meaning) (now : Held S) (done : Result Status Failure) (old new : Option (List ℕ)) where
   -- from one beginning to another
   module _ (First Other : Journal → Type 0) (each : (before : Journal) → Other before → First before) where
-    pub answers_begun : (Whole : Printing) → AnswersOver m g now First Whole done old new → AnswersOver m g now Other Whole done old new
+    pub answers_begun : {AreUploads : List (Option (List ℕ)) → Type 0} (Whole : Printing) → AnswersOver m g now First Whole AreUploads done old new
+        → AnswersOver m g now Other Whole AreUploads done old new
     answers_begun Whole it = record {
       kept = λ sound before begin. it.kept sound before (each before begin);
       each = λ clean before begin. it.each clean before (each before begin);
@@ -32,11 +33,11 @@ module _ {S : Type 0} {g : Ghosts S} (m : Meaning) (now : Held S) (done : Result
     }
 
   -- printed in another way
-  pub answers_as : (Begins : Journal → Type 0) (Whole Other : Printing)
+  pub answers_as : {AreUploads : List (Option (List ℕ)) → Type 0} (Begins : Journal → Type 0) (Whole Other : Printing)
       → ((Holds : List Answer → Type 0) (status : Status) → Whole Holds status old new → Other Holds status old new)
-      → AnswersOver m g now Begins Whole done old new → AnswersOver m g now Begins Other done old new
-  answers_as Begins Whole Other into it = record {
+      → AnswersOver m g now Begins Whole AreUploads done old new → AnswersOver m g now Begins Other AreUploads done old new
+  answers_as {AreUploads = AreUploads} Begins Whole Other into it = record {
     kept = it.kept;
-    each = λ clean before begin. printed_as Whole Other (HoldsOpen m g now before) old new (into (HoldsOpen m g now before)) done (it.each clean before begin);
+    each = λ clean before begin. printed_as Whole Other (HoldsOpen m g now AreUploads before) old new (into (HoldsOpen m g now AreUploads before)) done (it.each clean before begin);
     recovers = it.recovers;
   }

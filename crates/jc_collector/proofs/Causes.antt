@@ -3,7 +3,7 @@ use Rattle.std.proofs.Common.{◌≡◌, ◌⊎◌, inl, inr, ℕ, List, Option,
 use Rattle.std.specs.Prelude.{⊤}
 use Rattle.jc_command_shared.specs.Failure.{status_of}
 use Rattle.jc_command_shared.specs.declared.failure.Failure.{Failure}
-use Rattle.jc_command_shared.specs.declared.failure.Failure.TheVariants.{Bad, BadAnswer, BadDatabaseName, BadExportName, BadFieldName, BadId, BadResume, CannotOpen, OutOfMemory, ReadFailed, SourceChanged, StoreFailed, WordsAreNoText, WriteFailed}
+use Rattle.jc_command_shared.specs.declared.failure.Failure.TheVariants.{Bad, BadAnswer, BadDatabaseName, BadExportName, BadFieldName, BadId, BadLine, BadResume, BadUpload, CannotOpen, OutOfMemory, ReadFailed, SourceChanged, StoreFailed, WordsAreNoText, WriteFailed}
 use Rattle.jc_command_shared.specs.declared.status.Status.TheVariants.{Failed}
 use Rattle.jc_collector.specs.Database.{DatabaseFailsBy, IsOutFailure, MayEndNames, MayStop, ShowFailsBy, WhyNoJournal, WhyNoTables}
 
@@ -12,10 +12,12 @@ no_tables path (Bad fault) why = why
 no_tables path SourceChanged why = why
 no_tables path BadResume why = why
 no_tables path (BadAnswer line) why = why
+no_tables path (BadLine line) why = why
 no_tables path BadId why = why
 no_tables path BadFieldName why = why
 no_tables path BadDatabaseName why = why
 no_tables path BadExportName why = why
+no_tables path BadUpload why = why
 no_tables path (CannotOpen at) why = absurd why
 no_tables path ReadFailed why = why
 no_tables path WriteFailed why = why

@@ -2,10 +2,10 @@
 use Rattle.std.proofs.Common.{◌≡◌, ℕ, List, Option, Result, Ok, Err, length, refl, subst, ◌∙◌}
 use Rattle.std.specs.Prelude.{IfOk, IfSome, ⊤}
 use Rattle.jc_base.specs.Journal.{Journal}
-use Rattle.jc_collect.specs.Each.{HoldsEach}
 use Rattle.jc_collect.specs.Run.{OnlyIfOwned}
 use Rattle.jc_keeper.specs.declared.keeper.Keeper as keepers
 use Rattle.jc_collector_answers.specs.Answered.{PrintsAnswers}
+use Rattle.jc_collector_answers.specs.Collected.{HoldsFirstOf, just}
 use Rattle.jc_collector_answers.specs.Tied.{NamedWith, PrintsFront, PrintsWith}
 use Rattle.jc_command_shared.specs.Lines.{lines_of}
 use Rattle.jc_command_shared.specs.declared.failure.Failure.{Failure}
@@ -28,10 +28,12 @@ pub counted_printed : (count other : ℕ) → count ≡ other → (status : Stat
 counted_printed count other same status old new it =
     subst (λ (n : ℕ). PrintsAnswers n status old new) (it.counts ∙ same) it.answers.shown
 
-pub counted_stored : (count other : ℕ) → count ≡ other → (status : Status) (old new : Option (List ℕ)) (before after : Journal)
-    → StoresCounted (λ n. n ≡ count) status old new before after → StoresPrinted other status old new before after
-counted_stored count other same status old new before after it =
-    subst (λ (n : ℕ). StoresPrinted n status old new before after) (it.counts ∙ same) it.answers
+pub counted_stored : (count other : ℕ) → count ≡ other → (uploads named : List (Option (List ℕ))) → uploads ≡ named → (status : Status) (old new : Option (List ℕ))
+    (before after : Journal) → StoresCounted (λ n. n ≡ count) (just uploads) status old new before after
+    → StoresPrinted (just named) other status old new before after
+counted_stored count other same uploads named are status old new before after it =
+    subst (λ (us : List (Option (List ℕ))). StoresPrinted (just us) other status old new before after) are
+    (subst (λ (n : ℕ). StoresPrinted (just uploads) n status old new before after) (it.counts ∙ same) it.answers)
 
 pub with_counted : (count : ℕ) (Holds : List Answer → Type 0) (status : Status) (old new : Option (List ℕ))
     → PrintsWith Holds count status old new → PrintsCounted (λ n. n ≡ count) Holds status old new
@@ -78,11 +80,11 @@ module _ (Whole Other : Printing) (Holds : List Answer → Type 0) (old new : Op
     printed_as (Err failure) it = it
 
 -- of any keeper
-pub hold_as : {K : Type 0} (k : keepers.Ghosts K) (Whole Other : Printing) (old new : K) (result : Result Status Failure) (printed now : Option (List ℕ))
+pub hold_as : {K : Type 0} {AreUploads : List (Option (List ℕ)) → Type 0} (k : keepers.Ghosts K) (Whole Other : Printing) (old new : K) (result : Result Status Failure) (printed now : Option (List ℕ))
     → ((Holds : List Answer → Type 0) (status : Status) → Whole Holds status printed now → Other Holds status printed now)
-    → AnswersHold k Whole old new result printed now → AnswersHold k Other old new result printed now
-hold_as k Whole Other old new result printed now into it = record {
-  each = λ clean made. printed_as Whole Other (HoldsEach (held_by k old) (held_by k new)) printed now (into (HoldsEach (held_by k old) (held_by k new))) result (it.each clean made);
+    → AnswersHold k Whole AreUploads old new result printed now → AnswersHold k Other AreUploads old new result printed now
+hold_as {AreUploads = AreUploads} k Whole Other old new result printed now into it = record {
+  each = λ clean made. printed_as Whole Other (HoldsFirstOf AreUploads (held_by k old) (held_by k new)) printed now (into (HoldsFirstOf AreUploads (held_by k old) (held_by k new))) result (it.each clean made);
   owner = printed_as Whole Other (OnlyIfOwned k.has_owners) printed now (into (OnlyIfOwned k.has_owners)) result it.owner;
 }
 

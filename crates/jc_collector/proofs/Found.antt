@@ -15,12 +15,12 @@ use Rattle.jc_store.specs.Meaning.{AreMade, IsSound, KeepsJournal, journal_of}
 use Rattle.jc_store.specs.Schema.{no_schema}
 use Rattle.jc_store.specs.Statements.{IsBlank}
 use Rattle.jc_schema_two.specs.Schema.{Shape, fresh, migrated, schema_two}
-use Rattle.jc_schema_three.specs.Schema.{schema_three}
+use Rattle.jc_store.specs.SchemaOne.{schema_one}
 use Rattle.jc_database.specs.Files.{AreLawful, EndsWith, HoldsJournal, InFiles, IsFound, Keeps}
 use Rattle.jc_database.specs.FilesLaws.{database_found, keeps_found}
 use Rattle.jc_collector.specs.Open.{Begun, HasKind, IsFoundIn, IsOne}
 use Rattle.jc_collector.specs.KindLaws.{at_kind}
-use Rattle.jc_collector.specs.Kinds.{AreAlone, AreByNumber, BeginsIn, IsAdoptedFrom, IsMadeEmpty, IsMadeIn, IsShown, LeadsIn, OpenedOver, conn_of, kind_of, meaning_of}
+use Rattle.jc_collector.specs.Kinds.{AreAlone, BeginsIn, HasFields, IsAdoptedFrom, IsMadeEmpty, IsMadeIn, IsShown, LeadsIn, OpenedOver, conn_of, kind_of, meaning_of}
 
 -- ---- the tables of each kind
 
@@ -28,37 +28,36 @@ some_by_key : (shape : Shape) → schema_two shape ≡ no_schema → ⊥
 some_by_key fresh none = let few = ap (λ (s : Schema). length s.tables) none in omega (arith, few)
 some_by_key migrated none = let few = ap (λ (s : Schema). length s.tables) none in omega (arith, few)
 
-some_by_number : (shape : Shape) → schema_three shape ≡ no_schema → ⊥
-some_by_number fresh none = let few = ap (λ (s : Schema). length s.tables) none in omega (arith, few)
-some_by_number migrated none = let few = ap (λ (s : Schema). length s.tables) none in omega (arith, few)
+some_by_text : schema_one ≡ no_schema → ⊥
+some_by_text none = let few = ap (λ (s : Schema). length s.tables) none in omega (arith, few)
 
 pub some_tables : (kind : Tables) (db : Database) → (meaning_of kind).is_journal db → db.schema ≡ no_schema → ⊥
 some_tables ByKey db journal none = some_by_key journal.spells.shape (sym journal.spells.schema ∙ none)
-some_tables ByNumber db journal none = some_by_number journal.spells.shape (sym journal.spells.schema ∙ none)
+some_tables ByNumber db journal none = some_by_text (sym journal.schema ∙ none)
 
-by_number : (shape : Shape) → AreByNumber (schema_three shape)
+pub fields_by_key : (shape : Shape) → HasFields (schema_two shape)
 unfolding everything
-by_number fresh = refl
-by_number migrated = refl
+fields_by_key fresh = inl refl
+fields_by_key migrated = inl refl
 
-by_key : (shape : Shape) → AreByNumber (schema_two shape) → ⊥
+pub no_fields : HasFields schema_one → ⊥
 unfolding everything
-by_key fresh none = cc
-by_key migrated none = cc
+no_fields (inl has) = cc
+no_fields (inr none) = none refl
 
 -- A database with a journal has tables of the kind that they tell.
-pub which_kind : (mine : Tables) (now : Database) → (mine ≡ ByNumber) ↔ AreByNumber now.schema
+pub which_kind : (mine : Tables) (now : Database) → (mine ≡ ByKey) ↔ HasFields now.schema
     → (kind : Tables) (db : Database) → (meaning_of kind).is_journal db → db ≡ now → kind ≡ mine
 which_kind ByKey now tells ByKey db journal is = refl
 which_kind ByKey now tells ByNumber db journal is =
-    sym (tells.1 (subst AreByNumber (sym journal.spells.schema ∙ ap (λ (d : Database). d.schema) is) (by_number journal.spells.shape)))
+    absurd (no_fields (subst HasFields (sym (ap (λ (d : Database). d.schema) is) ∙ journal.schema) (tells.0 refl)))
 which_kind ByNumber now tells ByKey db journal is =
-    absurd (by_key journal.spells.shape (subst AreByNumber (sym (ap (λ (d : Database). d.schema) is) ∙ journal.spells.schema) (tells.0 refl)))
+    sym (tells.1 (subst HasFields (sym journal.spells.schema ∙ ap (λ (d : Database). d.schema) is) (fields_by_key journal.spells.shape)))
 which_kind ByNumber now tells ByNumber db journal is = refl
 
 pub lawful : (kind : Tables) → AreLawful (meaning_of kind)
 lawful ByKey db journal = journal.spells.sound
-lawful ByNumber db journal = journal.spells.sound
+lawful ByNumber db journal = journal.sound
 
 -- ---- how a run begins
 
@@ -79,7 +78,7 @@ module _ {S : Type 0} {g : Ghosts S} (image : Image) (opened kept : Held S)
         begun now kind before (inr nothing) = (nothing.1, record { made = are; is = none now ∙ sym nothing.2 })
 
     -- tables that were there
-    pub adopted_in : (mine : Tables) → (mine ≡ ByNumber) ↔ AreByNumber (state g opened).now.schema → (¬ IsBlank (state g opened).now)
+    pub adopted_in : (mine : Tables) → (mine ≡ ByKey) ↔ HasFields (state g opened).now.schema → (¬ IsBlank (state g opened).now)
         → KeepsJournal (meaning_of mine) g opened kept → (made : Tables) → IsFoundIn g made mine image kept
     adopted_in mine tells tables keeps made clean = let now = sound clean in (now, begun now)
       where

@@ -47,6 +47,11 @@ key_put a b c hex id rest (Ok x) first same more =
     Appends-trans a b c id rest (subst (λ (l : List ℕ). Appends a b l) same first) more
 key_put a b c hex id rest (Err e) first same more = tt
 
+pub end_put : {T E : Type 0} (a b c : Option (List ℕ)) (key rest : List ℕ) (r : Result T E) → Appends a b key → OnOk r (Appends b c rest)
+    → OnOk r (Appends a c (key ++ rest))
+end_put a b c key rest (Ok x) first more = Appends-trans a b c key rest first more
+end_put a b c key rest (Err e) first more = tt
+
 pub line_put : {T E : Type 0} (a b c d e : Option (List ℕ)) (word hex id numbers rest : List ℕ) (r : Result T E) → Appends a b word
     → Appends b c hex → hex ≡ id → Appends c d numbers → OnOk r (Appends d e rest)
     → OnOk r (Appends a e (word ++ (id ++ (numbers ++ rest))))

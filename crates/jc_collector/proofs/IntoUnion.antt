@@ -1,24 +1,34 @@
 -- A run over a union of databases: why it fails, and what it makes of the files.
-use Rattle.std.proofs.Common.{◌≡◌, ◌⊎◌, ℕ, List, Option, inl, inr, sym, subst}
-use Rattle.std.specs.Prelude.{codes}
+use Rattle.std.proofs.Common.{◌≡◌, ◌⊎◌, ℕ, List, Option, Result, Ok, Err, inl, inr, sym, subst}
+use Rattle.std.proofs.Math.Logic.{∥∥₁_map}
 use Rattle.sqlite.specs.Store.{Ghosts}
 use Rattle.sqlite.specs.Recovery.{Image}
-use Rattle.sqlite.specs.Held.{Held}
+use Rattle.sqlite.specs.Held.{Held, state}
+use Rattle.sqlite.specs.State.{HasCleanDisk}
 use Rattle.jc_base.specs.Journal.{Journal}
 use Rattle.jc_base.specs.LogEntry.{LogEntry}
+use Rattle.jc_collector_answers.specs.Collected.{KeepsFirstOf}
+use Rattle.jc_collector_answers.specs.Kept.{HoldsPrinted}
+use Rattle.jc_collector_answers.specs.PrintedLaws.{named}
+use Rattle.jc_collector_answers.specs.Tied.{PrintsFront}
 use Rattle.jc_command_args.specs.declared.request.Tables.{Tables}
 use Rattle.jc_command_shared.specs.declared.failure.Failure.{Failure}
-use Rattle.jc_command_shared.specs.declared.failure.Failure.TheVariants.{Bad, BadAnswer, BadDatabaseName, BadExportName, BadFieldName, BadId, BadResume, CannotOpen, OutOfMemory, ReadFailed, SourceChanged, StoreFailed, WordsAreNoText, WriteFailed}
+use Rattle.jc_command_shared.specs.declared.failure.Failure.TheVariants.{Bad, BadAnswer, BadDatabaseName, BadExportName, BadFieldName, BadId, BadLine, BadResume, BadUpload, CannotOpen, OutOfMemory, ReadFailed, SourceChanged, StoreFailed, WordsAreNoText, WriteFailed}
 use Rattle.jc_command_shared.specs.declared.status.Status.{Status}
-use Rattle.jc_database.specs.Files.{EndsWith, InFiles, Keeps, KeepsAlways}
+use Rattle.jc_database.specs.Files.{EndsWith, HoldsJournal, InFiles, Keeps, KeepsAlways}
 use Rattle.jc_ledger.specs.Kept.{IsKept}
 use Rattle.jc_ledger.specs.Known.{Known}
-use Rattle.jc_store.specs.Meaning.{IsSound, Meaning}
+use Rattle.jc_ledger.specs.Union.{union}
+use Rattle.jc_store.specs.Meaning.{Meaning}
 use Rattle.jc_collector.specs.Noted.{WhyNoUnion}
 use Rattle.jc_collector.specs.Database.{DatabaseFailsBy, MayEndNames}
-use Rattle.jc_collector.specs.IntoUnion.{LeadsIf, StoresNotedFromList, StoresNotedNames, UnionFailsBy, UnionStopsBy}
+use Rattle.jc_collector.specs.IntoUnion.{LeadsIf, UnionFailsBy, UnionStopsBy}
 use Rattle.jc_collector.specs.Kinds.{meaning_of}
 use Rattle.jc_collector.specs.Open.{IsFoundIn}
+use Rattle.jc_collector.specs.UnionLeft.{LeavesNoted}
+use Rattle.jc_collector.specs.UnionRun.{IsFoundAs}
+use Rattle.jc_collector.proofs.Open.{front_named}
+use Rattle.jc_upload.specs.declared.answer.Answer.{Answer}
 
 -- ---- why it fails
 
@@ -34,10 +44,12 @@ module _ (database : List ℕ) (paths : List (List ℕ)) where
   no_union SourceChanged why = absurd why
   no_union BadResume why = absurd why
   no_union (BadAnswer line) why = absurd why
+  no_union (BadLine line) why = absurd why
   no_union BadId why = absurd why
   no_union BadFieldName why = absurd why
   no_union BadDatabaseName why = absurd why
   no_union BadExportName why = absurd why
+  no_union BadUpload why = absurd why
   no_union (CannotOpen at) why = absurd why
   no_union ReadFailed why = absurd why
   no_union WriteFailed why = absurd why
@@ -50,10 +62,12 @@ module _ (database : List ℕ) (paths : List (List ℕ)) where
   by_database SourceChanged why = why
   by_database BadResume why = why
   by_database (BadAnswer line) why = why
+  by_database (BadLine line) why = why
   by_database BadId why = why
   by_database BadFieldName why = why
   by_database BadDatabaseName why = why
   by_database BadExportName why = tt
+  by_database BadUpload why = why
   by_database (CannotOpen at) why = inl why
   by_database ReadFailed why = tt
   by_database WriteFailed why = why
@@ -69,24 +83,6 @@ module _ (database : List ℕ) (paths : List (List ℕ)) where
 
 -- ---- what it makes of the files
 
--- a step that says less
-pub leads_weaker : {S C L : Type 0} {o : InFiles S C L} (made : Tables) (image : Image) (files : C) (Holds : Journal → Type 0)
-    (Step Other : Journal → Journal → Type 0) → ((before after : Journal) → Step before after → Other before after)
-    → LeadsIf made image o files Holds Step → LeadsIf made image o files Holds Other
-leads_weaker made image files Holds Step Other each leads clean kind before begin holds =
-    let it = leads clean kind before begin holds in record { found = it.found; is = each before it.found it.is; keeps = it.keeps }
-
-module _ (past : Journal) (known : Known) (came : LogEntry → Type 0) (status : Status) (old new : Option (List ℕ)) where
-  pub listed_named : (list : List ℕ) (given text : Option (List ℕ)) → (list ≡ codes "-" → text ≡ given) → (before after : Journal)
-      → StoresNotedNames past known came text status old new before after
-      → StoresNotedFromList past known came list given status old new before after
-  listed_named list given text input before after stored = record { text = text; input = input; stored = stored }
-
-  pub other_text : (text other : Option (List ℕ)) → text ≡ other → (before after : Journal)
-      → StoresNotedNames past known came text status old new before after → StoresNotedNames past known came other status old new before after
-  other_text text other same before after it =
-      subst (λ (t : Option (List ℕ)). StoresNotedNames past known came t status old new before after) same it
-
 -- one journal for another
 pub kept_same : {known : Known} {past one other : Journal} {came : LogEntry → Type 0} → other ≡ one → IsKept known past one came → IsKept known past other came
 kept_same {known = known} {past = past} {came = came} same kept = subst (λ (j : Journal). IsKept known past j came) (sym same) kept
@@ -95,13 +91,49 @@ pub keeps_same : {S C L : Type 0} {o : InFiles S C L} (m : Meaning) (files : C) 
     → KeepsAlways m o files other
 keeps_same {o = o} m files one other same keeps = subst (λ (j : Journal). KeepsAlways m o files j) same keeps
 
+-- what was opened was found so
+pub found_as : {S : Type 0} {g : Ghosts S} (made mine : Tables) (image : Image) (first : Held S) → IsFoundIn g made mine image first
+    → IsFoundAs (meaning_of mine) g made image first
+found_as made mine image first found = record {
+  sound = λ clean. (found clean).0;
+  keeps = λ clean kind before begin. ((found clean).1 kind before begin).1;
+  same = λ clean kind before begin left journal holds.
+      subst (λ (k : Tables). HoldsJournal (meaning_of k) left journal) (sym ((found clean).1 kind before begin).0) holds;
+}
+
 -- what was found in the files is what the run begins with
-pub leads_found : {S C L : Type 0} {g : Ghosts S} {o : InFiles S C L} (made mine : Tables) (image : Image) (first : Held S) (files : C)
-    (Holds : Journal → Type 0) (Step : Journal → Journal → Type 0) → IsFoundIn g made mine image first
-    → (o.clean files → (before : Journal) → Holds before → IsSound g first)
-    → (o.clean files → (before : Journal) → Keeps (meaning_of mine) g first before → Holds before
-    → EndsWith (meaning_of mine) o files (Step before))
+pub leads_found : {S C L : Type 0} {g : Ghosts S} {o : InFiles S C L} (m : Meaning) (made : Tables) (image : Image) (first : Held S) (files : C)
+    (Holds : Journal → Type 0) (Step : Journal → Journal → Type 0) → IsFoundAs m g made image first
+    → (o.clean files → (before : Journal) → Holds before → HasCleanDisk (state g first))
+    → (o.clean files → (before : Journal) → Keeps m g first before → Holds before → EndsWith m o files (Step before))
     → LeadsIf made image o files Holds Step
-leads_found {o = o} made mine image first files Holds Step found sound each clean kind before begin holds =
-    let it = (found (sound clean before holds).clean).1 kind before begin in
-    subst (λ (k : Tables). EndsWith (meaning_of k) o files (Step before)) (sym it.0) (each clean before it.1 holds)
+leads_found m made image first files Holds Step found was_clean each clean kind before begin holds =
+    let is = was_clean clean before holds in
+    let ends = each clean before (found.keeps is kind before begin) holds in
+    record {
+      found = ends.found;
+      is = ends.is;
+      keeps = record {
+        now = found.same is kind before begin _ ends.found ends.keeps.now;
+        left = λ left may. found.same is kind before begin left ends.found (ends.keeps.left left may);
+      };
+    }
+
+-- ---- what it leaves if it fails
+
+-- what was printed, whether all of it or not
+pub front_any : {F : Type 0} (Holds : List Answer → Type 0) (text : Option (List ℕ)) (old new : Option (List ℕ)) (result : Result Status F)
+    → HoldsPrinted (named text) Holds result old new → PrintsFront Holds old new
+front_any Holds text old new (Ok status) it = front_named Holds text old new status it
+front_any Holds text old new (Err failure) it = it
+
+-- what is left is said of another meaning, and of the journal in other words
+pub leaves_as : (m n : Meaning) (AreUploads : List (Option (List ℕ)) → Type 0) (past one other : Journal) (came : LogEntry → Type 0) (ledgers : Known → Type 0)
+    (answers : List Answer) (image : Image) → one ≡ other → ((found : Journal) → HoldsJournal m image found → HoldsJournal n image found)
+    → ∥ LeavesNoted AreUploads m past one came ledgers answers image ∥₁ → ∥ LeavesNoted AreUploads n past other came ledgers answers image ∥₁
+leaves_as m n AreUploads past one other came ledgers answers image same holds left = ∥∥₁_map left (λ it. record {
+  found = it.found;
+  keeps = subst (λ (j : Journal). KeepsFirstOf AreUploads (union past j) answers (union past it.found)) same it.keeps;
+  lags = it.lags;
+  holds = holds it.found it.holds;
+})

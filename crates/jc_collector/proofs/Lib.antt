@@ -6,6 +6,7 @@ pub mod Results
 pub mod Found
 pub mod Older
 pub mod OverFiles
+pub mod Exported
 pub mod Causes
 pub mod WhyUncollected
 pub mod Counted
@@ -17,3 +18,4 @@ pub mod Asked
 pub mod CatchingUp
 pub mod Given
 pub mod Listed
+pub mod ListNames

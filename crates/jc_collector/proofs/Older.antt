@@ -4,26 +4,14 @@ use Rattle.sqlite.specs.Store.{Ghosts}
 use Rattle.sqlite.specs.Recovery.{Image}
 use Rattle.sqlite.specs.State.{HasCleanDisk}
 use Rattle.sqlite.specs.Held.{Held, state}
-use Rattle.sqlite_tied.specs.Compute.{everything}
 use Rattle.sqlite.specs.Effect.{Database}
 use Rattle.jc_command_args.specs.declared.request.Tables.TheVariants.{ByKey}
-use Rattle.jc_store.specs.SchemaOne.{schema_one}
 use Rattle.jc_store.specs.Statements.{IsBlank}
-use Rattle.jc_schema_two.specs.Schema.{Shape, fresh, migrated, schema_two}
 use Rattle.jc_database.specs.Files.{HoldsJournal, IsFound}
 use Rattle.jc_database.specs.FilesLaws.{database_found, keeps_found}
-use Rattle.jc_collector.specs.Earlier.{Becomes, EarlierOver, HasFields, IsEarlierFound, IsTakenFrom, Older, meaning_before, older_of, oldest, by_key}
-
--- ---- the tables of each kind
-
-fields_by_key : (shape : Shape) → HasFields (schema_two shape)
-unfolding everything
-fields_by_key fresh = refl
-fields_by_key migrated = refl
-
-no_fields : HasFields schema_one → ⊥
-unfolding everything
-no_fields none = cc
+use Rattle.jc_collector.specs.Kinds.{HasFields}
+use Rattle.jc_collector.proofs.Found.{fields_by_key, no_fields}
+use Rattle.jc_collector.specs.Earlier.{Becomes, EarlierOver, IsEarlierFound, IsTakenFrom, Older, meaning_before, older_of, oldest, by_key}
 
 -- A database with a journal has tables of the kind that they tell.
 which_older : (mine : Older) (now : Database) → (mine ≡ by_key) ↔ HasFields now.schema

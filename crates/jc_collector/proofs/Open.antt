@@ -1,6 +1,6 @@
 -- The answers of a run over a database that it has open.
-use Rattle.std.proofs.Common.{◌≡◌, ℕ, zero, suc, ◌≤◌, ◌-◌, List, [], ◌∷◌, Option, Result, Ok, Err, inl, ⊎_elim, length, take, sym, subst, subst₂, ◌∙◌, append-nil, arith}
-use Rattle.std.specs.Prelude.{IfOk, IfErr, OnOk, ⊤}
+use Rattle.std.proofs.Common.{◌≡◌, ℕ, zero, suc, ◌≤◌, ◌-◌, List, [], ◌∷◌, Option, Result, Ok, Err, length, take, sym, subst, subst₂, ◌∙◌, append-nil, arith}
+use Rattle.std.specs.Prelude.{IfOk, IfErr, OnOk}
 use Rattle.std.specs.Io.KnownBytes.{Appends}
 use Rattle.std.proofs.lemmas.List.{length-append, take_all}
 use Rattle.sqlite.specs.Store.{Ghosts}
@@ -9,10 +9,11 @@ use Rattle.sqlite.specs.State.{HasCleanDisk}
 use Rattle.sqlite.specs.Held.{Held, state}
 use Rattle.jc_base.specs.Journal.{Journal}
 use Rattle.jc_collect.specs.Crash.{KeepsAcknowledged}
-use Rattle.jc_collect.specs.Each.{HoldsEach, KeepsEach, StoresEach, held}
-use Rattle.jc_collect.specs.EachLaws.{holds_refused}
+use Rattle.jc_collect.specs.Each.{held}
 use Rattle.jc_collect.specs.Run.{lines_of_answers}
 use Rattle.jc_collector_answers.specs.Answered.{KeepsFirst, KeepsPrinted}
+use Rattle.jc_collector_answers.specs.Collected.{HoldsFirstOf, StoresFirstOf}
+use Rattle.jc_collector_answers.specs.CollectedLaws.{keeps_first, stores_first}
 use Rattle.jc_collector_answers.specs.Tied.{NamedWith, PrintsFront}
 use Rattle.jc_command_shared.specs.declared.failure.Failure.{Failure}
 use Rattle.jc_command_shared.specs.declared.status.Status.{Status}
@@ -108,22 +109,20 @@ module _ {S : Type 0} {g : Ghosts S} (m : Meaning) (first then last : Held S) (b
     pub less_left : (found : Journal) → MayLeave m g last found → MayLeave m g then found
     less_left found may = record { trees = may.trees; left = less clean may.trees may.left; is = may.is }
 
-    pub holds_open : (answers : List Answer)
-        → HoldsEach (held (journal_of m g first) (IsSound g first) (MayLeave m g first))
+    pub holds_open : (AreUploads : List (Option (List ℕ)) → Type 0) (answers : List Answer)
+        → HoldsFirstOf AreUploads (held (journal_of m g first) (IsSound g first) (MayLeave m g first))
         (held (journal_of m g then) (IsSound g then) (MayLeave m g then)) answers
-        → HoldsOpen m g last before answers
-    holds_open answers h = record {
-      stored = λ late. let early = back late in
-          subst₂ (λ (b a : Journal). StoresEach b answers a) has.is (sym (keeps.same early made late)) (h.stored early);
-      found = λ found may. ⊎_elim
-          (λ was. record {
-            last = before;
-            stored = (holds_refused (held before ⊤ (λ _. ⊤)) answers was.1).stored tt;
-            is = inl (durable found was.0 ∙ has.is);
-          })
-          (λ kept. subst (λ (b : Journal). KeepsEach b answers found) has.is kept.1)
-          (h.found found (less_left found may));
-    }
+        → HoldsOpen m g last AreUploads before answers
+    holds_open AreUploads answers h =
+        let was = held (journal_of m g first) (IsSound g first) (MayLeave m g first) in
+        let now = held (journal_of m g then) (IsSound g then) (MayLeave m g then) in
+        record {
+          stored = λ late. let early = back late in
+              subst₂ (λ (b a : Journal). StoresFirstOf AreUploads b answers a) has.is (sym (keeps.same early made late))
+              (stores_first AreUploads was now answers h early);
+          found = λ found may.
+              keeps_first AreUploads was now answers h before found (λ there. durable found there ∙ has.is) has.is (less_left found may);
+        }
 
 -- ---- once it is closed
 
@@ -134,15 +133,16 @@ module _ {S C L : Type 0} {g : Ghosts S} {o : InFiles S C L} (made : Tables) (im
     (kind : HasKind g opened made image)
     (status : Status) (old new : Option (List ℕ)) (done : Result Status Failure) (is : done ≡ Ok status)
   where
-    pub leads_counted : (Counts : ℕ → Type 0) → AnswersIn g opened made image (PrintsCounted Counts) done old new
-        → LeadsIn made image o files (StoresCounted Counts status old new)
-    leads_counted Counts it = leads_kind made image opened kind files sound (StoresCounted Counts status old new)
+    pub leads_counted : (Counts : ℕ → Type 0) (AreUploads : List (Option (List ℕ)) → Type 0)
+        → AnswersIn g opened made image (PrintsCounted Counts) AreUploads done old new
+        → LeadsIn made image o files (StoresCounted Counts AreUploads status old new)
+    leads_counted Counts AreUploads it = leads_kind made image opened kind files sound (StoresCounted Counts AreUploads status old new)
         (λ clean before begin.
         let late = sound clean in
-        let printed = subst (λ (r : Result Status Failure). HoldsPrinted (PrintsCounted Counts) (HoldsIn g opened before) r old new) is
+        let printed = subst (λ (r : Result Status Failure). HoldsPrinted (PrintsCounted Counts) (HoldsIn g opened AreUploads before) r old new) is
         (it.each late.clean before begin) in record {
           found = journal_in g opened;
-          is = counted_other Counts (HoldsIn g opened before) (λ answers. StoresEach before answers (journal_in g opened))
+          is = counted_other Counts (HoldsIn g opened AreUploads before) (λ answers. StoresFirstOf AreUploads before answers (journal_in g opened))
               (λ answers h. h.stored late) old new status printed;
           keeps = always clean (it.recovers late.clean before begin).made;
         })

@@ -1,6 +1,6 @@
 -- From the files that a run begins with to those that it ends with.
 use Rattle.std.proofs.Common.{◌≡◌, ℕ, List, [], ◌∷◌, ◌++◌, Option, Some, None, inl, inr, refl, sym, subst, subst₂, ◌∙◌}
-use Rattle.std.specs.Prelude.{MatchOption, codes}
+use Rattle.std.specs.Prelude.{MatchOption}
 use Rattle.std.specs.Io.KnownBytes.{Appends, prepend_known}
 use Rattle.sqlite.specs.Store.{Ghosts}
 use Rattle.sqlite.specs.Recovery.{Image}
@@ -16,7 +16,8 @@ use Rattle.jc_collector.specs.declared.health.Health.{Health}
 use Rattle.jc_collector.specs.Open.{Begun, EndsOver, HasKind, StandsIn, StandsOver}
 use Rattle.jc_collector.specs.Kinds.{LeadsIn, OpenedOver, conn_of, journal_in, kind_of, meaning_of}
 use Rattle.jc_collector.specs.Checked.{Counts, PrintsHealth, count_line, health_text}
-use Rattle.jc_collector.specs.OverFiles.{Prints, StoresFromList, StoresNamed, StoresPrinted}
+use Rattle.jc_collector_answers.specs.Collected.{just}
+use Rattle.jc_collector.specs.OverFiles.{IsListed, Prints, StoresFromList, StoresNamed, StoresPrinted}
 use Rattle.jc_database.specs.FilesLaws.{keeps_found}
 use Rattle.jc_collector.proofs.Found.{leads_kind}
 
@@ -95,20 +96,23 @@ leads_weaker made image files Step Other each leads clean kind before begin =
     let it = leads clean kind before begin in record { found = it.found; is = each before it.found it.is; keeps = it.keeps }
 
 -- what is said of the lines of a text, by the name of the list that has it
-pub listed_named : (list : List ℕ) (given text : Option (List ℕ)) (status : Status) (old new : Option (List ℕ)) → (list ≡ codes "-" → text ≡ given)
-    → (before after : Journal) → StoresNamed text status old new before after → StoresFromList list given status old new before after
-listed_named list given text status old new input before after stored = record { text = text; input = input; stored = stored }
+pub listed_named : (told : List ℕ → Option (List ℕ)) (list : List ℕ) (given text : Option (List ℕ)) (status : Status) (old new : Option (List ℕ))
+    → IsListed told list given text → (before after : Journal) → StoresNamed told text status old new before after
+    → StoresFromList told list given status old new before after
+listed_named told list given text status old new listed before after stored = record { text = text; listed = listed; stored = stored }
 
 -- ---- one number for another, one text for another
 
-pub other_count : (count other : ℕ) → count ≡ other → (status : Status) (old new : Option (List ℕ)) (before after : Journal)
-    → StoresPrinted count status old new before after → StoresPrinted other status old new before after
-other_count count other same status old new before after it = subst (λ (n : ℕ). StoresPrinted n status old new before after) same it
+pub other_count : (uploads named : List (Option (List ℕ))) → uploads ≡ named → (count other : ℕ) → count ≡ other → (status : Status) (old new : Option (List ℕ))
+    (before after : Journal) → StoresPrinted (just uploads) count status old new before after → StoresPrinted (just named) other status old new before after
+other_count uploads named are count other same status old new before after it =
+    subst (λ (us : List (Option (List ℕ))). StoresPrinted (just us) other status old new before after) are
+    (subst (λ (n : ℕ). StoresPrinted (just uploads) n status old new before after) same it)
 
-pub other_text : (text other : Option (List ℕ)) → text ≡ other → (status : Status) (old new : Option (List ℕ)) (before after : Journal)
-    → StoresNamed text status old new before after → StoresNamed other status old new before after
-other_text text other same status old new before after it =
-    subst (λ (t : Option (List ℕ)). StoresNamed t status old new before after) same it
+pub other_text : (told : List ℕ → Option (List ℕ)) (text other : Option (List ℕ)) → text ≡ other → (status : Status) (old new : Option (List ℕ))
+    (before after : Journal) → StoresNamed told text status old new before after → StoresNamed told other status old new before after
+other_text told text other same status old new before after it =
+    subst (λ (t : Option (List ℕ)). StoresNamed told t status old new before after) same it
 
 pub prepend_nothing : (known : Option (List ℕ)) → prepend_known [] known ≡ known
 prepend_nothing None = refl

@@ -1,6 +1,6 @@
 -- What is said of a result by what is said of another one.
 use Rattle.std.proofs.Common.{◌≡◌, ◌⊎◌, inl, inr, None, Ok, Err, Option, Result, Some, refl, subst, sym}
-use Rattle.std.specs.Prelude.{IfOk, IfErr, IfSome, MatchResult, OnOk}
+use Rattle.std.specs.Prelude.{IfOk, IfErr, IfSome, IsSomeAnd, MatchOption, MatchResult, OnOk}
 use Rattle.std.specs.Result.{result_ok}
 use Rattle.jc_keeper.specs.declared.keeper.KeepStop.{KeepStop}
 use Rattle.jc_collector.specs.declared.into_union.opening.OpenStop.{OpenStop}
@@ -27,7 +27,7 @@ IfErr-each (Ok x) P Q each p = tt
 IfErr-each (Err e) P Q each p = each e p
 
 -- a value that is another result's
-pub value_of_other : {C T E : Type 0} (r : Result C E) (done : Result T E) (value : C → T) (P : T → Type 0)
+pub value_of_other : {C T E F : Type 0} (r : Result C F) (done : Result T E) (value : C → T) (P : T → Type 0)
     → IfOk r (λ c. done ≡ Ok (value c)) → IfOk done P → IfOk r (λ c. P (value c))
 value_of_other (Ok c) done value P is p = subst (λ d. IfOk d P) is p
 value_of_other (Err e) done value P is p = tt
@@ -38,6 +38,18 @@ pub failure_of_other : {C T E : Type 0} (r : Result C E) (done : Result T E) (Mo
 failure_of_other (Ok c) done More P why p more = tt
 failure_of_other (Err e) done More P (inl is) p more = subst (λ d. IfErr d P) is p
 failure_of_other (Err e) done More P (inr its) p more = more e its
+
+-- the same where it is kept with more
+pub failure_in_other : {C T E F : Type 0} (r : Result C F) (done : Result T E) (failure : F → E) (More P : E → Type 0)
+    → IfErr r (λ f. (done ≡ Err (failure f)) ⊎ More (failure f)) → IfErr done P → ((e : E) → More e → P e) → IfErr r (λ f. P (failure f))
+failure_in_other (Ok c) done failure More P why p more = tt
+failure_in_other (Err f) done failure More P (inl is) p more = subst (λ d. IfErr d P) is p
+failure_in_other (Err f) done failure More P (inr its) p more = more (failure f) its
+
+-- what follows of a value that there is
+pub match_some : {X : Type 0} (o : Option X) (P Q : X → Type 0) (Nothing : Type 0) → IsSomeAnd o P → ((x : X) → P x → Q x) → MatchOption o Nothing Q
+match_some None P Q Nothing some each = absurd some
+match_some (Some x) P Q Nothing some each = each x some
 
 pub on_ok : {T E : Type 0} (r : Result T E) (x : T) (P : Type 0) → r ≡ Ok x → OnOk r P → P
 on_ok r x P is p = subst (λ d. OnOk d P) is p

@@ -2,7 +2,7 @@
 use Rattle.std.proofs.Common.{◌≡◌, ◌⊎◌, inl, inr, ℕ, List}
 use Rattle.std.specs.Prelude.{⊤}
 use Rattle.jc_command_shared.specs.declared.failure.Failure.{Failure}
-use Rattle.jc_command_shared.specs.declared.failure.Failure.TheVariants.{Bad, BadAnswer, BadDatabaseName, BadExportName, BadFieldName, BadId, BadResume, CannotOpen, OutOfMemory, ReadFailed, SourceChanged, StoreFailed, WordsAreNoText, WriteFailed}
+use Rattle.jc_command_shared.specs.declared.failure.Failure.TheVariants.{Bad, BadAnswer, BadDatabaseName, BadExportName, BadFieldName, BadId, BadLine, BadResume, BadUpload, CannotOpen, OutOfMemory, ReadFailed, SourceChanged, StoreFailed, WordsAreNoText, WriteFailed}
 use Rattle.jc_collector.specs.Database.{CollectFailsBy, DatabaseFailsBy}
 
 module _ (database : List ℕ) where
@@ -20,10 +20,12 @@ module _ (database : List ℕ) where
   by_collecting uploads SourceChanged why = why
   by_collecting uploads BadResume why = why
   by_collecting uploads (BadAnswer line) why = why
+  by_collecting uploads (BadLine line) why = why
   by_collecting uploads BadId why = why
   by_collecting uploads BadFieldName why = why
   by_collecting uploads BadDatabaseName why = why
   by_collecting uploads BadExportName why = tt
+  by_collecting uploads BadUpload why = why
   by_collecting uploads (CannotOpen at) why = inl why
   by_collecting uploads ReadFailed why = tt
   by_collecting uploads WriteFailed why = why

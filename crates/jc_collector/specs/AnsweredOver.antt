@@ -16,12 +16,13 @@ use Rattle.jc_collector.specs.Open.{HoldsOpen, LeavesOpen, Recovers, StandsOver,
 use Rattle.jc_collector.specs.OverFiles.{CollectsAll, KeepsStored}
 
 module _ (m : Meaning) {S : Type 0} (g : Ghosts S) (now : Held S) (Begins : Journal → Type 0) where
-  -- What is said whether the uploads' bytes are known or not: nothing that was stored is lost. What the printed lines
-  -- acknowledge is stored, and found after a crash, of those that were printed before a failure too. Whatever a crash leaves
-  -- is a journal.
-  pub record AnswersOver (Whole : Printing) (done : Result Status Failure) (old new : Option (List ℕ)) : Type 0 where
+  -- What is said whether the uploads' bytes are known or not: nothing that was stored is lost. The printed lines are the answers
+  -- to these uploads. What they acknowledge is stored, and found after a crash, of those that were printed before a failure
+  -- too. Whatever a crash leaves is a journal.
+  pub record AnswersOver (Whole : Printing) (AreUploads : List (Option (List ℕ)) → Type 0) (done : Result Status Failure) (old new : Option (List ℕ))
+      : Type 0 where
     pub kept : StandsOver m g now Begins KeepsStored
-    pub each : WhileClean g now Begins (λ before. HoldsPrinted Whole (HoldsOpen m g now before) done old new)
+    pub each : WhileClean g now Begins (λ before. HoldsPrinted Whole (HoldsOpen m g now AreUploads before) done old new)
     pub recovers : WhileClean g now Begins (λ _. Recovers m g now)
 
   -- What becomes of uploads with these bytes, and what a crash leaves of them.
@@ -34,9 +35,9 @@ module _ (m : Meaning) {S : Type 0} (g : Ghosts S) (now : Held S) (Begins : Jour
 -- ---- the same of a keeper over tables of either kind, for each journal that the files may have had in tables of its kind
 
 module _ {S : Type 0} (g : Ghosts S) (opened : OpenedOver S) (made : Tables) (image : Image) where
-  abbrev pub AnswersIn : Printing → (done : Result Status Failure) → (old new : Option (List ℕ)) → Type 0
-  AnswersIn Whole done old new =
-      AnswersOver (meaning_of (kind_of opened)) g (conn_of opened) (BeginsIn made (kind_of opened) image) Whole done old new
+  abbrev pub AnswersIn : Printing → (AreUploads : List (Option (List ℕ)) → Type 0) → (done : Result Status Failure) → (old new : Option (List ℕ)) → Type 0
+  AnswersIn Whole AreUploads done old new =
+      AnswersOver (meaning_of (kind_of opened)) g (conn_of opened) (BeginsIn made (kind_of opened) image) Whole AreUploads done old new
 
   abbrev pub CollectsIn : (uploads : List (List ℕ)) → (done : Result Status Failure) → (old new : Option (List ℕ)) → Type 0
   CollectsIn uploads done old new =

@@ -1,9 +1,7 @@
 -- The tables that `migrate` takes a journal from. (own)
-use Rattle.std.specs.Prelude.{◌≡◌, ◌↔◌, ⊤, IsSome, codes}
+use Rattle.std.specs.Prelude.{◌≡◌, ◌↔◌, ⊤}
 use Rattle.sqlite.specs.Store.{Ghosts}
 use Rattle.sqlite.specs.Recovery.{Image}
-use Rattle.sqlite.specs.Schema.{Schema}
-use Rattle.sqlite_schema.specs.Names.{table_named}
 use Rattle.sqlite.specs.Held.{Held, state}
 use Rattle.jc_base.specs.Journal.{Journal}
 use Rattle.jc_command_args.specs.declared.request.Tables.{Tables}
@@ -13,7 +11,7 @@ use Rattle.jc_schema_one.specs.Tables.{one}
 use Rattle.jc_schema_two.specs.Tables.{two}
 use Rattle.jc_schema_three.specs.Tables.{three}
 use Rattle.jc_database.specs.Files.{BeginsWith, EndsWith, InFiles, Keeps, LeadsOver}
-use Rattle.jc_collector.specs.Kinds.{meaning_of}
+use Rattle.jc_collector.specs.Kinds.{HasFields, meaning_of}
 use Rattle.jc_collector.specs.declared.earlier.Earlier.{Earlier}
 use Rattle.jc_collector.specs.declared.earlier.Earlier.TheVariants as earlier
 
@@ -47,10 +45,6 @@ abbrev pub EarlierOver : Type 0 → Type 0
 EarlierOver S = Earlier (Kept S) (Kept S)
 
 -- ---- a database
-
--- One of its tables is `field`, as it is if they are by key.
-abbrev pub HasFields : Schema → Type 0
-HasFields schema = IsSome (table_named schema (codes "field"))
 
 -- The tables that a connection has were taken for a journal's, by the kind that they tell.
 pub record IsTakenFrom {S : Type 0} (g : Ghosts S) (before : Held S) (taken : EarlierOver S) : Type 0 where

@@ -13,26 +13,30 @@ use Rattle.jc_collect.specs.declared.inspect.Inspected.TheVariants.{Bad, Over, U
 use Rattle.jc_command_shared.specs.declared.status.Status.{Status}
 use Rattle.jc_command_shared.specs.declared.status.Status.TheVariants.{Success, Refused}
 
--- `<id> <number>`, or `- -` if there is no key, and the newline
-abbrev pub key_end : Option Key → List ℕ
-key_end None = codes "- -" ++ 10 ∷ []
-key_end (Some key) = encode_lower key.seqnum_id.0 ++ (codes " " ++ decimal key.seqnum ++ 10 ∷ [])
+-- `<id> <number>`, or `- -` if there is no key
+abbrev pub key_text : Option Key → List ℕ
+key_text None = codes "- -"
+key_text (Some key) = encode_lower key.seqnum_id.0 ++ (codes " " ++ decimal key.seqnum)
+
+-- ... and how many windows are touched, and the newline
+abbrev pub end_text : Option Key → (windows : ℕ) → List ℕ
+end_text last windows = key_text last ++ (codes " " ++ decimal windows ++ 10 ∷ [])
 
 -- the code of an upload that passes a bound
 abbrev pub over_bounds : ℕ
 over_bounds = 6
 
--- `upload <source> <start> <count> <left> <id> <number>`, where the key is that of the last complete entry, or
+-- `upload <source> <start> <count> <left> <id> <number> <windows>`, where the key is that of the last complete entry, or
 -- `bad <code> <place>`, and the newline
 abbrev pub inspected_line : Inspected → List ℕ
-inspected_line (Upload source start count left last) =
+inspected_line (Upload source start count left last windows) =
     codes "upload " ++ (encode_lower source.0
-    ++ ((codes " " ++ decimal start ++ codes " " ++ decimal count ++ codes " " ++ decimal left ++ codes " ") ++ key_end last))
+    ++ ((codes " " ++ decimal start ++ codes " " ++ decimal count ++ codes " " ++ decimal left ++ codes " ") ++ end_text last windows))
 inspected_line (Bad fault) = codes "bad " ++ decimal (number_of fault.code) ++ codes " " ++ decimal fault.place ++ 10 ∷ []
 inspected_line (Over place) = codes "bad " ++ decimal over_bounds ++ codes " " ++ decimal place ++ 10 ∷ []
 
 abbrev pub inspected_status : Inspected → Status
-inspected_status (Upload source start count left last) = Success
+inspected_status (Upload source start count left last windows) = Success
 inspected_status (Bad fault) = Refused
 inspected_status (Over place) = Refused
 

@@ -1,9 +1,10 @@
 -- What `collect` makes of the union of finished databases and the one in its files. (own)
-use Rattle.std.specs.Prelude.{◌≡◌, ◌⊎◌, ⊤, ℕ, List, Option, codes}
+use Rattle.std.specs.Prelude.{◌≡◌, ◌⊎◌, ⊤, ℕ, List, Option}
 use Rattle.sqlite.specs.Recovery.{Image}
 use Rattle.jc_base.specs.Journal.{Journal}
 use Rattle.jc_base.specs.LogEntry.{LogEntry}
-use Rattle.jc_collect.specs.Each.{StoresEach}
+use Rattle.jc_collector_answers.specs.Collected.{StoresFirstOf, those_named, told_within}
+use Rattle.jc_collector_answers.specs.declared.name_lines.NameLines.TheVariants.{MachinesAndUploads}
 use Rattle.jc_collector_answers.specs.Tied.{NamedWith}
 use Rattle.jc_command_args.specs.declared.request.Tables.{Tables}
 use Rattle.jc_command_shared.specs.declared.failure.Failure.{Failure}
@@ -16,6 +17,7 @@ use Rattle.jc_ledger.specs.Union.{union}
 use Rattle.jc_collector.specs.Noted.{NotedFailsBy}
 use Rattle.jc_collector.specs.Database.{CollectFailsBy}
 use Rattle.jc_collector.specs.Kinds.{BeginsIn, meaning_of}
+use Rattle.jc_collector.specs.OverFiles.{IsListed}
 
 -- What a run does with the journal in the files that it began with, if their disks returned what was written and this holds
 -- of that journal. The tables stay of their kind.
@@ -25,22 +27,22 @@ LeadsIf made image o files Holds Step =
     o.clean files → (kind : Tables) (before : Journal) → BeginsIn made kind image before → Holds before
     → EndsWith (meaning_of kind) o files (Step before)
 
--- The line of an answer was printed for each line of a text, the status is theirs, and each acknowledged upload is stored in
--- the union of the finished databases and the present one. What is known is what these have.
+-- The line of an answer was printed for each line of a text, and the status is theirs. They are the answers to the uploads in
+-- the files that the lines name, by what is told of these, and each acknowledged one is stored in the union of the finished
+-- databases and the present one. What is known is what these have.
 -- What is noted of a database that was set aside counts as a finished one's. Of what else it has nothing is said: that may be
 -- stored once more.
-pub record StoresNotedNames (past : Journal) (known : Known) (came : LogEntry → Type 0) (text : Option (List ℕ)) (status : Status)
+pub record StoresNotedNames (told : List ℕ → Option (List ℕ)) (past : Journal) (known : Known) (came : LogEntry → Type 0) (text : Option (List ℕ)) (status : Status)
     (old new : Option (List ℕ)) (before after : Journal) : Type 0 where
   pub kept : IsKept known past after came
-  pub stored : NamedWith (λ answers. StoresEach (union past before) answers (union past after)) text status old new
+  pub stored : NamedWith (λ answers. StoresFirstOf (those_named told MachinesAndUploads text) (union past before) answers (union past after)) text status old new
 
--- The same of an answer for each line of a list. The list is given by its name, which is that of a file unless it is
--- standard input.
-pub record StoresNotedFromList (past : Journal) (known : Known) (came : LogEntry → Type 0) (list : List ℕ) (given : Option (List ℕ))
+-- The same of an answer for each line of a list, where windows of sequences may be bounded.
+pub record StoresNotedFromList (told : List ℕ → Option (List ℕ)) (most_windows : Option ℕ) (past : Journal) (known : Known) (came : LogEntry → Type 0) (list : List ℕ) (given : Option (List ℕ))
     (status : Status) (old new : Option (List ℕ)) (before after : Journal) : Type 0 where
   pub text : Option (List ℕ)
-  pub input : list ≡ codes "-" → text ≡ given
-  pub stored : StoresNotedNames past known came text status old new before after
+  pub listed : IsListed told list given text
+  pub stored : StoresNotedNames (told_within most_windows told) past known came text status old new before after
 
 -- Why a run over a union whose uploads lines name fails, once its present database is open.
 abbrev pub UnionStopsBy : Failure → Type 0

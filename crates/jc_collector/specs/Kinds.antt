@@ -1,5 +1,5 @@
 -- In which tables the journal of a database is, and what its files begin and end with. (own)
-use Rattle.std.specs.Prelude.{◌≡◌, ◌⊎◌, ◌↔◌, IsSome, IsSomeAnd, codes, option_and_then, slice_get}
+use Rattle.std.specs.Prelude.{◌≡◌, ◌⊎◌, ◌↔◌, IsSome, codes}
 use Rattle.std.specs.FinMap.{empty as none}
 use Rattle.sqlite.specs.Store.{Ghosts}
 use Rattle.sqlite.specs.Recovery.{Image}
@@ -15,8 +15,8 @@ use Rattle.jc_store.specs.Meaning.{AreMade, IsSound, KeepsJournal, Kept, Meaning
 use Rattle.jc_schema_two.specs.Tables.{two}
 use Rattle.jc_store.specs.Statements.{IsBlank, IsSame}
 use Rattle.jc_schema_two.specs.Adopting as of_two
-use Rattle.jc_schema_three.specs.Tables.{three}
-use Rattle.jc_schema_three.specs.Adopting as of_three
+use Rattle.jc_schema_one.specs.Adopting as of_texts
+use Rattle.jc_schema_three.specs.Tables.{kind_three, three}
 use Rattle.jc_database.specs.Files.{AreInOrder, EndsWith, HoldsJournal, HoldsNone, InFiles, IsFound}
 use Rattle.jc_collector.specs.declared.database.Opened.{Opened}
 use Rattle.jc_collector.specs.declared.database.Opened.TheVariants as opened
@@ -30,12 +30,12 @@ meaning_of ByNumber = three
 -- The tables are those of a kind as they are made, and nothing stands beside them.
 abbrev pub AreAlone : Tables → Database → Type 0
 AreAlone ByKey db = of_two.AreAlone db
-AreAlone ByNumber db = of_three.AreAlone db
+AreAlone ByNumber db = of_texts.AreAlone db
 
--- The tables show a journal of a kind: their version is its own, and each row shows an entry or a field of one.
+-- The tables show a journal of a kind: their version is its own, and each row shows an entry, or a field of one.
 abbrev pub Shows : Tables → State → Type 0
 Shows ByKey s = of_two.ShowsRecords s
-Shows ByNumber s = of_three.ShowsNumbers s
+Shows ByNumber s = of_texts.ShowsJournal kind_three s
 
 -- A keeper's kind, and its connection.
 abbrev pub kind_of : {K N : Type 0} → Opened K N → Tables
@@ -55,9 +55,9 @@ journal_in g opened = journal_of (meaning_of (kind_of opened)) g (conn_of opened
 
 -- ---- a database
 
--- Its table `record` has an integer for its key, as it has if fields are found by number.
-abbrev pub AreByNumber : Schema → Type 0
-AreByNumber schema = IsSomeAnd (option_and_then (slice_get schema.tables) (table_named schema (codes "record"))) (λ table. IsSome table.key)
+-- One of its tables is `record`, as it is if they are by key, or none is `entry`, as one is if they are by text.
+abbrev pub HasFields : Schema → Type 0
+HasFields schema = IsSome (table_named schema (codes "record")) ⊎ (¬ IsSome (table_named schema (codes "entry")))
 
 module _ {S : Type 0} (g : Ghosts S) (before : Held S) where
   -- Tables of a kind were made over a connection, of an empty journal.
@@ -70,7 +70,7 @@ module _ {S : Type 0} (g : Ghosts S) (before : Held S) where
 
   -- The tables that a connection has were taken for a journal's, by the kind that they tell.
   pub record IsAdoptedFrom (opened : OpenedOver S) : Type 0 where
-    pub kind : (kind_of opened ≡ ByNumber) ↔ AreByNumber (state g before).now.schema
+    pub kind : (kind_of opened ≡ ByKey) ↔ HasFields (state g before).now.schema
     pub sound : HasCleanDisk (state g (conn_of opened)) → IsSound g (conn_of opened)
     pub was_sound : IsSound g (conn_of opened) → IsSound g before
     pub keeps : KeepsJournal (meaning_of (kind_of opened)) g before (conn_of opened)

@@ -3,10 +3,12 @@ pub mod Database
 pub mod Adopted
 pub mod FromList
 pub mod Checked
+pub mod Compared
 pub mod Inspected
 pub mod Kinds
 pub mod Earlier
 pub mod OverFiles
+pub mod Exported
 pub mod IntoUnion
 pub mod Open
 pub mod Counted
@@ -18,4 +20,8 @@ pub mod Noted
 pub mod Noting
 pub mod UnionAnswered
 pub mod UnionLaws
+pub mod UnionLeft
+pub mod UnionLeftLaws
 pub mod UnionOpened
+pub mod UnionRun
+pub mod UnionRunLaws

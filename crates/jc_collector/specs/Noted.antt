@@ -1,9 +1,10 @@
 -- What answers over a union of databases say is stored and noted, and why there is no union. (own)
-use Rattle.std.specs.Prelude.{◌≡◌, ◌⊎◌, List, ⊤}
+use Rattle.std.specs.Prelude.{◌≡◌, ◌⊎◌, ℕ, List, Option, ⊤}
 use Rattle.jc_base.specs.declared.fault.Code.TheVariants.{Conflict}
 use Rattle.jc_base.specs.LogEntry.{LogEntry}
 use Rattle.jc_base.specs.Journal.{Journal}
-use Rattle.jc_collect.specs.Each.{KeepsEach, NoneAcknowledged, StoresEach}
+use Rattle.jc_collect.specs.Each.{NoneAcknowledged}
+use Rattle.jc_collector_answers.specs.Collected.{KeepsFirstOf, StoresFirstOf}
 use Rattle.jc_command_shared.specs.declared.failure.Failure.{Failure}
 use Rattle.jc_command_shared.specs.declared.failure.Failure.TheVariants.{Bad, OutOfMemory, StoreFailed, WriteFailed}
 use Rattle.jc_keeper.specs.declared.keeper.KeepStop.TheVariants as keep
@@ -15,14 +16,14 @@ use Rattle.jc_collector.specs.declared.into_union.opening.OpenStop.{OpenStop}
 use Rattle.jc_collector.specs.declared.into_union.opening.OpenStop.TheVariants as stop
 use Rattle.jc_upload.specs.declared.answer.Answer.{Answer}
 
--- What these answers acknowledge is stored in the union of the finished databases and the present one, as long as this is
--- sound, and if they acknowledge any, all that it has is noted. It is found in whatever a crash leaves of the present
--- database, which may be caught up by whatever it leaves of the notes.
-pub record HoldsNoted (past before after : Journal) (Sound : Type 0) (known : Known) (came : LogEntry → Type 0)
+-- What these answers acknowledge of some uploads is stored in the union of the finished databases and the present one, as long
+-- as this is sound, and if they acknowledge any, all that it has is noted. It is found in whatever a crash leaves of the
+-- present database, which may be caught up by whatever it leaves of the notes.
+pub record HoldsNoted (AreUploads : List (Option (List ℕ)) → Type 0) (past before after : Journal) (Sound : Type 0) (known : Known) (came : LogEntry → Type 0)
     (databases : Journal → Type 0) (ledgers : Known → Type 0) (answers : List Answer) : Type 0 where
-  pub stored : Sound → StoresEach (union past before) answers (union past after)
+  pub stored : Sound → StoresFirstOf AreUploads (union past before) answers (union past after)
   pub noted : Sound → NoneAcknowledged answers ⊎ IsKept known past after came
-  pub found : (left : Journal) → databases left → KeepsEach (union past before) answers (union past left)
+  pub found : (left : Journal) → databases left → KeepsFirstOf AreUploads (union past before) answers (union past left)
   pub lags : LeaveLagging databases ledgers past came
 
 -- Why a union isn't opened: with a fault, of which nothing is said here, or since a device or memory fails.

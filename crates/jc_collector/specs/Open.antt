@@ -1,11 +1,11 @@
 -- What is said of a database that a run has open. (own)
-use Rattle.std.specs.Prelude.{◌≡◌, List}
+use Rattle.std.specs.Prelude.{◌≡◌, ℕ, List, Option}
 use Rattle.sqlite.specs.Store.{Ghosts}
 use Rattle.sqlite.specs.Recovery.{Image}
 use Rattle.sqlite.specs.State.{HasCleanDisk}
 use Rattle.sqlite.specs.Held.{Held, state}
 use Rattle.jc_base.specs.Journal.{Journal}
-use Rattle.jc_collect.specs.Each.{KeepsEach, StoresEach}
+use Rattle.jc_collector_answers.specs.Collected.{KeepsFirstOf, StoresFirstOf}
 use Rattle.jc_command_args.specs.declared.request.Tables.{Tables}
 use Rattle.jc_store.specs.Crash.{LeavesJournals, MayLeave}
 use Rattle.jc_store.specs.Meaning.{AreMade, IsSound, Meaning, journal_of}
@@ -53,10 +53,10 @@ module _ (m : Meaning) {S : Type 0} (g : Ghosts S) where
     abbrev pub LeavesOpen : (Journal → Journal → Type 0) → Journal → Type 0
     LeavesOpen Kept before = (found : Journal) → MayLeave m g now found → Kept before found
 
-    -- What these answers acknowledge of some readings is stored, and found after a crash.
-    pub record HoldsOpen (before : Journal) (answers : List Answer) : Type 0 where
-      pub stored : IsSound g now → StoresEach before answers (journal_of m g now)
-      pub found : (found : Journal) → MayLeave m g now found → KeepsEach before answers found
+    -- What these answers acknowledge of some uploads is stored, and found after a crash.
+    pub record HoldsOpen (AreUploads : List (Option (List ℕ)) → Type 0) (before : Journal) (answers : List Answer) : Type 0 where
+      pub stored : IsSound g now → StoresFirstOf AreUploads before answers (journal_of m g now)
+      pub found : (found : Journal) → MayLeave m g now found → KeepsFirstOf AreUploads before answers found
 
 -- ---- the same of a keeper over tables of either kind
 
@@ -77,5 +77,5 @@ module _ {S : Type 0} (g : Ghosts S) (opened : OpenedOver S) where
   abbrev pub RecoversIn : Type 0
   RecoversIn = Recovers (meaning_of (kind_of opened)) g (conn_of opened)
 
-  abbrev pub HoldsIn : (before : Journal) → List Answer → Type 0
-  HoldsIn before answers = HoldsOpen (meaning_of (kind_of opened)) g (conn_of opened) before answers
+  abbrev pub HoldsIn : (AreUploads : List (Option (List ℕ)) → Type 0) → (before : Journal) → List Answer → Type 0
+  HoldsIn AreUploads before answers = HoldsOpen (meaning_of (kind_of opened)) g (conn_of opened) AreUploads before answers

@@ -9,23 +9,25 @@ use Rattle.jc_command_shared.specs.declared.status.Status.{Status}
 use Rattle.jc_keeper.specs.declared.keeper.Keeper as keepers
 use Rattle.jc_ledger.specs.declared.ledger.Ledger as ledgers
 use Rattle.jc_store.specs.Crash.{MayLeave}
-use Rattle.jc_store.specs.Meaning.{IsSound, Meaning, journal_of}
+use Rattle.jc_store.specs.Meaning.{AreMade, IsSound, Meaning, journal_of}
 use Rattle.jc_collector.specs.Noted.{HoldsNoted}
 use Rattle.jc_collector.specs.UnionOpened.{MayOpen}
 
 -- A union was to be opened of a present database and a ledger, and uploads were to be collected into it. This is what was
 -- answered, and the union afterwards, with the present database and the ledger that it has then. What the printed answers
--- acknowledge is stored and noted, and found after a crash, if the union might be opened: if printing failed, this holds of
--- those that were printed. Whatever a crash leaves, a union is made of it again.
+-- acknowledge of these uploads is stored and noted, and found after a crash, if the union might be opened: if printing failed,
+-- this holds of those that were printed. Whatever a crash leaves, a union is made of it again.
 pub record AnswersNoted (m : Meaning) {S N U F : Type 0} (g : Ghosts S) (n : ledgers.Ghosts N) (u : keepers.Ghosts U) (past : Journal) (Whole : Printing)
-    (present : Held S) (ledger : N) (union : U) (present_now : Held S) (ledger_now : N) (result : Result Status F) (printed printed_now : Option (List ℕ))
+    (AreUploads : List (Option (List ℕ)) → Type 0) (present : Held S) (ledger : N) (union : U) (present_now : Held S) (ledger_now : N) (result : Result Status F) (printed printed_now : Option (List ℕ))
     : Type 0 where
   -- what the printed lines acknowledge is stored and noted, and found after a crash
   pub each : u.clean union → MayOpen m g present (n.known ledger) past (n.came ledger) → n.sound ledger
-      → HoldsPrinted Whole (HoldsNoted past (journal_of m g present) (journal_of m g present_now) (u.sound union) (n.known ledger_now) (n.came ledger_now)
+      → HoldsPrinted Whole (HoldsNoted AreUploads past (journal_of m g present) (journal_of m g present_now) (u.sound union) (n.known ledger_now) (n.came ledger_now)
       (MayLeave m g present_now) (n.may_leave ledger_now)) result printed printed_now
   -- whatever a crash leaves, a union is made of it again
   pub recovers : u.clean union → MayOpen m g present (n.known ledger) past (n.came ledger) → n.sound ledger → u.leaves_journals union
+  -- the present database's tables are as they are made, whether it was opened or not
+  pub tables : u.clean union → MayOpen m g present (n.known ledger) past (n.came ledger) → AreMade m g present_now
   pub is_made : u.clean union → MayOpen m g present (n.known ledger) past (n.came ledger) → OnOk result (u.made union)
   -- what is sound now was sound before, and what has returned what was written had done so before
   pub was_sound : u.sound union → IsSound g present × n.sound ledger

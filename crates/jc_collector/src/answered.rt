@@ -1,17 +1,20 @@
 //! Uploads answered over a database that is opened or made: all that `collect` does before the database is closed.
 
-ghost use Rattle.std.specs.Prelude.{◌≡◌, ℕ, List, Some, IfOk, IfErr, length, map, option_map, ⊤};
+ghost use Rattle.std.specs.Prelude.{◌≡◌, ℕ, List, Some, IfOk, IfErr, OnOk, length, map, option_map, ⊤};
 ghost use Rattle.std.specs.Io.KnownBytes.{Keeps};
 ghost use Rattle.sqlite.specs.State.{HasCleanDisk};
 ghost use Rattle.sqlite.specs.Held.{state};
 ghost use Rattle.jc_collect.specs.Delivered.{of_delivery};
 ghost use Rattle.jc_collector_answers.specs.Answered.{PrintsAnswers};
+ghost use Rattle.jc_collector_answers.specs.Collected.{just, those_named};
 ghost use Rattle.jc_collector_answers.specs.Named.{PrintsNamed};
 ghost use Rattle.jc_collector_answers.specs.Tied.{NamedWith, PrintsWith};
 ghost use Rattle.jc_collector.specs.AnsweredOver.{AnswersIn, AnswersOver, CollectsIn, CollectsOver};
 ghost use Rattle.jc_collector.specs.Counted.{PrintsCounted};
 ghost use Rattle.jc_collector.specs.Database.{DatabaseFailsBy, IsOutFailure, MayEndNames, MayStop};
-ghost use Rattle.jc_collector.specs.Open.{Begun, HasKind};
+ghost use Rattle.jc_collector.specs.Exported.{OpensAndExports, ReplacesIf};
+ghost use Rattle.jc_keeper.specs.Listing.{export_text};
+ghost use Rattle.jc_collector.specs.Open.{Begun, HasKind, StandsIn, StandsOver};
 ghost use Rattle.jc_command_shared.specs.Deeds.{ChangesOnly, IsReplacedIf, OpensAndChanges};
 
 use crate::database::{Opened, OpenedFiles, open_or_make};
@@ -20,6 +23,7 @@ use crate::then_export::export_after;
 use crate::uploads::{Deliveries, NamedUploads, Uploads};
 use jc_base::ByteStream;
 use jc_collect::Delivery;
+use jc_collector_answers::NameLines;
 use jc_command_args::Tables;
 use jc_command_shared::{Failure, Status, System};
 use jc_database::{Databases, OpenFromFiles, StoreInFiles, sound_leaves_journals};
@@ -46,9 +50,9 @@ pub fn answer_deliveries<'a, Y: Databases, F: OpenFromFiles, R: ByteStream, B: B
     output: &mut O,
 ) -> Result<Answered<'a, OpenedFiles<F>>, Failure<'a>>
     ensures kind { IfOk result (λ run. HasKind F.Store run.keeper tables F.first) }
-    // What the printed lines acknowledge is stored, and found after a crash.
-    ensures answers { IfOk result (λ run. AnswersIn F.Store run.keeper tables F.first (λ Holds. PrintsWith Holds (length deliveries.old)) run.done
-        (O.contents output.old) (O.contents output.new)) }
+    // The answers are those to these uploads. What the printed lines acknowledge is stored, and found after a crash.
+    ensures answers { IfOk result (λ run. AnswersIn F.Store run.keeper tables F.first (λ Holds. PrintsWith Holds (length deliveries.old))
+        (just (map (of_delivery R.remaining B.bytes) deliveries.old)) run.done (O.contents output.old) (O.contents output.new)) }
     // What becomes of uploads whose bytes are known.
     ensures collected { (uploads : List (List ℕ)) → map (of_delivery R.remaining B.bytes) deliveries.old ≡ map (λ u. Some u) uploads
         → IfOk result (λ run. CollectsIn F.Store run.keeper tables F.first uploads run.done (O.contents output.old) (O.contents output.new)) }
@@ -81,9 +85,9 @@ pub fn answer_lines<'a, Y: Databases, F: OpenFromFiles, L: BufRead, O: Write, E:
     errors: &mut E,
 ) -> Result<Answered<'a, OpenedFiles<F>>, Failure<'a>>
     ensures kind { IfOk result (λ run. HasKind F.Store run.keeper tables F.first) }
-    // What the printed lines acknowledge is stored, and found after a crash.
-    ensures answers { IfOk result (λ run. AnswersIn F.Store run.keeper tables F.first (λ Holds. NamedWith Holds (L.remaining names.old)) run.done
-        (O.contents output.old) (O.contents output.new)) }
+    // The answers are those to these uploads. What the printed lines acknowledge is stored, and found after a crash.
+    ensures answers { IfOk result (λ run. AnswersIn F.Store run.keeper tables F.first (λ Holds. NamedWith Holds (L.remaining names.old))
+        (those_named Y.told NameLines.Uploads (L.remaining names.old)) run.done (O.contents output.old) (O.contents output.new)) }
     ensures printed { IfOk result (λ run. IfOk run.done (λ status.
         PrintsNamed (L.remaining names.old) status (O.contents output.old) (O.contents output.new))) }
     ensures quiet { IfOk result (λ run. IfOk run.done (λ status. status ≡ Status.Success
@@ -113,14 +117,17 @@ pub(crate) fn answer_uploads<'a, Y: Databases, F: OpenFromFiles, E, U: Uploads<E
     errors: &mut E,
 ) -> Result<Answered<'a, OpenedFiles<F>>, Failure<'a>>
     ensures kind { IfOk result (λ run. HasKind F.Store run.keeper target.entry.tables F.first) }
-    ensures answers { IfOk result (λ run. AnswersIn F.Store run.keeper target.entry.tables F.first (PrintsCounted (U.counts uploads)) run.done
-        (O.contents output.old) (O.contents output.new)) }
+    ensures answers { IfOk result (λ run. AnswersIn F.Store run.keeper target.entry.tables F.first (PrintsCounted (U.counts uploads))
+        (U.are Y.told uploads) run.done (O.contents output.old) (O.contents output.new)) }
     ensures collected { (known : List (List ℕ)) → U.have uploads known → IfOk result (λ run.
         CollectsIn F.Store run.keeper target.entry.tables F.first known run.done (O.contents output.old) (O.contents output.new)) }
     ensures printed { IfOk result (λ run. IfOk run.done (λ status.
         PrintsCounted (U.counts uploads) (λ _. ⊤) status (O.contents output.old) (O.contents output.new))) }
     ensures quiet { IfOk result (λ run. IfOk run.done (λ status. status ≡ Status.Success → U.keeps_quiet errors.old errors.new)) }
     ensures stopped { IfOk result (λ run. IfErr run.done (MayStop U.are_read)) }
+    // The journal that is there then was exported, if a path is given.
+    ensures exported { IfOk result (λ run. OnOk run.done (StandsIn F.Store run.keeper target.entry.tables F.first (λ _.
+        OpensAndExports target.entry.database.now (option_map (λ name. name.now) target.entry.then_export) (Y.deeds rt.old) (Y.deeds rt.new)))) }
     ensures failed { IfErr result (DatabaseFailsBy target.entry.database.now) }
     ensures untouched { IfErr result (λ _. Keeps (O.contents output.old) (O.contents output.new)) }
     ensures touched { OpensAndChanges target.entry.database.now (IsReplacedIf (option_map (λ name. name.now) target.entry.then_export))
@@ -165,8 +172,8 @@ fn answer_over<'a, Y: System, F: StoreInFiles, L: Listed, E, U: Uploads<E>, O: W
     errors: &mut E,
 ) -> Result<Status, Failure<'a>>
     ensures clean { HasCleanDisk (state F.Store keeper.new.conn) → HasCleanDisk (state F.Store keeper.old.conn) }
-    ensures answers { AnswersOver L.meaning F.Store keeper.new.conn (Begun L.meaning F.Store keeper.old.conn) (PrintsCounted (U.counts uploads)) result
-        (O.contents output.old) (O.contents output.new) }
+    ensures answers { AnswersOver L.meaning F.Store keeper.new.conn (Begun L.meaning F.Store keeper.old.conn) (PrintsCounted (U.counts uploads))
+        (U.are Y.told uploads) result (O.contents output.old) (O.contents output.new) }
     ensures collected { (known : List (List ℕ)) → U.have uploads known
         → CollectsOver L.meaning F.Store keeper.new.conn (Begun L.meaning F.Store keeper.old.conn) known result
         (O.contents output.old) (O.contents output.new) }
@@ -174,6 +181,8 @@ fn answer_over<'a, Y: System, F: StoreInFiles, L: Listed, E, U: Uploads<E>, O: W
         PrintsCounted (U.counts uploads) (λ _. ⊤) status (O.contents output.old) (O.contents output.new)) }
     ensures quiet { IfOk result (λ status. status ≡ Status.Success → U.keeps_quiet errors.old errors.new) }
     ensures stopped { IfErr result (MayStop U.are_read) }
+    ensures exported { OnOk result (StandsOver L.meaning F.Store keeper.new.conn (Begun L.meaning F.Store keeper.old.conn) (λ _ after.
+        ReplacesIf (option_map (λ name. name.now) then_export.entry) (export_text after) (Y.deeds rt.old) (Y.deeds rt.new))) }
     ensures touched { ChangesOnly (IsReplacedIf (option_map (λ name. name.now) then_export.entry)) (Y.deeds rt.old) (Y.deeds rt.new) }
 {
     // Does nothing: from its contract the proof has what might have been left before.

@@ -1,24 +1,23 @@
-//! The databases that `migrate` takes over to tables by number, opened.
+//! The databases that `migrate` takes over to tables of version 3, opened.
 
-ghost use Rattle.std.specs.Prelude.{◌↔◌, IfOk, IfErr, IfSome, IsSome, IsTrue};
+ghost use Rattle.std.specs.Prelude.{IfOk, IfErr, IfSome, IsSome};
 ghost use Rattle.sqlite.specs.Recovery.{Image};
 ghost use Rattle.jc_database.specs.Left.{IsFrom, LeavesAsBefore};
 ghost use Rattle.jc_collector.specs.Database.{WhyNoJournal, WhyNoTables};
-ghost use Rattle.jc_collector.specs.Earlier.{HasFields, IsEarlierFound, IsTakenFrom};
+ghost use Rattle.jc_collector.specs.Earlier.{IsEarlierFound, IsTakenFrom};
 ghost use Rattle.jc_command_shared.specs.Deeds.{OpensOnce};
 ghost use Rattle.jc_collector.specs.Unopened.{HandsBack};
 
-use crate::database::{adopt_tables, connect_there, schema_of};
+use crate::database::{adopt_tables, connect_there, has_fields, schema_of};
 use crate::unopened::Unopened;
 use jc_database::{Databases, OpenFromFiles, StoreInFiles};
 use jc_schema_one::SqlKeeper1;
 use jc_schema_two::SchemaTwo;
 use jc_store::TableKeeper;
 use sqlite::Connection;
-use sqlite_schema::schema::Schema;
 use std::alloc::Global;
 
-/// A keeper of a journal in tables of an earlier kind than those by number.
+/// A keeper of a journal in tables of an earlier kind than those of version 3.
 #[derive(Drop)]
 pub(crate) enum Earlier<O: Drop, K: Drop> {
     Oldest(O),
@@ -64,12 +63,4 @@ fn adopt_earlier<'a, F: StoreInFiles>(
         Ok(keeper) => Ok(Earlier::ByKey(keeper)),
         Err(unopened) => Err(unopened),
     }
-}
-
-/// Whether the tables may be by key: one of them is `field`. Beside those of schema 1 one with that name, which another
-/// program made, would be in the way of tables by number.
-fn has_fields(schema: &Schema) -> bool
-    ensures { IsTrue result ↔ HasFields schema.now }
-{
-    schema.table_named(b"field".as_slice()).is_some()
 }

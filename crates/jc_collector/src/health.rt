@@ -122,6 +122,14 @@ fn read_health<'a, Y: Databases, F: OpenFromFiles>(
     }
 }
 
+/// What is said of a database that has no journal, so that its files aren't given back.
+pub(crate) fn refused_as<T: Drop, C: Drop>(value: T) -> Examined<T, C>
+    ensures value { result.value ≡ value }
+    ensures files { result.files ≡ None }
+{
+    Examined { value, files: None }
+}
+
 /// What is said of a database with this fault. It has no journal, and so its files aren't given back.
 pub(crate) fn refused<C: Drop>(fault: Fault) -> Examined<Health, C>
     ensures value { result.value ≡ Health.Bad fault }

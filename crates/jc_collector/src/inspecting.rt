@@ -3,7 +3,7 @@
 ghost use Rattle.std.specs.Prelude.{◌≡◌, ◌≢◌, ◌⊎◌, ℕ, List, Some, IfOk, IfErr, OnOk};
 ghost use Rattle.std.specs.Io.KnownBytes.{Appends, Keeps};
 ghost use Rattle.jc_collect.specs.Delivered.{of_delivery};
-ghost use Rattle.jc_collector.specs.Inspected.{PrintsInspected, PrintsSomeInspected, PrintsInspectedOf, inspected_line, inspected_status, key_end};
+ghost use Rattle.jc_collector.specs.Inspected.{PrintsInspected, PrintsSomeInspected, PrintsInspectedOf, end_text, inspected_line, inspected_status, key_text};
 
 use jc_base::{ByteStream, Key, Limits};
 use jc_collect::{Bounds, Delivery, Inspected, inspect_one};
@@ -25,6 +25,9 @@ pub fn inspect<'a, R: System, O: Write>(
     output: &mut O,
 ) -> Result<Status, Failure<'a>>
     ensures printed { IfOk result (λ status. PrintsSomeInspected status (O.contents output.old) (O.contents output.new)) }
+    // If it is told what the file has, the line is what that says.
+    ensures says { (upload : List ℕ) → R.told file.now ≡ Some upload
+        → IfOk result (λ status. PrintsInspectedOf bounds.now upload status (O.contents output.old) (O.contents output.new)) }
     ensures failed { IfErr result (λ failure. (failure ≡ Failure.CannotOpen file.entry) ⊎ (failure ≡ Failure.ReadFailed)
         ⊎ (failure ≡ Failure.WriteFailed) ⊎ (failure ≡ Failure.OutOfMemory)) }
     ensures untouched { IfErr result (λ failure. failure ≢ Failure.WriteFailed
@@ -86,27 +89,37 @@ fn put_inspected<O: Write>(inspected: &Inspected, output: &mut O) -> io::Result<
             count,
             left,
             last,
+            windows,
         } => {
             output.write_all(b"upload ")?;
             output.write_all(&source.to_hex())?;
             write!(output, " {start} {count} {left} ")?;
-            put_key(last, output)
+            put_end(last, windows, output)
         }
         Inspected::Bad(fault) => writeln!(output, "bad {} {}", fault.code, fault.place),
         Inspected::Over(place) => writeln!(output, "bad {OVER_BOUNDS} {place}"),
     }
 }
 
-/// Writes the end of a line: a key, if there is one.
+/// Writes the end of a line: a key, if there is one, and a number of windows.
+#[tactic(auto, using(crate::proofs::Inspections::end_put))]
+fn put_end<O: Write>(last: Option<Key>, windows: u64, output: &mut O) -> io::Result<()>
+    ensures { OnOk result (Appends (O.contents output.old) (O.contents output.new) (end_text last windows)) }
+{
+    put_key(last, output)?;
+    writeln!(output, " {windows}")
+}
+
+/// Writes a key, if there is one.
 #[tactic(auto, using(crate::proofs::Inspections::key_put))]
 fn put_key<O: Write>(key: Option<Key>, output: &mut O) -> io::Result<()>
-    ensures { OnOk result (Appends (O.contents output.old) (O.contents output.new) (key_end key)) }
+    ensures { OnOk result (Appends (O.contents output.old) (O.contents output.new) (key_text key)) }
 {
     match key {
         Some(Key { seqnum_id, seqnum }) => {
             output.write_all(&seqnum_id.to_hex())?;
-            writeln!(output, " {seqnum}")
+            write!(output, " {seqnum}")
         }
-        None => writeln!(output, "- -"),
+        None => write!(output, "- -"),
     }
 }

@@ -1,20 +1,25 @@
 //! `collect --sequences`: uploads that a list names, taken up into the union of finished databases and the present one.
 
-ghost use Rattle.std.specs.Prelude.{◌≡◌, ◌≢◌, ◌⊎◌, ◌∷◌, [], IfOk, IfErr, option_map};
+ghost use Rattle.std.specs.Prelude.{◌≡◌, ◌≢◌, ◌⊎◌, ◌∷◌, [], IfOk, IfErr, OnOk, option_map};
 ghost use Rattle.std.specs.Io.KnownBytes.{Keeps as KeepsBytes};
-ghost use Rattle.jc_base.specs.Journal.{Journal};
+ghost use Rattle.sqlite.specs.Recovery.{Image};
+ghost use Rattle.jc_command_args.specs.declared.request.Tables.{Tables as Kind};
 ghost use Rattle.jc_command_shared.specs.Failure.{status_of};
+ghost use Rattle.jc_collector_answers.specs.Collected.{those_named, told_within};
 ghost use Rattle.jc_collector_answers.specs.Named.{PrintsNamed};
 ghost use Rattle.jc_collector_answers.specs.Tied.{NamedWith};
-ghost use Rattle.jc_database.specs.Files.{EndsWith, Keeps};
+ghost use Rattle.jc_database.specs.Files.{AreLawful};
 ghost use Rattle.jc_ledger.specs.Kept.{NoneCollide};
 ghost use Rattle.jc_ledger.specs.Lagging.{MayCatchUp};
-ghost use Rattle.jc_store.specs.Meaning.{IsSound};
+ghost use Rattle.jc_store.specs.Meaning.{IsSound, journal_of};
 ghost use Rattle.jc_collector.specs.UnionAnswered.{AnswersNoted};
 ghost use Rattle.jc_collector.specs.Database.{DatabaseFailsBy};
-ghost use Rattle.jc_collector.specs.IntoUnion.{LeadsIf, StoresNotedFromList, StoresNotedNames, UnionFailsBy, UnionStopsBy};
-ghost use Rattle.jc_collector.specs.FromList.{PrintsFromList};
+ghost use Rattle.jc_collector.specs.IntoUnion.{LeadsIf, UnionFailsBy, UnionStopsBy};
+ghost use Rattle.jc_collector.specs.UnionRun.{IsFoundAs, RunsFromList, RunsNoted};
 ghost use Rattle.jc_command_shared.specs.Deeds.{ChangesOnly, IsReplacedIf, OpensAndChanges};
+ghost use Rattle.jc_collector.specs.Exported.{OpensAndExports, ReplacesIf};
+ghost use Rattle.jc_collector.specs.UnionOpened.{MayOpen};
+ghost use Rattle.jc_keeper.specs.Listing.{export_text};
 
 mod closing;
 mod listing;
@@ -26,8 +31,8 @@ use crate::database::{Opened, open_or_make};
 use crate::from_list::list_source;
 use crate::target::Target;
 use crate::then_export::{check_names, export_after};
-pub use closing::{AnsweredUnion, NotedRun};
-use jc_collector_answers::{NameLines, answer_names};
+pub use closing::{AnsweredUnion, FailedRun, NotedLeft, NotedRun};
+use jc_collector_answers::{NameLines, answer_names_within};
 use jc_command_args::Tables;
 use jc_command_shared::{Failure, Status, System};
 use jc_database::{Databases, OpenFromFiles, StoreInFiles};
@@ -36,6 +41,7 @@ use jc_ledger::{Ledger, Past};
 use jc_schema_three::SchemaThree;
 use jc_schema_two::SchemaTwo;
 use jc_store::{Listed, TableKeeper};
+pub(crate) use listing::list_present;
 pub use opening::{OpenStop, OpenedUnion, TableUnion, open_union};
 use sqlite::Alter;
 use std::io::{BufRead, BufReader, Read, Write};
@@ -43,7 +49,8 @@ use std::io::{BufRead, BufReader, Read, Write};
 /// Takes the uploads that the lines of a list name up into the union of the databases that are finished and the present
 /// one, which is made if there is none, and prints an answer for each line. The export and the status are as
 /// `collect_from_list` has them, and so is the list, but that a line may name the machine before a tab. It fails besides with
-/// a fault if an entry of the present database isn't the one that is noted, or is over the limits.
+/// a fault if an entry of the present database isn't the one that is noted, or is over the limits. If windows of sequences
+/// are bounded, an upload that touches more is refused.
 pub fn collect_into_union<
     'a,
     Y: Databases,
@@ -60,22 +67,21 @@ pub fn collect_into_union<
     database: &'a str,
     tables: Tables,
     list: &'a str,
+    most_windows: Option<u64>,
     then_export: Option<&'a str>,
     input: &mut I,
     output: &mut O,
     errors: &mut E,
-) -> Result<NotedRun<F::Files, L>, Failure<'a>>
-    // What the printed lines acknowledge is stored in the union, if what was noted is what the finished databases have, and
-    // some of what the present one had. Then what is noted is what they have.
-    ensures each { IfOk result (λ run. LeadsIf tables F.first F.in_files run.files
+) -> Result<NotedRun<F::Files, L>, FailedRun<'a, F::Left, L>>
+    // Line by line the answers are those to the uploads in the files that the lines name, and what they acknowledge is stored in
+    // the union and noted. If it fails, what the lines acknowledge that were printed before is in what is left.
+    ensures runs { RunsFromList F.in_files L.Ledger tables F.first Y.told most_windows P.journal ledger list.now (I.remaining input.old)
+        result (O.contents output.old) (O.contents output.new) (E.contents errors.old) (E.contents errors.new) }
+    // If so, the present database's journal was exported, if a path is given.
+    ensures exported { IfOk result (λ run. LeadsIf tables F.first F.in_files run.files
         (λ before. MayCatchUp (L.known ledger) P.journal before (L.came ledger) × L.sound run.ledger × NoneCollide (L.came run.ledger))
-        (StoresNotedFromList P.journal (L.known run.ledger) (L.came run.ledger) list.now (I.remaining input.old) run.status
-        (O.contents output.old) (O.contents output.new))) }
-    ensures printed { IfOk result (λ run. PrintsFromList list.now (I.remaining input.old) run.status (O.contents output.old) (O.contents output.new)) }
-    ensures quiet { IfOk result (λ run. run.status ≡ Status.Success → KeepsBytes (E.contents errors.old) (E.contents errors.new)) }
-    ensures failed { IfErr result (UnionFailsBy database.now (list.now ∷ [])) }
-    ensures untouched { IfErr result (λ failure. status_of failure ≢ Status.Failed
-        → KeepsBytes (O.contents output.old) (O.contents output.new)) }
+        (λ _. OpensAndExports database.now (option_map (λ name. name.now) then_export.entry) (Y.deeds rt.old) (Y.deeds rt.new))) }
+    ensures failed { IfErr result (λ run. UnionFailsBy database.now (list.now ∷ []) run.failure) }
     ensures touched { OpensAndChanges database.now (IsReplacedIf (option_map (λ name. name.now) then_export.entry))
         (Y.deeds rt.old) (Y.deeds rt.new) }
 {
@@ -87,7 +93,7 @@ pub fn collect_into_union<
         tables,
         then_export,
     };
-    join_lines::<_, F, L, P, _, _, _>(rt, target, ledger, source, output, errors)
+    join_lines::<_, F, L, P, _, _, _>(rt, target, ledger, source, most_windows, output, errors)
 }
 
 /// Takes up the uploads that the lines of a reader name, which are read through a buffer.
@@ -106,27 +112,23 @@ fn join_lines<
     target: Target<'a, F::Start>,
     ledger: L,
     list: N,
+    most_windows: Option<u64>,
     output: &mut O,
     errors: &mut E,
-) -> Result<NotedRun<F::Files, L>, Failure<'a>>
-    // What the printed lines acknowledge is stored in the union, if what was noted is what the finished databases have, and
-    // some of what the present one had. Then what is noted is what they have.
-    ensures each { IfOk result (λ run. LeadsIf target.entry.tables F.first F.in_files run.files
+) -> Result<NotedRun<F::Files, L>, FailedRun<'a, F::Left, L>>
+    ensures runs { RunsNoted F.in_files L.Ledger target.entry.tables F.first (told_within most_windows Y.told) P.journal ledger (N.remaining list)
+        result (O.contents output.old) (O.contents output.new) (E.contents errors.old) (E.contents errors.new) }
+    ensures exported { IfOk result (λ run. LeadsIf target.entry.tables F.first F.in_files run.files
         (λ before. MayCatchUp (L.known ledger) P.journal before (L.came ledger) × L.sound run.ledger × NoneCollide (L.came run.ledger))
-        (StoresNotedNames P.journal (L.known run.ledger) (L.came run.ledger) (N.remaining list) run.status
-        (O.contents output.old) (O.contents output.new))) }
-    ensures printed { IfOk result (λ run. PrintsNamed (N.remaining list) run.status (O.contents output.old) (O.contents output.new)) }
-    ensures quiet { IfOk result (λ run. run.status ≡ Status.Success → KeepsBytes (E.contents errors.old) (E.contents errors.new)) }
-    ensures failed { IfErr result (λ failure. UnionStopsBy failure ⊎ DatabaseFailsBy target.entry.database.now failure) }
-    ensures untouched { IfErr result (λ failure. status_of failure ≢ Status.Failed
-        → KeepsBytes (O.contents output.old) (O.contents output.new)) }
+        (λ _. OpensAndExports target.entry.database.now (option_map (λ name. name.now) target.entry.then_export) (Y.deeds rt.old) (Y.deeds rt.new))) }
+    ensures failed { IfErr result (λ run. UnionStopsBy run.failure ⊎ DatabaseFailsBy target.entry.database.now run.failure) }
     ensures touched { OpensAndChanges target.entry.database.now (IsReplacedIf (option_map (λ name. name.now) target.entry.then_export))
         (Y.deeds rt.old) (Y.deeds rt.new) }
 {
     let Ok(mut names) = BufReader::new(rt.alloc(), list) else {
-        return Err(Failure::OutOfMemory);
+        return Err(FailedRun::from(Failure::OutOfMemory));
     };
-    join_names::<_, F, L, P, _, _, _>(rt, target, ledger, &mut names, output, errors)
+    join_names::<_, F, L, P, _, _, _>(rt, target, ledger, &mut names, most_windows, output, errors)
 }
 
 /// Takes up the uploads that lines name.
@@ -144,20 +146,16 @@ fn join_names<
     target: Target<'a, F::Start>,
     ledger: L,
     names: &mut N,
+    most_windows: Option<u64>,
     output: &mut O,
     errors: &mut E,
-) -> Result<NotedRun<F::Files, L>, Failure<'a>>
-    // What the printed lines acknowledge is stored in the union, if what was noted is what the finished databases have, and
-    // some of what the present one had. Then what is noted is what they have.
-    ensures each { IfOk result (λ run. LeadsIf target.entry.tables F.first F.in_files run.files
+) -> Result<NotedRun<F::Files, L>, FailedRun<'a, F::Left, L>>
+    ensures runs { RunsNoted F.in_files L.Ledger target.entry.tables F.first (told_within most_windows Y.told) P.journal ledger (N.remaining names.old)
+        result (O.contents output.old) (O.contents output.new) (E.contents errors.old) (E.contents errors.new) }
+    ensures exported { IfOk result (λ run. LeadsIf target.entry.tables F.first F.in_files run.files
         (λ before. MayCatchUp (L.known ledger) P.journal before (L.came ledger) × L.sound run.ledger × NoneCollide (L.came run.ledger))
-        (StoresNotedNames P.journal (L.known run.ledger) (L.came run.ledger) (N.remaining names.old) run.status
-        (O.contents output.old) (O.contents output.new))) }
-    ensures printed { IfOk result (λ run. PrintsNamed (N.remaining names.old) run.status (O.contents output.old) (O.contents output.new)) }
-    ensures quiet { IfOk result (λ run. run.status ≡ Status.Success → KeepsBytes (E.contents errors.old) (E.contents errors.new)) }
-    ensures failed { IfErr result (λ failure. UnionStopsBy failure ⊎ DatabaseFailsBy target.entry.database.now failure) }
-    ensures untouched { IfErr result (λ failure. status_of failure ≢ Status.Failed
-        → KeepsBytes (O.contents output.old) (O.contents output.new)) }
+        (λ _. OpensAndExports target.entry.database.now (option_map (λ name. name.now) target.entry.then_export) (Y.deeds rt.old) (Y.deeds rt.new))) }
+    ensures failed { IfErr result (λ run. UnionStopsBy run.failure ⊎ DatabaseFailsBy target.entry.database.now run.failure) }
     ensures touched { OpensAndChanges target.entry.database.now (IsReplacedIf (option_map (λ name. name.now) target.entry.then_export))
         (Y.deeds rt.old) (Y.deeds rt.new) }
 {
@@ -174,6 +172,7 @@ fn join_names<
             ledger,
             then_export,
             names,
+            most_windows,
             output,
             errors,
         ),
@@ -183,6 +182,7 @@ fn join_names<
             ledger,
             then_export,
             names,
+            most_windows,
             output,
             errors,
         ),
@@ -206,21 +206,19 @@ fn join_over<
     ledger: L,
     then_export: Option<&'a str>,
     names: &mut N,
+    most_windows: Option<u64>,
     output: &mut O,
     errors: &mut E,
-) -> Result<NotedRun<F::Files, L>, Failure<'a>>
-    ensures each { IfOk result (λ run. F.in_files.clean run.files → (before : Journal)
-        → Keeps T.meaning F.Store present.conn before → MayCatchUp (L.known ledger) P.journal before (L.came ledger) → L.sound run.ledger
-        → NoneCollide (L.came run.ledger) → EndsWith T.meaning F.in_files run.files
-        (StoresNotedNames P.journal (L.known run.ledger) (L.came run.ledger) (N.remaining names.old) run.status
-        (O.contents output.old) (O.contents output.new) before)) }
-    ensures sound { IfOk result (λ run. F.in_files.clean run.files → L.sound run.ledger
-        → NoneCollide (L.came run.ledger) → IsSound F.Store present.conn) }
-    ensures printed { IfOk result (λ run. PrintsNamed (N.remaining names.old) run.status (O.contents output.old) (O.contents output.new)) }
-    ensures quiet { IfOk result (λ run. run.status ≡ Status.Success → KeepsBytes (E.contents errors.old) (E.contents errors.new)) }
-    ensures failed { IfErr result UnionStopsBy }
-    ensures untouched { IfErr result (λ failure. status_of failure ≢ Status.Failed
-        → KeepsBytes (O.contents output.old) (O.contents output.new)) }
+) -> Result<NotedRun<F::Files, L>, FailedRun<'a, F::Left, L>>
+    // Whatever files the present database was found in.
+    ensures runs { AreLawful T.meaning → (made : Kind) (first : Image) → IsFoundAs T.meaning F.Store made first present.conn
+        → RunsNoted F.in_files L.Ledger made first (told_within most_windows Y.told) P.journal ledger (N.remaining names.old)
+        result (O.contents output.old) (O.contents output.new) (E.contents errors.old) (E.contents errors.new) }
+    ensures exported { (made : Kind) (first : Image) → IsFoundAs T.meaning F.Store made first present.conn
+        → IfOk result (λ run. LeadsIf made first F.in_files run.files
+        (λ before. MayCatchUp (L.known ledger) P.journal before (L.came ledger) × L.sound run.ledger × NoneCollide (L.came run.ledger))
+        (λ _ after. ReplacesIf (option_map (λ name. name.now) then_export.entry) (export_text after) (Y.deeds rt.old) (Y.deeds rt.new))) }
+    ensures failed { IfErr result (λ run. UnionStopsBy run.failure) }
     ensures touched { ChangesOnly (IsReplacedIf (option_map (λ name. name.now) then_export.entry)) (Y.deeds rt.old) (Y.deeds rt.new) }
 {
     let AnsweredUnion { answered, union } = join_open::<_, F, T, L, P, _, _, _>(
@@ -229,6 +227,7 @@ fn join_over<
         ledger,
         then_export,
         names,
+        most_windows,
         output,
         errors,
     );
@@ -254,12 +253,18 @@ pub fn join_open<
     ledger: L,
     then_export: Option<&'a str>,
     names: &mut N,
+    most: Option<u64>,
     output: &mut O,
     errors: &mut E,
 ) -> AnsweredUnion<'a, TableUnion<S, T, L, P>>
-    // What the printed lines acknowledge is stored and noted, and found after a crash.
+    // Line by line the answers are those to the uploads in the files that the lines name, by what is told of these. What they
+    // acknowledge is stored and noted, and found after a crash.
     ensures answers { AnswersNoted T.meaning S.Store L.Ledger ⟦<TableUnion<S, T, L, P> as Keeper>⟧ P.journal (λ Holds. NamedWith Holds (N.remaining names.old))
-        present.conn ledger result.union result.union.present.conn result.union.ledger result.answered (O.contents output.old) (O.contents output.new) }
+        (those_named (told_within most Y.told) NameLines.MachinesAndUploads (N.remaining names.old)) present.conn ledger result.union result.union.present.conn result.union.ledger result.answered (O.contents output.old) (O.contents output.new) }
+    // The present database's journal was exported, if a path is given.
+    ensures exported { ⟦<TableUnion<S, T, L, P> as Keeper>⟧.clean result.union → MayOpen T.meaning S.Store present.conn (L.known ledger) P.journal (L.came ledger)
+        → OnOk result.answered (IsSound S.Store result.union.present.conn → ReplacesIf (option_map (λ name. name.now) then_export.entry)
+        (export_text (journal_of T.meaning S.Store result.union.present.conn)) (Y.deeds rt.old) (Y.deeds rt.new)) }
     ensures printed { IfOk result.answered (λ status. PrintsNamed (N.remaining names.old) status (O.contents output.old) (O.contents output.new)) }
     ensures quiet { IfOk result.answered (λ status. status ≡ Status.Success → KeepsBytes (E.contents errors.old) (E.contents errors.new)) }
     ensures failed { IfErr result.answered UnionStopsBy }
@@ -271,7 +276,7 @@ pub fn join_open<
     match opened {
         Ok(()) => {
             let lines = NameLines::MachinesAndUploads;
-            let answered = answer_names(rt, &mut union, names, lines, output, errors);
+            let answered = answer_names_within(rt, &mut union, names, lines, most, output, errors);
             let done = export_after(rt, &mut union.present, answered, then_export);
             AnsweredUnion {
                 answered: done,

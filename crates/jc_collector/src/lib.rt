@@ -5,6 +5,7 @@
 mod answered;
 mod closing;
 mod collecting;
+mod comparing;
 mod database;
 mod earlier;
 mod failures;
@@ -22,13 +23,14 @@ mod uploads;
 pub use answered::{Answered, answer_deliveries, answer_lines};
 pub use closing::Closed;
 pub use collecting::collect;
+pub use comparing::{Comparison, check_noted};
 pub use database::{Opened, OpenedFiles, open_or_make};
 pub use from_list::collect_from_list;
 pub use health::{Examined, Health, check};
 pub use inspecting::inspect;
 pub use into_union::{
-    AnsweredUnion, NotedRun, OpenStop, OpenedUnion, TableUnion, collect_into_union, join_open,
-    open_union,
+    AnsweredUnion, FailedRun, NotedLeft, NotedRun, OpenStop, OpenedUnion, TableUnion,
+    collect_into_union, join_open, open_union,
 };
 pub use listing::{export, show};
 pub use migrating::migrate;

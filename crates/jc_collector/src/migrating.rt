@@ -24,8 +24,8 @@ use jc_command_args::Tables;
 use jc_command_shared::{Failure, Status};
 use jc_database::{Databases, OpenFromFiles, StoreInFiles, close_keeper};
 use jc_records::{ReplaceStop, replace_tables};
-use jc_schema_one::{MigrateStop, SqlKeeper1};
-use jc_schema_three::SchemaThree;
+use jc_schema_one::{MigrateStop, SqlKeeper1, raise_version};
+use jc_schema_three::{SchemaThree, Three};
 use jc_schema_two::SchemaTwo;
 use jc_store::{Layout, Successor, TableKeeper};
 use std::io::Write;
@@ -129,8 +129,22 @@ fn number_fields<'a, F: StoreInFiles>(
     ensures failed { IfErr result IsStoreFailure }
 {
     match taken {
-        Earlier::Oldest(keeper) => count_and_close(go_over::<F, SchemaThree>(keeper)?),
+        Earlier::Oldest(keeper) => count_and_close(raised(keeper)?),
         Earlier::ByKey(keeper) => count_and_close(replaced(keeper)?),
+    }
+}
+
+/// Gives the tables of schema 1 the version 3. If they keep theirs, their database is closed.
+fn raised<'a, F: StoreInFiles>(
+    keeper: SqlKeeper1<F>,
+) -> Result<TableKeeper<F, SchemaThree>, Failure<'a>>
+    ensures before { IfOk result (λ moved. IsSound F.Store moved.conn → IsSound F.Store keeper.conn) }
+    ensures moved { IfOk result (λ moved. MovesJournal one three F.Store keeper.conn moved.conn) }
+    ensures failed { IfErr result IsStoreFailure }
+{
+    match raise_version::<F, Three>(keeper) {
+        Ok(keeper) => Ok(keeper),
+        Err(MigrateStop { code, keeper }) => Err(stayed(code, keeper)),
     }
 }
 

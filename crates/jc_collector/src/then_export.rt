@@ -1,18 +1,21 @@
 //! `--then-export`: a journal goes to a file once the uploads are answered.
 
-ghost use Rattle.std.specs.Prelude.{◌≡◌, ◌⊎◌, ◌≤◌, Ok, Err, IfOk, IfErr, option_map};
+ghost use Rattle.std.specs.Prelude.{◌≡◌, ◌⊎◌, ◌≤◌, Ok, Err, IfOk, IfErr, OnErr, OnOk, option_map};
 ghost use Rattle.sqlite.specs.Held.{state};
 ghost use Rattle.sqlite.specs.View.{doubt};
-ghost use Rattle.jc_command_shared.specs.Deeds.{ChangesOnly, IsReplaced, IsReplacedIf};
+ghost use Rattle.jc_command_shared.specs.Deeds.{ChangesOnly, IsReplaced, IsReplacedIf, LeavesOld, Replaces};
+ghost use Rattle.jc_keeper.specs.Listing.{export_text};
 ghost use Rattle.jc_store.specs.Crash.{LeavesNoMore};
 ghost use Rattle.jc_store.specs.Meaning.{IsSound, KeepsJournal};
 ghost use Rattle.jc_collector.specs.Database.{IsBadName, IsOutFailure};
+ghost use Rattle.jc_collector.specs.Exported.{LeavesOldIf, ReplacesIf};
 
 use crate::database::check_name;
 use crate::listing::export_journal;
 use jc_command_shared::{
     Failure, Status, System, UNFINISHED, create_file, folder_and_name, name_beside, put_in_place,
 };
+use jc_keeper::Keeper;
 use jc_store::{Listed, TableKeeper};
 use sqlite::Alter;
 use std::io::ErrorKind;
@@ -98,6 +101,11 @@ pub(crate) fn export_after<'a, Y: System, S: Alter, L: Listed>(
     ensures clean { doubt (state S.Store keeper.old.conn).is_clean ≤ doubt (state S.Store keeper.new.conn).is_clean }
     ensures crash { LeavesNoMore (state S.Store keeper.old.conn) (state S.Store keeper.new.conn) }
     ensures failed { IfErr result (λ failure. (answered.entry ≡ Err failure) ⊎ IsOutFailure failure) }
+    // The file has the export of this journal, and no more. If it fails, what was there stays.
+    ensures exported { ⟦<TableKeeper<S, L> as Keeper>⟧.sound keeper.new → ⟦<TableKeeper<S, L> as Keeper>⟧.made keeper.old
+        → OnOk result (ReplacesIf (option_map (λ name. name.now) path.entry)
+        (export_text (⟦<TableKeeper<S, L> as Keeper>⟧.journal keeper.old)) (Y.deeds rt.old) (Y.deeds rt.new)) }
+    ensures stays { OnErr result (LeavesOldIf (option_map (λ name. name.now) path.entry) (Y.deeds rt.old) (Y.deeds rt.new)) }
     ensures touched { ChangesOnly (IsReplacedIf (option_map (λ name. name.now) path.entry)) (Y.deeds rt.old) (Y.deeds rt.new) }
 {
     let status = answered?;
@@ -109,7 +117,7 @@ pub(crate) fn export_after<'a, Y: System, S: Alter, L: Listed>(
 }
 
 /// Puts what `export` prints of a keeper's journal into the file at a path, which stays as it was if that fails.
-#[tactic(auto, using(jc_command_shared::specs::DeedLaws::nothing_changes, jc_command_shared::specs::DeedLaws::changes_one))]
+#[tactic(auto, using(jc_command_shared::specs::DeedLaws::nothing_changes, jc_command_shared::specs::DeedLaws::may_change_one))]
 fn export_file<'a, Y: System, S: Alter, L: Listed>(
     rt: &mut Y,
     keeper: &mut TableKeeper<S, L>,
@@ -120,6 +128,10 @@ fn export_file<'a, Y: System, S: Alter, L: Listed>(
     ensures clean { doubt (state S.Store keeper.old.conn).is_clean ≤ doubt (state S.Store keeper.new.conn).is_clean }
     ensures crash { LeavesNoMore (state S.Store keeper.old.conn) (state S.Store keeper.new.conn) }
     ensures failed { IfErr result IsOutFailure }
+    ensures exported { ⟦<TableKeeper<S, L> as Keeper>⟧.sound keeper.new → ⟦<TableKeeper<S, L> as Keeper>⟧.made keeper.old
+        → OnOk result (Replaces path.now (export_text (⟦<TableKeeper<S, L> as Keeper>⟧.journal keeper.old))
+        (Y.deeds rt.old) (Y.deeds rt.new)) }
+    ensures stays { OnErr result (LeavesOld path.now (Y.deeds rt.old) (Y.deeds rt.new)) }
     ensures touched { ChangesOnly (IsReplaced path.now) (Y.deeds rt.old) (Y.deeds rt.new) }
 {
     let beside = name_beside(rt.alloc(), path)?;

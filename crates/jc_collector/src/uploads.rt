@@ -1,10 +1,12 @@
 //! Uploads that are to be answered: deliveries, or those that lines name.
 
-ghost use Rattle.std.specs.Prelude.{◌≡◌, ℕ, List, Err, Some, IfOk, IfErr, IfSome, OnOk, length, map, ⊤};
+ghost use Rattle.std.specs.Prelude.{◌≡◌, ℕ, List, Option as Maybe, Err, Some, IfOk, IfErr, IfSome, OnOk, length, map, ⊤};
 ghost use Rattle.std.specs.Io.KnownBytes.{Keeps};
 ghost use Rattle.jc_base.specs.Journal.{Journal};
 ghost use Rattle.jc_collect.specs.Delivered.{of_delivery};
 ghost use Rattle.jc_collector_answers.specs.Answered.{KeepsFirst, KeepsPrinted};
+ghost use Rattle.jc_collector_answers.specs.declared.name_lines.NameLines.TheVariants as name_lines;
+ghost use Rattle.jc_collector_answers.specs.Collected.{just, those_named};
 ghost use Rattle.jc_command_shared.specs.Lines.{lines_of};
 ghost use Rattle.jc_collector.specs.Counted.{PrintsCounted};
 ghost use Rattle.jc_collector_answers.specs.Kept.{AnswersHold, HasKept};
@@ -23,6 +25,9 @@ use std::io::{BufRead, Write};
 pub(crate) trait Uploads<E> {
     /// How many answers they get.
     ghost counts: { Self → ℕ → Type 0 };
+
+    /// They are these uploads, by what is told of files, of each of which the bytes are known or not.
+    ghost are: { (List ℕ → Maybe (List ℕ)) → Self → List (Maybe (List ℕ)) → Type 0 };
 
     /// They have these bytes. None are said if they aren't known.
     ghost have: { Self → List (List ℕ) → Type 0 };
@@ -43,8 +48,8 @@ pub(crate) trait Uploads<E> {
     ) -> Result<Status, Failure<'a>>
         // Nothing that was stored is lost, not even by a crash.
         ensures kept { HasKept K.Keeper keeper.old keeper.new }
-        // What the printed lines acknowledge is stored, and found after a crash, whether the bytes are known or not.
-        ensures answers { AnswersHold K.Keeper (PrintsCounted (counts self)) keeper.old keeper.new result
+        // The answers are those to these uploads. What the printed lines acknowledge is stored, and found after a crash.
+        ensures answers { AnswersHold K.Keeper (PrintsCounted (counts self)) (are Y.told self) keeper.old keeper.new result
             (O.contents output.old) (O.contents output.new) }
         // What becomes of known bytes, and what a crash leaves of them.
         ensures collected { (known : List (List ℕ)) → have self known → K.sound keeper.new → K.made keeper.old
@@ -67,6 +72,8 @@ pub(crate) struct Deliveries<'d, R, B> {
 
 impl<R: ByteStream, B: ByteSpace> Uploads<()> for Deliveries<'_, R, B> {
     ghost counts = { λ uploads n. n ≡ length uploads.deliveries.now };
+
+    ghost are = { λ _ uploads. just (map (of_delivery R.remaining B.bytes) uploads.deliveries.now) };
 
     ghost have = { λ uploads known.
         map (of_delivery R.remaining B.bytes) uploads.deliveries.now ≡ map (λ u. Some u) known };
@@ -95,6 +102,8 @@ pub(crate) struct NamedUploads<L> {
 
 impl<L: BufRead + Drop, E: Write> Uploads<E> for NamedUploads<L> {
     ghost counts = { λ uploads n. IfSome (L.remaining uploads.names) (λ text. n ≡ length (lines_of text)) };
+
+    ghost are = { λ told uploads. those_named told name_lines.Uploads (L.remaining uploads.names) };
 
     ghost have = { λ _ _. ⊥ };
 

@@ -5,3 +5,6 @@ pub mod Printing
 pub mod LeftPrinted
 pub mod Kept
 pub mod Tying
+pub mod Collecting
+pub mod Naming
+pub mod Refusing

@@ -16,7 +16,7 @@ use Rattle.jc_collect.specs.Run as run
 use Rattle.jc_command_shared.specs.Lines.{lines_of, with_byte}
 use Rattle.jc_command_shared.specs.OutputLaws.{Appends-kept}
 use Rattle.jc_command_shared.specs.declared.status.Status.{Status}
-use Rattle.jc_command_shared.specs.declared.status.Status.TheVariants.{Success, Refused, Misused, Failed}
+use Rattle.jc_command_shared.specs.declared.status.Status.TheVariants.{Success, Refused, Misused, Failed, Unanswered}
 use Rattle.jc_collector_answers.specs.Answered.{PrintsAnswers, is_refusal, judged, worse}
 use Rattle.jc_collector_answers.specs.Named.{LosesLine, PrintsNamed}
 use Rattle.jc_collector_answers.specs.Tied.{AreUnread, NamedWith, PrintsFront, PrintsWith}
@@ -165,7 +165,7 @@ pub unread_with : (code : ℕ) (bytes line : List ℕ) (old mid new : Option (Li
     → PrintsWith AreUnread 1 Failed old new
 unfolding unread_printed
 unread_with code bytes line old mid new out keeps same is lawful failed =
-    record { shown = unread_printed code bytes line old mid new out keeps same is lawful failed; holds = (failed, tt) }
+    record { shown = unread_printed code bytes line old mid new out keeps same is lawful failed; holds = ap (λ (n : ℕ). No None n 0 ∷ []) failed }
 
 -- Each name so far was answered, and this holds of the answers.
 abbrev pub HoldsSoFar : (Holds : List Answer → Type 0) → (text rest : Option (List ℕ)) → Status → (old new : Option (List ℕ)) → Type 0
@@ -230,7 +230,9 @@ pub success_of : (one other : Status) → worse one other ≡ Success → (one �
 success_of Success other is = (refl, is)
 success_of Failed other is = cc
 success_of Misused other is = cc
+success_of Unanswered other is = cc
 success_of Refused Success is = cc
 success_of Refused Refused is = cc
 success_of Refused Misused is = cc
+success_of Refused Unanswered is = cc
 success_of Refused Failed is = cc

@@ -1,21 +1,21 @@
 -- What holds of the answers that were printed, one after the other.
-use Rattle.std.proofs.Common.{◌≡◌, ◌∙◌, ℕ, List, [], ◌∷◌, ◌++◌, Option, Some, None, length, take, sym, ap, subst, arith}
+use Rattle.std.proofs.Common.{◌≡◌, ◌∙◌, ℕ, List, [], ◌∷◌, ◌++◌, Option, Some, None, take, sym, ap, subst, arith}
 use Rattle.std.specs.Prelude.{IfSome}
 use Rattle.std.specs.List.{All}
 use Rattle.std.specs.Io.KnownBytes.{Appends, Keeps}
 use Rattle.std.proofs.lemmas.List.{append-nil}
-use Rattle.jc_base.specs.declared.limits.Limits.{Limits}
+use Rattle.jc_base.specs.declared.fault.Code.TheVariants.{ReadFailed}
+use Rattle.jc_base.specs.Fault.{number_of}
 use Rattle.jc_collect.specs.declared.runs.RunEnd.{RunEnd}
 use Rattle.jc_collect.specs.declared.runs.RunEnd.TheVariants.{Done, Stopped}
-use Rattle.jc_collect.specs.Each.{Held, HoldsEach, NoneAcknowledged, RunsEach}
-use Rattle.jc_collect.specs.EachLaws.{holds_refused}
+use Rattle.jc_collect.specs.Each.{NoneAcknowledged}
 use Rattle.jc_collect.specs.Run as run
 use Rattle.jc_collect.specs.Run.{OnlyIfOwned}
-use Rattle.jc_collect.specs.RunLaws.{owned_none, owned_one, owned_then}
+use Rattle.jc_collect.specs.RunLaws.{owned_one}
 use Rattle.jc_collect.proofs.Lists.{some_same}
 use Rattle.jc_upload.specs.Answer.{IsAnswer, answer_text}
 use Rattle.jc_upload.specs.declared.answer.Answer.{Answer}
-use Rattle.jc_upload.specs.declared.answer.Answer.TheVariants.{Ack, No}
+use Rattle.jc_upload.specs.declared.answer.Answer.TheVariants.{No}
 use Rattle.jc_command_shared.specs.OutputLaws.{Appends-kept}
 use Rattle.jc_command_shared.specs.declared.status.Status.{Status}
 use Rattle.jc_collector_answers.specs.Answered.{begun, judged}
@@ -85,28 +85,15 @@ module _ (Holds : List Answer → Type 0) where
         holds = holds;
       }
 
--- a run over deliveries, of which this holds
-pub holds_of_run : (limits : Limits) (known : List (Option (List ℕ))) (before now : Held) (written sunk : Option (List ℕ)) (end : RunEnd)
-    → RunsEach limits known before now written end sunk → run.WritesWith (HoldsEach before now) (length known) written sunk end
-holds_of_run limits known before now written sunk Done ran = (ran.wrote, ran.holds)
-holds_of_run limits known before now written sunk (Stopped done bytes) ran = (ran.inside, ran.wrote, ran.holds)
-
 -- ---- an upload of which nothing could be read
 
 pub unread_refused : (answers : List Answer) → AreUnread answers → NoneAcknowledged answers
-unread_refused [] unread = tt
-unread_refused (Ack source start count new left ∷ answers) unread = absurd unread
-unread_refused (No of code place ∷ answers) unread = unread_refused answers unread.1
-
-pub unread_holds : (now : Held) (answers : List Answer) → AreUnread answers → HoldsEach now now answers
-unread_holds now answers unread = holds_refused now answers (unread_refused answers unread)
+unread_refused answers unread = subst (λ (l : List Answer). NoneAcknowledged l) (sym unread) tt
 
 pub unread_owned : (Owners : Type 0) (answers : List Answer) → AreUnread answers → OnlyIfOwned Owners answers
-unread_owned Owners [] unread = owned_none Owners
-unread_owned Owners (Ack source start count new left ∷ answers) unread = absurd unread
-unread_owned Owners (No of code place ∷ answers) unread =
-    owned_then Owners (No of code place ∷ []) answers
-    (owned_one Owners (No of code place) (λ other. absurd (omega (arith, unread.0, other)))) (unread_owned Owners answers unread.1)
+unread_owned Owners answers unread =
+    subst (λ (l : List Answer). OnlyIfOwned Owners l) (sym unread)
+    (owned_one Owners (No None (number_of ReadFailed) 0) (λ other. absurd (omega (arith, other))))
 
 -- a front of the line of such an answer
 pub front_of_one : (answer : Answer) → AreUnread (answer ∷ []) → (bytes : ℕ) (text line : List ℕ) (old mid new : Option (List ℕ)) → Appends old mid (take bytes text)

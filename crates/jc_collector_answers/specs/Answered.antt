@@ -14,7 +14,7 @@ use Rattle.jc_upload.specs.Answer.{IsAnswer}
 use Rattle.jc_upload.specs.declared.answer.Answer.{Answer}
 use Rattle.jc_upload.specs.declared.answer.Answer.TheVariants.{Ack, No}
 use Rattle.jc_command_shared.specs.declared.status.Status.{Status}
-use Rattle.jc_command_shared.specs.declared.status.Status.TheVariants.{Success, Refused, Misused, Failed}
+use Rattle.jc_command_shared.specs.declared.status.Status.TheVariants.{Success, Refused, Misused, Failed, Unanswered}
 
 abbrev pub is_refusal : Answer → Bool
 is_refusal (Ack source start count new left) = false
@@ -87,9 +87,11 @@ abbrev pub worse : Status → Status → Status
 worse Failed other = Failed
 worse Success other = other
 worse Misused other = Misused
+worse Unanswered other = Unanswered
 worse Refused Failed = Failed
 worse Refused Success = Refused
 worse Refused Misused = Refused
+worse Refused Unanswered = Refused
 worse Refused Refused = Refused
 
 -- a refusal's status, by its code

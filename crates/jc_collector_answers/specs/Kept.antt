@@ -2,12 +2,13 @@
 use Rattle.std.specs.Prelude.{ℕ, List, Option, Result, MatchResult}
 use Rattle.jc_base.specs.LogEntry.{LogEntry}
 use Rattle.jc_collect.specs.Crash.{LosesNothing}
-use Rattle.jc_collect.specs.Each.{Held, HoldsEach, held}
+use Rattle.jc_collect.specs.Each.{Held, held}
 use Rattle.jc_collect.specs.Run.{OnlyIfOwned}
 use Rattle.jc_keeper.specs.declared.keeper.Keeper as keepers
 use Rattle.jc_keeper.specs.Agree.{IsStored}
 use Rattle.jc_upload.specs.declared.answer.Answer.{Answer}
 use Rattle.jc_command_shared.specs.declared.status.Status.{Status}
+use Rattle.jc_collector_answers.specs.Collected.{HoldsFirstOf}
 use Rattle.jc_collector_answers.specs.Tied.{PrintsFront}
 
 -- A keeper has kept all that it had stored, from one moment to a later one, if its device is sound then. A crash then leaves
@@ -35,11 +36,12 @@ Printing = (Holds : List Answer → Type 0) → Status → (old new : Option (Li
 abbrev pub HoldsPrinted : {F : Type 0} → (Whole : Printing) → (Holds : List Answer → Type 0) → Result Status F → (old new : Option (List ℕ)) → Type 0
 HoldsPrinted Whole Holds result old new = MatchResult result (λ status. Whole Holds status old new) (λ _. PrintsFront Holds old new)
 
--- What printed answers say is so of the keeper that they were given over, between two moments of it: what they acknowledge
--- is stored, and found after a crash. If printing failed, this holds of those that were printed, the last perhaps in part.
-pub record AnswersHold {K F : Type 0} (k : keepers.Ghosts K) (Whole : Printing) (old new : K) (result : Result Status F) (printed printed_now : Option (List ℕ))
-    : Type 0 where
+-- The printed answers were given to the first ones of some uploads, in this order: to all of them, unless printing or
+-- something else failed. What they say is so of the keeper that they were given over, between two moments of it. If
+-- printing failed, this holds of those that were printed, the last perhaps in part.
+pub record AnswersHold {K F : Type 0} (k : keepers.Ghosts K) (Whole : Printing) (AreUploads : List (Option (List ℕ)) → Type 0) (old new : K)
+    (result : Result Status F) (printed printed_now : Option (List ℕ)) : Type 0 where
   -- what they acknowledge is stored, and found after a crash
-  pub each : k.clean new → k.made old → HoldsPrinted Whole (HoldsEach (held_by k old) (held_by k new)) result printed printed_now
+  pub each : k.clean new → k.made old → HoldsPrinted Whole (HoldsFirstOf AreUploads (held_by k old) (held_by k new)) result printed printed_now
   -- they say that a sequence belongs to another machine only if it may belong to one
   pub owner : HoldsPrinted Whole (OnlyIfOwned k.has_owners) result printed printed_now

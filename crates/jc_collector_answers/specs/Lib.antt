@@ -1,4 +1,6 @@
 pub mod Answered
+pub mod Collected
+pub mod CollectedLaws
 pub mod Kept
 pub mod Named
 pub mod Opened

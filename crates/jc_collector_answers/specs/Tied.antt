@@ -1,11 +1,11 @@
 -- What holds of the answers that were printed. (own)
-use Rattle.std.specs.Prelude.{ℕ, ◌≡◌, ◌≤◌, List, [], ◌∷◌, ◌++◌, Option, length, take, ⊤}
+use Rattle.std.specs.Prelude.{ℕ, ◌≡◌, ◌≤◌, List, [], ◌∷◌, ◌++◌, Option, None, length, take}
 use Rattle.std.specs.Io.KnownBytes.{Appends}
 use Rattle.jc_base.specs.declared.fault.Code.TheVariants.{ReadFailed}
 use Rattle.jc_base.specs.Fault.{number_of}
 use Rattle.jc_collect.specs.Run.{lines_of_answers}
 use Rattle.jc_upload.specs.declared.answer.Answer.{Answer}
-use Rattle.jc_upload.specs.declared.answer.Answer.TheVariants.{Ack, No}
+use Rattle.jc_upload.specs.declared.answer.Answer.TheVariants.{No}
 use Rattle.jc_command_shared.specs.declared.status.Status.{Status}
 use Rattle.jc_collector_answers.specs.Answered.{PrintsAnswers}
 use Rattle.jc_collector_answers.specs.Named.{PrintsNamed}
@@ -29,8 +29,10 @@ pub record NamedWith (Holds : List Answer → Type 0) (text : Option (List ℕ))
   pub shown : PrintsNamed text status old new
   pub holds : Holds shown.printed.answers
 
--- Each of these says that reading failed.
+-- There is this answer alone.
+abbrev pub IsAlone : Answer → List Answer → Type 0
+IsAlone answer answers = answers ≡ answer ∷ []
+
+-- There is one answer, and it says that reading failed before there was a header.
 abbrev pub AreUnread : List Answer → Type 0
-AreUnread [] = ⊤
-AreUnread (Ack source start count new left ∷ answers) = ⊥
-AreUnread (No of code place ∷ answers) = (code ≡ number_of ReadFailed) × AreUnread answers
+AreUnread answers = IsAlone (No None (number_of ReadFailed) 0) answers

@@ -36,7 +36,7 @@ fn status_behind(before: Status, line: &[u8]) -> Status
 }
 
 /// The status of a run that printed an answer after others, which gave the status `before`.
-fn status_with(before: Status, answer: &Answer) -> Status
+pub(crate) fn status_with(before: Status, answer: &Answer) -> Status
     ensures { result ≡ status_with before answer.now }
 {
     match answer {

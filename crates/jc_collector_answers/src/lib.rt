@@ -3,12 +3,14 @@
 
 mod answer_sink;
 mod answering;
+mod bounded;
 mod judged;
 mod name_lines;
 mod named;
 mod uploads;
 
 pub use answering::answer_all;
+pub use bounded::answer_names_within;
 pub use name_lines::NameLines;
 pub use named::answer_names;
 pub use uploads::{Upload, open_upload, open_uploads};

@@ -23,6 +23,8 @@ pub enum Failure<'a> {
     BadResume,
     /// The line with this number, from 1, isn't an answer.
     BadAnswer(u64),
+    /// The line with this number, from 1, isn't one that a command reads.
+    BadLine(u64),
     /// An id isn't 32 hexadecimal digits.
     BadId,
     /// No entry has a field of this name.
@@ -31,6 +33,8 @@ pub enum Failure<'a> {
     BadDatabaseName,
     /// A file that is to get an export would take the place of the database or of its log.
     BadExportName,
+    /// A file isn't an upload of the kind that is asked about.
+    BadUpload,
     /// The file with this path can't be opened.
     CannotOpen(&'a str),
     /// A file failed while it was read.
@@ -51,10 +55,10 @@ impl Failure<'_> {
     {
         match self {
             Failure::Bad(_) | Failure::SourceChanged => Status::Refused,
-            Failure::BadResume | Failure::BadAnswer(_) => Status::Refused,
+            Failure::BadResume | Failure::BadAnswer(_) | Failure::BadLine(_) => Status::Refused,
             Failure::BadId | Failure::BadFieldName => Status::Misused,
             Failure::BadDatabaseName | Failure::BadExportName => Status::Misused,
-            Failure::WordsAreNoText => Status::Misused,
+            Failure::BadUpload | Failure::WordsAreNoText => Status::Misused,
             _ => Status::Failed,
         }
     }
@@ -84,10 +88,12 @@ impl fmt::Display for Failure<'_> {
             Failure::SourceChanged => write!(f, "refused {}", Code::SourceChanged),
             Failure::BadResume => write!(f, "bad resume"),
             Failure::BadAnswer(line) => write!(f, "bad answer {line}"),
+            Failure::BadLine(line) => write!(f, "bad line {line}"),
             Failure::BadId => write!(f, "bad id"),
             Failure::BadFieldName => write!(f, "bad field name"),
             Failure::BadDatabaseName => write!(f, "bad database name"),
             Failure::BadExportName => write!(f, "bad export name"),
+            Failure::BadUpload => write!(f, "bad upload"),
             Failure::CannotOpen(path) => write!(f, "cannot open {path}"),
             Failure::ReadFailed => write!(f, "read failed"),
             Failure::WriteFailed => write!(f, "write failed"),

@@ -10,7 +10,9 @@ use std::io::Read;
 
 /// The file at `path`, to be read.
 pub fn open_file<'a, Y: System>(rt: &Y, path: &'a str) -> Result<Y::File, Failure<'a>>
-    ensures { IfErr result (λ failure. failure ≡ Failure.CannotOpen path.entry) }
+    ensures stream { IfOk result (λ file. Y.File.remaining file ≡ Y.told path.now) }
+    ensures bytes { IfOk result (λ file. Y.File.bytes file ≡ Y.told path.now) }
+    ensures failed { IfErr result (λ failure. failure ≡ Failure.CannotOpen path.entry) }
 {
     match rt.open(path) {
         Ok(file) => Ok(file),

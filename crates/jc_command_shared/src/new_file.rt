@@ -1,7 +1,7 @@
 //! Files that are replaced whole.
 
-ghost use Rattle.std.specs.Prelude.{◌≡◌, ◌⊎◌, ◌++◌, ◌∷◌, [], Err, IfErr, IfOk, IsOk, OnOk, codes, string_bytes};
-ghost use Rattle.jc_command_shared.specs.Deeds.{Adds, ChangesOnly, changes};
+ghost use Rattle.std.specs.Prelude.{◌≡◌, ◌⊎◌, ◌++◌, ◌∷◌, [], false, Err, Some, IfErr, IfOk, IfSome, IsOk, IsTrue, OnErr, OnOk, codes, string_bytes};
+ghost use Rattle.jc_command_shared.specs.Deeds.{Adds, ChangesOnly, MayAdd, changes, puts};
 ghost use Rattle.jc_command_shared.specs.Folder.{IsIn};
 
 use crate::{Failure, System};
@@ -21,7 +21,9 @@ pub fn name_beside<'a>(alloc: Global, path: &str) -> Result<String, Failure<'a>>
 
 /// A new file at `path`, empty.
 pub fn create_file<'a, Y: System>(rt: &mut Y, path: &str) -> Result<Y::NewFile, Failure<'a>>
-    ensures touched { Adds (Y.deeds rt.old) (Y.deeds rt.new) (changes path.now ∷ []) }
+    ensures made { IfOk result (λ _. Adds (Y.deeds rt.old) (Y.deeds rt.new) (changes path.now ∷ [])) }
+    ensures unmade { IfErr result (λ _. MayAdd (Y.deeds rt.old) (Y.deeds rt.new) (changes path.now ∷ [])) }
+    ensures empty { IfOk result (λ file. IfSome (Y.deeds rt.new) (λ _. Y.NewFile.contents file ≡ Some [])) }
     ensures failed { IfErr result (λ failure. failure ≡ Failure.WriteFailed) }
 {
     match rt.create(path) {
@@ -32,7 +34,7 @@ pub fn create_file<'a, Y: System>(rt: &mut Y, path: &str) -> Result<Y::NewFile, 
 
 /// Gives a file that was written at `beside` the name `path`, once it is on the disk. If it wasn't written whole, or
 /// something fails here, it is taken away, and what was at `path` stays.
-#[tactic(auto, using(crate::specs::DeedLaws::changes_one, crate::specs::DeedLaws::changes_then))]
+#[tactic(auto, using(crate::specs::DeedLaws::may_change_one, crate::specs::DeedLaws::changes_name))]
 pub fn put_in_place<'a, Y: System>(
     rt: &mut Y,
     file: &Y::NewFile,
@@ -42,26 +44,37 @@ pub fn put_in_place<'a, Y: System>(
 ) -> Result<(), Failure<'a>>
     ensures whole { OnOk result (IsOk written.entry) }
     ensures failed { IfErr result (λ failure. (written.entry ≡ Err failure) ⊎ (failure ≡ Failure.WriteFailed)) }
+    // What the file at `path` has then is what the new one has. Else the one that was there stays.
+    ensures placed { OnOk result (Adds (Y.deeds rt.old) (Y.deeds rt.new)
+        (puts beside.now path.now (Y.NewFile.contents file.now) ∷ [])) }
+    ensures stays { OnErr result (ChangesOnly (λ name. name ≡ beside.now) (Y.deeds rt.old) (Y.deeds rt.new)) }
     ensures touched { ChangesOnly (λ name. (name ≡ path.now) ⊎ (name ≡ beside.now)) (Y.deeds rt.old) (Y.deeds rt.new) }
 {
-    // If the new file can't be taken away either, the old one is still whole.
     if let Err(failure) = written {
-        let _ = rt.remove_file(beside);
+        take_away(rt, beside);
         return Err(failure);
     }
     if !takes_name(rt, file, beside, path) {
-        let _ = rt.remove_file(beside);
+        take_away(rt, beside);
         return Err(Failure::WriteFailed);
     }
     Ok(())
 }
 
-/// Whether a file that was written at `beside` is on the disk now, and has the name `path`.
-#[tactic(auto, using(crate::specs::DeedLaws::nothing_changes, crate::specs::DeedLaws::changes_two))]
-fn takes_name<Y: System>(rt: &mut Y, file: &Y::NewFile, beside: &str, path: &str) -> bool
-    ensures touched { ChangesOnly (λ name. (name ≡ path.now) ⊎ (name ≡ beside.now)) (Y.deeds rt.old) (Y.deeds rt.new) }
+/// Removes a new file. If that fails too, the one whose place it didn't take is still whole.
+fn take_away<Y: System>(rt: &mut Y, beside: &str)
+    ensures may { MayAdd (Y.deeds rt.old) (Y.deeds rt.new) (changes beside.now ∷ []) }
 {
-    if file.sync_all().is_err() || rt.rename(beside, path).is_err() {
+    let _ = rt.remove_file(beside);
+}
+
+/// Whether a file that was written at `beside` is on the disk now, and has the name `path`.
+fn takes_name<Y: System>(rt: &mut Y, file: &Y::NewFile, beside: &str, path: &str) -> bool
+    ensures placed { IsTrue result → Adds (Y.deeds rt.old) (Y.deeds rt.new)
+        (puts beside.now path.now (Y.NewFile.contents file.now) ∷ []) }
+    ensures stays { result ≡ false → Y.deeds rt.new ≡ Y.deeds rt.old }
+{
+    if file.sync_all().is_err() || rt.rename(file, beside, path).is_err() {
         return false;
     }
     sync_folder(rt, path);

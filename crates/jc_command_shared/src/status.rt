@@ -14,6 +14,8 @@ pub enum Status {
     Misused = 2,
     /// A device, the store or memory failed.
     Failed = 3,
+    /// Nothing that was read is about what was asked for.
+    Unanswered = 4,
 }
 
 impl Status {

@@ -1,11 +1,13 @@
 //! What a run has of the system: memory, and files that it reads and changes.
 
-ghost use Rattle.std.specs.Prelude.{◌∷◌, List, [], Option as Maybe};
-ghost use Rattle.jc_command_shared.specs.Deeds.{Adds, Deed, changes};
+ghost use Rattle.std.specs.Prelude.{◌≡◌, ◌∷◌, ℕ, List, [], None, Some, Option as Maybe, IfOk, IfErr, IfSome, OnOk, OnErr};
+ghost use Rattle.std.specs.IoError.{error_kind};
+ghost use Rattle.jc_command_shared.specs.Deeds.{Adds, Deed, MayAdd, changes, puts};
 
+use jc_file::ReadFile;
 use std::alloc::Global;
 use std::fs::{File, Metadata, OpenFile};
-use std::io::{Read, Seek, Write};
+use std::io::{ErrorKind, Read, Write};
 use std::path::PathBuf;
 use std::rt::Files;
 use std::{fs, io};
@@ -15,7 +17,7 @@ use std::{fs, io};
 /// its bytes, if it is a new one, and its times and permissions may be changed.
 pub trait System {
     /// A file that is read.
-    type File: Read + Seek + OpenFile + Drop;
+    type File: Read + ReadFile + OpenFile + Drop;
 
     /// A file that is written.
     type NewFile: Write + OpenFile + Drop;
@@ -23,11 +25,19 @@ pub trait System {
     /// What was done to files so far, where that is known.
     ghost deeds: { Self → Maybe (List Deed) };
 
+    /// What the files have that are opened to be read, by their paths, where that is known. A function over any system is
+    /// proved for whatever they have.
+    ghost told: { List ℕ → Maybe (List ℕ) } = { λ _. None };
+
     /// The system's memory.
     fn alloc(&self) -> Global;
 
     /// The file at `path`, to be read.
-    fn open(&self, path: &str) -> io::Result<Self::File>;
+    fn open(&self, path: &str) -> io::Result<Self::File>
+        ensures stream { IfOk result (λ file. Self.File.remaining file ≡ told path.now) }
+        ensures bytes { IfOk result (λ file. Self.File.bytes file ≡ told path.now) }
+        // Of one that isn't there nothing is told.
+        ensures missing { IfErr result (λ error. error_kind error ≡ ErrorKind.NotFound → told path.now ≡ None) };
 
     /// What the system says of the file at `path`.
     fn metadata(&self, path: &str) -> io::Result<Metadata>;
@@ -35,18 +45,23 @@ pub trait System {
     /// The path without links that leads where `path` does.
     fn canonicalize(&self, path: &str) -> io::Result<PathBuf>;
 
-    /// A new file at `path`, empty, to be written. A file that was there is emptied. It is noted, whether that succeeds or
-    /// not, as is what the next two do.
+    /// A new file at `path`, empty, to be written. A file that was there is emptied. It is noted if that succeeds, and may be
+    /// noted if it fails.
     fn create(&mut self, path: &str) -> io::Result<Self::NewFile>
-        ensures noted { Adds (deeds self.old) (deeds self.new) (changes path.now ∷ []) };
+        ensures noted { IfOk result (λ _. Adds (deeds self.old) (deeds self.new) (changes path.now ∷ [])) }
+        ensures failed { IfErr result (λ _. MayAdd (deeds self.old) (deeds self.new) (changes path.now ∷ [])) }
+        // Where it is known what is done to files, it is known what a new one has.
+        ensures empty { IfOk result (λ file. IfSome (deeds self.new) (λ _. Self.NewFile.contents file ≡ Some [])) };
 
-    /// Gives the file at `from` the name `to`.
-    fn rename(&mut self, from: &str, to: &str) -> io::Result<()>
-        ensures noted { Adds (deeds self.old) (deeds self.new) (changes from.now ∷ changes to.now ∷ []) };
+    /// Gives `file`, the new file at `from`, the name `to`: what it has is noted. If that fails, both names are as they were.
+    fn rename(&mut self, file: &Self::NewFile, from: &str, to: &str) -> io::Result<()>
+        ensures noted { OnOk result (Adds (deeds self.old) (deeds self.new) (puts from.now to.now (Self.NewFile.contents file.now) ∷ [])) }
+        ensures stays { OnErr result (deeds self.new ≡ deeds self.old) };
 
-    /// Removes the file at `path`.
+    /// Removes the file at `path`. It is noted if that succeeds, and may be noted if it fails.
     fn remove_file(&mut self, path: &str) -> io::Result<()>
-        ensures noted { Adds (deeds self.old) (deeds self.new) (changes path.now ∷ []) };
+        ensures noted { OnOk result (Adds (deeds self.old) (deeds self.new) (changes path.now ∷ [])) }
+        ensures failed { OnErr result (MayAdd (deeds self.old) (deeds self.new) (changes path.now ∷ [])) };
 }
 
 /// The system that the program runs on. What it does to files isn't noted: a function over any system does the same here.
@@ -96,7 +111,7 @@ impl<'a> System for Host<'a> {
         fs::create(self.runtime, path)
     }
 
-    fn rename(&mut self, from: &str, to: &str) -> io::Result<()> {
+    fn rename(&mut self, _file: &File, from: &str, to: &str) -> io::Result<()> {
         fs::rename(self.runtime, from, to)
     }
 

@@ -6,3 +6,4 @@ pub mod Within
 pub mod Sent
 pub mod Taken
 pub mod Failing
+pub mod Acknowledged

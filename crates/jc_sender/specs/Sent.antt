@@ -1,13 +1,14 @@
 -- What `upload` prints. (own)
-use Rattle.std.specs.Prelude.{◌≡◌, ℕ, Bool, true, false, List, length, Option, Some, None, ⊤}
+use Rattle.std.specs.Prelude.{◌≡◌, ℕ, Bool, true, false, List, length, take, Option, Some, None, IfSome, ⊤}
 use Rattle.std.specs.Io.KnownBytes.{Appends}
 use Rattle.jc_base.specs.LogEntry.{LogEntry}
 use Rattle.jc_base.specs.Reading.{Reading}
 use Rattle.jc_base.specs.declared.id.Id128.{Id128}
 use Rattle.jc_command_shared.specs.Ids.{IsIdOf}
-use Rattle.jc_upload.specs.Resume.{IsPoint, Point}
+use Rattle.jc_upload.specs.Resume.{IsPoint, Point, resume_text}
 use Rattle.jc_upload.specs.Upload.{Agrees, Sender, file_upload_of, next_upload2_of, next_upload_of, sent_of}
-use Rattle.jc_sender.specs.Source.{HasFault, ReadsWell, WhyNoSomeEntries}
+use Rattle.jc_sender.specs.Source.{HasFault, OfBytes, ReadsWell, WhyNoSomeEntries, read_of}
+use Rattle.jc_sender.specs.declared.resume_file.TheConstants.{TEXT}
 use Rattle.jc_sender.specs.Within.{IsGreatest}
 use Rattle.jc_command_shared.specs.declared.failure.Failure.{Failure}
 use Rattle.jc_command_shared.specs.declared.failure.Failure.TheVariants.{Bad, OutOfMemory, SourceChanged}
@@ -71,12 +72,17 @@ abbrev pub WhyNoSomeUpload : InputKind → Failure → Type 0
 WhyNoSomeUpload kind SourceChanged = kind ≡ Export
 WhyNoSomeUpload kind failure = WhyNoSomeEntries kind failure
 
--- The output gained the upload of the source that the command line names, for some bytes of its files, which no
--- contract can name.
-pub record PrintsSomeUpload (source : Source) (limit : ℕ) (most : Option ℕ) (whole : Bool) (old new : Option (List ℕ)) : Type 0 where
+-- This is the point that a resume file keeps, by what is told of it. Of a file that isn't there nothing is told.
+abbrev pub IsKept : (told : Option (List ℕ)) → Point → Type 0
+IsKept told point = IfSome told (λ text. take TEXT text ≡ resume_text point)
+
+-- The output gained the upload of the source that the command line names, by what is told of its files, or for some bytes
+-- of them.
+pub record PrintsSomeUpload (told : List ℕ → Option (List ℕ)) (source : Source) (limit : ℕ) (most : Option ℕ) (whole : Bool) (old new : Option (List ℕ)) : Type 0 where
   pub id : Id128
   pub named : IsIdOf source.id.now id
   pub point : Point
   pub lawful : IsPoint point
-  pub bytes : List ℕ
-  pub printed : PrintsUpload source.kind (sender_of id point) limit most whole bytes old new
+  pub kept : IsKept (told source.resume.now) point
+  pub printed : OfBytes (read_of source.kind (told source.file.now))
+      (λ bytes. PrintsUpload source.kind (sender_of id point) limit most whole bytes old new)

@@ -1,5 +1,5 @@
 -- What the bytes of a source say. (own)
-use Rattle.std.specs.Prelude.{◌≡◌, ◌^◌, ℕ, List, ⊤}
+use Rattle.std.specs.Prelude.{◌≡◌, ◌+◌, ◌^◌, ◌⊎◌, ℕ, List, Option, Some, None, option_map, take, ⊤}
 use Rattle.jc_base.specs.LimitBounds.{AreDefaults}
 use Rattle.jc_base.specs.LogEntry.{LogEntry}
 use Rattle.jc_base.specs.Reading.{Reading}
@@ -11,10 +11,28 @@ use Rattle.jc_sender.specs.Reads.{ReadsAs}
 use Rattle.jc_command_shared.specs.declared.failure.Failure.{Failure}
 use Rattle.jc_command_shared.specs.declared.failure.Failure.TheVariants as failure
 use Rattle.jc_command_args.specs.declared.request.InputKind.{InputKind}
+use Rattle.jc_command_args.specs.declared.request.InputKind.TheVariants.{Export, File}
 
 -- the most bytes of a journal file under the default limits (docs/FORMATS.md, "Limits")
 abbrev pub most_file_bytes : ℕ
 most_file_bytes = 2 ^ 30
+
+-- This is so of these bytes, or of some where they aren't known.
+abbrev pub OfBytes : (known : Option (List ℕ)) → (List ℕ → Type 0) → Type 0
+OfBytes None Says = (bytes : List ℕ) × Says bytes
+OfBytes (Some bytes) Says = Says bytes
+
+-- what is read of a source that has these bytes: all of an export stream, and of a journal file no more than one byte over
+-- its limit
+abbrev pub read_of : InputKind → (held : Option (List ℕ)) → Option (List ℕ)
+read_of Export held = held
+read_of File held = option_map (λ bytes. take (most_file_bytes + 1) bytes) held
+
+-- These bytes are read of a file that has those: all of them, or of a journal file that isn't a regular one no more than one
+-- byte over its limit.
+abbrev pub AreReadOf : InputKind → (held bytes : List ℕ) → Type 0
+AreReadOf Export held bytes = bytes ≡ held
+AreReadOf File held bytes = (bytes ≡ held) ⊎ (bytes ≡ take (most_file_bytes + 1) held)
 
 abbrev pub IsEnd : Ending → Type 0
 IsEnd ending = (left : ℕ) × (ending ≡ End left)

@@ -1,17 +1,18 @@
 -- What `ack` does with lines of answers. (own)
-use Rattle.std.specs.Prelude.{◌≡◌, ◌≢◌, ◌+◌, ℕ, List, [], ◌∷◌, ◌++◌, length, map, codes, decimal, Option, IfSome, ⊤}
+use Rattle.std.specs.Prelude.{◌≡◌, ◌≢◌, ◌⊎◌, ◌+◌, ℕ, List, [], ◌∷◌, ◌++◌, length, map, codes, decimal, Option, IfSome, ⊤}
 use Rattle.std.specs.List.{All}
 use Rattle.std.specs.Io.KnownBytes.{Appends}
 use Rattle.jc_base.specs.Reading.{Reading}
 use Rattle.jc_base.specs.declared.id.Id128.{Id128}
+use Rattle.jc_command_shared.specs.Deeds.{Deed, LeavesOld, Replaces}
 use Rattle.jc_command_shared.specs.Ids.{IsIdOf}
 use Rattle.jc_command_shared.specs.Lines.{AreAnswers, lines_of}
 use Rattle.jc_upload.specs.Answer.{IsAnswer, answer_text}
-use Rattle.jc_upload.specs.Resume.{IsPoint, Point}
+use Rattle.jc_upload.specs.Resume.{IsPoint, Point, resume_text}
 use Rattle.jc_upload.specs.Upload.{Sender, TakesAnswers}
 use Rattle.jc_upload.specs.declared.answer.Answer.{Answer}
-use Rattle.jc_sender.specs.Sent.{sender_of}
-use Rattle.jc_sender.specs.Source.{ReadsWell, WhyNoSomeEntries}
+use Rattle.jc_sender.specs.Sent.{IsKept, sender_of}
+use Rattle.jc_sender.specs.Source.{OfBytes, ReadsWell, WhyNoSomeEntries, read_of}
 use Rattle.jc_command_shared.specs.declared.failure.Failure.{Failure}
 use Rattle.jc_command_shared.specs.declared.failure.Failure.TheVariants.{BadAnswer, OutOfMemory, ReadFailed}
 use Rattle.jc_command_args.specs.declared.request.InputKind.{InputKind}
@@ -63,16 +64,29 @@ WhyNoPoint kind given failure = WhyNoSomeEntries kind failure
 abbrev pub point_line : Point → List ℕ
 point_line point = codes "resume " ++ decimal point.position
 
--- The output gained the point that the answers on standard input move the source on to, for some bytes of its files,
--- which no contract can name.
-pub record PrintsSomePoint (source : Source) (given : Option (List ℕ)) (old new : Option (List ℕ)) : Type 0 where
+-- The answers on standard input move the source on to this point, by what is told of its files, or for some bytes of them.
+pub record MovesSource (told : List ℕ → Option (List ℕ)) (source : Source) (given : Option (List ℕ)) (moved : Point) : Type 0 where
   pub id : Id128
   pub named : IsIdOf source.id.now id
   pub point : Point
   pub lawful : IsPoint point
-  pub bytes : List ℕ
+  pub kept : IsKept (told source.resume.now) point
   pub text : List ℕ
   pub came : IfSome given (λ held. text ≡ held)
+  pub moves : OfBytes (read_of source.kind (told source.file.now)) (λ bytes. MovesBy source.kind id point bytes text moved)
+
+-- The resume file was replaced by one with the text of such a point.
+pub record KeepsSomePoint (told : List ℕ → Option (List ℕ)) (source : Source) (given : Option (List ℕ)) (deeds deeds' : Option (List Deed)) : Type 0 where
   pub moved : Point
-  pub moves : MovesBy source.kind id point bytes text moved
-  pub printed : Appends old new (point_line moved ++ 10 ∷ [])
+  pub moves : MovesSource told source given moved
+  pub written : Replaces source.resume.now (resume_text moved) deeds deeds'
+
+-- ... and the output gained that point.
+pub record PrintsSomePoint (told : List ℕ → Option (List ℕ)) (source : Source) (given : Option (List ℕ)) (old new : Option (List ℕ))
+    (deeds deeds' : Option (List Deed)) : Type 0 where
+  pub keeps : KeepsSomePoint told source given deeds deeds'
+  pub printed : Appends old new (point_line keeps.moved ++ 10 ∷ [])
+
+-- The file at this path stays as it was, or one with the text of a resume point took its place.
+abbrev pub MayMoveOn : (resume : List ℕ) → (deeds deeds' : Option (List Deed)) → Type 0
+MayMoveOn resume deeds deeds' = LeavesOld resume deeds deeds' ⊎ ((point : Point) × Replaces resume (resume_text point) deeds deeds')

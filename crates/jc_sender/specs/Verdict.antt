@@ -9,6 +9,7 @@ use Rattle.jc_base.specs.declared.fault.Ending.{Ending}
 use Rattle.jc_base.specs.declared.fault.Ending.TheVariants.{End, Bad}
 use Rattle.jc_base.specs.declared.limits.Limits.{Limits}
 use Rattle.jc_sender.specs.Reads.{EndsAs, ReadsAs}
+use Rattle.jc_sender.specs.Source.{AreReadOf}
 use Rattle.jc_command_shared.specs.declared.status.Status.{Status}
 use Rattle.jc_command_shared.specs.declared.status.Status.TheVariants.{Success, Refused}
 use Rattle.jc_command_args.specs.declared.request.InputKind.{InputKind}
@@ -44,3 +45,7 @@ pub record PrintsReadingOf (kind : InputKind) (bytes : List ℕ) (status : Statu
   pub reading : Reading
   pub reads : ReadsAs kind limits bytes reading
   pub printed : PrintsReading (length reading.entries) reading.ending status old new
+
+-- The output gained the line of what is read of a file that has these bytes.
+abbrev pub PrintsReadingIn : InputKind → (held : List ℕ) → Status → (old new : Option (List ℕ)) → Type 0
+PrintsReadingIn kind held status old new = (bytes : List ℕ) × AreReadOf kind held bytes × PrintsReadingOf kind bytes status old new

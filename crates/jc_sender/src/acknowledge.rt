@@ -1,11 +1,11 @@
 //! `ack`: how far answers move a source on.
 
-ghost use Rattle.std.specs.Prelude.{◌≡◌, ◌≢◌, ◌++◌, ◌∷◌, [], ℕ, List, Some, IfOk, IfErr, IfSome, OnOk};
+ghost use Rattle.std.specs.Prelude.{◌≡◌, ◌≢◌, ◌⊎◌, ◌++◌, ◌∷◌, [], ℕ, List, Some, IfOk, IfErr, IfSome, OnOk};
 ghost use Rattle.std.specs.Io.KnownBytes.{Appends, Keeps};
-ghost use Rattle.jc_command_shared.specs.Deeds.{ChangesOnly, IsReplaced};
+ghost use Rattle.jc_command_shared.specs.Deeds.{LeavesOld};
 ghost use Rattle.jc_sender.specs.Failing.{AckFailsBy};
-ghost use Rattle.jc_sender.specs.Source.{WhyNoEntries, WhyNoSomeEntries};
-ghost use Rattle.jc_sender.specs.Taken.{MovesBy, MovesSender, PrintsSomePoint, WhyNoPoint, point_line};
+ghost use Rattle.jc_sender.specs.Source.{OfBytes, WhyNoEntries, WhyNoSomeEntries, read_of};
+ghost use Rattle.jc_sender.specs.Taken.{KeepsSomePoint, MayMoveOn, MovesBy, MovesSender, PrintsSomePoint, WhyNoPoint, point_line};
 
 use crate::answers::{answers_on, take_answers};
 use crate::resume_file::{read_resume, write_resume};
@@ -27,12 +27,17 @@ pub fn ack<'a, R: System, I: Read, O: Write>(
     input: &mut I,
     output: &mut O,
 ) -> Result<(), Failure<'a>>
-    ensures printed { OnOk result (PrintsSomePoint source.entry (I.remaining input.old) (O.contents output.old)
-        (O.contents output.new)) }
+    // The text of the point that was printed is what took the resume file's place.
+    ensures printed { OnOk result (PrintsSomePoint R.told source.entry (I.remaining input.old) (O.contents output.old)
+        (O.contents output.new) (R.deeds rt.old) (R.deeds rt.new)) }
     ensures failed { IfErr result (AckFailsBy source.entry (I.remaining input.old)) }
     ensures untouched { IfErr result (λ failure. failure ≢ Failure.WriteFailed
         → Keeps (O.contents output.old) (O.contents output.new)) }
-    ensures touched { ChangesOnly (IsReplaced source.entry.resume.now) (R.deeds rt.old) (R.deeds rt.new) }
+    // Without it the old resume file stays, unless the new one has the text of a point that couldn't be printed.
+    ensures stays { IfErr result (λ failure. LeavesOld source.entry.resume.now (R.deeds rt.old) (R.deeds rt.new)
+        ⊎ ((failure ≡ Failure.WriteFailed) × KeepsSomePoint R.told source.entry (I.remaining input.old) (R.deeds rt.old) (R.deeds rt.new))) }
+    // However it ends, this alone was done to files.
+    ensures touched { MayMoveOn source.entry.resume.now (R.deeds rt.old) (R.deeds rt.new) }
 {
     let id = source_id(source.id)?;
     let resume = read_resume(rt, source.resume)?;
@@ -52,9 +57,8 @@ fn moved_by<'a, F: Read + Drop, I: Read>(
     file: F,
     input: &mut I,
 ) -> Result<Resume, Failure<'a>>
-    ensures moved { IfOk result (λ moved. (bytes : List ℕ) × (text : List ℕ)
-        × IfSome (I.remaining input.old) (λ held. text ≡ held)
-        × MovesBy kind uploader.source uploader.point bytes text moved) }
+    ensures moved { IfOk result (λ moved. (text : List ℕ) × IfSome (I.remaining input.old) (λ held. text ≡ held)
+        × OfBytes (read_of kind (F.remaining file)) (λ bytes. MovesBy kind uploader.source uploader.point bytes text moved)) }
     ensures failed { IfErr result (WhyNoPoint kind (I.remaining input.old)) }
 {
     match answers_on(alloc, input) {
@@ -74,7 +78,8 @@ fn point_by<'a, F: Read + Drop>(
     file: F,
     answers: &[Answer],
 ) -> Result<Resume, Failure<'a>>
-    ensures moved { IfOk result (λ moved. (bytes : List ℕ) × MovesSender kind uploader bytes answers.now moved) }
+    ensures moved { IfOk result (λ moved. OfBytes (read_of kind (F.remaining file))
+        (λ bytes. MovesSender kind uploader bytes answers.now moved)) }
     ensures failed { IfErr result (WhyNoSomeEntries kind) }
 {
     match kind {

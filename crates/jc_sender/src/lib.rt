@@ -3,6 +3,7 @@
 
 mod acknowledge;
 mod answers;
+mod decided;
 mod entries;
 mod input_source;
 mod next_upload;
@@ -12,6 +13,7 @@ mod verdict;
 mod within;
 
 pub use acknowledge::ack;
+pub use decided::acknowledged;
 pub use entries::{all_entries, count_entries};
 pub use input_source::InputSource;
 pub use next_upload::upload;

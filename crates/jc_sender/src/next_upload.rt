@@ -3,6 +3,7 @@
 ghost use Rattle.std.specs.Prelude.{◌≡◌, ◌≢◌, Bool, ℕ, List, Option, Some, IfOk, IfErr, OnOk};
 ghost use Rattle.std.specs.Io.KnownBytes.{Appends, Keeps};
 ghost use Rattle.jc_sender.specs.Failing.{UploadFailsBy};
+ghost use Rattle.jc_sender.specs.Source.{OfBytes, read_of};
 ghost use Rattle.jc_sender.specs.Sent.{MakesUpload, PrintsSomeUpload, WhyNoSomeUpload, WhyNoUpload};
 
 use crate::resume_file::read_resume;
@@ -28,7 +29,7 @@ pub fn upload<'a, R: System, O: Write>(
     whole: bool,
     output: &mut O,
 ) -> Result<(), Failure<'a>>
-    ensures printed { OnOk result (PrintsSomeUpload source.entry limit most_bytes whole (O.contents output.old) (O.contents output.new)) }
+    ensures printed { OnOk result (PrintsSomeUpload R.told source.entry limit most_bytes whole (O.contents output.old) (O.contents output.new)) }
     ensures failed { IfErr result (UploadFailsBy source.entry) }
     ensures untouched { IfErr result (λ failure. failure ≢ Failure.WriteFailed
         → Keeps (O.contents output.old) (O.contents output.new)) }
@@ -59,8 +60,8 @@ fn made_upload<'a, F: Read + Drop>(
     whole: bool,
     file: F,
 ) -> Result<Vec<u8>, Failure<'a>>
-    ensures made { IfOk result (λ upload. (bytes : List ℕ)
-        × MakesUpload kind uploader.now limit most_bytes whole bytes upload.items) }
+    ensures made { IfOk result (λ upload. OfBytes (read_of kind (F.remaining file))
+        (λ bytes. MakesUpload kind uploader.now limit most_bytes whole bytes upload.items)) }
     ensures failed { IfErr result (WhyNoSomeUpload kind) }
 {
     match kind {

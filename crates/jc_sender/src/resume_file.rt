@@ -1,8 +1,9 @@
 //! Resume files: how many of a source's entries are acknowledged.
 
-ghost use Rattle.std.specs.Prelude.{◌≡◌, ◌≢◌, ◌⊎◌, IfOk, IfErr, IfSome, OnOk, take};
+ghost use Rattle.std.specs.Prelude.{◌≡◌, ◌≢◌, ◌⊎◌, IfOk, IfErr, IfSome, OnErr, OnOk, take};
 ghost use Rattle.std.specs.Io.KnownBytes.{Appends};
-ghost use Rattle.jc_command_shared.specs.Deeds.{ChangesOnly, IsReplaced};
+ghost use Rattle.jc_command_shared.specs.Deeds.{LeavesOld, Replaces};
+ghost use Rattle.jc_sender.specs.Sent.{IsKept};
 ghost use Rattle.jc_upload.specs.Resume.{IsPoint, Point, resume_text};
 
 use jc_command_shared::{
@@ -12,21 +13,14 @@ use jc_upload::Resume;
 use std::alloc::Global;
 use std::io;
 use std::io::{Read, Write};
-use std::snapshot::Snapshot;
 
 /// More bytes than a resume point's text has.
 const TEXT: u64 = 129;
 
-/// A new file, empty, and as it then took the old one's place, which proofs alone see.
-#[derive(Drop)]
-pub(crate) struct NewFile<W: Write> {
-    pub(crate) empty: Snapshot<W>,
-    pub(crate) whole: Snapshot<W>,
-}
-
 /// The resume point in the file at `path`: position 0 if there is no such file.
 pub(crate) fn read_resume<'a, R: System>(rt: &R, path: &'a str) -> Result<Resume, Failure<'a>>
     ensures lawful { IfOk result IsPoint }
+    ensures kept { IfOk result (λ point. IsKept (R.told path.now) point) }
     ensures failed { IfErr result (λ failure. (failure ≡ Failure.CannotOpen path.entry) ⊎ (failure ≡ Failure.ReadFailed)
         ⊎ (failure ≡ Failure.OutOfMemory) ⊎ (failure ≡ Failure.BadResume)) }
 {
@@ -52,25 +46,20 @@ fn resume_in<'a, F: Read + Drop>(alloc: Global, file: F) -> Result<Resume, Failu
 
 /// Puts the resume point's text into the file at `path`. It is written into a new file beside that one, which then takes
 /// its name: a failure leaves the old file whole.
-#[tactic(auto, using(jc_command_shared::specs::DeedLaws::nothing_changes, jc_command_shared::specs::DeedLaws::changes_one))]
+#[tactic(auto, using(jc_command_shared::specs::DeedLaws::nothing_changes, jc_command_shared::specs::DeedLaws::may_change_one))]
 pub(crate) fn write_resume<'a, R: System>(
     rt: &mut R,
     path: &str,
     resume: &Resume,
-) -> Result<NewFile<R::NewFile>, Failure<'a>>
-    // What the new file gained is the text of this point.
-    ensures whole { IfOk result (λ file.
-        Appends (R.NewFile.contents file.empty.value) (R.NewFile.contents file.whole.value) (resume_text resume.now)) }
-    ensures touched { ChangesOnly (IsReplaced path.now) (R.deeds rt.old) (R.deeds rt.new) }
+) -> Result<(), Failure<'a>>
+    ensures whole { OnOk result (Replaces path.now (resume_text resume.now) (R.deeds rt.old) (R.deeds rt.new)) }
+    ensures stays { OnErr result (LeavesOld path.now (R.deeds rt.old) (R.deeds rt.new)) }
     ensures failed { IfErr result (λ failure. (failure ≡ Failure.WriteFailed) ⊎ (failure ≡ Failure.OutOfMemory)) }
 {
     let beside = name_beside(rt.alloc(), path)?;
     let mut file = create_file(rt, beside.as_str())?;
-    let empty = Snapshot::of(&file);
     let written = put_point(rt.alloc(), &mut file, resume);
-    let whole = Snapshot::of(&file);
-    put_in_place(rt, &file, beside.as_str(), path, written)?;
-    Ok(NewFile { empty, whole })
+    put_in_place(rt, &file, beside.as_str(), path, written)
 }
 
 /// Writes the text of a resume point, and all of it.

@@ -14,7 +14,8 @@ use std::io::Read;
 
 /// The file of a source.
 pub(crate) fn open_source<'a, R: System>(rt: &R, source: Source<'a>) -> Result<R::File, Failure<'a>>
-    ensures { IfErr result (λ failure. failure ≡ Failure.CannotOpen source.entry.file) }
+    ensures stream { IfOk result (λ file. R.File.remaining file ≡ R.told source.entry.file.now) }
+    ensures failed { IfErr result (λ failure. failure ≡ Failure.CannotOpen source.entry.file) }
 {
     open_file(rt, source.file)
 }

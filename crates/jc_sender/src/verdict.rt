@@ -2,7 +2,7 @@
 
 ghost use Rattle.std.specs.Prelude.{◌≡◌, ◌≢◌, ◌⊎◌, ℕ, List, Some, IfOk, IfErr};
 ghost use Rattle.std.specs.Io.KnownBytes.{Keeps};
-ghost use Rattle.jc_sender.specs.Verdict.{verdict_text, verdict_status, PrintsReading, PrintsSomeReading, PrintsReadingOf};
+ghost use Rattle.jc_sender.specs.Verdict.{verdict_text, verdict_status, PrintsReading, PrintsSomeReading, PrintsReadingIn, PrintsReadingOf};
 
 use crate::entries::count_entries;
 use crate::source::file_bytes;
@@ -10,12 +10,12 @@ use jc_base::{ByteStream, Ending, FromRead, Limits};
 use jc_command_args::InputKind;
 use jc_command_shared::{Failure, Status, System, is_regular, open_file, printed};
 use jc_export::one_reading;
-use jc_file::{ByteSpace, FileEntries, FileSpace, PagedSpace, SliceSpace};
+use jc_file::{ByteSpace, FileEntries, FileSpace, PagedSpace, ReadFile, SliceSpace};
 use jc_stream::Stream;
 use std::alloc::Global;
 use std::fmt;
 use std::fs::OpenFile;
-use std::io::{Read, Seek, Write};
+use std::io::{Read, Write};
 
 /// What `verify` prints: how many entries are complete, and how the reading ends.
 #[derive(Clone, Copy)]
@@ -56,6 +56,9 @@ pub fn verify<'a, R: System, O: Write>(
 ) -> Result<Status, Failure<'a>>
     ensures printed { IfOk result (λ status.
         PrintsSomeReading kind status (O.contents output.old) (O.contents output.new)) }
+    // If it is told what the file has, it is that which is read.
+    ensures told { (held : List ℕ) → R.told file.now ≡ Some held → IfOk result (λ status.
+        PrintsReadingIn kind held status (O.contents output.old) (O.contents output.new)) }
     ensures failed { IfErr result (λ failure. (failure ≡ Failure.CannotOpen file.entry) ⊎ (failure ≡ Failure.ReadFailed)
         ⊎ (failure ≡ Failure.WriteFailed) ⊎ (failure ≡ Failure.OutOfMemory)) }
     ensures untouched { IfErr result (λ failure. failure ≢ Failure.WriteFailed
@@ -93,13 +96,15 @@ fn verify_export<'a, R: ByteStream + Drop, O: Write>(
 }
 
 /// Prints how a file reads as a journal file. If it isn't a regular file, its ranges can't be read, and it is read whole.
-fn verify_file<'a, F: Read + Seek + OpenFile + Drop, O: Write>(
+fn verify_file<'a, F: Read + ReadFile + OpenFile + Drop, O: Write>(
     alloc: Global,
     file: F,
     output: &mut O,
 ) -> Result<Status, Failure<'a>>
     ensures printed { IfOk result (λ status.
         PrintsSomeReading InputKind.File status (O.contents output.old) (O.contents output.new)) }
+    ensures told { (held : List ℕ) → F.Read.remaining file ≡ Some held → F.ReadFile.bytes file ≡ Some held → IfOk result (λ status.
+        PrintsReadingIn InputKind.File held status (O.contents output.old) (O.contents output.new)) }
     ensures failed { IfErr result (λ failure. (failure ≡ Failure.ReadFailed) ⊎ (failure ≡ Failure.WriteFailed)
         ⊎ (failure ≡ Failure.OutOfMemory)) }
     ensures untouched { IfErr result (λ failure. failure ≢ Failure.WriteFailed

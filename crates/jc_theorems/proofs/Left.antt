@@ -8,8 +8,8 @@ use Rattle.sqlite.specs.State.{HasCleanDisk}
 use Rattle.sqlite.specs.Held.{Held, state}
 use Rattle.jc_base.specs.Journal.{Journal}
 use Rattle.jc_base.specs.LogEntry.{LogEntry}
-use Rattle.jc_collect.specs.Each.{KeepsEach}
 use Rattle.jc_collector_answers.specs.Answered.{KeepsPrinted}
+use Rattle.jc_collector_answers.specs.Collected.{KeepsFirstOf}
 use Rattle.jc_command_args.specs.declared.request.Tables.{Tables}
 use Rattle.jc_database.specs.Files.{HoldsJournal, InFiles}
 use Rattle.jc_database.specs.Left.{IsLeftOf, StopsOnly}
@@ -19,11 +19,11 @@ use Rattle.jc_store.specs.Crash.{LeavesJournals, MayLeave}
 use Rattle.jc_store.specs.Meaning.{Meaning, journal_of}
 use Rattle.jc_upload.specs.declared.answer.Answer.{Answer}
 use Rattle.jc_collector.specs.Noted.{HoldsNoted}
-use Rattle.jc_collector.specs.UnionOpened.{MayOpen}
+use Rattle.jc_collector.specs.UnionLeft.{LeavesNoted}
+use Rattle.jc_collector.specs.UnionLeftLaws.{leaves_noted}
 use Rattle.jc_collector.specs.Open.{CleanIn, HoldsIn, IsFoundIn, RecoversIn}
 use Rattle.jc_collector.specs.Kinds.{BeginsIn, OpenedOver, conn_of, journal_in, kind_of, meaning_of}
 use Rattle.jc_theorems.specs.Stopped.{AnyLeft, LeavesEach, LeavesPrinted}
-use Rattle.jc_theorems.specs.StoppedUnion.{LeavesNoted}
 
 -- ---- once it is stopped
 
@@ -33,9 +33,9 @@ module _ {S C L : Type 0} {g : Ghosts S} (o : InFiles S C L) (made : Tables) (im
     → StopsOnly g o stopped (IsLeftOf (meaning_of (kind_of opened)) g (conn_of opened)))
     (recovers : CleanIn g opened made image (λ _. RecoversIn g opened))
   where
-    pub left_each : IsClean (g.view stopped) → (before : Journal) → BeginsIn made (kind_of opened) image before → (answers : List Answer)
-        → HoldsIn g opened before answers → AnyLeft o stopped (LeavesEach (kind_of opened) before answers)
-    left_each is before begin answers h image may =
+    pub left_each : (AreUploads : List (Option (List ℕ)) → Type 0) → IsClean (g.view stopped) → (before : Journal) → BeginsIn made (kind_of opened) image before → (answers : List Answer)
+        → HoldsIn g opened AreUploads before answers → AnyLeft o stopped (LeavesEach AreUploads (kind_of opened) before answers)
+    left_each AreUploads is before begin answers h image may =
         ∥∥₁_map (left (recovers (clean is) before begin).journals is image may)
         (λ it. record { found = it.0; keeps = h.found it.0 it.1; holds = it.2 })
 
@@ -46,32 +46,9 @@ module _ {S C L : Type 0} {g : Ghosts S} (o : InFiles S C L) {m : Meaning} {pres
     (left : (image : Image) → o.may_leave stopped image
     → ∥ ((found : Journal) × MayLeave m g present found × HoldsJournal m image found) ∥₁)
   where
-    pub left_noted : (answers : List Answer) → HoldsNoted past before after Sound known came (MayLeave m g present) ledgers answers
-        → AnyLeft o stopped (LeavesNoted m past before came ledgers answers)
-    left_noted answers h image may = ∥∥₁_map (left image may) (λ it. record {
-      found = it.0;
-      keeps = h.found it.0 it.1;
-      lags = λ known in_ledger. h.lags it.0 known it.1 in_ledger;
-      holds = it.2;
-    })
-
--- what holds of a union that may be opened of what was found in the files, and of the notes beside it
-module _ {S : Type 0} {g : Ghosts S} (made mine : Tables) (image : Image) (first : Held S) (found : IsFoundIn g made mine image first)
-    (clean : HasCleanDisk (state g first)) (past : Journal) (known : Known) (came : LogEntry → Type 0)
-  where
-    pub at_found : (Says : Tables → Journal → Type 0)
-        → (MayOpen (meaning_of mine) g first known past came → Says mine (journal_of (meaning_of mine) g first))
-        → (kind : Tables) (before : Journal) → BeginsIn made kind image before → MayCatchUp known past before came → Says kind before
-    at_found Says each kind before begin lags =
-        let it = found clean in
-        let at = it.1 kind before begin in
-        let same = at.1.is in
-        let may : MayOpen (meaning_of mine) g first known past came = record {
-          sound = it.0;
-          made = at.1.made;
-          lags = subst (λ (j : Journal). MayCatchUp known past j came) (sym same) lags;
-        } in
-        subst (λ (k : Tables). Says k before) (sym at.0) (subst (λ (j : Journal). Says mine j) same (each may))
+    pub left_noted : (AreUploads : List (Option (List ℕ)) → Type 0) (answers : List Answer) → HoldsNoted AreUploads past before after Sound known came (MayLeave m g present) ledgers answers
+        → AnyLeft o stopped (LeavesNoted AreUploads m past before came ledgers answers)
+    left_noted AreUploads answers h image may = leaves_noted AreUploads answers image (left image may) h
 
 -- ---- the next run
 
@@ -87,7 +64,7 @@ module _ {S : Type 0} {g : Ghosts S} (made : Tables) (image : Image) (opened : O
         (λ (it : LeavesPrinted kind uploads before old new image).
         subst (λ journal. KeepsPrinted uploads before old new journal) (sym (found_is kind it.found it.holds)) it.keeps)
 
-    pub found_each : (kind : Tables) (before : Journal) (answers : List Answer) → LeavesEach kind before answers image
-        → ∥ KeepsEach before answers (journal_in g opened) ∥₁
-    found_each kind before answers left =
-        ∣ subst (λ (journal : Journal). KeepsEach before answers journal) (sym (found_is kind left.found left.holds)) left.keeps ∣₁
+    pub found_each : (AreUploads : List (Option (List ℕ)) → Type 0) (kind : Tables) (before : Journal) (answers : List Answer) → LeavesEach AreUploads kind before answers image
+        → ∥ KeepsFirstOf AreUploads before answers (journal_in g opened) ∥₁
+    found_each AreUploads kind before answers left =
+        ∣ subst (λ (journal : Journal). KeepsFirstOf AreUploads before answers journal) (sym (found_is kind left.found left.holds)) left.keeps ∣₁

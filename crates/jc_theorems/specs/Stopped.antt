@@ -6,8 +6,8 @@ use Rattle.sqlite.specs.View.{IsClean}
 use Rattle.sqlite.specs.State.{HasCleanDisk}
 use Rattle.sqlite.specs.Held.{state}
 use Rattle.jc_base.specs.Journal.{Journal}
-use Rattle.jc_collect.specs.Each.{KeepsEach}
 use Rattle.jc_collector_answers.specs.Answered.{KeepsFirst, KeepsPrinted}
+use Rattle.jc_collector_answers.specs.Collected.{KeepsFirstOf}
 use Rattle.jc_upload.specs.declared.answer.Answer.{Answer}
 use Rattle.jc_command_args.specs.declared.request.Tables.{Tables}
 use Rattle.jc_database.specs.Files.{HoldsJournal, InFiles}
@@ -24,18 +24,18 @@ WhenBegun g made first stopped Says =
 abbrev pub AnyLeft : {S C L : Type 0} → InFiles S C L → (stopped : S) → (Image → Type 0) → Type 0
 AnyLeft o stopped Is = (left : Image) → o.may_leave stopped left → ∥ Is left ∥₁
 
--- What a crash left of the files has a journal, in tables of this kind: what these answers acknowledge, over what was stored,
--- and all of one more upload at most, which was answered 62 or 63.
-pub record LeavesEach (kind : Tables) (before : Journal) (answers : List Answer) (left : Image) : Type 0 where
+-- What a crash left of the files has a journal, in tables of this kind: what these answers to the first ones of some uploads
+-- acknowledge, over what was stored, and all of one more of them at most, which was answered 62 or 63.
+pub record LeavesEach (AreUploads : List (Option (List ℕ)) → Type 0) (kind : Tables) (before : Journal) (answers : List Answer) (left : Image) : Type 0 where
   pub found : Journal
-  pub keeps : KeepsEach before answers found
+  pub keeps : KeepsFirstOf AreUploads before answers found
   pub holds : HoldsJournal (meaning_of kind) left found
 
 -- What the next run finds, if its disks returned what was written: a journal with what these answers acknowledge, over what
 -- was stored, and all of one more upload at most. `opened` is its keeper.
-abbrev pub FindsEach : {S : Type 0} → Ghosts S → (before : Journal) → List Answer → (opened : OpenedOver S) → Type 0
-FindsEach g before answers opened =
-    HasCleanDisk (state g (conn_of opened)) → ∥ KeepsEach before answers (journal_in g opened) ∥₁
+abbrev pub FindsEach : {S : Type 0} → Ghosts S → (AreUploads : List (Option (List ℕ)) → Type 0) → (before : Journal) → List Answer → (opened : OpenedOver S) → Type 0
+FindsEach g AreUploads before answers opened =
+    HasCleanDisk (state g (conn_of opened)) → ∥ KeepsFirstOf AreUploads before answers (journal_in g opened) ∥₁
 
 -- What is said of a run over uploads that is stopped: if its disks returned what was written, the files had this journal when
 -- it began, or none, and the uploads have these bytes, then this holds of whatever a crash leaves of the files.

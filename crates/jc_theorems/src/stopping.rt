@@ -8,6 +8,7 @@ ghost use Rattle.jc_collect.specs.Delivered.{of_delivery};
 ghost use Rattle.jc_store.specs.Crash.{LeavesJournals};
 ghost use Rattle.jc_database.specs.Left.{IsLeftOf, StopsOnly};
 ghost use Rattle.jc_collector_answers.specs.Answered.{KeepsPrinted};
+ghost use Rattle.jc_collector_answers.specs.Collected.{just, those_named};
 ghost use Rattle.jc_collector_answers.specs.Tied.{NamedWith, PrintsFront, PrintsWith};
 ghost use Rattle.jc_command_shared.specs.Deeds.{IsReplacedIf, OpensAndChanges};
 ghost use Rattle.jc_collector.specs.Kinds.{conn_of, journal_in, kind_of, meaning_of};
@@ -18,6 +19,7 @@ use jc_collect::Delivery;
 use jc_collector::{
     Answered, Opened, OpenedFiles, Unopened, answer_deliveries, answer_lines, open_or_make,
 };
+use jc_collector_answers::NameLines;
 use jc_command_args::Tables;
 use jc_command_shared::{Failure, Status};
 use jc_database::{Databases, OpenFromFiles, StoreInFiles, stop_keeper};
@@ -45,10 +47,10 @@ pub fn collect_and_stop<'a, Y: Databases, F: OpenFromFiles, R: ByteStream, B: By
     output: &mut O,
 ) -> Result<Stopped<'a, F>, Failure<'a>>
     ensures each { IfOk result (λ run. WhenBegun F.Store tables F.first run.files.value (λ kind before. IfOk run.answered (λ status.
-        PrintsWith (λ answers. AnyLeft F.in_files run.files.value (LeavesEach kind before answers)) (length deliveries.old) status
+        PrintsWith (λ answers. AnyLeft F.in_files run.files.value (LeavesEach (just (map (of_delivery R.remaining B.bytes) deliveries.old)) kind before answers)) (length deliveries.old) status
         (O.contents output.old) (O.contents output.new)))) }
     ensures each_failed { IfOk result (λ run. WhenBegun F.Store tables F.first run.files.value (λ kind before. IfErr run.answered (λ _.
-        PrintsFront (λ answers. AnyLeft F.in_files run.files.value (LeavesEach kind before answers))
+        PrintsFront (λ answers. AnyLeft F.in_files run.files.value (LeavesEach (just (map (of_delivery R.remaining B.bytes) deliveries.old)) kind before answers))
         (O.contents output.old) (O.contents output.new)))) }
     // If the deliveries' bytes are known, these are the uploads that it says.
     ensures printed { IfOk result (λ run.
@@ -90,10 +92,10 @@ pub fn collect_lines_and_stop<'a, Y: Databases, F: OpenFromFiles, L: BufRead, O:
     errors: &mut E,
 ) -> Result<Stopped<'a, F>, Failure<'a>>
     ensures each { IfOk result (λ run. WhenBegun F.Store tables F.first run.files.value (λ kind before. IfOk run.answered (λ status.
-        NamedWith (λ answers. AnyLeft F.in_files run.files.value (LeavesEach kind before answers)) (L.remaining names.old) status
+        NamedWith (λ answers. AnyLeft F.in_files run.files.value (LeavesEach (those_named Y.told NameLines.Uploads (L.remaining names.old)) kind before answers)) (L.remaining names.old) status
         (O.contents output.old) (O.contents output.new)))) }
     ensures each_failed { IfOk result (λ run. WhenBegun F.Store tables F.first run.files.value (λ kind before. IfErr run.answered (λ _.
-        PrintsFront (λ answers. AnyLeft F.in_files run.files.value (LeavesEach kind before answers))
+        PrintsFront (λ answers. AnyLeft F.in_files run.files.value (LeavesEach (those_named Y.told NameLines.Uploads (L.remaining names.old)) kind before answers))
         (O.contents output.old) (O.contents output.new)))) }
     ensures touched { OpensAndChanges database.now (IsReplacedIf (option_map (λ name. name.now) then_export.entry))
         (Y.deeds rt.old) (Y.deeds rt.new) }
@@ -142,7 +144,7 @@ pub fn open_after_stop<
     Failure<'a>,
 >
     ensures each { IfOk result (λ runs. WhenBegun F.Store tables F.first runs.0.files.value (λ kind before. IfOk runs.0.answered (λ status.
-        PrintsWith (λ answers. AnyLeft F.in_files runs.0.files.value (λ left. left ≡ G.first → IfOk runs.1 (FindsEach G.Store before answers)))
+        PrintsWith (λ answers. AnyLeft F.in_files runs.0.files.value (λ left. left ≡ G.first → IfOk runs.1 (FindsEach G.Store (just (map (of_delivery R.remaining B.bytes) deliveries.old)) before answers)))
         (length deliveries.old) status (O.contents output.old) (O.contents output.new)))) }
     ensures found { IfOk result (λ runs. WhenStopped F.Store F.in_files tables F.first (map (of_delivery R.remaining B.bytes) deliveries.old) runs.0.files.value
         (λ kind uploads before left. left ≡ G.first → OnOk runs.0.answered
@@ -180,7 +182,7 @@ pub fn open_after_lines<
     Failure<'a>,
 >
     ensures { IfOk result (λ runs. WhenBegun F.Store tables F.first runs.0.files.value (λ kind before. IfOk runs.0.answered (λ status.
-        NamedWith (λ answers. AnyLeft F.in_files runs.0.files.value (λ left. left ≡ G.first → IfOk runs.1 (FindsEach G.Store before answers)))
+        NamedWith (λ answers. AnyLeft F.in_files runs.0.files.value (λ left. left ≡ G.first → IfOk runs.1 (FindsEach G.Store (those_named Y.told NameLines.Uploads (L.remaining names.old)) before answers)))
         (L.remaining names.old) status (O.contents output.old) (O.contents output.new)))) }
 {
     let stopped = collect_lines_and_stop(

@@ -1,10 +1,12 @@
 //! A run over a union of databases that is stopped.
 
-ghost use Rattle.std.specs.Prelude.{IfOk, IfErr, option_map};
+ghost use Rattle.std.specs.Prelude.{IfOk, option_map};
 ghost use Rattle.sqlite.specs.State.{HasCleanDisk};
 ghost use Rattle.sqlite.specs.Held.{state};
 ghost use Rattle.sqlite.specs.View.{IsClean};
-ghost use Rattle.jc_collector_answers.specs.Tied.{NamedWith, PrintsFront};
+ghost use Rattle.jc_collector_answers.specs.Collected.{those_named, told_within};
+ghost use Rattle.jc_collector_answers.specs.Kept.{HoldsPrinted};
+ghost use Rattle.jc_collector_answers.specs.PrintedLaws.{named};
 ghost use Rattle.jc_command_shared.specs.Deeds.{ChangesOnly, IsReplacedIf, OpensAndChanges};
 ghost use Rattle.jc_database.specs.Files.{AreLawful};
 ghost use Rattle.jc_ledger.specs.Kept.{NoneCollide};
@@ -13,10 +15,12 @@ ghost use Rattle.jc_store.specs.Meaning.{journal_of};
 ghost use Rattle.jc_collector.specs.UnionOpened.{MayOpen};
 ghost use Rattle.jc_collector.specs.Kinds.{meaning_of};
 ghost use Rattle.jc_theorems.specs.Stopped.{AnyLeft};
-ghost use Rattle.jc_theorems.specs.StoppedUnion.{LeavesNoted, WhenNoted};
+ghost use Rattle.jc_collector.specs.UnionLeft.{LeavesNoted};
+ghost use Rattle.jc_theorems.specs.StoppedUnion.{WhenNoted};
 
 use crate::stopping::let_go;
 use jc_collector::{AnsweredUnion, Opened, join_open, open_or_make};
+use jc_collector_answers::NameLines;
 use jc_command_args::Tables;
 use jc_command_shared::{Failure, Status, System};
 use jc_database::{Databases, OpenFromFiles, StoreInFiles, stop_keeper};
@@ -56,22 +60,17 @@ pub fn collect_into_union_and_stop<
     tables: Tables,
     then_export: Option<&'a str>,
     names: &mut N,
+    most_windows: Option<u64>,
     output: &mut O,
     errors: &mut E,
 ) -> Result<StoppedUnion<'a, F, L>, Failure<'a>>
     // If what was noted is what the finished databases have, and some of what the present one had: what the printed lines
-    // acknowledge is stored in the union, whatever a crash leaves, and it may be caught up again.
+    // acknowledge, before a failure too, is stored in the union, whatever a crash leaves, and it may be caught up again.
     ensures each { IfOk result (λ run. WhenNoted F.Store tables F.first run.files.value
         (λ before. MayCatchUp (L.known ledger) P.journal before (L.came ledger) × L.sound ledger × L.clean run.ledger.value × NoneCollide (L.came run.ledger.value))
-        (λ kind before. IfOk run.answered (λ status. NamedWith (λ answers. AnyLeft F.in_files run.files.value
-        (LeavesNoted (meaning_of kind) P.journal before (L.came run.ledger.value) (L.may_leave run.ledger.value) answers))
-        (N.remaining names.old) status (O.contents output.old) (O.contents output.new)))) }
-    // ... what those acknowledge that were printed before a failure, too.
-    ensures each_failed { IfOk result (λ run. WhenNoted F.Store tables F.first run.files.value
-        (λ before. MayCatchUp (L.known ledger) P.journal before (L.came ledger) × L.sound ledger × L.clean run.ledger.value × NoneCollide (L.came run.ledger.value))
-        (λ kind before. IfErr run.answered (λ _. PrintsFront (λ answers. AnyLeft F.in_files run.files.value
-        (LeavesNoted (meaning_of kind) P.journal before (L.came run.ledger.value) (L.may_leave run.ledger.value) answers))
-        (O.contents output.old) (O.contents output.new)))) }
+        (λ kind before. HoldsPrinted (named (N.remaining names.old)) (λ answers. AnyLeft F.in_files run.files.value
+        (LeavesNoted (those_named (told_within most_windows Y.told) NameLines.MachinesAndUploads (N.remaining names.old)) (meaning_of kind) P.journal before (L.came run.ledger.value) (L.may_leave run.ledger.value) answers))
+        run.answered (O.contents output.old) (O.contents output.new))) }
     ensures touched { OpensAndChanges database.now (IsReplacedIf (option_map (λ name. name.now) then_export.entry))
         (Y.deeds rt.old) (Y.deeds rt.new) }
 {
@@ -82,6 +81,7 @@ pub fn collect_into_union_and_stop<
             ledger,
             then_export,
             names,
+            most_windows,
             output,
             errors,
         )),
@@ -91,6 +91,7 @@ pub fn collect_into_union_and_stop<
             ledger,
             then_export,
             names,
+            most_windows,
             output,
             errors,
         )),
@@ -114,19 +115,15 @@ fn stop_over<
     ledger: L,
     then_export: Option<&'a str>,
     names: &mut N,
+    most_windows: Option<u64>,
     output: &mut O,
     errors: &mut E,
 ) -> StoppedUnion<'a, F, L>
     ensures each { AreLawful T.meaning → IsClean (F.Store.view result.files.value) → L.clean result.ledger.value → NoneCollide (L.came result.ledger.value)
         → MayOpen T.meaning F.Store present.conn (L.known ledger) P.journal (L.came ledger) → L.sound ledger
-        → IfOk result.answered (λ status. NamedWith (λ answers. AnyLeft F.in_files result.files.value
-        (LeavesNoted T.meaning P.journal (journal_of T.meaning F.Store present.conn) (L.came result.ledger.value) (L.may_leave result.ledger.value) answers))
-        (N.remaining names.old) status (O.contents output.old) (O.contents output.new)) }
-    ensures each_failed { AreLawful T.meaning → IsClean (F.Store.view result.files.value) → L.clean result.ledger.value → NoneCollide (L.came result.ledger.value)
-        → MayOpen T.meaning F.Store present.conn (L.known ledger) P.journal (L.came ledger) → L.sound ledger
-        → IfErr result.answered (λ _. PrintsFront (λ answers. AnyLeft F.in_files result.files.value
-        (LeavesNoted T.meaning P.journal (journal_of T.meaning F.Store present.conn) (L.came result.ledger.value) (L.may_leave result.ledger.value) answers))
-        (O.contents output.old) (O.contents output.new)) }
+        → HoldsPrinted (named (N.remaining names.old)) (λ answers. AnyLeft F.in_files result.files.value
+        (LeavesNoted (those_named (told_within most_windows Y.told) NameLines.MachinesAndUploads (N.remaining names.old)) T.meaning P.journal (journal_of T.meaning F.Store present.conn) (L.came result.ledger.value) (L.may_leave result.ledger.value) answers))
+        result.answered (O.contents output.old) (O.contents output.new) }
     ensures clean { IsClean (F.Store.view result.files.value) → L.clean result.ledger.value → NoneCollide (L.came result.ledger.value)
         → HasCleanDisk (state F.Store present.conn) }
     ensures touched { ChangesOnly (IsReplacedIf (option_map (λ name. name.now) then_export.entry)) (Y.deeds rt.old) (Y.deeds rt.new) }
@@ -137,6 +134,7 @@ fn stop_over<
         ledger,
         then_export,
         names,
+        most_windows,
         output,
         errors,
     );

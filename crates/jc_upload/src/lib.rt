@@ -14,6 +14,6 @@ pub use answer::{Answer, one_answer};
 pub use excerpt::Excerpt;
 pub use head::{Kind, UploadHead, Version, one_head};
 pub use law::{fronts_of_uploads, one_saying};
-pub use line::Line;
+pub use line::{Line, Words};
 pub use resume::{Resume, one_resume};
 pub use uploader::{UploadFault, Uploader, file_upload};

@@ -108,19 +108,19 @@ impl Line {
 
 /// What is left of a line that is being read.
 #[derive(Drop)]
-pub(crate) struct Words<'a> {
-    rest: &'a [u8],
+pub struct Words<'a> {
+    pub rest: &'a [u8],
 }
 
 impl<'a> Words<'a> {
-    pub(crate) fn new(line: &'a [u8]) -> Words<'a>
+    pub fn new(line: &'a [u8]) -> Words<'a>
         ensures { result.rest.now ≡ line.now }
     {
         Words { rest: line }
     }
 
     /// Whether nothing is left.
-    pub(crate) fn is_empty(&self) -> bool
+    pub fn is_empty(&self) -> bool
         ensures { IsTrue result ↔ (self.now.rest.now ≡ []) }
     {
         self.rest.is_empty()
@@ -128,7 +128,7 @@ impl<'a> Words<'a> {
 
     /// The bytes before the next byte `end`, which is taken too; `None` if there is none.
     #[tactic(auto, unfolding(crate::specs::Reading::word_at))]
-    pub(crate) fn word(&mut self, end: u8) -> Option<&'a [u8]>
+    pub fn word(&mut self, end: u8) -> Option<&'a [u8]>
         ensures { GivesBytes result self.new.rest.now (word_at end self.old.rest.now) }
     {
         let at = place_of(end, self.rest)?;
@@ -139,7 +139,7 @@ impl<'a> Words<'a> {
 
     /// A plain decimal below 2^64.
     #[tactic(auto, unfolding(crate::specs::Reading::number_at))]
-    pub(crate) fn number(&mut self, end: u8) -> Option<u64>
+    pub fn number(&mut self, end: u8) -> Option<u64>
         ensures { Gives result self.new.rest.now (number_at end self.old.rest.now) }
     {
         let word = self.word(end)?;
@@ -148,7 +148,7 @@ impl<'a> Words<'a> {
 
     /// An id in lower-case hexadecimal digits.
     #[tactic(auto, unfolding(crate::specs::Reading::id_at))]
-    pub(crate) fn id(&mut self, end: u8) -> Option<Id128>
+    pub fn id(&mut self, end: u8) -> Option<Id128>
         ensures { Gives result self.new.rest.now (id_at end self.old.rest.now) }
     {
         let word = self.word(end)?;

@@ -1,15 +1,16 @@
 //! The present database of a union, closed.
 
-ghost use Rattle.std.specs.Prelude.{◌≡◌, ◌⊎◌, Ok, Err, IfOk, IfErr};
+ghost use Rattle.std.specs.Prelude.{◌≡◌, ◌⊎◌, Ok, Err, IfOk, IfErr, IsSomeAnd};
 ghost use Rattle.jc_database.specs.Files.{KeepsAlways};
 ghost use Rattle.jc_store.specs.Meaning.{AreMade, IsSound, journal_of};
 ghost use Rattle.jc_collector.specs.Noted.{failure_of};
+ghost use Rattle.jc_collector.specs.UnionLeft.{IsHandedBack};
 
 use super::opening::{OpenStop, TableUnion};
-use crate::closing::{Closed, close_after};
+use crate::unopened::Unopened;
 use jc_base::{Code, Fault};
 use jc_command_shared::{Failure, Status};
-use jc_database::StoreInFiles;
+use jc_database::{StoreInFiles, close_keeper};
 use jc_keeper::KeepStop;
 use jc_ledger::{Ledger, Past, UnionKeeper};
 use jc_store::Listed;
@@ -20,6 +21,43 @@ pub struct NotedRun<C: Drop, L: Ledger + Drop> {
     pub status: Status,
     pub files: C,
     pub ledger: L,
+}
+
+/// What is left of a run over a union that failed: of its present database's files, and the ledger.
+#[derive(Drop)]
+pub struct NotedLeft<R: Drop, L: Ledger + Drop> {
+    pub files: R,
+    pub ledger: L,
+}
+
+/// Why a run over a union failed, and what is left of it, if its present database was open.
+#[derive(Drop)]
+pub struct FailedRun<'a, R: Drop, L: Ledger + Drop> {
+    pub failure: Failure<'a>,
+    pub left: Option<NotedLeft<R, L>>,
+}
+
+impl<'a, R: Drop, L: Ledger + Drop> From<Failure<'a>> for FailedRun<'a, R, L> {
+    ghost use Rattle.std.specs.Prelude.{◌≡◌, None};
+
+    ghost from_gives = { λ failure run. (run.failure ≡ failure) × (run.left ≡ None) };
+
+    fn from(failure: Failure<'a>) -> Self {
+        FailedRun {
+            failure,
+            left: None,
+        }
+    }
+}
+
+impl<'a, R: Drop, L: Ledger + Drop> From<Unopened<'a, R>> for FailedRun<'a, R, L> {
+    ghost use Rattle.std.specs.Prelude.{◌≡◌, None};
+
+    ghost from_gives = { λ unopened run. (run.failure ≡ unopened.failure) × (run.left ≡ None) };
+
+    fn from(unopened: Unopened<'a, R>) -> Self {
+        FailedRun::from(Failure::from(unopened))
+    }
 }
 
 /// What a run over a union answered, and the union, whose present database is still open.
@@ -33,14 +71,15 @@ pub struct AnsweredUnion<'a, U: Drop> {
 pub(super) fn close_union<'a, F: StoreInFiles, T: Listed + Drop, L: Ledger + Drop, P: Past>(
     union: TableUnion<F, T, L, P>,
     answered: Result<Status, Failure<'a>>,
-) -> Result<NotedRun<F::Files, L>, Failure<'a>>
+) -> Result<NotedRun<F::Files, L>, FailedRun<'a, F::Left, L>>
     ensures answered { IfOk result (λ run. answered.entry ≡ Ok run.status) }
     ensures ledger { IfOk result (λ run. run.ledger ≡ union.ledger) }
     ensures sound { IfOk result (λ run. F.in_files.clean run.files → IsSound F.Store union.present.conn) }
     ensures keeps { IfOk result (λ run. F.in_files.clean run.files → AreMade T.meaning F.Store union.present.conn
         → KeepsAlways T.meaning F.in_files run.files (journal_of T.meaning F.Store union.present.conn)) }
-    ensures passed_on { IfErr answered.entry (λ failure. result ≡ Err failure) }
-    ensures failed { IfErr result (λ failure. (answered.entry ≡ Err failure) ⊎ (failure ≡ Failure.StoreFailed)) }
+    ensures failed { IfErr result (λ run. (answered.entry ≡ Err run.failure) ⊎ (run.failure ≡ Failure.StoreFailed)) }
+    ensures left { IfErr result (λ run. IsSomeAnd run.left (λ left. (left.ledger ≡ union.ledger)
+        × IsHandedBack T.meaning F.Store F.in_files union.present.conn left.files)) }
 {
     let UnionKeeper {
         present,
@@ -49,13 +88,38 @@ pub(super) fn close_union<'a, F: StoreInFiles, T: Listed + Drop, L: Ledger + Dro
         machine: _,
         alloc: _,
     } = union;
-    match close_after(present, answered) {
-        Ok(Closed { value, files }) => Ok(NotedRun {
-            status: value,
-            files,
-            ledger,
-        }),
-        Err(failure) => Err(failure),
+    match close_keeper(present) {
+        Ok(files) => match answered {
+            Ok(status) => Ok(NotedRun {
+                status,
+                files,
+                ledger,
+            }),
+            Err(failure) => {
+                let files = F::left_files(files);
+                Err(FailedRun {
+                    failure,
+                    left: Some(NotedLeft { files, ledger }),
+                })
+            }
+        },
+        Err(failed) => {
+            let files = failed.store.left_store();
+            Err(FailedRun {
+                failure: first_failure(answered),
+                left: Some(NotedLeft { files, ledger }),
+            })
+        }
+    }
+}
+
+/// Why a run failed whose database couldn't be closed.
+fn first_failure<'a>(answered: Result<Status, Failure<'a>>) -> Failure<'a>
+    ensures { (answered.entry ≡ Err result) ⊎ (result ≡ Failure.StoreFailed) }
+{
+    match answered {
+        Ok(_) => Failure::StoreFailed,
+        Err(failure) => failure,
     }
 }
 

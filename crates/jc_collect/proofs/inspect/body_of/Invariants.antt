@@ -1,4 +1,4 @@
-use Rattle.std.proofs.Common.{◌+◌, ◌≤◌}
+use Rattle.std.proofs.Common.{◌≡◌, ◌+◌, ◌≤◌, length}
 use Rattle.jc_collect.proofs.Inspecting.{GivesOn}
 use Rattle.jc_collect.proofs.inspect.body_of.Given as goal
 
@@ -6,7 +6,8 @@ abbrev pub invariant-entries : goal.invariant-entries
 invariant-entries g l =
     let source = g.S.EntrySource in
     record {
-      given : GivesOn l.fn.bounds (source.remaining l.fn.source) l.count l.last l.room (source.remaining l.source);
+      given : GivesOn l.fn.bounds (source.remaining l.fn.source) l.count l.last l.room l.touched.windows.keys (source.remaining l.source);
+      counted : l.windows ≡ length l.touched.windows.keys;
       bound : l.count + source.bound l.source ≤ source.bound l.fn.source;
     }
 

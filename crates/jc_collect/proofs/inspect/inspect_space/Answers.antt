@@ -1,8 +1,8 @@
 -- The header, and the body behind it.
-use Rattle.std.proofs.Common.{◌∙◌, ap}
-use Rattle.jc_upload.specs.declared.head.Kind.TheVariants.{Export, File}
+use Rattle.std.proofs.Common.{◌∙◌, List, Ok, Option, ap, subst, sym, ℕ}
+use Rattle.jc_collect.specs.Begun.{BeginsUpload}
 use Rattle.jc_collect.specs.Part.{known_from}
-use Rattle.jc_collect.proofs.Inspecting.{unread_says, upload_says}
+use Rattle.jc_collect.proofs.Inspecting.{unread_says}
 use Rattle.jc_collect.proofs.inspect.inspect_space.Goals as goal
 
 pub returns-in-Err-clause-says : goal.returns-in-Err-clause-says
@@ -11,15 +11,8 @@ returns-in-Err-clause-says g c = λ upload known.
     c.in-Err.unread c.inspect_unread.result known c.in-Err.ensures.begins
     c.inspect_unread.ensures
 
-pub returns-in-Export-clause-says : goal.returns-in-Export-clause-says
-returns-in-Export-clause-says g c = λ upload known.
-    upload_says c.args.limits.now c.args.bounds.now upload (g.B.ByteSpace.bytes c.args.space) (known_from 48 (g.B.ByteSpace.bytes c.args.space)) _ c.in-Ok.head
-    Export c.in_ok-body-in-Export.body c.as_inspected.result known c.in-Ok.ensures.begins c.in-Export.is
-    (c.new.ensures.remaining ∙ c.new-part.ensures.bytes ∙ ap (known_from 48) c.in-Ok.ensures.bytes) c.in_ok-body-in-Export.ensures.says
-    c.as_inspected.ensures
-
 pub returns-clause-says : goal.returns-clause-says
 returns-clause-says g c = λ upload known.
-    upload_says c.args.limits.now c.args.bounds.now upload (g.B.ByteSpace.bytes c.args.space) (known_from 48 (g.B.ByteSpace.bytes c.args.space)) _ c.in-Ok.head
-    File c.in_ok-body-in-File.body c.as_inspected-in-File.result known c.in-Ok.ensures.begins c.in-File.is
-    (c.new-part.ensures.bytes ∙ ap (known_from 48) c.in-Ok.ensures.bytes) c.in_ok-body-in-File.ensures.says c.as_inspected-in-File.ensures
+    c.inspect_part.ensures.says upload (g.B.ByteSpace.bytes c.args.space) known
+    (subst (λ (behind : Option (List ℕ)). BeginsUpload (g.B.ByteSpace.bytes c.args.space) behind (Ok c.in-Ok.head))
+    (sym (c.new-part.ensures.bytes ∙ ap (known_from 48) c.in-Ok.ensures.bytes)) c.in-Ok.ensures.begins)

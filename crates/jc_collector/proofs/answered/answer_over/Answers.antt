@@ -9,6 +9,7 @@ use Rattle.jc_command_shared.specs.declared.failure.Failure.TheVariants.{WriteFa
 use Rattle.jc_collector.specs.PrintedLaws.{whole}
 use Rattle.jc_collector.proofs.Counted.{counted_other, printed_behind, printed_other}
 use Rattle.jc_collector.proofs.Open.{all_first, clean_before, failed_before, front_counted, holds_open, less_left, on_ok_each, on_ok_of_other}
+use Rattle.jc_collector.proofs.Exported.{stands_exported}
 use Rattle.jc_collector.proofs.OverFiles.{stands_over}
 use Rattle.jc_collector.proofs.Results.{IfOk-each, failure_of_other, on_ok_if, value_of_other}
 use Rattle.jc_collector.proofs.answered.answer_over.Goals as goal
@@ -31,7 +32,7 @@ returns-clause-answers g c =
           let mid = clean_before exported.clean clean in
           let it = begin (answered.kept.was_clean mid) in
           let holds = holds_open m first _ last before it.0 it.1 (c.sound_leaves_journals.ensures.durable it.0 it.1.made) (answered.kept.stays_made it.1.made)
-          exported.before exported.keeps exported.crash clean in
+          exported.before exported.keeps exported.crash clean (g.U.Uploads.are g.Y.System.told c.args.uploads) in
           printed_behind (PrintsCounted counts) _ old new (front_counted counts _ old new) c.export_after.result c.answer-answered.result exported.answered
           (printed_other counts _ _ holds old new c.answer-answered.result (answered.answers.each mid it.1.made));
       recovers = λ clean before begin.
@@ -94,3 +95,11 @@ pub returns-clause-stopped : goal.returns-clause-stopped
 returns-clause-stopped g c =
     failure_of_other c.export_after.result c.answer-answered.result IsOutFailure (MayStop g.U.Uploads.are_read) c.export_after.ensures.failed
     c.answer-answered.ensures.stopped (λ failure out. inr out)
+
+pub returns-clause-exported : goal.returns-clause-exported
+returns-clause-exported g c =
+    let answered = c.answer-answered.ensures in
+    let exported = c.export_after.ensures in
+    on_ok_if c.export_after.result _ (λ status is.
+    stands_exported g.L.Layout.meaning c.args.keeper.now.conn _ c.export_after.new.keeper.conn answered.kept.was_sound answered.kept.stays_made
+    exported.before exported.keeps _ _ _ (λ sound made. is _ (exported.exported sound made)))

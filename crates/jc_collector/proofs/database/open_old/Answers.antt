@@ -13,7 +13,7 @@ returns-clause-begins g c =
     c.adopt_tables.ensures.before c.adopt_tables.ensures.keeps
 
 pub returns-clause-failed : goal.returns-clause-failed
-returns-clause-failed g c = IfErr-each c.adopt_tables.result _ _ (λ unopened. no_tables c.args.path.now unopened.failure) (c.adopt_tables.ensures.failed (λ code is. inl is))
+returns-clause-failed g c = IfErr-each c.adopt_tables.result _ _ (λ unopened. no_tables c.args.path.now unopened.failure) (c.adopt_tables.ensures.failed (λ code is. is))
 
 pub returns-clause-crash : goal.returns-clause-crash
 returns-clause-crash g c =

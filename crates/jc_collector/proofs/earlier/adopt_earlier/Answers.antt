@@ -1,6 +1,6 @@
 -- The tables tell the kind of a keeper.
-use Rattle.std.proofs.Common.{true≢false, inl, refl, sym, subst, ◌∙◌}
-use Rattle.jc_collector.specs.Earlier.{HasFields}
+use Rattle.std.proofs.Common.{true≢false, refl, sym, subst, ◌∙◌}
+use Rattle.jc_collector.specs.Kinds.{HasFields}
 use Rattle.jc_collector.proofs.earlier.adopt_earlier.Goals as goal
 
 pub returns-in-Ok-clause-adopted : goal.returns-in-Ok-clause-adopted
@@ -18,7 +18,7 @@ returns-in-Ok-adopt_tables-clause-adopted g c = record {
 }
 
 pub returns-in-Err-clause-failed : goal.returns-in-Err-clause-failed
-returns-in-Err-clause-failed g c = c.in-Err.ensures.failed (λ code is. inl is)
+returns-in-Err-clause-failed g c = c.in-Err.ensures.failed (λ code is. is)
 
 pub returns-in-Err-adopt_tables-clause-failed : goal.returns-in-Err-adopt_tables-clause-failed
 returns-in-Err-adopt_tables-clause-failed g c = c.in-Err-adopt_tables.ensures.failed (λ code is. is)

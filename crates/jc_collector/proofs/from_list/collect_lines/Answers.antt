@@ -17,8 +17,8 @@ returns-clause-each g c =
     let same : reader_remaining g.L.Read.remaining c.in-Ok.names ≡ g.L.Read.remaining c.args.list =
     rw (c.in-Ok.ensures.capacity, c.in-Ok.ensures.empty, c.in-Ok.ensures.inner) (prepend_nothing (g.L.Read.remaining c.args.list)) in
     IfOk-each c.collect_uploads.result _ _
-    (λ closed leads. leads_weaker c.args.target.tables g.F.OpenFromFiles.first closed.files _ (StoresNamed given closed.value old new)
-    (λ before after it. other_text (reader_remaining g.L.Read.remaining c.in-Ok.names) given same closed.value old new before after
+    (λ closed leads. leads_weaker c.args.target.tables g.F.OpenFromFiles.first closed.files _ (StoresNamed g.Y.System.told given closed.value old new)
+    (λ before after it. other_text g.Y.System.told (reader_remaining g.L.Read.remaining c.in-Ok.names) given same closed.value old new before after
     (counted_named (reader_remaining g.L.Read.remaining c.in-Ok.names) _ closed.value old new it)) leads)
     c.collect_uploads.ensures.each
 

@@ -1,18 +1,14 @@
 -- A buffer that is empty gives what its reader gives.
-use Rattle.std.proofs.Common.{[]}
-use Rattle.std.specs.Io.KnownBytes.{prepend_known}
-use Rattle.jc_collector.proofs.IntoUnion.{leads_weaker, other_text}
+use Rattle.std.proofs.Common.{ℕ, List, Option, subst}
+use Rattle.jc_collector_answers.specs.Collected.{told_within}
+use Rattle.jc_collector.specs.UnionRun.{RunsNoted}
 use Rattle.jc_collector.proofs.OverFiles.{prepend_nothing}
-use Rattle.jc_collector.proofs.Results.{IfOk-each}
 use Rattle.jc_collector.proofs.into_union.join_lines.Goals as goal
 
-pub returns-clause-each : goal.returns-clause-each
-returns-clause-each g c =
-    let old = g.O.Write.contents c.args.output.now in
-    let new = g.O.Write.contents c.join_names.new.output in
+pub returns-clause-runs : goal.returns-clause-runs
+returns-clause-runs g c =
     let given = g.N.Read.remaining c.args.list in
-    let past = g.P.Past.journal in
-    IfOk-each c.join_names.result _ _
-    (λ run leads. leads_weaker c.args.target.tables g.F.OpenFromFiles.first run.files _ _ _
-    (other_text past (g.L.Ledger.known run.ledger) (g.L.Ledger.came run.ledger) run.status old new (prepend_known [] given) given (prepend_nothing given)) leads)
-    (rw (c.in-Ok.ensures.capacity, c.in-Ok.ensures.empty, c.in-Ok.ensures.inner) at c.join_names.ensures.each)
+    subst (λ (text : Option (List ℕ)). RunsNoted g.F.StoreInFiles.in_files g.L.Ledger c.args.target.tables g.F.OpenFromFiles.first (told_within c.args.most_windows g.Y.System.told) g.P.Past.journal c.args.ledger text
+    c.join_names.result (g.O.Write.contents c.args.output.now) (g.O.Write.contents c.join_names.new.output) (g.E.Write.contents c.args.errors.now) (g.E.Write.contents c.join_names.new.errors))
+    (prepend_nothing given)
+    (rw (c.in-Ok.ensures.capacity, c.in-Ok.ensures.empty, c.in-Ok.ensures.inner) at c.join_names.ensures.runs)

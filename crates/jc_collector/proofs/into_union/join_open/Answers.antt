@@ -8,18 +8,22 @@ use Rattle.jc_store.specs.Meaning.{IsSound, journal_of}
 use Rattle.jc_collector.specs.UnionLaws.{holds_nothing, holds_through, no_union}
 use Rattle.jc_collector.specs.Database.{IsOutFailure, MayEndNames}
 use Rattle.jc_collector.specs.IntoUnion.{UnionStopsBy}
+use Rattle.jc_collector_answers.specs.Collected.{those_named, told_within}
+use Rattle.jc_collector_answers.specs.CollectedLaws.{some_named}
 use Rattle.jc_collector_answers.specs.PrintedLaws.{front_none, named, text_other}
+use Rattle.jc_collector_answers.specs.declared.name_lines.NameLines.TheVariants.{MachinesAndUploads}
 use Rattle.jc_collector.proofs.Causes.{names_failed}
+use Rattle.jc_collector.proofs.Exported.{same_exported}
 use Rattle.jc_collector.proofs.IntoUnion.{by_answers, kept_same}
 use Rattle.jc_collector.proofs.Counted.{printed_behind}
 use Rattle.jc_collector.proofs.Open.{clean_before, front_named}
-use Rattle.jc_collector.proofs.Results.{IfErr-each, failure_of_other, on_any, on_ok, value_of_other}
+use Rattle.jc_collector.proofs.Results.{IfErr-each, failure_of_other, on_any, on_ok, on_ok_if, value_of_other}
 use Rattle.jc_collector.proofs.into_union.join_open.Goals as goal
 
 pub returns-in-Ok-clause-answers : goal.returns-in-Ok-clause-answers
 returns-in-Ok-clause-answers g c =
     let opened = c.open_union-union.ensures in
-    let kept = c.answer_names-answered.ensures.kept in
+    let kept = c.answer_names_within-answered.ensures.kept in
     let exported = c.export_after-done.ensures in
     let then = c.open_union-union.result.union in
     let m = g.T.Layout.meaning in record {
@@ -27,6 +31,9 @@ returns-in-Ok-clause-answers g c =
           let then_sound = kept.was_sound (exported.before late.0, late.1) in
           (opened.before then_sound.0, opened.ledger then_sound.1.0);
       was_clean = λ clean. opened.clean (kept.was_clean (clean_before exported.clean clean.0, clean.1));
+      tables = λ clean may.
+          let early = kept.was_clean (clean_before exported.clean clean.0, clean.1) in
+          exported.keeps.made (kept.stays_made (on_ok _ _ _ c.in-Ok.is (opened.made may early.1.1.1))).0;
       is_made = λ clean may.
           let early = kept.was_clean (clean_before exported.clean clean.0, clean.1) in
           let made = kept.stays_made (on_ok _ _ _ c.in-Ok.is (opened.made may early.1.1.1)) in
@@ -50,40 +57,50 @@ returns-in-Ok-clause-answers g c =
           let sound = on_ok _ _ _ c.in-Ok.is (opened.sound early) in
           let leaves = kept.recovers (disk, clean.1) made (opened.recovers early may l_sound) in
           let Was = IsSound g.S.Store then.present.conn × (g.L.Ledger.sound then.ledger × (⊤ × NoneCollide (g.L.Ledger.came then.ledger))) in
-          let holds = holds_through g.P.Past.journal (journal_of m g.S.Store c.args.present.conn) (journal_of m g.S.Store then.present.conn) _ _
+          let holds = holds_through (those_named (told_within c.args.most g.Y.System.told) MachinesAndUploads (g.N.Read.remaining c.args.names.now)) g.P.Past.journal (journal_of m g.S.Store c.args.present.conn) (journal_of m g.S.Store then.present.conn) _ _
           Was _ _ _ _ (MayLeave m g.S.Store then.present.conn) _ _ _
           (opened.journal.same may.sound may.made sound.0) (opened.left early.0 may)
           (λ now. (kept.stays_made made).1.1 (now.0, (now.1.0, tt))) leaves.1
           (λ late. (exported.before late.0, late.1)) (λ late. exported.keeps.same (exported.before late.0) (kept.stays_made made).0 late.0)
           (λ found is. record { trees = is.trees; left = exported.crash clean.0 is.trees is.left; is = is.is }) in
-          printed_behind (named (g.N.Read.remaining c.args.names.now)) _ _ _ (λ status. front_named _ _ _ _ status) c.export_after-done.result c.answer_names-answered.result exported.answered
-          (text_other _ _ holds _ c.answer_names-answered.result _ _ (c.answer_names-answered.ensures.answers.each (disk, clean.1) made));
+          printed_behind (named (g.N.Read.remaining c.args.names.now)) _ _ _ (λ status. front_named _ _ _ _ status) c.export_after-done.result c.answer_names_within-answered.result exported.answered
+          (text_other _ _ holds _ c.answer_names_within-answered.result _ _ (c.answer_names_within-answered.ensures.answers.each (disk, clean.1) made));
     }
+
+pub returns-in-Ok-clause-exported : goal.returns-in-Ok-clause-exported
+returns-in-Ok-clause-exported g c = λ clean may.
+    let opened = c.open_union-union.ensures in
+    let kept = c.answer_names_within-answered.ensures.kept in
+    let exported = c.export_after-done.ensures in
+    let early = kept.was_clean (clean_before exported.clean clean.0, clean.1) in
+    let made = kept.stays_made (on_ok _ _ _ c.in-Ok.is (opened.made may early.1.1.1)) in
+    on_ok_if c.export_after-done.result _ (λ status is. λ late.
+    same_exported g.T.Layout.meaning _ _ exported.keeps (exported.before late) made.0 late _ _ _ (is _ (exported.exported late made.0)))
 
 pub returns-in-Ok-clause-printed : goal.returns-in-Ok-clause-printed
 returns-in-Ok-clause-printed g c =
-    value_of_other c.export_after-done.result c.answer_names-answered.result (λ status. status) _ c.export_after-done.ensures.answered
-    c.answer_names-answered.ensures.printed
+    value_of_other c.export_after-done.result c.answer_names_within-answered.result (λ status. status) _ c.export_after-done.ensures.answered
+    c.answer_names_within-answered.ensures.printed
 
 pub returns-in-Ok-clause-quiet : goal.returns-in-Ok-clause-quiet
 returns-in-Ok-clause-quiet g c =
-    value_of_other c.export_after-done.result c.answer_names-answered.result (λ status. status) _ c.export_after-done.ensures.answered
-    c.answer_names-answered.ensures.quiet
+    value_of_other c.export_after-done.result c.answer_names_within-answered.result (λ status. status) _ c.export_after-done.ensures.answered
+    c.answer_names_within-answered.ensures.quiet
 
 pub returns-in-Ok-clause-failed : goal.returns-in-Ok-clause-failed
 returns-in-Ok-clause-failed g c =
     IfErr-each c.export_after-done.result MayEndNames UnionStopsBy by_answers
-    (failure_of_other c.export_after-done.result c.answer_names-answered.result IsOutFailure MayEndNames c.export_after-done.ensures.failed
-    (IfErr-each c.answer_names-answered.result _ MayEndNames
-    (λ failure why. elim why [ inl is ↦ inl is | inr more ↦ elim more [ inl is ↦ inr (inl is) | inr is ↦ inr (inr (inr is)) ] ]) c.answer_names-answered.ensures.failed)
+    (failure_of_other c.export_after-done.result c.answer_names_within-answered.result IsOutFailure MayEndNames c.export_after-done.ensures.failed
+    (IfErr-each c.answer_names_within-answered.result _ MayEndNames
+    (λ failure why. elim why [ inl is ↦ inl is | inr more ↦ elim more [ inl is ↦ inr (inl is) | inr is ↦ inr (inr (inr is)) ] ]) c.answer_names_within-answered.ensures.failed)
     (λ failure out. inr out))
 
 pub returns-in-Ok-clause-untouched : goal.returns-in-Ok-clause-untouched
 returns-in-Ok-clause-untouched g c =
     IfErr-each c.export_after-done.result MayEndNames _ (λ failure out judged. absurd (judged (names_failed failure out)))
-    (failure_of_other c.export_after-done.result c.answer_names-answered.result IsOutFailure MayEndNames c.export_after-done.ensures.failed
-    (IfErr-each c.answer_names-answered.result _ MayEndNames
-    (λ failure why. elim why [ inl is ↦ inl is | inr more ↦ elim more [ inl is ↦ inr (inl is) | inr is ↦ inr (inr (inr is)) ] ]) c.answer_names-answered.ensures.failed)
+    (failure_of_other c.export_after-done.result c.answer_names_within-answered.result IsOutFailure MayEndNames c.export_after-done.ensures.failed
+    (IfErr-each c.answer_names_within-answered.result _ MayEndNames
+    (λ failure why. elim why [ inl is ↦ inl is | inr more ↦ elim more [ inl is ↦ inr (inl is) | inr is ↦ inr (inr (inr is)) ] ]) c.answer_names_within-answered.ensures.failed)
     (λ failure out. inr out))
 
 pub returns-in-Err-clause-answers : goal.returns-in-Err-clause-answers
@@ -93,12 +110,15 @@ returns-in-Err-clause-answers g c =
     let m = g.T.Layout.meaning in record {
       was_sound = λ sound. (opened.before sound.0, opened.ledger sound.1.0);
       was_clean = opened.clean;
+      tables = λ clean may. opened.journal.made may.made;
       is_made = λ clean may. tt;
       recovers = opened.recovers;
       each = λ clean may l_sound.
           let Was = IsSound g.S.Store then.present.conn × (g.L.Ledger.sound then.ledger × (⊤ × NoneCollide (g.L.Ledger.came then.ledger))) in
+          let text = g.N.Read.remaining c.args.names.now in
+          let uploads = some_named (told_within c.args.most g.Y.System.told) MachinesAndUploads text in
           front_none _ _
-          (holds_nothing g.P.Past.journal (journal_of m g.S.Store c.args.present.conn) (journal_of m g.S.Store then.present.conn) Was
+          (holds_nothing (those_named (told_within c.args.most g.Y.System.told) MachinesAndUploads text) uploads.0 uploads.1 g.P.Past.journal (journal_of m g.S.Store c.args.present.conn) (journal_of m g.S.Store then.present.conn) Was
           (g.L.Ledger.known then.ledger) (g.L.Ledger.came then.ledger) (MayLeave m g.S.Store then.present.conn) (g.L.Ledger.may_leave then.ledger)
           (λ sound. opened.journal.same may.sound may.made sound.0) (opened.left clean.0 may) (opened.recovers clean may l_sound).1);
     }

@@ -1,82 +1,128 @@
--- What was answered stands in the union, and the present database is closed.
+-- What was answered stands in the union, and the present database is closed; or what was printed before a failure is in what
+-- is left.
 use Rattle.std.proofs.Common.{inl, inr, subst, sym}
 use Rattle.std.specs.Prelude.{⊤}
 use Rattle.sqlite.specs.Held.{state}
+use Rattle.sqlite.specs.Recovery.{Image}
 use Rattle.sqlite.specs.State.{HasCleanDisk}
 use Rattle.jc_base.specs.Journal.{Journal}
-use Rattle.jc_collect.specs.Each.{StoresEach}
+use Rattle.jc_collector_answers.specs.Collected.{StoresFirstOf, those_named, told_within}
+use Rattle.jc_collector_answers.specs.PrintedLaws.{front_other, named}
+use Rattle.jc_collector_answers.specs.Tied.{PrintsFront}
+use Rattle.jc_collector_answers.specs.declared.name_lines.NameLines.TheVariants.{MachinesAndUploads}
 use Rattle.jc_ledger.specs.Kept.{IsKept, NoneCollide}
 use Rattle.jc_ledger.specs.Lagging.{MayCatchUp}
 use Rattle.jc_ledger.specs.Union.{union}
 use Rattle.jc_store.specs.Meaning.{IsSound, journal_of}
 use Rattle.jc_collector.specs.UnionOpened.{MayOpen}
 use Rattle.jc_collector.specs.IntoUnion.{UnionStopsBy}
+use Rattle.jc_collector.specs.Kinds.{meaning_of}
 use Rattle.jc_collector.specs.PrintedLaws.{whole}
-use Rattle.jc_collector_answers.specs.PrintedLaws.{named}
+use Rattle.jc_collector.specs.UnionLeft.{LeavesNoted}
+use Rattle.jc_collector.specs.UnionLeftLaws.{leaves_noted}
 use Rattle.jc_collector.proofs.Causes.{failed}
-use Rattle.jc_collector.proofs.IntoUnion.{by_answers}
-use Rattle.jc_collector.proofs.Results.{IfOk-four, at_ok, failure_of_other, on_ok, value_of_other}
+use Rattle.jc_collector.proofs.IntoUnion.{by_answers, front_any, leads_found, leaves_as}
+use Rattle.jc_collector.proofs.Results.{IfErr-each, IfOk-four, at_ok, failure_in_other, match_some, on_ok, value_of_other}
 use Rattle.jc_collector.proofs.into_union.join_over.Goals as goal
 
-pub returns-clause-each : goal.returns-clause-each
-returns-clause-each g c =
+pub returns-clause-runs : goal.returns-clause-runs
+returns-clause-runs g c = λ lawful made first found.
     let closed = c.close_union.ensures in
     let ran = c.join_open-union.ensures.answers in
     let it = c.join_open-union.result.union in
     let answered = c.join_open-union.result.answered in
     let past = g.P.Past.journal in
+    let text = g.N.Read.remaining c.args.names.now in
+    let named_uploads = those_named (told_within c.args.most_windows g.Y.System.told) MachinesAndUploads text in
+    let m = g.T.Layout.meaning in
+    let old = g.O.Write.contents c.args.output.now in
+    let new = g.O.Write.contents c.join_open-union.new.output in
+    record {
+      stored = IfOk-four c.close_union.result _ _ _ _ _
+          (λ run done ledger sound keeps. leads_found m made first c.args.present.conn run.files _ _ found
+          (λ clean before holds. (ran.was_sound
+          (sound clean, (subst g.L.Ledger.sound ledger holds.1, (tt, subst (λ (l : g.row.L.Denot). NoneCollide (g.L.Ledger.came l)) ledger holds.2)))).0.clean)
+          (λ clean before has holds.
+          let k_now = sound clean in
+          let l_now = subst g.L.Ledger.sound ledger holds.1 in
+          let none = subst (λ (l : g.row.L.Denot). NoneCollide (g.L.Ledger.came l)) ledger holds.2 in
+          let now : IsSound g.F.Store it.present.conn × (g.L.Ledger.sound it.ledger × (⊤ × NoneCollide (g.L.Ledger.came it.ledger))) = (k_now, (l_now, (tt, none))) in
+          let now_clean : HasCleanDisk (state g.F.Store it.present.conn) × (g.L.Ledger.clean it.ledger × (⊤ × NoneCollide (g.L.Ledger.came it.ledger))) =
+          (k_now.clean, (g.met.L.Ledger.clean_if_sound _ l_now, (tt, none))) in
+          let was = ran.was_sound now in
+          let lag = subst (λ (j : Journal). MayCatchUp (g.L.Ledger.known c.args.ledger) past j (g.L.Ledger.came c.args.ledger)) (sym has.is) holds.0 in
+          let may : MayOpen m g.F.Store c.args.present.conn (g.L.Ledger.known c.args.ledger) past (g.L.Ledger.came c.args.ledger) =
+          record { sound = was.0; made = has.made; lags = lag } in
+          let is_made = on_ok answered run.status _ done (ran.is_made now_clean may) in
+          let printed = at_ok answered run.status _ done (whole (named text) _ _ _ answered (ran.each now_clean may was.1)) in
+          let after = journal_of m g.F.Store it.present.conn in record {
+            found = after;
+            is = record {
+              kept = subst (λ (l : g.row.L.Denot). IsKept (g.L.Ledger.known l) past after (g.L.Ledger.came l)) (sym ledger) (is_made.1.1 (k_now, (l_now, tt)));
+              stored = record {
+                shown = printed.shown;
+                holds = subst (λ (j : Journal). StoresFirstOf named_uploads (union past j) printed.shown.printed.answers (union past after)) has.is (printed.holds.stored now);
+              };
+            };
+            keeps = keeps clean is_made.0;
+          }))
+          closed.answered closed.ledger closed.sound closed.keeps;
+      printed = value_of_other c.close_union.result answered (λ run. run.status) _ closed.answered c.join_open-union.ensures.printed;
+      quiet = value_of_other c.close_union.result answered (λ run. run.status) _ closed.answered c.join_open-union.ensures.quiet;
+      left = IfErr-each c.close_union.result _ _
+          (λ run some. match_some run.left _ _ _ some
+          (λ left back. λ clean usual l_clean none kind before begin noted.
+          let l_now = subst g.L.Ledger.clean back.0 l_clean in
+          let apart = subst (λ (l : g.row.L.Denot). NoneCollide (g.L.Ledger.came l)) back.0 none in
+          let u_clean : HasCleanDisk (state g.F.Store it.present.conn) × (g.L.Ledger.clean it.ledger × (⊤ × NoneCollide (g.L.Ledger.came it.ledger))) =
+          (back.1.was_clean clean, (l_now, (tt, apart))) in
+          let was = (ran.was_clean u_clean).0 in
+          let has = found.keeps was kind before begin in
+          let lag = subst (λ (j : Journal). MayCatchUp (g.L.Ledger.known c.args.ledger) past j (g.L.Ledger.came c.args.ledger)) (sym has.is) noted.0 in
+          let may : MayOpen m g.F.Store c.args.present.conn (g.L.Ledger.known c.args.ledger) past (g.L.Ledger.came c.args.ledger) =
+          record { sound = found.sound was; made = has.made; lags = lag } in
+          subst (λ (l : g.row.L.Denot). PrintsFront (λ answers. (image : Image) → g.F.StoreInFiles.in_files.may_be_left left.files image
+          → ∥ LeavesNoted named_uploads (meaning_of kind) past before (g.L.Ledger.came l) (g.L.Ledger.may_leave l) answers image ∥₁) old new) (sym back.0)
+          (front_other _ _
+          (λ answers h image is. leaves_as m (meaning_of kind) named_uploads past _ before _ _ answers image has.is (λ j holds. found.same was kind before begin image j holds)
+          (leaves_noted named_uploads answers image
+          (back.1.leaves lawful (ran.tables u_clean may) (ran.recovers u_clean may noted.1).0 first clean usual image is) h)) old new
+          (front_any _ text old new answered (ran.each u_clean may noted.1)))))
+          closed.left;
+      untouched = failure_in_other c.close_union.result answered (λ run. run.failure) _ _ closed.failed
+          c.join_open-union.ensures.untouched (λ failure is judged. absurd (judged (failed failure (inr (inl is)))));
+    }
+
+pub returns-clause-exported : goal.returns-clause-exported
+returns-clause-exported g c = λ made first found.
+    let closed = c.close_union.ensures in
+    let ran = c.join_open-union.ensures.answers in
+    let it = c.join_open-union.result.union in
+    let answered = c.join_open-union.result.answered in
+    let past = g.P.Past.journal in
+    let m = g.T.Layout.meaning in
     IfOk-four c.close_union.result _ _ _ _ _
-    (λ run done ledger sound keeps. λ clean before has lags l_sound apart.
+    (λ run done ledger sound keeps. leads_found m made first c.args.present.conn run.files _ _ found
+    (λ clean before holds. (ran.was_sound
+    (sound clean, (subst g.L.Ledger.sound ledger holds.1, (tt, subst (λ (l : g.row.L.Denot). NoneCollide (g.L.Ledger.came l)) ledger holds.2)))).0.clean)
+    (λ clean before has holds.
     let k_now = sound clean in
-    let l_now = subst g.L.Ledger.sound ledger l_sound in
-    let none = subst (λ (l : g.row.L.Denot). NoneCollide (g.L.Ledger.came l)) ledger apart in
+    let l_now = subst g.L.Ledger.sound ledger holds.1 in
+    let none = subst (λ (l : g.row.L.Denot). NoneCollide (g.L.Ledger.came l)) ledger holds.2 in
     let now : IsSound g.F.Store it.present.conn × (g.L.Ledger.sound it.ledger × (⊤ × NoneCollide (g.L.Ledger.came it.ledger))) = (k_now, (l_now, (tt, none))) in
     let now_clean : HasCleanDisk (state g.F.Store it.present.conn) × (g.L.Ledger.clean it.ledger × (⊤ × NoneCollide (g.L.Ledger.came it.ledger))) =
     (k_now.clean, (g.met.L.Ledger.clean_if_sound _ l_now, (tt, none))) in
-    let was = ran.was_sound now in
-    let lag = subst (λ (m : Journal). MayCatchUp (g.L.Ledger.known c.args.ledger) past m (g.L.Ledger.came c.args.ledger)) (sym has.is) lags in
-    let may : MayOpen g.T.Layout.meaning g.F.Store c.args.present.conn (g.L.Ledger.known c.args.ledger) past (g.L.Ledger.came c.args.ledger) =
-    record { sound = was.0; made = has.made; lags = lag } in
-    let made = on_ok answered run.status _ done (ran.is_made now_clean may) in
-    let printed = at_ok answered run.status _ done (whole (named (g.N.Read.remaining c.args.names.now)) _ _ _ answered (ran.each now_clean may was.1)) in
-    let after = journal_of g.T.Layout.meaning g.F.Store it.present.conn in record {
-      found = after;
-      is = record {
-        kept = subst (λ (l : g.row.L.Denot). IsKept (g.L.Ledger.known l) past after (g.L.Ledger.came l)) (sym ledger) (made.1.1 (k_now, (l_now, tt)));
-        stored = record {
-          shown = printed.shown;
-          holds = subst (λ (m : Journal). StoresEach (union past m) printed.shown.printed.answers (union past after)) has.is (printed.holds.stored now);
-        };
-      };
-      keeps = keeps clean made.0;
-    })
+    let lag = subst (λ (j : Journal). MayCatchUp (g.L.Ledger.known c.args.ledger) past j (g.L.Ledger.came c.args.ledger)) (sym has.is) holds.0 in
+    let may : MayOpen m g.F.Store c.args.present.conn (g.L.Ledger.known c.args.ledger) past (g.L.Ledger.came c.args.ledger) =
+    record { sound = (ran.was_sound now).0; made = has.made; lags = lag } in
+    record {
+      found = journal_of m g.F.Store it.present.conn;
+      is = on_ok answered run.status _ done (c.join_open-union.ensures.exported now_clean may) k_now;
+      keeps = keeps clean (on_ok answered run.status _ done (ran.is_made now_clean may)).0;
+    }))
     closed.answered closed.ledger closed.sound closed.keeps
-
-pub returns-clause-sound : goal.returns-clause-sound
-returns-clause-sound g c =
-    let closed = c.close_union.ensures in
-    IfOk-four c.close_union.result _ _ _ _ _
-    (λ run done ledger sound keeps. λ clean l_sound apart.
-    (c.join_open-union.ensures.answers.was_sound
-    (sound clean, (subst g.L.Ledger.sound ledger l_sound, (tt, subst (λ (l : g.row.L.Denot). NoneCollide (g.L.Ledger.came l)) ledger apart)))).0)
-    closed.answered closed.ledger closed.sound closed.keeps
-
-pub returns-clause-printed : goal.returns-clause-printed
-returns-clause-printed g c =
-    value_of_other c.close_union.result c.join_open-union.result.answered (λ run. run.status) _ c.close_union.ensures.answered
-    c.join_open-union.ensures.printed
-
-pub returns-clause-quiet : goal.returns-clause-quiet
-returns-clause-quiet g c =
-    value_of_other c.close_union.result c.join_open-union.result.answered (λ run. run.status) _ c.close_union.ensures.answered
-    c.join_open-union.ensures.quiet
 
 pub returns-clause-failed : goal.returns-clause-failed
 returns-clause-failed g c =
-    failure_of_other c.close_union.result c.join_open-union.result.answered _ UnionStopsBy c.close_union.ensures.failed
+    failure_in_other c.close_union.result c.join_open-union.result.answered (λ run. run.failure) _ UnionStopsBy c.close_union.ensures.failed
     c.join_open-union.ensures.failed (λ failure is. by_answers failure (inr (inr (inl is))))
-
-pub returns-clause-untouched : goal.returns-clause-untouched
-returns-clause-untouched g c =
-    failure_of_other c.close_union.result c.join_open-union.result.answered _ _ c.close_union.ensures.failed
-    c.join_open-union.ensures.untouched (λ failure is judged. absurd (judged (failed failure (inr (inl is)))))

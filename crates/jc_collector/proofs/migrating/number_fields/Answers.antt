@@ -6,20 +6,20 @@ use Rattle.jc_collector.proofs.OverFiles.{went_over}
 use Rattle.jc_collector.proofs.Results.{IfOk-both, IfOk-each}
 use Rattle.jc_collector.proofs.migrating.number_fields.Goals as goal
 
-pub returns-in_ok-go_over-in-Oldest-clause-sound : goal.returns-in_ok-go_over-in-Oldest-clause-sound
-returns-in_ok-go_over-in-Oldest-clause-sound g c =
+pub returns-in_ok-raised-in-Oldest-clause-sound : goal.returns-in_ok-raised-in-Oldest-clause-sound
+returns-in_ok-raised-in-Oldest-clause-sound g c =
     rw c.in-Oldest.is
-    (IfOk-each c.count_and_close.result _ _ (λ closed sound clean. c.in_ok-go_over-in-Oldest.ensures.before (sound clean)) c.count_and_close.ensures.sound)
+    (IfOk-each c.count_and_close.result _ _ (λ closed sound clean. c.in_ok-raised-in-Oldest.ensures.before (sound clean)) c.count_and_close.ensures.sound)
 
-pub returns-in_ok-go_over-in-Oldest-clause-moved : goal.returns-in_ok-go_over-in-Oldest-clause-moved
-returns-in_ok-go_over-in-Oldest-clause-moved g c =
-    let moved = c.in_ok-go_over-in-Oldest.ensures in
+pub returns-in_ok-raised-in-Oldest-clause-moved : goal.returns-in_ok-raised-in-Oldest-clause-moved
+returns-in_ok-raised-in-Oldest-clause-moved g c =
+    let moved = c.in_ok-raised-in-Oldest.ensures in
     rw c.in-Oldest.is
     (IfOk-both c.count_and_close.result _ _ _
     (λ closed sound counted clean before begin.
     let now = sound clean in
     counted clean before
-    (λ _. (now, went_over one three c.in-Oldest.keeper.conn c.in_ok-go_over-in-Oldest.field-0.conn moved.before moved.moved before now (begin (moved.before now)))))
+    (λ _. (now, went_over one three c.in-Oldest.keeper.conn c.in_ok-raised-in-Oldest.field-0.conn moved.before moved.moved before now (begin (moved.before now)))))
     c.count_and_close.ensures.sound c.count_and_close.ensures.counted)
 
 pub returns-in_ok-replaced-in-ByKey-clause-sound : goal.returns-in_ok-replaced-in-ByKey-clause-sound

@@ -1,5 +1,5 @@
 -- The line went out whole, and nothing after it; or a front of it did.
-use Rattle.std.proofs.Common.{◌≤◌, List, ℕ, None, length, subst, arith}
+use Rattle.std.proofs.Common.{◌≤◌, List, ℕ, [], ◌∷◌, None, ap, length, subst, arith}
 use Rattle.std.specs.Io.KnownBytes.{Appends}
 use Rattle.std.proofs.lemmas.List.{take_all}
 use Rattle.jc_upload.specs.declared.answer.Answer.TheVariants.{No}
@@ -24,6 +24,6 @@ returns-clause-printed g c = let unread = returns-clause-unread g c in unread.sh
 
 pub returns-then-not-flushed-clause-unread : goal.returns-then-not-flushed-clause-unread
 returns-then-not-flushed-clause-unread g c =
-    front_of_one (No None c.number.result 0) (c.number.ensures, tt) c.write_front-count.result c.bytes.result.now c.line-line.result (g.O.Write.contents c.args.output.now)
+    front_of_one (No None c.number.result 0) (ap (λ (n : ℕ). No None n 0 ∷ []) c.number.ensures) c.write_front-count.result c.bytes.result.now c.line-line.result (g.O.Write.contents c.args.output.now)
     (g.O.Write.contents c.write_front-count.new.output) (g.O.Write.contents c.flushed.new.output) c.write_front-count.ensures.front
     c.flushed.ensures.keeps c.bytes.ensures.value c.line-line.ensures.text

@@ -1,28 +1,21 @@
-use Rattle.std.proofs.Common.{◌∙◌, rules}
-use Rattle.jc_command_shared.specs.DeedLaws.{replaces}
+-- What the new file was given is all that it has, and it was made beside the old one.
+use Rattle.std.proofs.Common.{◌∙◌}
+use Rattle.jc_command_shared.specs.DeedLaws.{leaves_old, replaces_whole}
 use Rattle.jc_sender.proofs.resume_file.write_resume.Goals as goal
 
-pub returns-in_err-put_in_place-clause-touched : goal.returns-in_err-put_in_place-clause-touched
-returns-in_err-put_in_place-clause-touched g c =
-    replaces
-    c.args.path.now
-    c.as_str.result.now
-    c.as_str-2.result.now
-    (c.as_str.ensures.value ∙ c.in_ok-beside.ensures.name)
-    (c.as_str-2.ensures.value ∙ c.in_ok-beside.ensures.name)
-    c.create_file.ensures.touched
-    c.put_in_place.ensures.touched
-
-pub returns-clause-touched : goal.returns-clause-touched
-returns-clause-touched g c =
-    replaces
-    c.args.path.now
-    c.as_str.result.now
-    c.as_str-2.result.now
-    (c.as_str.ensures.value ∙ c.in_ok-beside.ensures.name)
-    (c.as_str-2.ensures.value ∙ c.in_ok-beside.ensures.name)
-    c.create_file.ensures.touched
-    c.put_in_place.ensures.touched
-
 pub returns-clause-whole : goal.returns-clause-whole
-returns-clause-whole g c = search rules
+returns-clause-whole g c =
+    replaces_whole _ _ _ c.args.path.now c.as_str.result.now c.as_str-2.result.now
+    (c.as_str.ensures.value ∙ c.in_ok-beside.ensures.name)
+    (c.as_str-2.ensures.value ∙ c.in_ok-beside.ensures.name)
+    c.in_ok-file.ensures.made
+    _ _ _ c.put_in_place.result c.put_point-written.result
+    c.in_ok-file.ensures.empty c.put_point-written.ensures.whole c.put_in_place.ensures.whole c.put_in_place.ensures.placed
+
+pub returns-clause-stays : goal.returns-clause-stays
+returns-clause-stays g c =
+    leaves_old _ _ _ c.args.path.now c.as_str.result.now c.as_str-2.result.now
+    (c.as_str.ensures.value ∙ c.in_ok-beside.ensures.name)
+    (c.as_str-2.ensures.value ∙ c.in_ok-beside.ensures.name)
+    c.in_ok-file.ensures.made
+    c.put_in_place.result c.put_in_place.ensures.stays

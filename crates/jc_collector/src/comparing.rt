@@ -1,0 +1,184 @@
+//! `check --sequences`: whether the entries of a database are those that are noted.
+
+ghost use Rattle.std.specs.Prelude.{◌≡◌, ◌≢◌, ◌⊎◌, Some, IfOk, IfErr};
+ghost use Rattle.std.specs.Io.KnownBytes.{Keeps};
+ghost use Rattle.jc_collector.specs.Compared.{ComparingFails, IsJudged, PrintsComparison, comparison_status, comparison_text};
+ghost use Rattle.jc_collector.specs.Database.{CheckFailsBy, WhyNoHealth};
+ghost use Rattle.jc_command_shared.specs.Deeds.{OpensOnce};
+ghost use Rattle.jc_command_shared.specs.Failure.{status_of};
+
+use crate::closing::{Closed, close_after};
+use crate::database::{Opened, check_name, open_there};
+use crate::failures::why_unanswered;
+use crate::health::{Examined, refused_as};
+use crate::into_union::list_present;
+use jc_base::{Code, Ending, EntrySource, Fault, Limits, SliceStream, Step};
+use jc_command_shared::{Failure, Status, System, printed};
+use jc_database::{Databases, OpenFromFiles, StoreInFiles};
+use jc_keeper::KeepStop;
+use jc_ledger::digest_of;
+use jc_notes::NotesRead;
+use jc_store::{Listed, TableKeeper};
+use jc_stream::Stream;
+use std::fmt;
+use std::io::Write;
+
+/// What `check --sequences` prints of a database.
+#[derive(Clone, Copy)]
+pub enum Comparison {
+    /// Each of its entries is the one that is noted under its key, but for so many that aren't noted.
+    Agrees { count: u64, lacking: u64 },
+    /// It has no journal, or a row that isn't an entry; or the entry of this place, from 0 in the order of keys, differs
+    /// from its note.
+    Bad(Fault),
+}
+
+impl Comparison {
+    fn status(&self) -> Status
+        ensures value { result ≡ comparison_status self.now }
+        ensures judged { IsJudged result }
+    {
+        match self {
+            Comparison::Agrees { .. } => Status::Success,
+            Comparison::Bad(_) => Status::Refused,
+        }
+    }
+}
+
+impl fmt::Display for Comparison {
+    ghost output = { λ comparison. Some (comparison_text comparison) };
+
+    fn fmt<W: fmt::Write>(&self, f: &mut fmt::Formatter<W>) -> fmt::Result {
+        match self {
+            Comparison::Agrees { count, lacking } => write!(f, "ok {count} {lacking}"),
+            Comparison::Bad(fault) => write!(f, "bad {} {}", fault.code, fault.place),
+        }
+    }
+}
+
+/// Compares the entries of a database with their notes in a folder, and notes nothing.
+pub fn check_noted<'a, Y: Databases, F: OpenFromFiles, O: Write>(
+    rt: &mut Y,
+    start: F::Start,
+    database: &'a str,
+    folder: &'a str,
+    output: &mut O,
+) -> Result<Examined<Status, F::Files>, Failure<'a>>
+    ensures printed { IfOk result (λ examined. (comparison : Comparison)
+        × PrintsComparison comparison examined.value (O.contents output.old) (O.contents output.new)) }
+    ensures judged { IfOk result (λ examined. IsJudged examined.value) }
+    ensures failed { IfErr result (λ failure. (failure ≡ Failure.ReadFailed) ⊎ CheckFailsBy database.now failure) }
+    ensures untouched { IfErr result (λ failure. status_of failure ≢ Status.Failed
+        → Keeps (O.contents output.old) (O.contents output.new)) }
+    ensures touched { OpensOnce database.now (Y.deeds rt.old) (Y.deeds rt.new) }
+{
+    check_name(database)?;
+    let Examined { value, files } = compared::<_, F>(rt, start, database, folder)?;
+    let value = print_comparison(value, output)?;
+    Ok(Examined { value, files })
+}
+
+/// Prints what was found, and answers its status.
+fn print_comparison<'a, O: Write>(
+    comparison: Comparison,
+    output: &mut O,
+) -> Result<Status, Failure<'a>>
+    ensures printed { IfOk result (λ status. PrintsComparison comparison status (O.contents output.old) (O.contents output.new)) }
+    ensures judged { IfOk result IsJudged }
+    ensures failed { IfErr result (λ failure. failure ≡ Failure.WriteFailed) }
+{
+    let written = writeln!(output, "{comparison}");
+    printed(written, output)?;
+    Ok(comparison.status())
+}
+
+fn compared<'a, Y: Databases, F: OpenFromFiles>(
+    rt: &mut Y,
+    start: F::Start,
+    database: &'a str,
+    folder: &'a str,
+) -> Result<Examined<Comparison, F::Files>, Failure<'a>>
+    ensures failed { IfErr result (λ failure. (failure ≡ Failure.ReadFailed) ⊎ WhyNoHealth database.now failure) }
+    ensures touched { OpensOnce database.now (Y.deeds rt.old) (Y.deeds rt.new) }
+{
+    match open_there::<_, F>(rt, database, start) {
+        Ok(Opened::ByKey(keeper)) => {
+            Ok(Examined::closed(compare_and_close(rt, keeper, folder)?))
+        }
+        Ok(Opened::ByNumber(keeper)) => {
+            Ok(Examined::closed(compare_and_close(rt, keeper, folder)?))
+        }
+        Err(unopened) => match Failure::from(unopened) {
+            Failure::Bad(fault) => Ok(refused_as(Comparison::Bad(fault))),
+            failure => Err(failure),
+        },
+    }
+}
+
+/// Compares the entries of a keeper's journal with their notes, and closes its database.
+fn compare_and_close<'a, Y: System, F: StoreInFiles, L: Listed>(
+    rt: &Y,
+    keeper: TableKeeper<F, L>,
+    folder: &str,
+) -> Result<Closed<Comparison, F::Files>, Failure<'a>>
+    ensures failed { IfErr result ComparingFails }
+{
+    let (keeper, text) = list_present::<F, L>(rt.alloc(), keeper);
+    let comparison = compare_listed(rt, text, folder);
+    close_after(keeper, comparison)
+}
+
+/// Compares the entries of a text with their notes, if a keeper gave one.
+fn compare_listed<'a, Y: System>(
+    rt: &Y,
+    text: Result<Vec<u8>, KeepStop>,
+    folder: &str,
+) -> Result<Comparison, Failure<'a>>
+    ensures failed { IfErr result ComparingFails }
+{
+    match text {
+        Ok(text) => compare(rt, &text, folder),
+        Err(stop) => Err(why_unanswered(stop)),
+    }
+}
+
+/// Compares the entries of a text with their notes.
+fn compare<'a, Y: System>(rt: &Y, text: &[u8], folder: &str) -> Result<Comparison, Failure<'a>>
+    ensures failed { IfErr result ComparingFails }
+{
+    let mut entries = Stream::new(rt.alloc(), SliceStream::new(text), Limits::default())?;
+    compare_entries(rt, &mut entries, folder)
+}
+
+/// Compares the entries that a source gives with their notes.
+fn compare_entries<'a, Y: System, S: EntrySource>(
+    rt: &Y,
+    entries: &mut S,
+    folder: &str,
+) -> Result<Comparison, Failure<'a>>
+    ensures failed { IfErr result ComparingFails }
+{
+    let mut notes = NotesRead::new(rt.alloc());
+    let mut count = 0;
+    let mut lacking = 0;
+    'entries: loop {
+        let step = entries.next()?;
+        match step {
+            Step::Entry(entry) => match notes.find(rt, folder, &entry.key())? {
+                Some(digest) if digest != digest_of(&entry) => {
+                    return Ok(Comparison::Bad(Fault {
+                        code: Code::Conflict,
+                        place: count,
+                    }));
+                }
+                Some(_) => count += 1,
+                None => {
+                    count += 1;
+                    lacking += 1;
+                }
+            },
+            Step::End { left: _ } => return Ok(Comparison::Agrees { count, lacking }),
+            Step::Bad(fault) => return Ok(Comparison::Bad(fault)),
+        }
+    }
+}

@@ -1,0 +1,32 @@
+-- What is so of the bytes of a source, or of some where they aren't known.
+use Rattle.std.proofs.Common.{◌≡◌, ◌+◌, ℕ, List, Option, Some, None, Result, Ok, Err, option_map, refl, subst, take}
+use Rattle.std.specs.Prelude.{IfOk, IfSome}
+use Rattle.jc_command_args.specs.declared.request.InputKind.{InputKind}
+use Rattle.jc_command_shared.specs.declared.status.Status.{Status}
+use Rattle.jc_sender.specs.Source.{AreReadOf, OfBytes, most_file_bytes}
+use Rattle.jc_sender.specs.Verdict.{PrintsReadingIn, PrintsReadingOf}
+
+-- all that a stream gives
+pub of_stream : {T E : Type 0} (r : Result T E) (Says : T → List ℕ → Type 0) (known : Option (List ℕ)) → IfOk r (λ x. (bytes : List ℕ) × Says x bytes)
+    → ((bytes : List ℕ) → known ≡ Some bytes → IfOk r (λ x. Says x bytes)) → IfOk r (λ x. OfBytes known (Says x))
+of_stream (Ok x) Says None some each = some
+of_stream (Ok x) Says (Some bytes) some each = each bytes refl
+of_stream (Err e) Says known some each = tt
+
+-- what was read of a journal file
+pub of_front : {T E : Type 0} (r : Result T E) (Says : T → List ℕ → Type 0) (held : Option (List ℕ)) (front : List ℕ)
+    → IfSome held (λ bytes. front ≡ take (most_file_bytes + 1) bytes) → IfOk r (λ x. Says x front)
+    → IfOk r (λ x. OfBytes (option_map (λ bytes. take (most_file_bytes + 1) bytes) held) (Says x))
+of_front (Ok x) Says None front is said = (front, said)
+of_front (Ok x) Says (Some bytes) front is said = subst (Says x) is said
+of_front (Err e) Says held front is said = tt
+
+pub of_other : (known : Option (List ℕ)) (First Other : List ℕ → Type 0) → ((bytes : List ℕ) → First bytes → Other bytes) → OfBytes known First → OfBytes known Other
+of_other None First Other each (bytes, is) = (bytes, each bytes is)
+of_other (Some bytes) First Other each is = each bytes is
+
+-- the line of what is read of a file
+pub of_read : {E : Type 0} (kind : InputKind) (r : Result Status E) (held bytes : List ℕ) (old new : Option (List ℕ)) → AreReadOf kind held bytes
+    → IfOk r (λ status. PrintsReadingOf kind bytes status old new) → IfOk r (λ status. PrintsReadingIn kind held status old new)
+of_read kind (Ok status) held bytes old new are prints = (bytes, are, prints)
+of_read kind (Err e) held bytes old new are prints = tt
