@@ -1,7 +1,8 @@
 -- How a run ends, from what its parts promise.
 use Rattle.std.proofs.Common.{◌≡◌, ◌≢◌, ◌⊎◌, ◌∙◌, ap, arith, length, refl, sym, subst, inl, inr, Bool, true, false, List, [], ◌∷◌, ℕ, Option, Some, None}
-use Rattle.std.specs.Prelude.{IfOk, IfErr, IfSome, IsOkAnd, Result, Ok, Err, if◌then◌else◌}
+use Rattle.std.specs.Prelude.{IfOk, IfErr, IfSome, IsErrAnd, IsOkAnd, Result, Ok, Err, if◌then◌else◌}
 use Rattle.std.specs.List.{list_any}
+use Rattle.std.specs.Borrow.{Bor}
 use Rattle.std.specs.Io.KnownBytes.{Keeps}
 use Rattle.std.proofs.KnownBytes.{Keeps-refl}
 use Rattle.clap.specs.Words.{Text}
@@ -18,12 +19,14 @@ use Rattle.clap.specs.declared.error.kind.ErrorKind.{ErrorKind}
 use Rattle.clap.specs.declared.error.kind.ErrorKind.TheVariants as kind
 use Rattle.jc_base.specs.declared.fault.Ending.{Ending}
 use Rattle.jc_base.specs.declared.fault.Ending.TheVariants.{End, Bad}
+use Rattle.jc_collector.specs.declared.into_union.closing.FailedRun.{FailedRun}
+use Rattle.jc_collector.specs.declared.into_union.closing.NotedLeft.{NotedLeft}
 use Rattle.jc_collector.specs.declared.health.Health.{Health}
 use Rattle.jc_collector.specs.declared.health.Health.TheVariants as health
 use Rattle.jc_command_shared.specs.declared.failure.Failure.{Failure}
 use Rattle.jc_command_shared.specs.declared.failure.Failure.TheVariants as failures
 use Rattle.jc_command_shared.specs.declared.status.Status.{Status}
-use Rattle.jc_command_shared.specs.declared.status.Status.TheVariants.{Success, Refused, Misused, Failed}
+use Rattle.jc_command_shared.specs.declared.status.Status.TheVariants.{Success, Refused, Misused, Failed, Unanswered}
 use Rattle.jc_command_args.specs.declared.request.Request.{Request}
 use Rattle.jc_command_args.specs.declared.request.Request.TheVariants.{Verify, Upload, Ack}
 use Rattle.jc_command_args.specs.declared.request.Request.TheVariants as requests
@@ -36,8 +39,10 @@ use Rattle.jc_collector.specs.Checked.{health_status}
 use Rattle.jc_collector.specs.Inspected.{inspected_status}
 use Rattle.jc_command_shared.specs.Deeds.{Deed}
 use Rattle.jc_command_shared.specs.Failure.{status_of}
-use Rattle.jc_command.specs.Run.{Begins, Collects, Devices, DoesFor, Ends, FailsBy, Leaves, leaves, Performs, Stops, StopsAsked}
+use Rattle.jc_command.specs.Failed.{FailsAsked, FailsLeaving}
+use Rattle.jc_command.specs.Run.{Begins, Collects, Devices, DoesFor, Ends, FailsBy, Leaves, leaves, Performs, PerformsAsked, Stops, StopsAsked}
 use Rattle.jc_command_shared.specs.Status.{number_of}
+use Rattle.jc_sender.proofs.Outcomes.{told_not_misused}
 use Rattle.jc_sender.specs.Verdict.{verdict_status}
 use Rattle.jc_command_args.specs.Words.{AreAnswered, AskFor}
 
@@ -47,7 +52,7 @@ not_misused (End left) same = cc
 not_misused (Bad fault) same = cc
 
 inspected_not_misused : (inspected : Inspected) → Misused ≡ inspected_status inspected → ⊥
-inspected_not_misused (inspected.Upload source start count left last) same = cc
+inspected_not_misused (inspected.Upload source start count left last windows) same = cc
 inspected_not_misused (inspected.Bad fault) same = cc
 inspected_not_misused (inspected.Over place) same = cc
 
@@ -60,6 +65,10 @@ judged_not_misused true refused same = cc
 judged_not_misused false true same = cc
 judged_not_misused false false same = cc
 
+one_not_misused : (Misused ≡ Success) ⊎ (Misused ≡ Refused) → ⊥
+one_not_misused (inl same) = cc
+one_not_misused (inr same) = cc
+
 -- what was asked for is performed
 pub performed : {S C L N : Type 0} (begun : Begins) (g : Devices S C L N) (left : Leaves C N) (words : List Text) (request : Request) (given output output' errors errors' : Option (List ℕ)) (status : Status)
     → AskFor words request → Performs begun g left request given output output' status → (status ≡ Success → Keeps errors errors')
@@ -67,19 +76,26 @@ pub performed : {S C L N : Type 0} (begun : Begins) (g : Devices S C L N) (left 
 performed begun g left words request given output output' errors errors' Success asks does quiet = (quiet refl, inr (request, asks, does))
 performed begun g left words request given output output' errors errors' Refused asks does quiet = inl (request, asks, does)
 performed begun g left words request given output output' errors errors' Failed asks does quiet = (request, asks, does)
-performed begun g left words (Verify k file) given output output' errors errors' Misused asks does quiet = absurd (not_misused does.ending does.printed.judged)
+performed begun g left words request given output output' errors errors' Unanswered asks does quiet = (request, asks, does)
+performed begun g left words (Verify k file) given output output' errors errors' Misused asks does quiet = absurd (not_misused does.0.ending does.0.printed.judged)
 performed begun g left words (Upload source limit most_bytes whole) given output output' errors errors' Misused asks does quiet = let same : Misused ≡ Success = does.0 in cc
 performed begun g left words (Ack source) given output output' errors errors' Misused asks does quiet = let same : Misused ≡ Success = does.0 in cc
-performed begun g left words (requests.Inspect file most_entries most_fields most_bytes) given output output' errors errors' Misused asks does quiet =
-    absurd (inspected_not_misused does.inspected does.printed.judged)
+performed begun g left words (requests.Inspect file most_entries most_fields most_bytes most_windows) given output output' errors errors' Misused asks does quiet =
+    absurd (inspected_not_misused does.0.inspected does.0.printed.judged)
 performed begun g left words (requests.Collect database tables uploads then_export) given output output' errors errors' Misused asks does quiet =
     absurd (judged_not_misused (list_any is_failure does.printed.answers) (list_any is_refusal does.printed.answers) does.printed.is)
 performed begun g left words (requests.CollectListed database tables list then_export) given output output' errors errors' Misused asks does quiet =
     let printed = does.printed.printed.printed in
     absurd (judged_not_misused (list_any is_failure printed.answers) (list_any is_refusal printed.answers) printed.is)
-performed begun g left words (requests.CollectIntoUnion database tables list sequences then_export) given output output' errors errors' Misused asks does quiet =
-    let printed = does.printed.printed.printed in
+performed begun g left words (requests.CollectIntoUnion database tables list sequences most_windows then_export) given output output' errors errors' Misused asks does quiet =
+    let printed = does.0.printed.printed.printed in
     absurd (judged_not_misused (list_any is_failure printed.answers) (list_any is_refusal printed.answers) printed.is)
+performed begun g left words (requests.Acknowledged upload) given output output' errors errors' Misused asks does quiet = absurd (told_not_misused given output output' does.0)
+performed begun g left words (requests.CheckNoted database sequences) given output output' errors errors' Misused asks does quiet = absurd (one_not_misused does)
+performed begun g left words (requests.Notes sequences task) given output output' errors errors' Misused asks does quiet = absurd (one_not_misused does)
+performed begun g left words (requests.ListOwners sequences) given output output' errors errors' Misused asks does quiet = absurd (one_not_misused does)
+performed begun g left words (requests.RenameOwner sequences name other) given output output' errors errors' Misused asks does quiet = let same : Misused ≡ Success = does in cc
+performed begun g left words (requests.ReleaseSequence sequences sequence) given output output' errors errors' Misused asks does quiet = let same : Misused ≡ Success = does in cc
 performed begun g left words (requests.Export database) given output output' errors errors' Misused asks does quiet = let same : Misused ≡ Success = does.0 in cc
 performed begun g left words (requests.Show database field id first last) given output output' errors errors' Misused asks does quiet = let same : Misused ≡ Success = does.0 in cc
 performed begun g left words requests.ListCodes given output output' errors errors' Misused asks does quiet = let same : Misused ≡ Success = does in cc
@@ -91,6 +107,7 @@ device_or_not : (status : Status) → (status ≡ Failed) ⊎ (status ≢ Failed
 device_or_not Success = inr (λ e. cc)
 device_or_not Refused = inr (λ e. cc)
 device_or_not Misused = inr (λ e. cc)
+device_or_not Unanswered = inr (λ e. cc)
 device_or_not Failed = inl refl
 
 -- what stays the same where no write failed stays the same where no device did
@@ -110,9 +127,9 @@ pub IfErr-both : {T E : Type 0} (r : Result T E) (P Q R : E → Type 0) → ((e 
 IfErr-both (Ok x) P Q R both p q = tt
 IfErr-both (Err e) P Q R both p q = both e p q
 
-pub some_each : {X : Type 0} (o : Option X) (P Q : X → Type 0) → ((x : X) → P x → Q x) → IfSome o P → IfSome o Q
-some_each None P Q each p = tt
-some_each (Some x) P Q each p = each x p
+pub IfErr-each : {T E : Type 0} (r : Result T E) (P Q : E → Type 0) → ((e : E) → P e → Q e) → IfErr r P → IfErr r Q
+IfErr-each (Ok x) P Q each p = tt
+IfErr-each (Err e) P Q each p = each e p
 
 pub at_ok : {T E : Type 0} (r : Result T E) (x : T) (P : T → Type 0) → r ≡ Ok x → IfOk r P → P x
 at_ok r x P is p = subst (λ d. IfOk d P) is p
@@ -121,23 +138,49 @@ pub at_err : {T E : Type 0} (r : Result T E) (e : E) (P : E → Type 0) → r �
 at_err r e P is p = subst (λ d. IfErr d P) is p
 
 -- what is made of a value, from how it is made
-pub ok_of : {T U E : Type 0} (made : Result U E) (r : Result T E) (Is : U → T → Type 0) (Q : U → Type 0)
+pub ok_of : {T U E F : Type 0} (made : Result U F) (r : Result T E) (Is : U → T → Type 0) (Q : U → Type 0)
     → IfOk made (λ u. IsOkAnd r (Is u)) → ((u : U) (x : T) → r ≡ Ok x → Is u x → Q u) → IfOk made Q
 ok_of (Ok u) (Ok x) Is Q is each = each u x refl is
 ok_of (Ok u) (Err e) Is Q is each = absurd is
 ok_of (Err d) r Is Q is each = tt
 
--- what is made of an error is that error
-pub err_of : {T U E : Type 0} (made : Result U E) (r : Result T E) (Q : E → Type 0) → IfErr made (λ e. r ≡ Err e) → IfErr r Q
-    → IfErr made Q
+-- what is made of an error has that error
+pub err_of : {T U L N : Type 0} (made : Result U (FailedRun L N)) (r : Result T Failure) (Q : Failure → Type 0) → IfErr made (λ run. r ≡ Err run.failure)
+    → IfErr r Q → IfErr made (λ run. Q run.failure)
 err_of (Ok u) r Q is p = tt
-err_of (Err e) r Q is p = at_err r e Q is p
+err_of (Err run) r Q is p = at_err r run.failure Q is p
 
 -- ... and the request fails by it
-pub fails_of : {T U : Type 0} (made : Result U Failure) (r : Result T Failure) (request asked : Request) (given : Option (List ℕ))
-    → asked ≡ request → IfErr made (λ e. r ≡ Err e) → IfErr r (FailsBy request given) → IfErr made (FailsBy asked given)
+pub fails_of : {T U L N : Type 0} (made : Result U (FailedRun L N)) (r : Result T Failure) (request asked : Request) (given : Option (List ℕ))
+    → asked ≡ request → IfErr made (λ run. r ≡ Err run.failure) → IfErr r (FailsBy request given) → IfErr made (λ run. FailsBy asked given run.failure)
 fails_of made r request asked given same is p =
-    subst (λ (q : Request). IfErr made (FailsBy q given)) (sym same) (err_of made r (FailsBy request given) is p)
+    subst (λ (q : Request). IfErr made (λ run. FailsBy q given run.failure)) (sym same) (err_of made r (FailsBy request given) is p)
+
+-- what a request leaves that fails
+pub leaves_as : {S C L N U : Type 0} (begun : Begins) (g : Devices S C L N) (made : Result U (FailedRun L N)) (request asked : Request)
+    (given old new : Option (List ℕ)) → asked ≡ request → IfErr made (λ run. FailsLeaving begun g request given old new run.left)
+    → IfErr made (λ run. FailsLeaving begun g asked given old new run.left)
+leaves_as begun g made request asked given old new same leaves =
+    subst (λ (q : Request). IfErr made (λ run. FailsLeaving begun g q given old new run.left)) (sym same) leaves
+
+pub leaves_one : {S C L N : Type 0} (begun : Begins) (g : Devices S C L N) (request asked : Request) (given old new : Option (List ℕ))
+    (left is : Option (NotedLeft L N)) → asked ≡ request → is ≡ left → FailsLeaving begun g request given old new left
+    → FailsLeaving begun g asked given old new is
+leaves_one {L = L} {N = N} begun g request asked given old new left is same same_left leaves =
+    subst (λ (q : Request). FailsLeaving begun g q given old new is) (sym same)
+    (subst (λ (l : Option (NotedLeft L N)). FailsLeaving begun g request given old new l) (sym same_left) leaves)
+
+pub err_and : {U E : Type 0} (made : Result U E) (P Q : E → Type 0) → IsErrAnd made P → ((e : E) → P e → Q e) → IfErr made Q
+err_and (Ok u) P Q is each = absurd is
+err_and (Err e) P Q is each = each e is
+
+pub err_is : {U E : Type 0} (made : Result U E) (run : E) (Q : E → Type 0) → IsErrAnd made (λ e. e ≡ run) → Q run → IfErr made Q
+err_is (Ok u) run Q is it = absurd is
+err_is (Err e) run Q is it = subst Q (sym is) it
+
+pub err_any : {U E : Type 0} (made : Result U E) (Q : E → Type 0) → ((e : E) → Q e) → IfErr made Q
+err_any (Ok u) Q each = tt
+err_any (Err e) Q each = each e
 
 -- what writes nothing there is quiet
 pub stays_quiet : {U E : Type 0} (made : Result U E) (Says : U → Type 0) (errors : Option (List ℕ))
@@ -154,10 +197,6 @@ write_fails (Err failure) output output' fails = λ other. absurd (other (ap sta
 pub does_as : (request asked : Request) (old new : Option (List Deed)) → asked ≡ request → DoesFor request old new
     → DoesFor asked old new
 does_as request asked old new same does = subst (λ (q : Request). DoesFor q old new) (sym same) does
-
-pub no_items : {X : Type 0} (xs : List X) → length xs ≡ 0 → xs ≡ []
-no_items [] none = refl
-no_items (x ∷ xs) none = absurd (omega (arith, none))
 
 -- what was asked for fails
 pub failed : (words : List Text) (request : Request) (given output output' : Option (List ℕ)) (failure : Failure)
@@ -187,14 +226,14 @@ ends_answered : {S C L N : Type 0} (begun : Begins) (g : Devices S C L N) (left 
     (given output output' errors errors' : Option (List ℕ)) → AreAnswered words k
     → (IsAskedFor k → IfOk r (λ status. status ≡ Success) × IfErr r (λ why. why ≡ failures.WriteFailed) × Keeps errors errors')
     → (¬ IsAskedFor k → k ≢ kind.OutOfMemory → (r ≡ Ok Misused) × Keeps output output')
-    → (k ≡ kind.OutOfMemory → r ≡ Err failures.OutOfMemory)
+    → (k ≡ kind.OutOfMemory → (r ≡ Err failures.OutOfMemory) × Keeps output output')
     → IfOk r (Ends begun g left words given output output' errors errors')
 ends_answered begun g left words k r given output output' errors errors' answered asked mistaken memory =
     let Goal : Result Status Failure → Type 0 = λ r. IfOk r (Ends begun g left words given output output' errors errors') in
     elim (sorted k) [
       | inl h ↦ shown r (asked h) h
       | inr rest ↦ elim rest [
-        | inl m ↦ subst Goal (sym (memory m)) tt
+        | inl m ↦ subst Goal (sym (memory m).0) tt
         | inr n ↦ subst Goal (sym (mistaken n.0 n.1).0) (inl ((k, n.0, answered), (mistaken n.0 n.1).1))
       ]
     ]
@@ -211,10 +250,10 @@ pub ends_words : {S C L N : Type 0} (begun : Begins) (g : Devices S C L N) (left
     (given output output' errors errors' : Option (List ℕ)) → (k ≡ kind.OutOfMemory) ⊎ AreAnswered words k
     → (IsAskedFor k → IfOk r (λ status. status ≡ Success) × IfErr r (λ why. why ≡ failures.WriteFailed) × Keeps errors errors')
     → (¬ IsAskedFor k → k ≢ kind.OutOfMemory → (r ≡ Ok Misused) × Keeps output output')
-    → (k ≡ kind.OutOfMemory → r ≡ Err failures.OutOfMemory)
+    → (k ≡ kind.OutOfMemory → (r ≡ Err failures.OutOfMemory) × Keeps output output')
     → IfOk r (Ends begun g left words given output output' errors errors')
 ends_words begun g left words k r given output output' errors errors' (inl refused) asked mistaken memory =
-    subst (λ (r : Result Status Failure). IfOk r (Ends begun g left words given output output' errors errors')) (sym (memory refused)) tt
+    subst (λ (r : Result Status Failure). IfOk r (Ends begun g left words given output output' errors errors')) (sym (memory refused).0) tt
 ends_words begun g left words k r given output output' errors errors' (inr answered) asked mistaken memory =
     ends_answered begun g left words k r given output output' errors errors' answered asked mistaken memory
 
@@ -224,18 +263,27 @@ same_status Success Success e = refl
 same_status Success Refused e = cc
 same_status Success Misused e = cc
 same_status Success Failed e = cc
+same_status Success Unanswered e = cc
 same_status Refused Success e = cc
 same_status Refused Refused e = refl
 same_status Refused Misused e = cc
 same_status Refused Failed e = cc
+same_status Refused Unanswered e = cc
 same_status Misused Success e = cc
 same_status Misused Refused e = cc
 same_status Misused Misused e = refl
 same_status Misused Failed e = cc
+same_status Misused Unanswered e = cc
 same_status Failed Success e = cc
 same_status Failed Refused e = cc
 same_status Failed Misused e = cc
 same_status Failed Failed e = refl
+same_status Failed Unanswered e = cc
+same_status Unanswered Success e = cc
+same_status Unanswered Refused e = cc
+same_status Unanswered Misused e = cc
+same_status Unanswered Failed e = cc
+same_status Unanswered Unanswered e = refl
 
 -- the status that a number says, over words that are the same
 pub by_number : {S C L N : Type 0} (begun : Begins) (g : Devices S C L N) (left : Leaves C N) (words texts : List Text) (given output output' errors errors' : Option (List ℕ)) (n : ℕ) (status wanted : Status)
@@ -251,6 +299,8 @@ fails (failures.Bad fault) same = cc
 fails failures.SourceChanged same = cc
 fails failures.BadResume same = cc
 fails (failures.BadAnswer line) same = cc
+fails (failures.BadLine line) same = cc
+fails failures.BadUpload same = cc
 fails failures.BadId same = cc
 fails failures.BadFieldName same = cc
 fails failures.BadDatabaseName same = cc
@@ -262,12 +312,32 @@ fails failures.StoreFailed same = cc
 fails failures.OutOfMemory same = cc
 fails failures.WordsAreNoText same = cc
 
+-- ... or that of answers that are about something else
+answered : (failure : Failure) → status_of failure ≢ Unanswered
+answered (failures.Bad fault) same = cc
+answered failures.SourceChanged same = cc
+answered failures.BadResume same = cc
+answered (failures.BadAnswer line) same = cc
+answered (failures.BadLine line) same = cc
+answered failures.BadId same = cc
+answered failures.BadFieldName same = cc
+answered failures.BadDatabaseName same = cc
+answered failures.BadExportName same = cc
+answered failures.BadUpload same = cc
+answered (failures.CannotOpen path) same = cc
+answered failures.ReadFailed same = cc
+answered failures.WriteFailed same = cc
+answered failures.StoreFailed same = cc
+answered failures.OutOfMemory same = cc
+answered failures.WordsAreNoText same = cc
+
 -- a run that stops short gives no files back, and ends with the failure's status
 stops : {S C L N : Type 0} (begun : Begins) (g : Devices S C L N) (left : Leaves C N) (words : List Text) (given output output' errors errors' : Option (List ℕ)) (failure : Failure) (wanted : Status)
     → status_of failure ≡ wanted → wanted ≢ Failed → Stops words given output output' failure
     → Ends begun g left words given output output' errors errors' wanted
 stops begun g left words given output output' errors errors' failure Success same other stopped = absurd (fails failure same)
 stops begun g left words given output output' errors errors' failure Failed same other stopped = absurd (other refl)
+stops begun g left words given output output' errors errors' failure Unanswered same other stopped = absurd (answered failure same)
 stops begun g left words given output output' errors errors' failure Refused same other stopped = elim stopped [
   | inl failed ↦ let both : Failed ≡ Refused = sym failed ∙ same in cc
   | inr asked ↦ inr (subst (StopsAsked words given output output') same asked)
@@ -289,14 +359,14 @@ stops_by_number begun g left words texts given output output' errors errors' n f
 pub stops_answered : (words : List Text) (k : ErrorKind) (r : Result Status Failure) (given output output' errors errors' : Option (List ℕ))
     → (IsAskedFor k → IfOk r (λ status. status ≡ Success) × IfErr r (λ why. why ≡ failures.WriteFailed) × Keeps errors errors')
     → (¬ IsAskedFor k → k ≢ kind.OutOfMemory → (r ≡ Ok Misused) × Keeps output output')
-    → (k ≡ kind.OutOfMemory → r ≡ Err failures.OutOfMemory)
+    → (k ≡ kind.OutOfMemory → (r ≡ Err failures.OutOfMemory) × Keeps output output')
     → IfErr r (Stops words given output output')
 stops_answered words k r given output output' errors errors' asked mistaken memory =
     let Goal : Result Status Failure → Type 0 = λ r. IfErr r (Stops words given output output') in
     elim (sorted k) [
       | inl h ↦ by_write r (asked h).1
       | inr rest ↦ elim rest [
-        | inl m ↦ subst Goal (sym (memory m)) (inl refl)
+        | inl m ↦ subst Goal (sym (memory m).0) (inl refl)
         | inr n ↦ subst Goal (sym (mistaken n.0 n.1).0) tt
       ]
     ]
@@ -304,6 +374,28 @@ stops_answered words k r given output output' errors errors' asked mistaken memo
     by_write : (r : Result Status Failure) → IfErr r (λ why. why ≡ failures.WriteFailed) → IfErr r (Stops words given output output')
     by_write (Ok status) fact = tt
     by_write (Err why) fact = inl (ap status_of fact)
+
+-- ... and leaves nothing of a database: nothing was printed, or help was
+pub left_answered : {S C L N : Type 0} (begun : Begins) (g : Devices S C L N) (words : List Text) (k : ErrorKind) (r : Result Status Failure) (given output output' : Option (List ℕ)) (left : Option (NotedLeft L N))
+    → (k ≡ kind.OutOfMemory) ⊎ AreAnswered words k
+    → (¬ IsAskedFor k → k ≢ kind.OutOfMemory → (r ≡ Ok Misused) × Keeps output output')
+    → (k ≡ kind.OutOfMemory → (r ≡ Err failures.OutOfMemory) × Keeps output output')
+    → FailsAsked begun g words given output output' left
+left_answered begun g words k r given output output' left answered mistaken memory =
+    elim (sorted k) [
+      | inl h ↦ elim answered [ inl m ↦ inl (memory m).1 | inr is ↦ inr (inl (k, h, is)) ]
+      | inr rest ↦ elim rest [
+        | inl m ↦ inl (memory m).1
+        | inr n ↦ inl (mistaken n.0 n.1).1
+      ]
+    ]
+
+-- what failed, by the status's number
+pub failed_done : {S C L N : Type 0} (begun : Begins) (g : Devices S C L N) (left : Leaves C N) (words texts : List Text) (given output output' errors errors' : Option (List ℕ)) (n : ℕ) (status : Status)
+    → texts ≡ words → n ≡ number_of status → n ≡ number_of Failed → Ends begun g left texts given output output' errors errors' status
+    → PerformsAsked begun g left words given output output' Failed
+failed_done begun g left words texts given output output' errors errors' n status same is wants ends =
+    by_number begun g left words texts given output output' errors errors' n status Failed same is wants ends
 
 -- ---- over a union of databases
 
@@ -327,20 +419,20 @@ leads_from made image files Asked Holds Step each leads clean kind before begin 
 
 -- ---- what was done, in other words
 
-pub performs_as : {S C L N : Type 0} (begun : Begins) (g : Devices S C L N) (files shown : Option C) (ledger noted : Option N) (request asked : Request)
+pub performs_as : {S C L N : Type 0} (begun : Begins) (g : Devices S C L N) (files shown : Option C) (ledger noted : Option N) (deeds : Option (List Deed)) (request asked : Request)
     (given old new : Option (List ℕ)) (status is : Status) → asked ≡ request → shown ≡ files → noted ≡ ledger → is ≡ status
-    → Performs begun g (leaves files ledger) request given old new status → Performs begun g (leaves shown noted) asked given old new is
-performs_as {S} {C} {L} {N} begun g files shown ledger noted request asked given old new status is same_request same_files same_ledger same_status does =
-    subst (λ (r : Request). Performs begun g (leaves shown noted) r given old new is) (sym same_request)
-    (subst (λ (f : Option C). Performs begun g (leaves f noted) request given old new is) (sym same_files)
-    (subst (λ (l : Option N). Performs begun g (leaves files l) request given old new is) (sym same_ledger)
-    (subst (Performs begun g (leaves files ledger) request given old new) (sym same_status) does)))
+    → Performs begun g (leaves files ledger deeds) request given old new status → Performs begun g (leaves shown noted deeds) asked given old new is
+performs_as {S} {C} {L} {N} begun g files shown ledger noted deeds request asked given old new status is same_request same_files same_ledger same_status does =
+    subst (λ (r : Request). Performs begun g (leaves shown noted deeds) r given old new is) (sym same_request)
+    (subst (λ (f : Option C). Performs begun g (leaves f noted deeds) request given old new is) (sym same_files)
+    (subst (λ (l : Option N). Performs begun g (leaves files l deeds) request given old new is) (sym same_ledger)
+    (subst (Performs begun g (leaves files ledger deeds) request given old new) (sym same_status) does)))
 
-pub collects_as : {S C L N X : Type 0} (begun : Begins) (g : Devices S C L N) (left : Leaves C N) (made : Tables) (named uploads : List X)
-    (given old new : Option (List ℕ)) (status : Status) → named ≡ uploads → Collects begun g left made (length named) given old new status
-    → Collects begun g left made (length uploads) given old new status
-collects_as {S} {C} {L} {N} {X} begun g left made named uploads given old new status same does =
-    subst (λ (xs : List X). Collects begun g left made (length xs) given old new status) same does
+pub collects_as : {S C L N : Type 0} (begun : Begins) (g : Devices S C L N) (left : Leaves C N) (database : List ℕ) (at : Option (List ℕ)) (made : Tables) (named uploads : List (Bor (List ℕ)))
+    (given old new : Option (List ℕ)) (status : Status) → named ≡ uploads → Collects begun g left database at made named given old new status
+    → Collects begun g left database at made uploads given old new status
+collects_as begun g left database at made named uploads given old new status same does =
+    subst (λ (xs : List (Bor (List ℕ))). Collects begun g left database at made xs given old new status) same does
 
 pub ends_as : {S C L N : Type 0} (begun : Begins) (g : Devices S C L N) (left : Leaves C N) (words : List Text) (given output output' errors errors' : Option (List ℕ))
     (status is : Status) → is ≡ status → Ends begun g left words given output output' errors errors' status

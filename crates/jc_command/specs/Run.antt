@@ -1,5 +1,6 @@
 -- How a run of the program ends. (own)
-use Rattle.std.specs.Prelude.{◌≡◌, ◌⊎◌, ◌∷◌, [], ⊤, ℕ, List, Option, IfSome, IsSomeAnd, MatchOption, length, map, option_map}
+use Rattle.std.specs.Prelude.{◌≡◌, ◌⊎◌, ◌∷◌, [], ⊤, ℕ, List, Option, Some, IfSome, IsSomeAnd, MatchOption, length, map, option_map}
+use Rattle.std.specs.Borrow.{Bor}
 use Rattle.std.specs.Io.KnownBytes.{Keeps}
 use Rattle.clap.specs.Words.{Text}
 use Rattle.sqlite.specs.Recovery.{Image}
@@ -18,36 +19,41 @@ use Rattle.jc_ledger_files.specs.NotesOf.{notes_of}
 use Rattle.jc_ledger_files.specs.Owned.{owner_found}
 use Rattle.jc_ledger_files.specs.Windows.{known_in}
 use Rattle.jc_collector.specs.declared.health.Health.{Health}
-use Rattle.jc_command_shared.specs.Deeds.{ChangesOnly, Deed, IsReplaced, IsReplacedIf, OpensAndChanges, OpensOnce}
+use Rattle.jc_command_shared.specs.Deeds.{ChangesOnly, Deed, IsReplacedIf, OpensAndChanges, OpensOnce}
 use Rattle.jc_command_shared.specs.declared.failure.Failure.{Failure}
-use Rattle.jc_command_shared.specs.declared.failure.Failure.TheVariants.{CannotOpen, OutOfMemory, ReadFailed, WriteFailed}
+use Rattle.jc_command_shared.specs.declared.failure.Failure.TheVariants.{BadId, BadLine, BadUpload, CannotOpen, OutOfMemory, ReadFailed, WriteFailed}
 use Rattle.jc_command_shared.specs.declared.status.Status.{Status}
-use Rattle.jc_command_shared.specs.declared.status.Status.TheVariants.{Success, Refused, Misused, Failed}
+use Rattle.jc_command_shared.specs.declared.status.Status.TheVariants.{Success, Refused, Misused, Failed, Unanswered}
 use Rattle.jc_command_args.specs.declared.request.Request.{Request}
 use Rattle.jc_command_args.specs.declared.request.Tables.{Tables}
-use Rattle.jc_command_args.specs.declared.request.Request.TheVariants.{Collect, CollectListed, CollectIntoUnion, Show, Check, Migrate, Verify, Inspect, Upload, Ack, ListCodes}
+use Rattle.jc_command_args.specs.declared.request.Request.TheVariants.{Collect, CollectListed, CollectIntoUnion, Show, Check, CheckNoted, Notes, ListOwners, RenameOwner, ReleaseSequence, Migrate, Verify, Inspect, Upload, Ack, Acknowledged, ListCodes}
 use Rattle.jc_command_args.specs.declared.request.Request.TheVariants as request
 use Rattle.jc_collector_answers.specs.Answered.{PrintsAnswers, number_of_uploads}
+use Rattle.jc_collector_answers.specs.Collected.{just}
 use Rattle.jc_collector.specs.Checked.{IsHealth, PrintsHealth, count_line}
+use Rattle.jc_collector.specs.Compared.{IsJudged}
 use Rattle.jc_collector.specs.Database.{CheckFailsBy, CollectFailsBy, DatabaseFailsBy, ShowFailsBy}
 use Rattle.jc_command_shared.specs.Failure.{status_of}
-use Rattle.jc_collector.specs.Inspected.{PrintsSomeInspected}
+use Rattle.jc_collector.specs.Inspected.{PrintsInspectedOf, PrintsSomeInspected}
 use Rattle.jc_collector.specs.IntoUnion.{LeadsIf, StoresNotedFromList, UnionFailsBy}
 use Rattle.jc_collector.specs.FromList.{PrintsFromList}
 use Rattle.jc_collector.specs.Earlier.{LeadsFrom}
+use Rattle.jc_collector.specs.Exported.{KeepsAndExports, OpensAndExports}
 use Rattle.jc_collector.specs.Kinds.{LeadsIn, LeadsThere}
-use Rattle.jc_collector.specs.OverFiles.{CollectsAll, KeepsStored, Prints, PrintsAsked, StoresFromList, StoresPrinted}
+use Rattle.jc_collector.specs.OverFiles.{CollectsAll, Prints, PrintsAsked, StoresFromList, StoresPrinted, given_uploads}
 use Rattle.jc_sender.specs.Sent.{PrintsSomeUpload}
+use Rattle.jc_sender.specs.Acknowledged.{TellsOfSome, TellsOfUpload}
 use Rattle.jc_sender.specs.Failing.{AckFailsBy, UploadFailsBy}
-use Rattle.jc_sender.specs.Taken.{PrintsSomePoint}
-use Rattle.jc_sender.specs.Verdict.{PrintsSomeReading}
+use Rattle.jc_sender.specs.Taken.{MayMoveOn, PrintsSomePoint}
+use Rattle.jc_notes.specs.Changed.{IsInFolder}
+use Rattle.jc_sender.specs.Verdict.{PrintsReadingIn, PrintsSomeReading}
 use Rattle.jc_command_args.specs.Words.{AreWrong, AskFor, AskForHelp}
 
 -- ---- what is done over a database
 
 -- What a run begins with: what its database's files have, what the files of sequences' windows note, the machines that
--- sequences belong to, the journal of the finished databases, what is noted of databases that were set aside, and the entries
--- that came in earlier runs.
+-- sequences belong to, the journal of the finished databases, what is noted of databases that were set aside, the entries
+-- that came in earlier runs, what is told of the files that are read, by their names, and what was done to files before.
 pub record Begins : Type 1 where
   pub image : Image
   pub noted : Known
@@ -55,15 +61,19 @@ pub record Begins : Type 1 where
   pub finished : Journal
   pub aside : Journal
   pub came : LogEntry → Type 0
+  pub told : List ℕ → Option (List ℕ)
+  pub deeds : Option (List Deed)
 
-abbrev pub begins_with : Image → (windows : WindowName → List ℕ) → (finished aside : Journal) → (came : LogEntry → Type 0) → Begins
-begins_with image windows finished aside came = record {
+abbrev pub begins_with : Image → (windows : WindowName → List ℕ) → (finished aside : Journal) → (came : LogEntry → Type 0) → (told : List ℕ → Option (List ℕ)) → (deeds : Option (List Deed)) → Begins
+begins_with image windows finished aside came told deeds = record {
   image = image;
   noted = known_in (λ w. notes_of (windows w));
   owner = owner_found windows;
   finished = finished;
   aside = aside;
   came = came;
+  told = told;
+  deeds = deeds;
 }
 
 -- What is stored beside the present database: what the finished ones have, and what is noted of those that were set aside.
@@ -80,13 +90,14 @@ pub record Devices (S C L N : Type 0) : Type 1 where
 abbrev pub devices : {S C L N : Type 0} → InFiles S C L → ledgers.Ghosts N → Devices S C L N
 devices o n = record { database = o; ledger = n }
 
--- what it leaves: the files of its database, closed, and the notes of sequences
+-- what it leaves: the files of its database, closed, the notes of sequences, and what is done to files by then
 pub record Leaves (C N : Type 0) : Type 0 where
   pub files : Option C
   pub ledger : Option N
+  pub deeds : Option (List Deed)
 
-abbrev pub leaves : {C N : Type 0} → Option C → Option N → Leaves C N
-leaves files ledger = record { files = files; ledger = ledger }
+abbrev pub leaves : {C N : Type 0} → Option C → Option N → Option (List Deed) → Leaves C N
+leaves files ledger deeds = record { files = files; ledger = ledger; deeds = deeds }
 
 module _ {S C L N : Type 0} (begun : Begins) (g : Devices S C L N) (left : Leaves C N) where
   -- A run ends with the files of its database, closed, and made such a step over the journal that they had, or over the empty
@@ -98,19 +109,24 @@ module _ {S C L N : Type 0} (begun : Begins) (g : Devices S C L N) (left : Leave
   abbrev pub LeadsOn : (Journal → Journal → Type 0) → Type 0
   LeadsOn Step = IsSomeAnd left.files (λ closed. LeadsThere begun.image g.database closed Step)
 
-  -- An answer to each upload was printed, and what they acknowledge is in the files. What one upload on standard input makes
-  -- of the journal, and how it is answered.
-  pub record Collects (made : Tables) (named : ℕ) (given old new : Option (List ℕ)) (status : Status) : Type 0 where
-    pub printed : PrintsAnswers (number_of_uploads named) status old new
-    pub kept : Leads made KeepsStored
-    pub stores : Leads made (StoresPrinted (number_of_uploads named) status old new)
-    pub collects : named ≡ 0 → IfSome given (λ upload. Leads made (CollectsAll (upload ∷ []) old new))
+  -- what is told of the files with these names, or what standard input gives if there are none
+  abbrev pub told_of : (named : List (Bor (List ℕ))) → (given : Option (List ℕ)) → List (Option (List ℕ))
+  told_of named given = given_uploads (map (λ path. begun.told path.now) named) given
 
-  -- An answer to each upload that a list names was printed, and what they acknowledge is in the files.
-  pub record CollectsFromList (made : Tables) (list : List ℕ) (given old new : Option (List ℕ)) (status : Status) : Type 0 where
+  -- An answer to each of these uploads was printed, and what they acknowledge is in the files, and was exported if a path is
+  -- given. If they have these bytes: what they make of the journal, and how each is answered.
+  pub record Collects (database : List ℕ) (at : Option (List ℕ)) (made : Tables) (named : List (Bor (List ℕ))) (given old new : Option (List ℕ)) (status : Status) : Type 0 where
+    pub printed : PrintsAnswers (number_of_uploads (length named)) status old new
+    pub kept : Leads made (KeepsAndExports database at begun.deeds left.deeds)
+    pub stores : Leads made (StoresPrinted (just (told_of named given)) (number_of_uploads (length named)) status old new)
+    pub collects : (known : List (List ℕ)) → told_of named given ≡ map (λ upload. Some upload) known → Leads made (CollectsAll known old new)
+
+  -- An answer to each upload that a list names was printed, line by line, and what they acknowledge is in the files, and was
+  -- exported if a path is given.
+  pub record CollectsFromList (database : List ℕ) (at : Option (List ℕ)) (made : Tables) (list : List ℕ) (given old new : Option (List ℕ)) (status : Status) : Type 0 where
     pub printed : PrintsFromList list given status old new
-    pub kept : Leads made KeepsStored
-    pub stores : Leads made (StoresFromList list given status old new)
+    pub kept : Leads made (KeepsAndExports database at begun.deeds left.deeds)
+    pub stores : Leads made (StoresFromList begun.told list given status old new)
 
   -- If what the files of sequences noted is what the finished databases have, some of what those have that were set aside, and
   -- some of what the present one had, the notes are sound at the end, and of the entries that came no two differ and have one
@@ -127,12 +143,12 @@ module _ {S C L N : Type 0} (begun : Begins) (g : Devices S C L N) (left : Leave
     pub stay : g.ledger.sound notes → StayOwned begun.owner (g.ledger.owner notes)
     pub after : g.ledger.clean notes → StayOwnedAfter begun.owner (g.ledger.may_own notes)
 
-  -- An answer to each upload that a list names was printed. What they acknowledge is stored in the union of the finished
+  -- An answer to each upload that a list names was printed, line by line. What they acknowledge is stored in the union of the finished
   -- databases and the present one, or was noted of one that was set aside. What is noted then is what these have. No sequence
   -- was taken from its owner.
-  pub record CollectsIntoUnion (made : Tables) (list : List ℕ) (given old new : Option (List ℕ)) (status : Status) : Type 0 where
+  pub record CollectsIntoUnion (made : Tables) (list : List ℕ) (most_windows : Option ℕ) (given old new : Option (List ℕ)) (status : Status) : Type 0 where
     pub printed : PrintsFromList list given status old new
-    pub stores : LeadsNoted made (λ known came. StoresNotedFromList (stored_before begun) known came list given status old new)
+    pub stores : LeadsNoted made (λ known came. StoresNotedFromList begun.told most_windows (stored_before begun) known came list given status old new)
     pub owners : IsSomeAnd left.ledger KeepOwners
 
   -- The line of what there is of a journal was printed. If the files are given back, it is that of the journal which they
@@ -150,23 +166,41 @@ module _ {S C L N : Type 0} (begun : Begins) (g : Devices S C L N) (left : Leave
     pub printed : PrintsHealth health status old new
     pub moved : MatchOption left.files (status ≡ Refused) (λ closed. LeadsFrom tables begun.image g.database closed (Prints count_line old new))
 
-  -- What standard output gains when a request is performed, over what standard input gives, the status, and what becomes of
+  -- What standard output gains when a request is performed, over what standard input gives and what is told of files, the status, and what becomes of
   -- the files of its database: from `verify` a reading, from `inspect` what an upload says, from `upload` an upload, from
-  -- `ack` a resume point, from `collect` an answer to each upload, from `export` and `show` a listing, and from `check` and
-  -- `migrate` what there is of a journal.
+  -- `ack` a resume point, from `acknowledged` what answers say of an upload, from `collect` an answer to each upload, from
+  -- `export` and `show` a listing, and from `check` and `migrate` what there is of a journal. Of notes and owners nothing is
+  -- said here but the status.
   abbrev pub Performs : Request → (given old new : Option (List ℕ)) → Status → Type 0
-  Performs (Verify kind file) given old new status = PrintsSomeReading kind status old new
-  Performs (Inspect file most_entries most_fields most_bytes) given old new status = PrintsSomeInspected status old new
-  Performs (Upload source limit most_bytes whole) given old new status = (status ≡ Success) × PrintsSomeUpload source limit most_bytes whole old new
-  Performs (Ack source) given old new status = (status ≡ Success) × PrintsSomePoint source given old new
-  Performs (Collect database tables uploads then_export) given old new status = Collects tables (length uploads.items) given old new status
-  Performs (CollectListed database tables list then_export) given old new status = CollectsFromList tables list.now given old new status
-  Performs (CollectIntoUnion database tables list sequences then_export) given old new status = CollectsIntoUnion tables list.now given old new status
+  Performs (Verify kind file) given old new status =
+      PrintsSomeReading kind status old new
+      × ((held : List ℕ) → begun.told file.now ≡ Some held → PrintsReadingIn kind held status old new)
+  Performs (Inspect file most_entries most_fields most_bytes most_windows) given old new status =
+      PrintsSomeInspected status old new
+      × ((upload : List ℕ) → begun.told file.now ≡ Some upload
+      → PrintsInspectedOf (record { entries = most_entries; fields = most_fields; bytes = most_bytes; windows = most_windows }) upload status old new)
+  Performs (Upload source limit most_bytes whole) given old new status = (status ≡ Success) × PrintsSomeUpload begun.told source limit most_bytes whole old new
+  Performs (Ack source) given old new status = (status ≡ Success) × PrintsSomePoint begun.told source given old new begun.deeds left.deeds
+  Performs (Acknowledged upload) given old new status =
+      TellsOfSome given status old new
+      × ((held : List ℕ) → begun.told upload.now ≡ Some held → TellsOfUpload held given status old new)
+  Performs (Collect database tables uploads then_export) given old new status =
+      Collects database.now (option_map (λ name. name.now) then_export) tables uploads.items given old new status
+  Performs (CollectListed database tables list then_export) given old new status =
+      CollectsFromList database.now (option_map (λ name. name.now) then_export) tables list.now given old new status
+  Performs (CollectIntoUnion database tables list sequences most_windows then_export) given old new status =
+      CollectsIntoUnion tables list.now most_windows given old new status
+      × LeadsNoted tables (λ known came before. OpensAndExports database.now (option_map (λ name. name.now) then_export) begun.deeds left.deeds)
   Performs (request.Export database) given old new status = (status ≡ Success) × LeadsOn (Prints export_text old new)
   Performs (Show database field id first last) given old new status =
       (status ≡ Success)
       × LeadsOn (PrintsAsked (option_map (λ name. name.now) field) (option_map (λ digits. digits.now) id) first last old new)
   Performs (Check database) given old new status = Checks old new status
+  Performs (CheckNoted database sequences) given old new status = IsJudged status
+  Performs (Notes sequences task) given old new status = IsJudged status
+  Performs (ListOwners sequences) given old new status = IsJudged status
+  Performs (RenameOwner sequences name other) given old new status = status ≡ Success
+  Performs (ReleaseSequence sequences sequence) given old new status = status ≡ Success
   Performs (Migrate database tables) given old new status = Migrates tables old new status
   Performs ListCodes given old new status = status ≡ Success
 
@@ -180,42 +214,71 @@ FileFailsBy file WriteFailed = ⊤
 FileFailsBy file OutOfMemory = ⊤
 FileFailsBy file _ = ⊥
 
+-- Why a command over notes fails: their folder can't be opened, a line of standard input isn't one that it reads, or a
+-- device or memory fails.
+abbrev pub NotesFailBy : (folder : List ℕ) → Failure → Type 0
+NotesFailBy folder (CannotOpen path) = path.now ≡ folder
+NotesFailBy folder (BadLine line) = ⊤
+NotesFailBy folder BadId = ⊤
+NotesFailBy folder ReadFailed = ⊤
+NotesFailBy folder WriteFailed = ⊤
+NotesFailBy folder OutOfMemory = ⊤
+NotesFailBy folder _ = ⊥
+
+-- Why `acknowledged` fails: its file can't be opened or read, or is no such upload.
+abbrev pub UploadFileFailsBy : (file : List ℕ) → Failure → Type 0
+UploadFileFailsBy file BadUpload = ⊤
+UploadFileFailsBy file failure = FileFailsBy file failure
+
 -- Why a request fails: its own file can't be opened, what it names is refused, or a device or memory fails.
 abbrev pub FailsBy : Request → (given : Option (List ℕ)) → Failure → Type 0
 FailsBy (Verify kind file) given failure = FileFailsBy file.now failure
-FailsBy (Inspect file most_entries most_fields most_bytes) given failure = FileFailsBy file.now failure
+FailsBy (Inspect file most_entries most_fields most_bytes most_windows) given failure = FileFailsBy file.now failure
 FailsBy (Upload source limit most_bytes whole) given failure = UploadFailsBy source failure
 FailsBy (Ack source) given failure = AckFailsBy source given failure
+FailsBy (Acknowledged upload) given failure = UploadFileFailsBy upload.now failure
 FailsBy (Collect database tables uploads then_export) given failure = CollectFailsBy database.now (map (λ path. path.now) uploads.items) failure
 FailsBy (CollectListed database tables list then_export) given failure = CollectFailsBy database.now (list.now ∷ []) failure
-FailsBy (CollectIntoUnion database tables list sequences then_export) given failure =
+FailsBy (CollectIntoUnion database tables list sequences most_windows then_export) given failure =
     (failure ≡ CannotOpen sequences) ⊎ UnionFailsBy database.now (list.now ∷ []) failure
 FailsBy (request.Export database) given failure = DatabaseFailsBy database.now failure
 FailsBy (Show database field id first last) given failure =
     ShowFailsBy database.now (option_map (λ name. name.now) field) (option_map (λ digits. digits.now) id) failure
 FailsBy (Check database) given failure = CheckFailsBy database.now failure
+FailsBy (CheckNoted database sequences) given failure = (failure ≡ ReadFailed) ⊎ CheckFailsBy database.now failure
+FailsBy (Notes sequences task) given failure = NotesFailBy sequences.now failure
+FailsBy (ListOwners sequences) given failure = NotesFailBy sequences.now failure
+FailsBy (RenameOwner sequences old new) given failure = NotesFailBy sequences.now failure
+FailsBy (ReleaseSequence sequences sequence) given failure = NotesFailBy sequences.now failure
 FailsBy (Migrate database tables) given failure = CheckFailsBy database.now failure
 FailsBy ListCodes given failure = failure ≡ WriteFailed
 
 -- ---- what is done to files
 
 -- What a request does to files, whether it is performed or fails: it opens its database, once or not at all, and makes,
--- renames or removes no other file but that of an export or of a resume point and the one beside it. Beside that `collect`
+-- renames or removes no other file but that of an export or of a resume point and the one beside it. A resume point's file
+-- stays as it was, or is replaced by one with the text of a resume point, and no more. Beside that `collect`
 -- notes sequences in a folder, of which the notes' ledger speaks.
 abbrev pub DoesFor : Request → (old new : Option (List Deed)) → Type 0
 DoesFor (Verify kind file) old new = new ≡ old
-DoesFor (Inspect file most_entries most_fields most_bytes) old new = new ≡ old
+DoesFor (Inspect file most_entries most_fields most_bytes most_windows) old new = new ≡ old
 DoesFor (Upload source limit most_bytes whole) old new = new ≡ old
-DoesFor (Ack source) old new = ChangesOnly (IsReplaced source.resume.now) old new
+DoesFor (Ack source) old new = MayMoveOn source.resume.now old new
+DoesFor (Acknowledged upload) old new = new ≡ old
 DoesFor (Collect database tables uploads then_export) old new =
     OpensAndChanges database.now (IsReplacedIf (option_map (λ name. name.now) then_export)) old new
 DoesFor (CollectListed database tables list then_export) old new =
     OpensAndChanges database.now (IsReplacedIf (option_map (λ name. name.now) then_export)) old new
-DoesFor (CollectIntoUnion database tables list sequences then_export) old new =
+DoesFor (CollectIntoUnion database tables list sequences most_windows then_export) old new =
     OpensAndChanges database.now (IsReplacedIf (option_map (λ name. name.now) then_export)) old new
 DoesFor (request.Export database) old new = OpensOnce database.now old new
 DoesFor (Show database field id first last) old new = OpensOnce database.now old new
 DoesFor (Check database) old new = OpensOnce database.now old new
+DoesFor (CheckNoted database sequences) old new = OpensOnce database.now old new
+DoesFor (Notes sequences task) old new = ChangesOnly (IsInFolder sequences.now) old new
+DoesFor (ListOwners sequences) old new = new ≡ old
+DoesFor (RenameOwner sequences name other) old new = ChangesOnly (IsInFolder sequences.now) old new
+DoesFor (ReleaseSequence sequences sequence) old new = ChangesOnly (IsInFolder sequences.now) old new
 DoesFor (Migrate database tables) old new = OpensOnce database.now old new
 DoesFor ListCodes old new = new ≡ old
 
@@ -250,11 +313,12 @@ Ends begun g left words given output output' errors errors' Refused =
 Ends begun g left words given output output' errors errors' Misused =
     (AreWrong words × Keeps output output') ⊎ StopsAsked words given output output' Misused
 Ends begun g left words given output output' errors errors' Failed = PerformsAsked begun g left words given output output' Failed
+Ends begun g left words given output output' errors errors' Unanswered = PerformsAsked begun g left words given output output' Unanswered
 
--- The same of a run that keeps what it leaves to itself.
-unfoldable pub EndsWithin : {S C L N : Type 0} → Begins → Devices S C L N → List Text → (given output output' errors errors' : Option (List ℕ)) → Status → Type 0
-EndsWithin {S} {C} {L} {N} begun g words given output output' errors errors' status =
-    (left : Leaves C N) × Ends begun g left words given output output' errors errors' status
+-- The same of a run that keeps its files and notes to itself, by what was done to others.
+unfoldable pub EndsWithin : {S C L N : Type 0} → Begins → Devices S C L N → (deeds : Option (List Deed)) → List Text → (given output output' errors errors' : Option (List ℕ)) → Status → Type 0
+EndsWithin {S} {C} {L} {N} begun g deeds words given output output' errors errors' status =
+    (files : Option C) × (ledger : Option N) × Ends begun g (leaves files ledger deeds) words given output output' errors errors' status
 
 -- If a run stops short, a device or memory failed, or something was asked for that is refused.
 abbrev pub Stops : List Text → (given output output' : Option (List ℕ)) → Failure → Type 0

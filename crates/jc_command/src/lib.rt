@@ -3,6 +3,7 @@
 
 mod begun;
 mod note_folders;
+mod notes;
 mod run;
 
 pub use begun::{Begun, BegunBy};

@@ -12,7 +12,8 @@ ghost use Rattle.jc_ledger_files.specs.Windows.{known_in};
 use crate::begun::{Begun, BegunBy};
 use jc_command_shared::Failure;
 use jc_ledger::Ledger;
-use jc_sequences::{FileSequences, Folders, open_sequences};
+use jc_ledger_files::WindowName;
+use jc_sequences::{FileSequences, Folders, list_windows, open_sequences};
 
 /// The notes of sequences in files, of which `S` says what they had.
 pub type Sequences<'a, S> = FileSequences<'a, BegunBy<S>, BegunBy<S>>;
@@ -33,6 +34,11 @@ pub trait NoteFolders<S: Begun>: Sized + Drop {
         ensures came { IfOk result (λ notes. (e : LogEntry) → Self.Notes.came notes e ↔ S.came e) }
         ensures failed { IfErr result (λ failure. (failure ≡ Failure.CannotOpen path.entry) ⊎ (failure ≡ Failure.OutOfMemory)) };
 
+    /// The windows of sequences that have files in the folder at `path`, in the order of their sequences and then of their
+    /// numbers. Nothing is changed.
+    fn list<'p>(self, path: &'p str) -> Result<Vec<WindowName>, Failure<'p>>
+        ensures failed { IfErr result (λ failure. (failure ≡ Failure.CannotOpen path.entry) ⊎ (failure ≡ Failure.OutOfMemory)) };
+
     /// Whatever was called of these notes, each sequence that belonged to a machine at first belongs to it, if they are
     /// sound, and after a crash, if their disk returned what was written. Does nothing.
     fn show_steady(notes: &Self::Notes)
@@ -45,6 +51,10 @@ impl<'a, S: Begun> NoteFolders<S> for Folders<'a> {
 
     fn open<'p>(self, path: &'p str) -> Result<Sequences<'a, S>, Failure<'p>> {
         open_sequences::<BegunBy<S>, BegunBy<S>>(self, path)
+    }
+
+    fn list<'p>(self, path: &'p str) -> Result<Vec<WindowName>, Failure<'p>> {
+        list_windows(self, path)
     }
 
     fn show_steady(notes: &Sequences<'a, S>) {}

@@ -1,36 +1,40 @@
 //! One run of the program.
 
-ghost use Rattle.std.specs.Prelude.{◌≡◌, ◌≢◌, ◌≤◌, ⊤, None, Some, IsSome, Ok, Err, OnOk, IfOk, IfErr, IsOkAnd, map, string_bytes};
+ghost use Rattle.std.specs.Prelude.{◌≡◌, ◌≢◌, ◌⊎◌, ◌≤◌, ⊤, None, Some, IsSome, Ok, Err, OnOk, IfOk, IfErr, IsOkAnd, map, string_bytes};
 ghost use Rattle.std.specs.Io.KnownBytes.{Appends, Keeps};
 ghost use Rattle.clap.specs.Words.{kind_of};
 ghost use Rattle.jc_command_args.specs.Answer.{IsAskedFor};
 ghost use Rattle.jc_command_shared.specs.Failure.{status_of};
 ghost use Rattle.jc_command_shared.specs.Status.{number_of};
-ghost use Rattle.jc_command.specs.Run.{DoesAsked, DoesFor, Ends, EndsWithin, FailsBy, Performs, Stops, begins_with, devices, leaves};
+ghost use Rattle.jc_command.specs.Failed.{FailsAsked, FailsLeaving};
+ghost use Rattle.jc_command.specs.Run.{DoesAsked, DoesFor, Ends, EndsWithin, FailsBy, Performs, PerformsAsked, Stops, begins_with, devices, leaves};
 
 use crate::begun::{Begun, BegunBy};
 use crate::note_folders::{NoteFolders, Sequences};
+use crate::notes::{list_all_owners, rename_all, work_on_notes};
 use clap::error::ErrorKind;
 use jc_collect::Bounds;
 use jc_collector::{
-    Closed, Examined, NotedRun, check, collect, collect_from_list, collect_into_union, export,
-    inspect, migrate, show,
+    Closed, Examined, FailedRun, NotedLeft, NotedRun, check, check_noted, collect,
+    collect_from_list, collect_into_union, export, inspect, migrate, show,
 };
 use jc_command_args::{CODES, Request, parse};
 use jc_command_shared::{Failure, Status, printed};
 use jc_database::{Databases, OpenFromFiles};
 use jc_ledger::Ledger;
-use jc_sender::{ack, upload, verify};
+use jc_notes::release_sequence;
+use jc_sender::{ack, acknowledged, upload, verify};
 use jc_sequences::Folders;
 use std::io::{Read, Write};
 
 /// What a run ended with: its status, and the files of its database, closed, if it had one open, with the notes of
-/// sequences, if it had those.
+/// sequences, if it had those. Of a run over a union that failed it has what is left of both.
 #[derive(Drop)]
-pub struct Ended<C: Drop, L: Ledger + Drop> {
+pub struct Ended<C: Drop, R: Drop, L: Ledger + Drop> {
     pub status: u8,
     pub files: Option<C>,
     pub ledger: Option<L>,
+    pub left: Option<NotedLeft<R, L>>,
 }
 
 /// What was asked for is done.
@@ -43,10 +47,12 @@ struct Done<C: Drop, L: Ledger + Drop> {
 
 impl<C: Drop, L: Ledger + Drop> Done<C, L> {
     /// By a command that works on no database.
-    fn without<'w>(status: Result<Status, Failure<'w>>) -> Result<Done<C, L>, Failure<'w>>
+    fn without<'w, R: Drop>(
+        status: Result<Status, Failure<'w>>,
+    ) -> Result<Done<C, L>, FailedRun<'w, R, L>>
         ensures done { IfOk result (λ done. IsOkAnd status.entry (λ status.
             (done.status ≡ status) × (done.files ≡ None))) }
-        ensures failed { IfErr result (λ failure. status.entry ≡ Err failure) }
+        ensures failed { IfErr result (λ run. status.entry ≡ Err run.failure) }
     {
         match status {
             Ok(status) => Ok(Done {
@@ -54,15 +60,17 @@ impl<C: Drop, L: Ledger + Drop> Done<C, L> {
                 files: None,
                 ledger: None,
             }),
-            Err(failure) => Err(failure),
+            Err(failure) => Err(FailedRun::from(failure)),
         }
     }
 
     /// By a command that works on no database, and answers nothing.
-    fn succeeded<'w>(worked: Result<(), Failure<'w>>) -> Result<Done<C, L>, Failure<'w>>
+    fn succeeded<'w, R: Drop>(
+        worked: Result<(), Failure<'w>>,
+    ) -> Result<Done<C, L>, FailedRun<'w, R, L>>
         ensures done { IfOk result (λ done. IsOkAnd worked.entry (λ it.
             (done.status ≡ Status.Success) × (done.files ≡ None))) }
-        ensures failed { IfErr result (λ failure. worked.entry ≡ Err failure) }
+        ensures failed { IfErr result (λ run. worked.entry ≡ Err run.failure) }
     {
         match worked {
             Ok(()) => Ok(Done {
@@ -70,15 +78,17 @@ impl<C: Drop, L: Ledger + Drop> Done<C, L> {
                 files: None,
                 ledger: None,
             }),
-            Err(failure) => Err(failure),
+            Err(failure) => Err(FailedRun::from(failure)),
         }
     }
 
     /// By a command that answers a status, and has closed its database.
-    fn closed<'w>(closed: Result<Closed<Status, C>, Failure<'w>>) -> Result<Done<C, L>, Failure<'w>>
+    fn closed<'w, R: Drop>(
+        closed: Result<Closed<Status, C>, Failure<'w>>,
+    ) -> Result<Done<C, L>, FailedRun<'w, R, L>>
         ensures done { IfOk result (λ done. IsOkAnd closed.entry (λ closed.
             (done.status ≡ closed.value) × (done.files ≡ Some closed.files))) }
-        ensures failed { IfErr result (λ failure. closed.entry ≡ Err failure) }
+        ensures failed { IfErr result (λ run. closed.entry ≡ Err run.failure) }
     {
         match closed {
             Ok(closed) => Ok(Done {
@@ -86,7 +96,7 @@ impl<C: Drop, L: Ledger + Drop> Done<C, L> {
                 files: Some(closed.files),
                 ledger: None,
             }),
-            Err(failure) => Err(failure),
+            Err(failure) => Err(FailedRun::from(failure)),
         }
     }
 
@@ -104,10 +114,12 @@ impl<C: Drop, L: Ledger + Drop> Done<C, L> {
     }
 
     /// By a command that lists a journal, and has closed its database.
-    fn listed<'w>(closed: Result<Closed<(), C>, Failure<'w>>) -> Result<Done<C, L>, Failure<'w>>
+    fn listed<'w, R: Drop>(
+        closed: Result<Closed<(), C>, Failure<'w>>,
+    ) -> Result<Done<C, L>, FailedRun<'w, R, L>>
         ensures done { IfOk result (λ done. IsOkAnd closed.entry (λ closed.
             (done.status ≡ Status.Success) × (done.files ≡ Some closed.files))) }
-        ensures failed { IfErr result (λ failure. closed.entry ≡ Err failure) }
+        ensures failed { IfErr result (λ run. closed.entry ≡ Err run.failure) }
     {
         match closed {
             Ok(closed) => Ok(Done {
@@ -115,19 +127,19 @@ impl<C: Drop, L: Ledger + Drop> Done<C, L> {
                 files: Some(closed.files),
                 ledger: None,
             }),
-            Err(failure) => Err(failure),
+            Err(failure) => Err(FailedRun::from(failure)),
         }
     }
 
     /// By a command that says what there is of a journal. It has no notes.
     // They are handed in, since the checker has a fault here where no argument is an `Option`.
-    fn examined<'w>(
+    fn examined<'w, R: Drop>(
         examined: Result<Examined<Status, C>, Failure<'w>>,
         ledger: Option<L>,
-    ) -> Result<Done<C, L>, Failure<'w>>
+    ) -> Result<Done<C, L>, FailedRun<'w, R, L>>
         ensures done { IfOk result (λ done. IsOkAnd examined.entry (λ examined.
             (done.status ≡ examined.value) × (done.files ≡ examined.files))) }
-        ensures failed { IfErr result (λ failure. examined.entry ≡ Err failure) }
+        ensures failed { IfErr result (λ run. examined.entry ≡ Err run.failure) }
     {
         match examined {
             Ok(examined) => Ok(Done {
@@ -135,7 +147,7 @@ impl<C: Drop, L: Ledger + Drop> Done<C, L> {
                 files: examined.files,
                 ledger,
             }),
-            Err(failure) => Err(failure),
+            Err(failure) => Err(FailedRun::from(failure)),
         }
     }
 }
@@ -150,10 +162,10 @@ pub fn command<'a, Y: Databases, F: OpenFromFiles, S: Begun, I: Read, O: Write, 
     output: &mut O,
     errors: &mut E,
 ) -> u8
-    ensures status { result ≤ 3 }
+    ensures status { result ≤ 4 }
     ensures ended { (status : Status) → status ≢ Status.Failed → result ≡ number_of status
-        → EndsWithin (begins_with F.first S.windows S.finished S.aside S.came)
-        (devices F.in_files ⟦<Sequences<'a, S> as Ledger>⟧) (map string_bytes words.items) (I.remaining input.old)
+        → EndsWithin (begins_with F.first S.windows S.finished S.aside S.came Y.told (Y.deeds rt.old))
+        (devices F.in_files ⟦<Sequences<'a, S> as Ledger>⟧) (Y.deeds rt.new) (map string_bytes words.items) (I.remaining input.old)
         (O.contents output.old) (O.contents output.new) (E.contents errors.old) (E.contents errors.new) status }
     // However it ends, this alone was done to files.
     ensures touched { DoesAsked (map string_bytes words.items) (Y.deeds rt.old) (Y.deeds rt.new) }
@@ -164,9 +176,10 @@ pub fn command<'a, Y: Databases, F: OpenFromFiles, S: Begun, I: Read, O: Write, 
 /// Does what the arguments ask for. The first argument is the program's name.
 ///
 /// What is asked for goes to `output`. A failure, or what is wrong with the arguments, goes to `errors`. With status 3
-/// something failed: no clause says what went to `errors` then, and of `output` one does if files come back. `input` has the answers for `ack`, and for `collect` the
-/// upload if none is named, or their names if the list is `-`. `start` stands for what a database's files hold as they are
-/// opened, and the files that come back are those. `folders` opens the notes of sequences, and `S` says what is in them.
+/// something failed: no clause says what went to `errors` then, and of `output` one does if files come back, or what is left of a
+/// union. `input` has the answers for `ack`, and for `collect` the upload if none is named, or their names if the list is `-`.
+/// `start` stands for what a database's files hold as they are opened, and the files that come back are those. `folders` opens
+/// the notes of sequences, and `S` says what is in them.
 pub fn run_command<
     Y: Databases,
     F: OpenFromFiles,
@@ -183,13 +196,21 @@ pub fn run_command<
     input: &mut I,
     output: &mut O,
     errors: &mut E,
-) -> Ended<F::Files, N::Notes>
-    ensures status { result.status ≤ 3 }
+) -> Ended<F::Files, F::Left, N::Notes>
+    ensures status { result.status ≤ 4 }
     // Where something failed, it says so only if files come back: what was stored and printed before is there too.
     ensures ended { (status : Status) → (status ≡ Status.Failed → IsSome result.files) → result.status ≡ number_of status
-        → Ends (begins_with F.first S.windows S.finished S.aside S.came)
-        (devices F.in_files ⟦<N::Notes as Ledger>⟧) (leaves result.files result.ledger) (map string_bytes words.items) (I.remaining input.old)
+        → Ends (begins_with F.first S.windows S.finished S.aside S.came Y.told (Y.deeds rt.old))
+        (devices F.in_files ⟦<N::Notes as Ledger>⟧) (leaves result.files result.ledger (Y.deeds rt.new)) (map string_bytes words.items) (I.remaining input.old)
         (O.contents output.old) (O.contents output.new) (E.contents errors.old) (E.contents errors.new) status }
+    // Where something failed, either what was asked for is performed, or what is left of a union has what was printed.
+    ensures failed { result.status ≡ number_of Status.Failed
+        → PerformsAsked (begins_with F.first S.windows S.finished S.aside S.came Y.told (Y.deeds rt.old))
+        (devices F.in_files ⟦<N::Notes as Ledger>⟧) (leaves result.files result.ledger (Y.deeds rt.new)) (map string_bytes words.items) (I.remaining input.old)
+        (O.contents output.old) (O.contents output.new) Status.Failed
+        ⊎ FailsAsked (begins_with F.first S.windows S.finished S.aside S.came Y.told (Y.deeds rt.old))
+        (devices F.in_files ⟦<N::Notes as Ledger>⟧) (map string_bytes words.items) (I.remaining input.old)
+        (O.contents output.old) (O.contents output.new) result.left }
     // However it ends, this alone was done to files.
     ensures touched { DoesAsked (map string_bytes words.items) (Y.deeds rt.old) (Y.deeds rt.new) }
 {
@@ -206,11 +227,13 @@ pub fn run_command<
             status: done.status.number(),
             files: done.files,
             ledger: done.ledger,
+            left: None,
         },
-        Err(failure) => Ended {
-            status: failure.report(errors).number(),
+        Err(run) => Ended {
+            status: run.failure.report(errors).number(),
             files: None,
             ledger: None,
+            left: run.left,
         },
     }
 }
@@ -233,12 +256,15 @@ fn answered<
     input: &mut I,
     output: &mut O,
     errors: &mut E,
-) -> Result<Done<F::Files, N::Notes>, Failure<'w>>
-    ensures ended { IfOk result (λ done. Ends (begins_with F.first S.windows S.finished S.aside S.came)
-        (devices F.in_files ⟦<N::Notes as Ledger>⟧) (leaves done.files done.ledger) (map string_bytes words.entry.now) (I.remaining input.old)
+) -> Result<Done<F::Files, N::Notes>, FailedRun<'w, F::Left, N::Notes>>
+    ensures ended { IfOk result (λ done. Ends (begins_with F.first S.windows S.finished S.aside S.came Y.told (Y.deeds rt.old))
+        (devices F.in_files ⟦<N::Notes as Ledger>⟧) (leaves done.files done.ledger (Y.deeds rt.new)) (map string_bytes words.entry.now) (I.remaining input.old)
         (O.contents output.old) (O.contents output.new) (E.contents errors.old) (E.contents errors.new) done.status) }
-    ensures stopped { IfErr result (Stops (map string_bytes words.entry.now) (I.remaining input.old) (O.contents output.old)
-        (O.contents output.new)) }
+    ensures stopped { IfErr result (λ run. Stops (map string_bytes words.entry.now) (I.remaining input.old) (O.contents output.old)
+        (O.contents output.new) run.failure) }
+    ensures left { IfErr result (λ run. FailsAsked (begins_with F.first S.windows S.finished S.aside S.came Y.told (Y.deeds rt.old))
+        (devices F.in_files ⟦<N::Notes as Ledger>⟧) (map string_bytes words.entry.now) (I.remaining input.old)
+        (O.contents output.old) (O.contents output.new) run.left) }
     ensures touched { DoesAsked (map string_bytes words.entry.now) (Y.deeds rt.old) (Y.deeds rt.new) }
 {
     match parse(rt.alloc(), words) {
@@ -267,13 +293,16 @@ fn perform<
     input: &mut I,
     output: &mut O,
     errors: &mut E,
-) -> Result<Done<F::Files, N::Notes>, Failure<'w>>
-    ensures performed { IfOk result (λ done. Performs (begins_with F.first S.windows S.finished S.aside S.came)
-        (devices F.in_files ⟦<N::Notes as Ledger>⟧) (leaves done.files done.ledger) request.entry (I.remaining input.old)
+) -> Result<Done<F::Files, N::Notes>, FailedRun<'w, F::Left, N::Notes>>
+    ensures performed { IfOk result (λ done. Performs (begins_with F.first S.windows S.finished S.aside S.came Y.told (Y.deeds rt.old))
+        (devices F.in_files ⟦<N::Notes as Ledger>⟧) (leaves done.files done.ledger (Y.deeds rt.new)) request.entry (I.remaining input.old)
         (O.contents output.old) (O.contents output.new) done.status) }
     ensures quiet { IfOk result (λ done. done.status ≡ Status.Success → Keeps (E.contents errors.old) (E.contents errors.new)) }
-    ensures failed { IfErr result (FailsBy request.entry (I.remaining input.old)) }
-    ensures untouched { IfErr result (λ failure. status_of failure ≢ Status.Failed
+    ensures failed { IfErr result (λ run. FailsBy request.entry (I.remaining input.old) run.failure) }
+    ensures left { IfErr result (λ run. FailsLeaving (begins_with F.first S.windows S.finished S.aside S.came Y.told (Y.deeds rt.old))
+        (devices F.in_files ⟦<N::Notes as Ledger>⟧) request.entry (I.remaining input.old)
+        (O.contents output.old) (O.contents output.new) run.left) }
+    ensures untouched { IfErr result (λ run. status_of run.failure ≢ Status.Failed
         → Keeps (O.contents output.old) (O.contents output.new)) }
     ensures touched { DoesFor request.entry (Y.deeds rt.old) (Y.deeds rt.new) }
 {
@@ -284,11 +313,13 @@ fn perform<
             most_entries,
             most_fields,
             most_bytes,
+            most_windows,
         } => {
             let bounds = Bounds {
                 entries: most_entries,
                 fields: most_fields,
                 bytes: most_bytes,
+                windows: most_windows,
             };
             Done::without(inspect(rt, file, &bounds, output))
         }
@@ -299,6 +330,7 @@ fn perform<
             whole,
         } => Done::succeeded(upload(rt, source, limit, most_bytes, whole, output)),
         Request::Ack { source } => Done::succeeded(ack(rt, source, input, output)),
+        Request::Acknowledged { upload } => Done::without(acknowledged(rt, upload, input, output)),
         Request::Collect {
             database,
             tables,
@@ -342,6 +374,7 @@ fn perform<
             tables,
             list,
             sequences,
+            most_windows,
             then_export,
         } => {
             let ledger = folders.open(sequences)?;
@@ -352,6 +385,7 @@ fn perform<
                 database,
                 tables,
                 list,
+                most_windows,
                 then_export,
                 input,
                 output,
@@ -378,6 +412,30 @@ fn perform<
             let examined = check::<_, F, _>(rt, start, database, output);
             Done::examined(examined, None)
         }
+        Request::CheckNoted {
+            database,
+            sequences,
+        } => {
+            let examined = check_noted::<_, F, _>(rt, start, database, sequences, output);
+            Done::examined(examined, None)
+        }
+        Request::Notes { sequences, task } => {
+            Done::without(work_on_notes::<_, S, _, _, _>(
+                rt, folders, sequences, task, input, output,
+            ))
+        }
+        Request::ListOwners { sequences } => {
+            Done::without(list_all_owners::<_, S, _, _>(rt, folders, sequences, output))
+        }
+        Request::RenameOwner {
+            sequences,
+            old,
+            new,
+        } => Done::succeeded(rename_all::<_, S, _, _>(rt, folders, sequences, old, new, output)),
+        Request::ReleaseSequence {
+            sequences,
+            sequence,
+        } => Done::succeeded(release_sequence(rt, sequences, sequence, output)),
         Request::Migrate { database, tables } => {
             let examined = migrate::<_, F, _>(rt, start, database, tables, output);
             Done::examined(examined, None)
@@ -406,7 +464,8 @@ fn answer_words<'a, O: Write, E: Write>(
         × Keeps (E.contents errors.old) (E.contents errors.new) }
     ensures mistaken { ¬ IsAskedFor (kind_of answer.now) → kind_of answer.now ≢ ErrorKind.OutOfMemory
         → (result ≡ Ok Status.Misused) × Keeps (O.contents output.old) (O.contents output.new) }
-    ensures memory { kind_of answer.now ≡ ErrorKind.OutOfMemory → result ≡ Err Failure.OutOfMemory }
+    ensures memory { kind_of answer.now ≡ ErrorKind.OutOfMemory → (result ≡ Err Failure.OutOfMemory)
+        × Keeps (O.contents output.old) (O.contents output.new) }
 {
     if answer.kind() == ErrorKind::OutOfMemory {
         return Err(Failure::OutOfMemory);

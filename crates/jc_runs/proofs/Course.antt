@@ -9,10 +9,11 @@ use Rattle.jc_base.specs.LogEntry.{IsKey, LogEntry, Body}
 use Rattle.jc_ledger.specs.Kept.{IsKept, NoneCollide}
 use Rattle.jc_ledger.specs.Known.{digest_under}
 use Rattle.jc_ledger.specs.Union.{union}
-use Rattle.jc_runs.specs.Between.{Between, Fate, nothing}
+use Rattle.jc_runs.specs.Between.{Between, Fate, IsInOne, journals, nothing}
 use Rattle.jc_runs.specs.Stands.{Keeps, Stands}
-use Rattle.jc_runs.specs.Steps.{LeadsOn, Step, Turn, answers_of}
-use Rattle.jc_runs.proofs.Standing.{kept_begins, kept_from, stands_if}
+use Rattle.jc_runs.specs.Steps.{LeadsOn, Step, Turn, answered_in, answers_of}
+use Rattle.jc_runs.proofs.Acknowledging.{all_wider}
+use Rattle.jc_runs.proofs.Standing.{kept_begins, stands_if}
 use Rattle.jc_runs.proofs.Stepping.{Laws, Leaves, step_comes, steps_on}
 use Rattle.jc_runs.proofs.Unions.{has_none, union_get, union_none, void}
 
@@ -30,10 +31,13 @@ stays_here b is = record {
   released = λ s was. was;
 }
 
-first_then : (b m c : Between) (step : Step) (steps : List Step) → Leaves b (answers_of step) m → Keeps m steps c → Keeps b (step ∷ steps) c
+first_then : (b m c : Between) (step : Step) (steps : List Step) → Leaves b (answered_in step) (answers_of step) m → Keeps m steps c → Keeps b (step ∷ steps) c
 first_then b m c step steps one rest = record {
   stands = rest.stands;
-  acknowledged = (kept_from m c rest.stored (answers_of step) one.acknowledged, rest.acknowledged);
+  acknowledged = (
+    all_wider (IsInOne (journals m)) (IsInOne (journals c)) rest.stored (answered_in step) (answers_of step) one.acknowledged,
+    rest.acknowledged,
+  );
   stored = λ e has. rest.stored e (one.stored e has);
   owners = λ s machine owns. ⊎_elim (λ still. rest.owners s machine still) (λ was. inr (rest.released s was)) (one.owners s machine owns);
   forgotten = λ k was. rest.forgotten k (one.forgotten k was);
@@ -44,7 +48,7 @@ pub keeps_on : Laws → (b c : Between) (steps : List Step) → LeadsOn b steps 
 keeps_on laws b c [] same none is = subst (Keeps b []) (sym same) (stays_here b is)
 keeps_on laws b c (step ∷ steps) (m, one, rest) none is =
     let comes : (e : LogEntry) → Contains m.came e → Contains c.came e = comes_on steps m c rest in
-    let leaves : Leaves b (answers_of step) m = steps_on laws step b m is (λ e f here there. none e f (comes e here) (comes f there)) one in
+    let leaves : Leaves b (answered_in step) (answers_of step) m = steps_on laws step b m is (λ e f here there. none e f (comes e here) (comes f there)) one in
     first_then b m c step steps leaves (keeps_on laws m c steps rest none leaves.stands)
 
 -- ---- at first

@@ -1,18 +1,19 @@
 -- What a run leaves is what the next one finds.
-use Rattle.std.proofs.Common.{◌≡◌, ◌∙◌, ℕ, List, Option, refl, ap, subst}
+use Rattle.std.proofs.Common.{◌≡◌, ◌∙◌, ℕ, List, Option, refl, subst}
 use Rattle.std.specs.List.{Contains}
 use Rattle.jc_base.specs.declared.id.Id128.{Id128}
 use Rattle.jc_base.specs.declared.id.Key.{Key}
 use Rattle.jc_base.specs.Journal.{Journal}
 use Rattle.jc_base.specs.LogEntry.{IsKey, LogEntry}
-use Rattle.jc_collect.specs.Each.{KeepsEach, StoresEach}
+use Rattle.jc_collect.specs.Each.{CollectsEach, KeepsCollected}
+use Rattle.jc_collector_answers.specs.Collected.{ByDefault, KeepsFirstOf, StoresFirstOf}
 use Rattle.jc_command.specs.Run.{Begins}
 use Rattle.jc_command_args.specs.declared.request.Tables.{Tables}
 use Rattle.jc_ledger.specs.declared.owner.MachineDigest.{MachineDigest}
 use Rattle.jc_ledger.specs.Kept.{ComesToo, IsKept}
 use Rattle.jc_ledger.specs.Known.{Known}
 use Rattle.jc_ledger.specs.Lagging.{MayCatchUp}
-use Rattle.jc_ledger.specs.Owners.{StayOwned, StayOwnedAfter}
+use Rattle.jc_ledger.specs.Owners.{StayOwnedAfter}
 use Rattle.jc_ledger.specs.Union.{union}
 use Rattle.jc_ledger_files.specs.declared.window_name.WindowName.{WindowName}
 use Rattle.jc_ledger_files.specs.NotesOf.{notes_of}
@@ -20,7 +21,7 @@ use Rattle.jc_ledger_files.specs.Owned.{owner_found}
 use Rattle.jc_ledger_files.specs.Windows.{known_in}
 use Rattle.jc_upload.specs.declared.answer.Answer.{Answer}
 use Rattle.jc_runs.specs.Between.{Between}
-use Rattle.jc_runs.specs.Next.{BeganWith, behind}
+use Rattle.jc_runs.specs.Next.{AreFirst, BeganWith, behind}
 use Rattle.jc_runs.specs.Steps.{EndsRun, LeavesEarlier, StopsRun}
 
 -- what is known alike, of the same past, when more had come
@@ -58,22 +59,36 @@ leaves_earlier made kind begun b now windows came may_own began stay owners come
   owners = λ s machine owns. stay s (owner_found windows s) (owners s) machine (began.owner s ∙ owns);
 }
 
-pub end_step : (answers : List Answer) (b : Between) (past now : Journal) (windows : WindowName → List ℕ) (came : List LogEntry) (known : Known) (comes : LogEntry → Type 0)
-    → past ≡ b.past → LeavesEarlier b (behind b now windows came) → ((k : Key) → IsKey k → known_in (λ w. notes_of (windows w)) k ≡ known k)
-    → ComesToo comes (Contains came) → IsKept known past now comes → StoresEach (union past b.now) answers (union past now)
-    → EndsRun answers b (behind b now windows came)
-end_step answers b past now windows came known comes same leaves alike more kept stored = record {
-  leaves = leaves;
-  kept = λ begins none. kept_alike same alike more kept;
-  stored = λ begins none. subst (λ (m : Journal). StoresEach (union m b.now) answers (union m now)) same stored;
+pub end_step : (AreUploads : List (Option (List ℕ)) → Type 0) (answers : List Answer) (b : Between) (past now : Journal) (windows : WindowName → List ℕ) (came : List LogEntry)
+    (known : Known) (comes : LogEntry → Type 0) → past ≡ b.past → LeavesEarlier b (behind b now windows came)
+    → ((k : Key) → IsKey k → known_in (λ w. notes_of (windows w)) k ≡ known k) → ComesToo comes (Contains came) → IsKept known past now comes
+    → StoresFirstOf AreUploads (union past b.now) answers (union past now)
+    → AreFirst AreUploads (λ uploads. EndsRun uploads answers b (behind b now windows came))
+end_step AreUploads answers b past now windows came known comes same leaves alike more kept stored = record {
+  first = stored.known;
+  others = stored.others;
+  both = stored.are;
+  are = record {
+    leaves = leaves;
+    kept = λ begins none. kept_alike same alike more kept;
+    stored = λ begins none.
+        subst (λ (m : Journal). ByDefault (λ limits. CollectsEach limits stored.known (union m b.now) answers (union m now))) same stored.collected;
+  };
 }
 
-pub stop_step : (answers : List Answer) (b : Between) (past now : Journal) (windows : WindowName → List ℕ) (came : List LogEntry) (known : Known) (comes : LogEntry → Type 0)
-    → past ≡ b.past → LeavesEarlier b (behind b now windows came) → ((k : Key) → IsKey k → known_in (λ w. notes_of (windows w)) k ≡ known k)
-    → ComesToo comes (Contains came) → MayCatchUp known past now comes → KeepsEach (union past b.now) answers (union past now)
-    → StopsRun answers b (behind b now windows came)
-stop_step answers b past now windows came known comes same leaves alike more lags stored = record {
-  leaves = leaves;
-  lags = λ begins none. begins_alike same alike more lags;
-  stored = λ begins none. subst (λ (m : Journal). KeepsEach (union m b.now) answers (union m now)) same stored;
+pub stop_step : (AreUploads : List (Option (List ℕ)) → Type 0) (answers : List Answer) (b : Between) (past now : Journal) (windows : WindowName → List ℕ) (came : List LogEntry)
+    (known : Known) (comes : LogEntry → Type 0) → past ≡ b.past → LeavesEarlier b (behind b now windows came)
+    → ((k : Key) → IsKey k → known_in (λ w. notes_of (windows w)) k ≡ known k) → ComesToo comes (Contains came) → MayCatchUp known past now comes
+    → KeepsFirstOf AreUploads (union past b.now) answers (union past now)
+    → AreFirst AreUploads (λ uploads. StopsRun uploads answers b (behind b now windows came))
+stop_step AreUploads answers b past now windows came known comes same leaves alike more lags stored = record {
+  first = stored.known;
+  others = stored.others;
+  both = stored.are;
+  are = record {
+    leaves = leaves;
+    lags = λ begins none. begins_alike same alike more lags;
+    stored = λ begins none.
+        subst (λ (m : Journal). ByDefault (λ limits. KeepsCollected limits stored.known (union m b.now) answers (union m now))) same stored.keeps;
+  };
 }

@@ -1,8 +1,11 @@
 mod Unions
 mod Lists
+mod Acknowledging
 mod Standing
 mod Stepping
 mod Course
 mod OneMore
+mod WorkedDeletion
 mod WorkedSteps
 mod Following
+mod WorkedFiles

@@ -1,19 +1,29 @@
 -- A run that takes up one entry.
-use Rattle.std.proofs.Common.{◌≡◌, ◌∙◌, ◌+◌, arith, ℕ, Bool, true, false, cond, is_some, [], ◌∷◌, Option, Some, None, refl, sym, ap, subst, inl, inr, ⊎_elim}
+use Rattle.std.proofs.Common.{◌≡◌, ◌∙◌, ◌+◌, ◌*◌, ◌<◌, ◌^◌, arith, ℕ, Bool, true, false, cond, is_some, List, [], ◌∷◌, Option, Some, None, refl, sym, ap, subst, inl, inr, ⊎_elim}
 use Rattle.std.specs.Option.{option_or}
-use Rattle.std.specs.List.{Contains}
+use Rattle.std.specs.List.{All, Contains}
+use Rattle.std.specs.List.Sorted.{IsStrictlySortedBy}
 use Rattle.std.specs.FinMap.{get, get-insert, insert, len, len-insert, same_map}
-use Rattle.std.proofs.lemmas.List.Elements.{Contains-push, Contains-push_cases}
+use Rattle.std.proofs.lemmas.List.Elements.{All-from_recursion, Contains-append_right, Contains-push, Contains-push_cases}
 use Rattle.jc_base.specs.declared.fault.Ending.TheVariants.{End}
+use Rattle.jc_base.specs.declared.limits.Limits.{Limits}
 use Rattle.jc_base.specs.Journal.{Journal}
-use Rattle.jc_base.specs.LogEntry.{LogEntry, Body}
-use Rattle.jc_base.specs.Reading.{reading}
-use Rattle.jc_collect.specs.Each.{StoresEach}
+use Rattle.jc_base.specs.Limit.{AreKept}
+use Rattle.jc_base.specs.LogEntry.{IsEntry, LogEntry, Body}
+use Rattle.jc_base.specs.Number.{IsId}
+use Rattle.jc_base.specs.Reading.{Reading, reading}
+use Rattle.jc_collect.specs.Each.{CollectsEach}
+use Rattle.jc_collect.specs.Position.{IsPosition}
+use Rattle.jc_export.specs.Computed.Lines.{reading_of}
+use Rattle.jc_export.specs.Cut.{AllFit, ReadsBack, StopsBefore, joined as texts}
+use Rattle.jc_export.specs.Stream.{StreamReading}
 use Rattle.jc_keeper.specs.Absorb.{TakesWhole}
 use Rattle.jc_keeper.specs.Agree.{Agree, HasBoth, IsStored, StandsIn}
 use Rattle.jc_keeper.specs.KeyLaws.{key_eq, key_eq_equiv, key_exact, key_total, same_key, same_parts}
 use Rattle.jc_ledger.specs.Union.{union}
-use Rattle.jc_runs.specs.Worked.{acks}
+use Rattle.jc_upload.specs.Head.{IsHead}
+use Rattle.jc_upload.specs.Says.{SaysBehind}
+use Rattle.jc_runs.specs.Worked.{ack_of, acks, alone, entry_at, head_of, numbered, upload_of}
 use Rattle.jc_runs.proofs.Unions.{union_get}
 
 pub only : (e x : LogEntry) → Contains (e ∷ []) x → e ≡ x
@@ -35,6 +45,84 @@ agree_one m e same x y (inr ix) (inl sy) keys =
     let there : get m e.key ≡ Some y.body = ap (get m) (ap (λ (z : LogEntry). z.key) is ∙ keys) ∙ sy in
     same_parts x y keys (sym (ap (λ (z : LogEntry). z.body) is) ∙ sym (same y.body there))
 agree_one m e same x y (inr ix) (inr iy) keys = sym (only e x ix) ∙ only e y iy
+
+-- ---- an upload of one entry
+
+-- any bytes have a reading, and canonical texts are read back
+pub record Reads : Type 0 where
+  pub some : (limits : Limits) (at : ℕ) (bytes : List ℕ) → StreamReading limits at bytes (reading_of limits at bytes)
+  pub back : (limits : Limits) (at : ℕ) (es : List LogEntry) (r : Reading) → All IsEntry es → StreamReading limits at (texts es) r → ReadsBack limits es r
+
+-- A source of one byte, and the number of an entry.
+pub record AreSmall (source n : ℕ) : Type 0 where
+  pub byte : source < 256
+  pub some : 0 < n
+  pub few : n < 2 ^ 63
+
+pub small_one : AreSmall 1 1
+small_one = record { byte = omega arith; some = omega arith; few = omega arith }
+
+pub small_other : AreSmall 2 (64 * 4096 + 1)
+small_other = record { byte = omega arith; some = omega arith; few = omega arith }
+
+pub lawful_id : (n : ℕ) → n < 256 → IsId (numbered n).0
+lawful_id n byte = (refl, All-from_recursion (λ (b : ℕ). b < 256) (numbered n).0 (byte, (omega arith, (omega arith, (omega arith, (omega arith, (omega arith, (omega arith, (omega arith, (omega arith, (omega arith, (omega arith, (omega arith, (omega arith, (omega arith, (omega arith, (omega arith, tt)))))))))))))))))
+
+pub lawful_head : (source n : ℕ) → AreSmall source n → IsHead (head_of source)
+lawful_head source n small = record { source = lawful_id source small.byte; start = omega arith; number = omega arith }
+
+lawful_entry : (source n : ℕ) → AreSmall source n → IsEntry (entry_at source n)
+unfolding IsStrictlySortedBy
+lawful_entry source n small = record {
+  key = record { id = lawful_id source small.byte; positive = small.some; small = small.few };
+  body = record { realtime = omega arith; monotonic = omega arith; names = λ k d within. absurd (omega (arith, within)); values = λ k d within. absurd (omega (arith, within)); sorted = tt };
+}
+
+-- It reads as that entry.
+reads_one : Reads → (limits : Limits) (source n : ℕ) → AreSmall source n
+    → StreamReading limits 0 (texts (entry_at source n ∷ [])) (reading (entry_at source n ∷ []) (End 0))
+reads_one reads limits source n small =
+    let e : LogEntry = entry_at source n in
+    let some = reads.some limits 0 (texts (e ∷ [])) in
+    ⊎_elim
+    (λ (whole : AllFit limits (e ∷ []) × (reading_of limits 0 (texts (e ∷ [])) ≡ reading (e ∷ []) (End 0))).
+    subst (StreamReading limits 0 (texts (e ∷ []))) whole.1 some)
+    (λ (stops : StopsBefore limits (e ∷ []) (reading_of limits 0 (texts (e ∷ [])))). absurd (stops.beyond (fits stops)))
+    (reads.back limits 0 (e ∷ []) (reading_of limits 0 (texts (e ∷ []))) (All-from_recursion IsEntry (e ∷ []) (lawful_entry source n small, tt)) some)
+  where
+    fits : (stops : StopsBefore limits (entry_at source n ∷ []) (reading_of limits 0 (texts (entry_at source n ∷ [])))) → AreKept limits stops.first.body.pairs
+    fits stops =
+        let inside : Contains (entry_at source n ∷ []) stops.first = subst (λ (es : List LogEntry). Contains es stops.first) (sym stops.whole)
+        (Contains-append_right _ (stops.first ∷ stops.more) stops.first (0, omega arith, refl)) in
+        subst (λ (x : LogEntry). AreKept limits x.body.pairs) (only (entry_at source n) stops.first inside)
+        (record { each = λ k d within. absurd (omega (arith, within)); number = omega arith; bytes = omega arith })
+
+position : Reads → (limits : Limits) (before after : Journal) (source n new : ℕ) → AreSmall source n
+    → TakesWhole before (reading (entry_at source n ∷ []) (End 0)) 1 new 0 after
+    → IsPosition limits (upload_of source (entry_at source n)) before (ack_of source new) after
+position reads limits before after source n new small t = record {
+  answers = record {
+    head = head_of source;
+    reading = it;
+    says = says;
+    named = refl;
+    ended = refl;
+    agrees = t.agrees;
+    counted = refl;
+    grown = (after, t.has, t.grown);
+  };
+  leaves = record { reading = it; says = inr (head_of source, says); has = t.has };
+}
+  where
+    it : Reading
+    it = reading (entry_at source n ∷ []) (End 0)
+
+    says : SaysBehind limits (upload_of source (entry_at source n)) (head_of source) it
+    says = record {
+      body = texts (entry_at source n ∷ []);
+      has = record { lawful = lawful_head source n small; whole = refl };
+      reads = record { read = it; reads = reads_one reads limits source n small; under = refl };
+    }
 
 -- ---- one that is new
 
@@ -84,28 +172,29 @@ takes_new m e none = record {
   grown = len-insert key_total m e.key e.body ∙ ap (λ (o : Option Body). cond (is_some o) (len m) (len m + 1)) none;
 }
 
-pub stores_new : (past now : Journal) (e : LogEntry) (source : ℕ) → get (union past now) e.key ≡ None
-    → StoresEach (union past now) (acks source 1 1) (union past (insert now e.key e.body))
-stores_new past now e source none = (
-  union past (insert now e.key e.body),
-  (reading (e ∷ []) (End 0), subst (TakesWhole (union past now) (reading (e ∷ []) (End 0)) 1 1 0) (sym (joined past now e)) (takes_new (union past now) e none)),
-  refl,
-)
+pub stores_new : Reads → (past now : Journal) (source n : ℕ) → AreSmall source n → get (union past now) (entry_at source n).key ≡ None
+    → (limits : Limits) → CollectsEach limits (alone source (entry_at source n)) (union past now) (acks source 1)
+    (union past (insert now (entry_at source n).key (entry_at source n).body))
+stores_new reads past now source n small none limits =
+    let e : LogEntry = entry_at source n in (
+      union past (insert now e.key e.body),
+      position reads limits (union past now) (union past (insert now e.key e.body)) source n 1 small
+          (subst (TakesWhole (union past now) (reading (e ∷ []) (End 0)) 1 1 0) (sym (joined past now e)) (takes_new (union past now) e none)),
+      refl,
+    )
 
 -- ---- one that is there
 
-pub stores_same : (m : Journal) (e : LogEntry) (source : ℕ) → IsStored m e → StoresEach m (acks source 1 0) m
-stores_same m e source there = (
-  m,
-  (
-    reading (e ∷ []) (End 0),
-    record {
-      ended = refl;
-      agrees = agree_one m e (λ b is. let stored : get m e.key ≡ Some e.body = there in cc);
-      has = λ x. (λ stored. inl stored, λ stands. ⊎_elim (λ stored. stored) (λ inside. subst (IsStored m) (only e x inside) there) stands);
-      counted = refl;
-      grown = omega arith;
-    },
-  ),
-  refl,
-)
+takes_same : (m : Journal) (e : LogEntry) → IsStored m e → TakesWhole m (reading (e ∷ []) (End 0)) 1 0 0 m
+takes_same m e there = record {
+  ended = refl;
+  agrees = agree_one m e (λ b is. let stored : get m e.key ≡ Some e.body = there in cc);
+  has = λ x. (λ stored. inl stored, λ stands. ⊎_elim (λ stored. stored) (λ inside. subst (IsStored m) (only e x inside) there) stands);
+  counted = refl;
+  grown = omega arith;
+}
+
+pub stores_same : Reads → (m : Journal) (source n : ℕ) → AreSmall source n → IsStored m (entry_at source n)
+    → (limits : Limits) → CollectsEach limits (alone source (entry_at source n)) m (acks source 0) m
+stores_same reads m source n small there limits =
+    (m, position reads limits m m source n 0 small (takes_same m (entry_at source n) there), refl)

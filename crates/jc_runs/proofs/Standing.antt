@@ -1,6 +1,6 @@
 -- What stands between runs, and where entries are.
-use Rattle.std.proofs.Common.{List, inl, inr, ⊎_elim}
-use Rattle.std.specs.List.{All, AllByRecursion}
+use Rattle.std.proofs.Common.{inl, inr, ⊎_elim}
+use Rattle.std.specs.List.{AllByRecursion}
 use Rattle.jc_base.specs.Journal.{Journal}
 use Rattle.jc_base.specs.LogEntry.{LogEntry}
 use Rattle.jc_keeper.specs.Agree.{IsStored}
@@ -8,9 +8,8 @@ use Rattle.jc_ledger.specs.Kept.{IsKept}
 use Rattle.jc_ledger.specs.Known.{Known}
 use Rattle.jc_ledger.specs.Lagging.{MayCatchUp}
 use Rattle.jc_ledger.specs.Union.{union}
-use Rattle.jc_upload.specs.declared.answer.Answer.{Answer}
 use Rattle.jc_runs.specs.Between.{Between, IsInOne, MayBegin, journals, journals_of}
-use Rattle.jc_runs.specs.Stands.{AreApartBut, AreKept, IsPastBut, Stands}
+use Rattle.jc_runs.specs.Stands.{AreApartBut, IsPastBut, Stands}
 use Rattle.jc_runs.proofs.Lists.{apart_now}
 use Rattle.jc_runs.proofs.Unions.{in_either}
 
@@ -31,11 +30,3 @@ kept_begins {now = now} kept = record { noted = now; kept = kept; lags = record 
 pub in_one : (b : Between) → ((e : LogEntry) → IsStored b.past e → IsInOne (journals_of b.earlier) e) → (e : LogEntry)
     → IsStored (union b.past b.now) e → IsInOne (journals b) e
 in_one b backed e stored = ⊎_elim (λ now. inl now) (λ past. inr (backed e past)) (in_either b.past b.now e stored)
-
-pub all_in : (P Q : LogEntry → Type 0) → ((e : LogEntry) → P e → Q e) → (es : List LogEntry) → All P es → All Q es
-all_in P Q leads es all = λ k d small. leads _ (all k d small)
-
-pub kept_from : (b c : Between) → ((e : LogEntry) → IsInOne (journals b) e → IsInOne (journals c) e) → (answers : List Answer) → AreKept b answers → AreKept c answers
-kept_from b c leads answers kept = λ i source from count new left is.
-    let ack = kept i source from count new left is in
-    (ack.0, ack.1, all_in (IsInOne (journals b)) (IsInOne (journals c)) leads ack.0.entries ack.2)

@@ -1,5 +1,5 @@
 -- What one step leads to.
-use Rattle.std.proofs.Common.{◌≡◌, ◌⊎◌, ◌∙◌, ◌&&◌, Bool, true, false, cond, not, is_some, List, [], ◌∷◌, Option, Some, None, refl, sym, ap, subst, inl, inr, ⊎_elim}
+use Rattle.std.proofs.Common.{◌≡◌, ◌⊎◌, ◌∙◌, ◌&&◌, ℕ, Bool, true, false, cond, not, is_some, List, [], ◌∷◌, Option, Some, None, refl, sym, ap, subst, inl, inr, ⊎_elim}
 use Rattle.std.specs.Option.{option_map}
 use Rattle.std.specs.List.{AllByRecursion, Contains}
 use Rattle.std.specs.FinMap.{empty, get, retain_keys}
@@ -7,7 +7,6 @@ use Rattle.jc_base.specs.declared.id.Id128.{Id128}
 use Rattle.jc_base.specs.declared.id.Key.{Key}
 use Rattle.jc_base.specs.Journal.{Journal}
 use Rattle.jc_base.specs.LogEntry.{IsKey, LogEntry, Body}
-use Rattle.jc_collect.specs.Each.{HasAcknowledged, KeepsEach, StoresEach}
 use Rattle.jc_keeper.specs.Agree.{IsStored}
 use Rattle.jc_keeper.specs.Listing.{entry_under}
 use Rattle.jc_ledger.specs.declared.digest.EntryDigest.{EntryDigest}
@@ -20,24 +19,25 @@ use Rattle.jc_ledger_files.specs.declared.window_name.WindowName.{WindowName}
 use Rattle.jc_ledger_files.specs.Owned.{owner_window}
 use Rattle.jc_ledger_files.specs.Windows.{window_of}
 use Rattle.jc_upload.specs.declared.answer.Answer.{Answer}
+use Rattle.jc_runs.specs.Acknowledged.{AreAcknowledged}
 use Rattle.jc_runs.specs.Between.{Between, Fate, IsInOne, MayBegin, journals, journals_of}
-use Rattle.jc_runs.specs.Stands.{AreApartBut, AreKept, IsPastBut, Stands}
-use Rattle.jc_runs.specs.Steps.{EndsRun, Expiry, Forgetting, Leads, LeavesEarlier, Step, StopsRun, Turn, answers_of}
+use Rattle.jc_runs.specs.Stands.{AreApartBut, IsPastBut, Stands}
+use Rattle.jc_runs.specs.Steps.{EndsRun, Expiry, Forgetting, Leads, LeavesEarlier, Step, StopsRun, Turn, answered_in, answers_of}
 use Rattle.jc_runs.specs.Steps.{Ends, Stops, Turns, Expires, Forgets}
+use Rattle.jc_runs.proofs.Acknowledging.{Collecting, Takes, all_wider, takes_each, takes_found}
 use Rattle.jc_runs.proofs.Lists.{apart_but_more, not_or, or_true, past_but_more, true_or}
 use Rattle.jc_runs.proofs.Standing.{in_one, kept_begins, stands_if}
 use Rattle.jc_runs.proofs.Unions.{has_none, in_either, in_now, in_past, part_get, part_none, part_of, part_union, part_union_of}
 
--- what acknowledgements say, and the union with an empty database
+-- what uploads make of a journal, and the union with an empty database
 pub record Laws : Type 0 where
-  pub stored : (start last : Journal) (answers : List Answer) → StoresEach start answers last → HasAcknowledged start answers last
-  pub found : (start found : Journal) (answers : List Answer) → KeepsEach start answers found → HasAcknowledged start answers found
+  pub collecting : Collecting
   pub same : (past now : Journal) → union (union past now) empty ≡ union past now
 
 -- What one step leads to.
-pub record Leaves (b : Between) (answers : List Answer) (c : Between) : Type 0 where
+pub record Leaves (b : Between) (uploads : List (Option (List ℕ))) (answers : List Answer) (c : Between) : Type 0 where
   pub stands : Stands c
-  pub acknowledged : AreKept c answers
+  pub acknowledged : AreAcknowledged (IsInOne (journals c)) uploads answers
   pub stored : (e : LogEntry) → IsInOne (journals b) e → IsInOne (journals c) e
   pub owners : (s : Id128) (machine : MachineDigest) → b.owner s ≡ Some machine → (c.owner s ≡ Some machine) ⊎ (c.released s ≡ true)
   pub forgotten : (k : Key) → b.forgotten k ≡ true → c.forgotten k ≡ true
@@ -45,8 +45,8 @@ pub record Leaves (b : Between) (answers : List Answer) (c : Between) : Type 0 w
 
 -- ---- runs
 
-module _ (answers : List Answer) (b c : Between) (is : Stands b) (l : LeavesEarlier b c) (begins : MayBegin c)
-    (acks : HasAcknowledged (union b.past b.now) answers (union b.past c.now))
+module _ (uploads : List (Option (List ℕ))) (answers : List Answer) (b c : Between) (is : Stands b) (l : LeavesEarlier b c) (begins : MayBegin c)
+    (takes : Takes uploads (union b.past b.now) answers (union b.past c.now))
   where
     earlier : journals_of c.earlier ≡ journals_of b.earlier
     earlier = ap journals_of l.earlier
@@ -68,18 +68,13 @@ module _ (answers : List Answer) (b c : Between) (is : Stands b) (l : LeavesEarl
     there e stored = in_one c backed e (subst (λ (m : Journal). IsStored (union m c.now) e) (sym l.past) stored)
 
     grows : (e : LogEntry) → IsInOne (journals b) e → IsInOne (journals c) e
-    grows e (inl now) = there e (acks.kept e (in_now b.past b.now e now))
+    grows e (inl now) = there e (takes.kept e (in_now b.past b.now e now))
     grows e (inr before) = inr (subst (λ (ms : List Journal). IsInOne ms e) (sym earlier) before)
 
-    acked : AreKept c answers
-    acked i source from count new left at =
-        let ack = acks.acknowledged i source from count new left at in
-        (ack.0, ack.1, λ k d small. there _ (ack.2 k d small))
-
-    pub ran : Leaves b answers c
+    pub ran : Leaves b uploads answers c
     ran = record {
       stands = stands_if c begins backed noted among;
-      acknowledged = acked;
+      acknowledged = all_wider (IsStored (union b.past c.now)) (IsInOne (journals c)) there uploads answers takes.acknowledged;
       stored = grows;
       owners = λ s machine owns. inl (l.owners s machine owns);
       forgotten = λ k was. ap (λ (f : Key → Bool). f k) l.forgotten ∙ was;
@@ -89,20 +84,24 @@ module _ (answers : List Answer) (b c : Between) (is : Stands b) (l : LeavesEarl
 kept_past : (known : Known) (past later now : Journal) (came : LogEntry → Type 0) → later ≡ past → IsKept known past now came → IsKept known later now came
 kept_past known past later now came same kept = subst (λ (m : Journal). IsKept known m now came) (sym same) kept
 
-pub ended : Laws → (answers : List Answer) (b c : Between) → Stands b → NoneCollide (Contains c.came) → EndsRun answers b c → Leaves b answers c
-ended laws answers b c is none ends =
-    ran answers b c is ends.leaves
+pub ended : Laws → (uploads : List (Option (List ℕ))) (answers : List Answer) (b c : Between) → Stands b → NoneCollide (Contains c.came)
+    → EndsRun uploads answers b c → Leaves b uploads answers c
+ended laws uploads answers b c is none ends =
+    let l = laws.collecting in
+    ran uploads answers b c is ends.leaves
     (kept_begins (kept_past c.known b.past c.past c.now (Contains c.came) ends.leaves.past (ends.kept is.begins none)))
-    (laws.stored (union b.past b.now) (union b.past c.now) answers (ends.stored is.begins none))
+    (takes_each l uploads (union b.past b.now) (union b.past c.now) answers (ends.stored is.begins none l.limits l.defaults))
 
-pub stopped : Laws → (answers : List Answer) (b c : Between) → Stands b → NoneCollide (Contains c.came) → StopsRun answers b c → Leaves b answers c
-stopped laws answers b c is none stops =
-    ran answers b c is stops.leaves (stops.lags is.begins none)
-    (laws.found (union b.past b.now) (union b.past c.now) answers (stops.stored is.begins none))
+pub stopped : Laws → (uploads : List (Option (List ℕ))) (answers : List Answer) (b c : Between) → Stands b → NoneCollide (Contains c.came)
+    → StopsRun uploads answers b c → Leaves b uploads answers c
+stopped laws uploads answers b c is none stops =
+    let l = laws.collecting in
+    ran uploads answers b c is stops.leaves (stops.lags is.begins none)
+    (takes_found l uploads (union b.past b.now) (union b.past c.now) answers (stops.stored is.begins none l.limits l.defaults))
 
 -- ---- a turn
 
-none_answered : (c : Between) → AreKept c []
+none_answered : (c : Between) → AreAcknowledged (IsInOne (journals c)) [] []
 none_answered c i source from count new left at = absurd cc
 
 module _ (laws : Laws) (fate : Fate) (b c : Between) (is : Stands b) (t : Turn fate b c) where
@@ -157,7 +156,7 @@ module _ (laws : Laws) (fate : Fate) (b c : Between) (is : Stands b) (t : Turn f
       (λ k other. not_or (b.forgotten k) (is_some (get b.now k) && not (is_some (get t.noted k))) (sym (t.forgotten k) ∙ other))
       (b.now ∷ journals_of b.earlier) is.once
 
-  pub turns : Leaves b [] c
+  pub turns : Leaves b [] [] c
   turns = record {
     stands = stands_if c begins_turned
         (λ e stored. subst (λ (ms : List Journal). IsInOne ms e) (sym earlier_turned) (backed_turned e stored))
@@ -180,7 +179,7 @@ module _ (b c : Between) (is : Stands b) (x : Expiry b c) where
       (subst (λ (m : Journal). MayCatchUp b.known b.past m (Contains c.came)) (sym x.now)
       (subst (λ (es : List LogEntry). MayCatchUp b.known b.past b.now (Contains es)) (sym x.came) is.begins)))
 
-  pub expires : Leaves b [] c
+  pub expires : Leaves b [] [] c
   expires = record {
     stands = stands_if c begins_expired
         (λ e stored. subst (λ (ms : List Journal). IsInOne ms e) (sym x.earlier) (is.backed e (subst (λ (m : Journal). IsStored m e) x.past stored)))
@@ -279,7 +278,7 @@ module _ (went : WindowName → Bool) (b c : Between) (is : Stands b) (f : Forge
       by_window true at = inr (f.released s ∙ or_true (b.released s) (went (owner_window s)) at)
       by_window false at = inl (f.owner s ∙ (ap (λ (w : Bool). cond w None (b.owner s)) at ∙ owns))
 
-  pub forgets : Leaves b [] c
+  pub forgets : Leaves b [] [] c
   unfolding past_part stays
   forgets = record {
     stands = stands_if c begins_forgotten
@@ -300,16 +299,17 @@ module _ (went : WindowName → Bool) (b c : Between) (is : Stands b) (f : Forge
 
 -- ---- any step
 
-pub steps_on : Laws → (step : Step) (b c : Between) → Stands b → NoneCollide (Contains c.came) → Leads step b c → Leaves b (answers_of step) c
-steps_on laws (Ends answers) b c is none leads = ended laws answers b c is none leads
-steps_on laws (Stops answers) b c is none leads = stopped laws answers b c is none leads
+pub steps_on : Laws → (step : Step) (b c : Between) → Stands b → NoneCollide (Contains c.came) → Leads step b c
+    → Leaves b (answered_in step) (answers_of step) c
+steps_on laws (Ends uploads answers) b c is none leads = ended laws uploads answers b c is none leads
+steps_on laws (Stops uploads answers) b c is none leads = stopped laws uploads answers b c is none leads
 steps_on laws (Turns fate) b c is none leads = turns laws fate b c is leads
 steps_on laws Expires b c is none leads = expires b c is leads
 steps_on laws (Forgets went) b c is none leads = forgets went b c is leads
 
 pub step_comes : (step : Step) (b c : Between) → Leads step b c → (e : LogEntry) → Contains b.came e → Contains c.came e
-step_comes (Ends answers) b c leads = leads.leaves.comes
-step_comes (Stops answers) b c leads = leads.leaves.comes
+step_comes (Ends uploads answers) b c leads = leads.leaves.comes
+step_comes (Stops uploads answers) b c leads = leads.leaves.comes
 step_comes (Turns fate) b c leads = λ e had. subst (λ (es : List LogEntry). Contains es e) (sym leads.came) had
 step_comes Expires b c leads = λ e had. subst (λ (es : List LogEntry). Contains es e) (sym leads.came) had
 step_comes (Forgets went) b c leads = λ e had. subst (λ (es : List LogEntry). Contains es e) (sym leads.came) had

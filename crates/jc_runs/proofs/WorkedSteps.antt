@@ -1,5 +1,5 @@
 -- The worked list of steps, one by one.
-use Rattle.std.proofs.Common.{◌≡◌, ◌⊎◌, ◌∙◌, ◌&&◌, arith, ℕ, Bool, true, false, cond, not, is_some, List, [], ◌∷◌, Option, Some, None, refl, sym, ap, subst, inl, inr, ⊎_elim}
+use Rattle.std.proofs.Common.{◌≡◌, ◌⊎◌, ◌∙◌, ◌&&◌, ◌+◌, ◌*◌, arith, ℕ, Bool, true, false, cond, not, is_some, List, [], ◌∷◌, Option, Some, None, take, refl, sym, ap, subst, inl, inr, ⊎_elim}
 use Rattle.std.specs.Option.{option_map, option_or}
 use Rattle.std.specs.List.{Contains}
 use Rattle.std.specs.FinMap.{empty, get, get-insert, insert, retain_keys}
@@ -20,21 +20,24 @@ use Rattle.jc_ledger.specs.Union.{union}
 use Rattle.jc_ledger_files.specs.Owned.{owner_window}
 use Rattle.jc_ledger_files.specs.Windows.{window_of}
 use Rattle.jc_runs.specs.Between.{Between, Expired, Kept, database, nothing}
-use Rattle.jc_runs.specs.Steps.{EndsRun, Expiry, Forgetting, StopsRun, Turn}
-use Rattle.jc_runs.specs.Worked.{IsWorked, acks, numbered, of_its_window, of_one, of_other}
-use Rattle.jc_runs.proofs.OneMore.{has_it, it_is, only, stores_new, stores_same}
+use Rattle.jc_runs.specs.Steps.{EndsRun, Expiry, Forgetting, LeadsOn, StopsRun, Turn}
+use Rattle.jc_runs.specs.Worked.{IsWorked, acks, alone, numbered, of_its_window, of_one, of_other, worked}
+use Rattle.jc_runs.proofs.Course.{keeps_on, stands_at_first}
+use Rattle.jc_runs.proofs.OneMore.{Reads, has_it, it_is, only, small_one, small_other, stores_new, stores_same}
+use Rattle.jc_runs.proofs.Stepping.{Laws}
+use Rattle.jc_runs.proofs.WorkedDeletion.{OneEach, may_delete}
 use Rattle.jc_runs.proofs.Unions.{has_none, in_either, in_now, in_past, part_get, part_of, union_get, union_none, void}
 
 -- ---- journals with one entry
 
-one_only : LogEntry → Journal
+pub one_only : LogEntry → Journal
 one_only e = insert empty e.key e.body
 
 one_get : (e : LogEntry) (k : Key) (b : Bool) → key_eq k e.key ≡ b → get (one_only e) k ≡ cond b (Some e.body) None
 unfolding one_only
 one_get e k b is = get-insert key_total empty e.key e.body k ∙ (ap (λ (c : Bool). cond c (Some e.body) (get void k)) is ∙ ap (λ (o : Option Body). cond b (Some e.body) o) (has_none k))
 
-has_one : (e : LogEntry) → IsStored (one_only e) e
+pub has_one : (e : LogEntry) → IsStored (one_only e) e
 unfolding one_only
 has_one e = has_it empty e
 
@@ -49,27 +52,27 @@ is_one e x stored = by_key (key_eq x.key e.key) refl
         ap (λ (k : Key). entry_under (k, e.body)) keys ∙ ap (λ (b : Body). entry_under (x.key, b)) bodies
     by_key false is = absurd (let there : None ≡ Some x.body = sym (one_get e x.key false is) ∙ stored in cc)
 
-none_but : (e : LogEntry) (k : Key) → key_eq k e.key ≡ false → get (one_only e) k ≡ None
+pub none_but : (e : LogEntry) (k : Key) → key_eq k e.key ≡ false → get (one_only e) k ≡ None
 none_but e k is = one_get e k false is
 
 -- ---- the journals and what came
 
-abbrev m1 : Journal
+abbrev pub m1 : Journal
 m1 = one_only of_one
 
-abbrev m2 : Journal
+abbrev pub m2 : Journal
 m2 = one_only of_other
 
-abbrev p1 : Journal
+abbrev pub p1 : Journal
 p1 = union empty m1
 
-abbrev p2 : Journal
+abbrev pub p2 : Journal
 p2 = union p1 m2
 
 abbrev p3 : Journal
 p3 = retain_keys p2 (λ k. not (of_its_window (window_of k)))
 
-abbrev came : List LogEntry
+abbrev pub came : List LogEntry
 came = of_other ∷ of_one ∷ []
 
 came_one : Contains came of_one
@@ -96,13 +99,13 @@ in_p1 e stored = ⊎_elim (λ now. now) (λ past. not_in_none e past) (in_either
 of_p2 : (e : LogEntry) → IsStored p2 e → Contains came e
 of_p2 e stored = ⊎_elim (λ now. of_m2 e now) (λ past. of_m1 e (in_p1 e past)) (in_either p1 m2 e stored)
 
-p1_get : (k : Key) → get m1 k ≡ None → get p1 k ≡ None
+pub p1_get : (k : Key) → get m1 k ≡ None → get p1 k ≡ None
 p1_get k none = union_get void m1 k ∙ (ap (λ (o : Option Body). option_or o (get void k)) none ∙ has_none k)
 
 no_other : get m1 of_other.key ≡ None
 no_other = none_but of_one of_other.key refl
 
-no_one : get m2 of_one.key ≡ None
+pub no_one : get m2 of_one.key ≡ None
 no_one = none_but of_other of_one.key refl
 
 apart_p1 : AreApart p1 m2
@@ -132,18 +135,18 @@ kept_as_known past now es apart of_past of_now = record {
 
 -- ---- whom sequences belong to
 
-is_numbered : ℕ → Id128 → Bool
+unfoldable pub is_numbered : ℕ → Id128 → Bool
 is_numbered n s = key_eq (record { seqnum_id = s; seqnum = 0 }) (record { seqnum_id = numbered n; seqnum = 0 })
 
-owned_if : (one other : Bool) → Option MachineDigest
+unfoldable pub owned_if : (one other : Bool) → Option MachineDigest
 owned_if true other = Some (machine_named (1 ∷ []))
 owned_if false true = Some (machine_named (2 ∷ []))
 owned_if false false = None
 
-first_owner : Owner
+pub first_owner : Owner
 first_owner s = owned_if (is_numbered 1 s) false
 
-both_owners : Owner
+unfoldable pub both_owners : Owner
 both_owners s = owned_if (is_numbered 1 s) (is_numbered 2 s)
 
 stays_owned : (one other : Bool) (machine : MachineDigest) → owned_if one false ≡ Some machine → owned_if one other ≡ Some machine
@@ -153,19 +156,19 @@ stays_owned false other machine owns = absurd cc
 
 -- ---- what there is between the steps
 
-abbrev s1 : Between
+abbrev pub s1 : Between
 s1 = record nothing { known = known_of (union empty m1); owner = first_owner; now = m1; came = of_one ∷ [] }
 
-abbrev s2 : Between
+abbrev pub s2 : Between
 s2 = record s1 { earlier = database Kept m1 ∷ []; past = p1; now = empty }
 
-abbrev s3 : Between
+abbrev pub s3 : Between
 s3 = record s2 { owner = both_owners; now = m2; came = came }
 
-abbrev s4 : Between
+abbrev pub s4 : Between
 s4 = record s3 { known = known_of (union p1 m2) }
 
-abbrev s5 : Between
+abbrev pub s5 : Between
 s5 = record s4 { earlier = database Kept m2 ∷ database Kept m1 ∷ []; past = p2; now = empty }
 
 abbrev s6 : Between
@@ -190,9 +193,9 @@ kept_first : IsKept (known_of (union empty m1)) empty m1 (Contains (of_one ∷ [
 kept_first = kept_as_known empty m1 (of_one ∷ []) (λ k. inl (has_none k)) (λ e stored. not_in_none e stored)
     (λ e stored. subst (Contains (of_one ∷ [])) (is_one of_one e stored) (it_is of_one))
 
-step1 : EndsRun (acks 1 1 1) nothing s1
+step1 : Reads → EndsRun (alone 1 of_one) (acks 1 1) nothing s1
 unfolding one_only
-step1 = record {
+step1 reads = record {
   leaves = record {
     earlier = refl;
     past = refl;
@@ -202,7 +205,7 @@ step1 = record {
     owners = λ s machine owns. absurd cc;
   };
   kept = λ begins apart. kept_first;
-  stored = λ begins apart. stores_new empty empty of_one 1 (nothing_there of_one.key);
+  stored = λ begins apart limits defaults. stores_new reads empty empty 1 1 small_one (nothing_there of_one.key) limits;
 }
 
 and_not : (b : Bool) → false ≡ (b && not b)
@@ -238,9 +241,9 @@ begins3 = record {
   lags = record { has = λ e stored. not_in_none e stored; apart = apart_p1 };
 }
 
-step3 : StopsRun (acks 2 1 1) s2 s3
+step3 : Reads → StopsRun (alone 2 of_other) (acks 2 1) s2 s3
 unfolding one_only first_owner both_owners
-step3 = record {
+step3 reads = record {
   leaves = record {
     earlier = refl;
     past = refl;
@@ -250,21 +253,29 @@ step3 = record {
     owners = λ s machine owns. stays_owned (is_numbered 1 s) (is_numbered 2 s) machine owns;
   };
   lags = λ begins apart. begins3;
-  stored = λ begins apart. record {
+  stored = λ begins apart limits defaults. record {
+    ahead = alone 2 of_other;
+    others = [];
+    are = refl;
+    front = acks 2 1;
+    behind = [];
+    whole = refl;
     last = union p1 m2;
-    stored = stores_new p1 empty of_other 2 (union_none p1 of_other.key (p1_get of_other.key no_other));
+    collected = stores_new reads p1 empty 2 (64 * 4096 + 1) small_other (union_none p1 of_other.key (p1_get of_other.key no_other)) limits;
+    none = tt;
     is = inl refl;
   };
 }
 
-kept_both : IsKept (known_of (union p1 m2)) p1 m2 (Contains came)
+pub kept_both : IsKept (known_of (union p1 m2)) p1 m2 (Contains came)
 kept_both = kept_as_known p1 m2 came apart_p1 (λ e stored. of_m1 e (in_p1 e stored)) of_m2
 
-step4 : EndsRun (acks 1 1 0) s3 s4
-step4 = record {
+step4 : Reads → EndsRun (alone 1 of_one) (acks 1 0) s3 s4
+step4 reads = record {
   leaves = record { earlier = refl; past = refl; forgotten = refl; released = refl; comes = λ e inside. inside; owners = λ s machine owns. owns };
   kept = λ begins apart. kept_both;
-  stored = λ begins apart. stores_same (union p1 m2) of_one 1 (in_past p1 m2 of_one no_one (in_now empty m1 of_one (has_one of_one)));
+  stored = λ begins apart limits defaults.
+      stores_same reads (union p1 m2) 1 1 small_one (in_past p1 m2 of_one no_one (in_now empty m1 of_one (has_one of_one))) limits;
 }
 
 step5 : Turn Kept s4 s5
@@ -294,19 +305,22 @@ step6 = record {
   released = λ s. refl;
 }
 
-step7 : EndsRun (acks 1 1 1) s6 s7
+kept_third : IsKept (known_of (union p3 m1)) p3 m1 (Contains came)
+kept_third = kept_as_known p3 m1 came apart_p3
+    (λ e stored. of_p2 e (part_of p2 (λ k. not (of_its_window (window_of k))) e.key e.body stored)) of_m1
+
+step7 : Reads → EndsRun (alone 1 of_one) (acks 1 1) s6 s7
 unfolding one_only
-step7 = record {
+step7 reads = record {
   leaves = record { earlier = refl; past = refl; forgotten = refl; released = refl; comes = λ e inside. inside; owners = λ s machine owns. owns };
-  kept = λ begins apart. kept_as_known p3 m1 came apart_p3
-      (λ e stored. of_p2 e (part_of p2 (λ k. not (of_its_window (window_of k))) e.key e.body stored)) of_m1;
-  stored = λ begins apart. stores_new p3 empty of_one 1 (union_none p3 of_one.key gone_one);
+  kept = λ begins apart. kept_third;
+  stored = λ begins apart limits defaults. stores_new reads p3 empty 1 1 small_one (union_none p3 of_one.key gone_one) limits;
 }
 
 step8 : Expiry s7 s8
 step8 = record { known = refl; owner = refl; earlier = refl; past = refl; now = refl; came = refl; forgotten = refl; released = refl }
 
-none_collide : NoneCollide (Contains came)
+pub none_collide : NoneCollide (Contains came)
 none_collide e f here there keys digests = two (in_came e here) (in_came f there)
   where
     two : (of_other ≡ e) ⊎ (of_one ≡ e) → (of_other ≡ f) ⊎ (of_one ≡ f) → e ≡ f
@@ -319,12 +333,18 @@ none_collide e f here there keys digests = two (in_came e here) (in_came f there
         let same : 1 ≡ 262145 = ap (λ (x : LogEntry). x.key.seqnum) a ∙ (ap (λ (k : Key). k.seqnum) keys ∙ sym (ap (λ (x : LogEntry). x.key.seqnum) b)) in
         absurd (omega (arith, same))
 
-pub it_is_worked : (c : Between) × IsWorked c
+pub leads_half : Reads → LeadsOn nothing (take 5 worked) s5
+leads_half reads = (s1, step1 reads, (s2, step2, (s3, step3 reads, (s4, step4 reads, (s5, step5, refl)))))
+
+leads_there : Reads → LeadsOn nothing worked s8
+leads_there reads = (s1, step1 reads, (s2, step2, (s3, step3 reads, (s4, step4 reads, (s5, step5, (s6, step6, (s7, step7 reads, (s8, step8, refl))))))))
+
+pub it_is_worked : Laws → Reads → OneEach → (c : Between) × IsWorked c
 unfolding both_owners is_numbered owned_if
-it_is_worked = (
+it_is_worked laws reads one = (
   s8,
   record {
-    leads = (s1, step1, (s2, step2, (s3, step3, (s4, step4, (s5, step5, (s6, step6, (s7, step7, (s8, step8, refl))))))));
+    leads = leads_there reads;
     apart = none_collide;
     again = has_one of_one;
     still = inr (inl (has_one of_one));
@@ -333,5 +353,8 @@ it_is_worked = (
     stayed = refl;
     owner = refl;
     owner_of_other = refl;
+    kept = kept_third;
+    keeps = keeps_on laws nothing s8 worked (leads_there reads) none_collide (stands_at_first laws.same);
+    may = may_delete one;
   },
 )

@@ -1,5 +1,7 @@
 pub mod Between
+pub mod Acknowledged
 pub mod Steps
 pub mod Stands
-pub mod Worked
+pub mod Safe
 pub mod Next
+pub mod Worked

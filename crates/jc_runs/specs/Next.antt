@@ -1,5 +1,5 @@
 -- What the next run finds of one of `collect --sequences`. (own)
-use Rattle.std.specs.Prelude.{ℕ, ◌≡◌, List, Option, Some, codes}
+use Rattle.std.specs.Prelude.{ℕ, ◌≡◌, ◌++◌, List, Option, Some}
 use Rattle.std.specs.List.{Contains}
 use Rattle.sqlite.specs.Recovery.{Image}
 use Rattle.jc_base.specs.declared.id.Id128.{Id128}
@@ -7,9 +7,13 @@ use Rattle.jc_base.specs.declared.id.Key.{Key}
 use Rattle.jc_base.specs.Journal.{Journal}
 use Rattle.jc_base.specs.LogEntry.{IsKey, LogEntry}
 use Rattle.jc_collector.specs.Kinds.{BeginsIn, meaning_of}
+use Rattle.jc_collector.specs.OverFiles.{IsListed}
+use Rattle.jc_collector_answers.specs.Collected.{those_named, told_within}
 use Rattle.jc_collector_answers.specs.Tied.{NamedWith}
+use Rattle.jc_collector_answers.specs.declared.name_lines.NameLines.TheVariants.{MachinesAndUploads}
 use Rattle.jc_command.specs.Run.{Begins, CollectsIntoUnion, Devices, begins_with, leaves, stored_before}
 use Rattle.jc_command_args.specs.declared.request.Tables.{Tables}
+use Rattle.jc_command_shared.specs.Deeds.{Deed}
 use Rattle.jc_command_shared.specs.declared.status.Status.{Status}
 use Rattle.jc_database.specs.Files.{HoldsJournal}
 use Rattle.jc_ledger.specs.Kept.{NoneCollide}
@@ -18,7 +22,7 @@ use Rattle.jc_ledger_files.specs.declared.window_name.WindowName.{WindowName}
 use Rattle.jc_ledger_files.specs.NotesOf.{notes_of}
 use Rattle.jc_ledger_files.specs.Owned.{owner_found}
 use Rattle.jc_ledger_files.specs.Windows.{known_in}
-use Rattle.jc_theorems.specs.StoppedUnion.{LeavesNoted}
+use Rattle.jc_collector.specs.UnionLeft.{LeavesNoted}
 use Rattle.jc_upload.specs.declared.answer.Answer.{Answer}
 use Rattle.jc_runs.specs.Between.{Between, MayBegin}
 use Rattle.jc_runs.specs.Steps.{EndsRun, StopsRun}
@@ -52,35 +56,45 @@ pub record NextFinds (kind : Tables) (b : Between) (windows : WindowName → Lis
   pub holds : HoldsJournal (meaning_of kind) image now
   pub is : Is (behind b now windows came)
 
--- A run printed the lines of answers, and what they say is a step of a run that ended.
-pub record PrintsEnd (list : List ℕ) (given : Option (List ℕ)) (status : Status) (old new : Option (List ℕ)) (b c : Between) : Type 0 where
+-- The first ones of some uploads are such.
+pub record AreFirst (AreUploads Are : List (Option (List ℕ)) → Type 0) : Type 0 where
+  pub first : List (Option (List ℕ))
+  pub others : List (Option (List ℕ))
+  pub both : AreUploads (first ++ others)
+  pub are : Are first
+
+-- A run printed the lines of answers, and what they say of the uploads that the list names is a step of a run that ended.
+pub record PrintsEnd (told : List ℕ → Option (List ℕ)) (list : List ℕ) (most_windows : Option ℕ) (given : Option (List ℕ)) (status : Status)
+    (old new : Option (List ℕ)) (b c : Between) : Type 0 where
   pub text : Option (List ℕ)
-  pub input : list ≡ codes "-" → text ≡ given
-  pub step : NamedWith (λ answers. EndsRun answers b c) text status old new
+  pub listed : IsListed told list given text
+  pub step : NamedWith (λ answers. AreFirst (those_named (told_within most_windows told) MachinesAndUploads text) (λ uploads. EndsRun uploads answers b c)) text status old new
 
 -- With what a run left the next one begins, whichever tables it would make.
 abbrev pub NextBegins : Type 0
 NextBegins =
     (made kind : Tables) (b : Between) (now finished aside : Journal) (windows : WindowName → List ℕ) (image : Image) (came : List LogEntry)
-    → HoldsJournal (meaning_of kind) image now → union finished aside ≡ b.past
-    → BeganWith made kind (begins_with image windows finished aside (Contains came)) (behind b now windows came)
+    (told : List ℕ → Option (List ℕ)) (deeds : Option (List Deed)) → HoldsJournal (meaning_of kind) image now → union finished aside ≡ b.past
+    → BeganWith made kind (begins_with image windows finished aside (Contains came) told deeds) (behind b now windows came)
 
 module _ {S C L N : Type 0} (begun : Begins) (g : Devices S C L N) (files_leave : N → WindowName → List ℕ → Type 0) (notes : N) where
   -- What a run promises that ended with these files, closed, and these notes, sound, is a step.
   abbrev pub EndLeadsOn : C → Type 0
   EndLeadsOn files =
-      (made kind : Tables) (list : List ℕ) (given old new : Option (List ℕ)) (status : Status) (b : Between)
-      (windows : WindowName → List ℕ) (image : Image) (came : List LogEntry)
-      → CollectsIntoUnion begun g (leaves (Some files) (Some notes)) made list given old new status
+      (made kind : Tables) (list : List ℕ) (most_windows : Option ℕ) (given old new : Option (List ℕ)) (status : Status) (b : Between)
+      (windows : WindowName → List ℕ) (image : Image) (came : List LogEntry) (deeds : Option (List Deed))
+      → CollectsIntoUnion begun g (leaves (Some files) (Some notes) deeds) made list most_windows given old new status
       → g.database.clean files → g.ledger.sound notes → BeganWith made kind begun b → MayBegin b
       → IsFound (files_leave notes) (g.database.outcomes files) (g.ledger.came notes) b windows image came
-      → NextFinds kind b windows image came (PrintsEnd list given status old new b)
+      → NextFinds kind b windows image came (PrintsEnd begun.told list most_windows given status old new b)
 
-  -- So is what one promises that was stopped, of whatever the stop left of its database's files.
+  -- So is what one promises over the uploads that a text names, that was stopped, of whatever the stop left of its database's
+  -- files.
   abbrev pub StopLeadsOn : Type 0
   StopLeadsOn =
-      (made kind : Tables) (answers : List Answer) (b : Between) (windows : WindowName → List ℕ) (image : Image) (came : List LogEntry)
-      → LeavesNoted (meaning_of kind) (stored_before begun) b.now (g.ledger.came notes) (g.ledger.may_leave notes) answers image
+      (made kind : Tables) (text : Option (List ℕ)) (most_windows : Option ℕ) (answers : List Answer) (b : Between)
+      (windows : WindowName → List ℕ) (image : Image) (came : List LogEntry)
+      → LeavesNoted (those_named (told_within most_windows begun.told) MachinesAndUploads text) (meaning_of kind) (stored_before begun) b.now (g.ledger.came notes) (g.ledger.may_leave notes) answers image
       → g.ledger.clean notes → BeganWith made kind begun b
       → IsFound (files_leave notes) (λ left. left ≡ image) (g.ledger.came notes) b windows image came
-      → NextFinds kind b windows image came (StopsRun answers b)
+      → NextFinds kind b windows image came (λ c. AreFirst (those_named (told_within most_windows begun.told) MachinesAndUploads text) (λ uploads. StopsRun uploads answers b c))

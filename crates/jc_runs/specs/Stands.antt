@@ -1,18 +1,16 @@
 -- What holds between runs, whatever came before. (own)
-use Rattle.std.specs.Prelude.{ℕ, ◌≡◌, ◌⊎◌, ⊤, true, false, Bool, List, [], ◌∷◌, Some, None, length, slice_get}
-use Rattle.std.specs.List.{All, AllByRecursion}
+use Rattle.std.specs.Prelude.{◌≡◌, ◌⊎◌, ⊤, true, false, Bool, List, [], ◌∷◌, Some, None}
+use Rattle.std.specs.List.{AllByRecursion}
 use Rattle.std.specs.FinMap.{get}
 use Rattle.jc_base.specs.declared.id.Id128.{Id128}
 use Rattle.jc_base.specs.declared.id.Key.{Key}
 use Rattle.jc_base.specs.Journal.{Journal}
 use Rattle.jc_base.specs.LogEntry.{LogEntry}
-use Rattle.jc_base.specs.Reading.{Reading}
 use Rattle.jc_keeper.specs.Agree.{IsStored}
 use Rattle.jc_ledger.specs.declared.owner.MachineDigest.{MachineDigest}
-use Rattle.jc_upload.specs.declared.answer.Answer.{Answer}
-use Rattle.jc_upload.specs.declared.answer.Answer.TheVariants.{Ack}
+use Rattle.jc_runs.specs.Acknowledged.{AreAcknowledged}
 use Rattle.jc_runs.specs.Between.{Between, IsInOne, MayBegin, journals, journals_of}
-use Rattle.jc_runs.specs.Steps.{Step, answers_of}
+use Rattle.jc_runs.specs.Steps.{Step, answered_in, answers_of}
 
 -- None of the journals has the key.
 abbrev pub HaveNot : List Journal → Key → Type 0
@@ -37,18 +35,11 @@ pub record Stands (b : Between) : Type 0 where
   -- No key is in two databases, unless its note went or wasn't made.
   pub once : AreApartBut b.forgotten (journals b)
 
--- For each acknowledgement there is a reading with as many entries as it counts, each of which one of the databases has, or
--- had as long as it was there.
-abbrev pub AreKept : Between → List Answer → Type 0
-AreKept b answers =
-    (i : ℕ) (source : Id128) (from count new left : ℕ) → slice_get answers i ≡ Some (Ack source from count new left)
-    → (reading : Reading) × (count ≡ length reading.entries) × All (IsInOne (journals b)) reading.entries
-
 -- What steps lead to.
 pub record Keeps (b : Between) (steps : List Step) (c : Between) : Type 0 where
   pub stands : Stands c
-  -- What any line acknowledged is kept.
-  pub acknowledged : AllByRecursion (λ step. AreKept c (answers_of step)) steps
+  -- Each entry that any line acknowledged is in one of the databases, or was as long as that was there.
+  pub acknowledged : AllByRecursion (λ step. AreAcknowledged (IsInOne (journals c)) (answered_in step) (answers_of step)) steps
   -- So is what was stored before.
   pub stored : (e : LogEntry) → IsInOne (journals b) e → IsInOne (journals c) e
   -- Each sequence belongs to the machine that it belonged to, unless the note went.

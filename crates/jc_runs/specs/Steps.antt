@@ -1,12 +1,13 @@
 -- What comes between: runs, turns, and what goes for its age. (own)
-use Rattle.std.specs.Prelude.{◌≡◌, ◌||◌, ◌&&◌, Bool, not, if◌then◌else◌, is_some, List, [], ◌∷◌, None}
+use Rattle.std.specs.Prelude.{ℕ, ◌≡◌, ◌||◌, ◌&&◌, Bool, not, if◌then◌else◌, is_some, List, [], ◌∷◌, Option, None}
 use Rattle.std.specs.List.{Contains}
 use Rattle.std.specs.FinMap.{empty, get, retain_keys}
 use Rattle.jc_base.specs.declared.id.Id128.{Id128}
 use Rattle.jc_base.specs.declared.id.Key.{Key}
 use Rattle.jc_base.specs.Journal.{Journal}
 use Rattle.jc_base.specs.LogEntry.{LogEntry}
-use Rattle.jc_collect.specs.Each.{KeepsEach, StoresEach}
+use Rattle.jc_collect.specs.Each.{CollectsEach, KeepsCollected}
+use Rattle.jc_collector_answers.specs.Collected.{ByDefault}
 use Rattle.jc_ledger.specs.Kept.{IsKept, NoneCollide}
 use Rattle.jc_ledger.specs.Lagging.{LagsBehind}
 use Rattle.jc_ledger.specs.Owners.{StayOwned}
@@ -18,10 +19,10 @@ use Rattle.jc_upload.specs.declared.answer.Answer.{Answer}
 use Rattle.jc_runs.specs.Between.{Between, Fate, MayBegin, database, journals_of}
 
 pub data Step : Type 0 where
-  -- A run printed the lines of these answers and ended, and no failure had shut the notes.
-  Ends : List Answer → Step
+  -- A run printed the lines of these answers, each to the upload at its place, and ended, and no failure had shut the notes.
+  Ends : List (Option (List ℕ)) → List Answer → Step
   -- It printed these and was stopped, or failed: a crash, a kill, a device.
-  Stops : List Answer → Step
+  Stops : List (Option (List ℕ)) → List Answer → Step
   -- Another database, which is empty, became the present one: this became of the one before.
   Turns : Fate → Step
   -- Databases went for their age, or whatever became of them.
@@ -31,11 +32,19 @@ pub data Step : Type 0 where
 
 -- the answers whose lines were printed
 abbrev pub answers_of : Step → List Answer
-answers_of (Ends answers) = answers
-answers_of (Stops answers) = answers
+answers_of (Ends uploads answers) = answers
+answers_of (Stops uploads answers) = answers
 answers_of (Turns fate) = []
 answers_of Expires = []
 answers_of (Forgets went) = []
+
+-- the uploads that they were given to, of each of which the bytes are known or not
+abbrev pub answered_in : Step → List (Option (List ℕ))
+answered_in (Ends uploads answers) = uploads
+answered_in (Stops uploads answers) = uploads
+answered_in (Turns fate) = []
+answered_in Expires = []
+answered_in (Forgets went) = []
 
 -- ---- runs
 
@@ -48,18 +57,20 @@ pub record LeavesEarlier (b c : Between) : Type 0 where
   pub comes : (e : LogEntry) → Contains b.came e → Contains c.came e
   pub owners : StayOwned b.owner c.owner
 
--- What its answers acknowledge is stored in the union of what is noted of the earlier databases and the present one, all of
--- which is noted, if what it supposes holds.
-pub record EndsRun (answers : List Answer) (b c : Between) : Type 0 where
+-- Its uploads were collected into the union of what is noted of the earlier databases and the present one, all of which is
+-- noted, if what it supposes holds.
+pub record EndsRun (uploads : List (Option (List ℕ))) (answers : List Answer) (b c : Between) : Type 0 where
   pub leaves : LeavesEarlier b c
   pub kept : MayBegin b → NoneCollide (Contains c.came) → IsKept c.known b.past c.now (Contains c.came)
-  pub stored : MayBegin b → NoneCollide (Contains c.came) → StoresEach (union b.past b.now) answers (union b.past c.now)
+  pub stored : MayBegin b → NoneCollide (Contains c.came)
+      → ByDefault (λ limits. CollectsEach limits uploads (union b.past b.now) answers (union b.past c.now))
 
--- What its answers acknowledge is stored so, with one more upload at most, and some of it is noted.
-pub record StopsRun (answers : List Answer) (b c : Between) : Type 0 where
+-- The first of them were, and one more at most that no answer acknowledges, and some of it is noted.
+pub record StopsRun (uploads : List (Option (List ℕ))) (answers : List Answer) (b c : Between) : Type 0 where
   pub leaves : LeavesEarlier b c
   pub lags : MayBegin b → NoneCollide (Contains c.came) → MayBegin c
-  pub stored : MayBegin b → NoneCollide (Contains c.came) → KeepsEach (union b.past b.now) answers (union b.past c.now)
+  pub stored : MayBegin b → NoneCollide (Contains c.came)
+      → ByDefault (λ limits. KeepsCollected limits uploads (union b.past b.now) answers (union b.past c.now))
 
 -- ---- turns, and what goes for its age
 
@@ -102,8 +113,8 @@ pub record Forgetting (went : WindowName → Bool) (b c : Between) : Type 0 wher
 -- ---- one after the other
 
 abbrev pub Leads : Step → (before after : Between) → Type 0
-Leads (Ends answers) b c = EndsRun answers b c
-Leads (Stops answers) b c = StopsRun answers b c
+Leads (Ends uploads answers) b c = EndsRun uploads answers b c
+Leads (Stops uploads answers) b c = StopsRun uploads answers b c
 Leads (Turns fate) b c = Turn fate b c
 Leads Expires b c = Expiry b c
 Leads (Forgets went) b c = Forgetting went b c

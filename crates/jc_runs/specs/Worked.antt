@@ -1,16 +1,33 @@
--- A worked list of steps: two machines, three databases, a stop, an entry that comes again, and a window of notes that goes. (own)
-use Rattle.std.specs.Prelude.{ℕ, ◌+◌, ◌*◌, ◌≡◌, Bool, true, false, List, [], ◌∷◌, Some}
+-- A worked list of steps: two machines, three databases, a stop, an entry that comes again, a window of notes that goes, and an
+-- upload that its machine may delete. (own)
+use Rattle.std.specs.Prelude.{ℕ, ◌+◌, ◌*◌, ◌≡◌, Bool, true, false, List, [], ◌∷◌, ◌++◌, Option, Some, take}
 use Rattle.std.specs.List.{Contains}
+use Rattle.std.specs.FinMap.{empty}
+use Rattle.sqlite.specs.Files.{IsNothing}
+use Rattle.sqlite.specs.Recovery.{Image}
 use Rattle.jc_base.specs.declared.id.Id128.{Id128}
+use Rattle.jc_base.specs.Journal.{Journal}
 use Rattle.jc_base.specs.LogEntry.{LogEntry}
+use Rattle.jc_command.specs.Run.{Begins, begins_with, stored_before}
+use Rattle.jc_command_args.specs.declared.request.Tables.{Tables}
+use Rattle.jc_command_shared.specs.Deeds.{Deed}
+use Rattle.jc_export.specs.Cut.{joined}
 use Rattle.jc_keeper.specs.Agree.{IsStored}
-use Rattle.jc_ledger.specs.Kept.{NoneCollide}
+use Rattle.jc_ledger.specs.Kept.{IsKept, NoneCollide}
+use Rattle.jc_ledger.specs.Known.{digest_of}
+use Rattle.jc_ledger.specs.Lagging.{MayCatchUp}
 use Rattle.jc_ledger.specs.Owners.{machine_named}
 use Rattle.jc_ledger_files.specs.declared.window_name.WindowName.{WindowName}
 use Rattle.jc_ledger_files.specs.Windows.{same_window, window_of}
+use Rattle.jc_upload.specs.Answer.{answer_text}
+use Rattle.jc_upload.specs.Head.{head_text}
 use Rattle.jc_upload.specs.declared.answer.Answer.{Answer}
 use Rattle.jc_upload.specs.declared.answer.Answer.TheVariants.{Ack}
+use Rattle.jc_upload.specs.declared.head.UploadHead.{UploadHead}
 use Rattle.jc_runs.specs.Between.{Between, IsInOne, Kept, journals_of, nothing}
+use Rattle.jc_runs.specs.Next.{BeganWith}
+use Rattle.jc_runs.specs.Safe.{MayDelete, head_of_all}
+use Rattle.jc_runs.specs.Stands.{Keeps}
 use Rattle.jc_runs.specs.Steps.{Ends, Expires, Forgets, LeadsOn, Step, Stops, Turns}
 
 -- sequences and sources, by a number
@@ -30,9 +47,22 @@ of_one = entry_at 1 1
 abbrev pub of_other : LogEntry
 of_other = entry_at 2 (64 * 4096 + 1)
 
--- An upload of so many entries, of which so many are new, is acknowledged.
-abbrev pub acks : (source count new : ℕ) → List Answer
-acks source count new = Ack (numbered source) 0 count new 0 ∷ []
+-- All of a source in one upload: this entry.
+abbrev pub head_of : (source : ℕ) → UploadHead
+head_of source = head_of_all (numbered source) 1
+
+abbrev pub upload_of : (source : ℕ) → LogEntry → List ℕ
+upload_of source e = head_text (head_of source) ++ joined (e ∷ [])
+
+abbrev pub alone : (source : ℕ) → LogEntry → List (Option (List ℕ))
+alone source e = Some (upload_of source e) ∷ []
+
+-- It is acknowledged, and so many of its entries are new.
+abbrev pub ack_of : (source new : ℕ) → Answer
+ack_of source new = Ack (numbered source) 0 1 new 0
+
+abbrev pub acks : (source new : ℕ) → List Answer
+acks source new = ack_of source new ∷ []
 
 -- the window of the first machine's entry
 abbrev pub of_its_window : WindowName → Bool
@@ -40,7 +70,12 @@ of_its_window w = same_window (window_of of_one.key) w
 
 abbrev pub worked : List Step
 worked =
-    Ends (acks 1 1 1) ∷ Turns Kept ∷ Stops (acks 2 1 1) ∷ Ends (acks 1 1 0) ∷ Turns Kept ∷ Forgets of_its_window ∷ Ends (acks 1 1 1) ∷ Expires ∷ []
+    Ends (alone 1 of_one) (acks 1 1) ∷ Turns Kept ∷ Stops (alone 2 of_other) (acks 2 1) ∷ Ends (alone 1 of_one) (acks 1 0)
+    ∷ Turns Kept ∷ Forgets of_its_window ∷ Ends (alone 1 of_one) (acks 1 1) ∷ Expires ∷ []
+
+-- what a run supposes of the notes that it begins with, and of the journal that its database has
+abbrev pub MayStart : Begins → Journal → Type 0
+MayStart begun now = MayCatchUp begun.noted (stored_before begun) now begun.came
 
 -- What they lead to: the first machine's entry is in two databases, since its note went, and the other's in one; the sequences
 -- belong to whom they belonged to.
@@ -54,3 +89,22 @@ pub record IsWorked (c : Between) : Type 0 where
   pub stayed : c.forgotten of_other.key ≡ false
   pub owner : c.owner (numbered 1) ≡ Some (machine_named (1 ∷ []))
   pub owner_of_other : c.owner (numbered 2) ≡ Some (machine_named (2 ∷ []))
+  -- what is noted is what its databases have
+  pub kept : IsKept c.known c.past c.now (Contains c.came)
+  -- what holds behind any list, and of an upload that is acknowledged
+  pub keeps : Keeps nothing worked c
+  pub may : MayDelete (upload_of 1 of_one) (answer_text (ack_of 1 1)) worked
+
+-- The third database begins where no database is. The machines own the sequences, and their entries are noted, one of them in
+-- the 65th window: such files of notes are what runs suppose of their beginning.
+pub record StartsThird (b : Between) : Type 0 where
+  pub leads : LeadsOn nothing (take 5 worked) b
+  pub owner : b.owner (numbered 1) ≡ Some (machine_named (1 ∷ []))
+  pub owner_of_other : b.owner (numbered 2) ≡ Some (machine_named (2 ∷ []))
+  pub noted : b.known of_one.key ≡ Some (digest_of of_one)
+  pub noted_of_other : b.known of_other.key ≡ Some (digest_of of_other)
+  pub windows : WindowName → List ℕ
+  pub began : (tables : Tables) (image : Image) (told : List ℕ → Option (List ℕ)) (deeds : Option (List Deed)) → IsNothing image
+      → BeganWith tables tables (begins_with image windows b.past empty (Contains b.came) told deeds) b
+  pub begins : (image : Image) (told : List ℕ → Option (List ℕ)) (deeds : Option (List Deed))
+      → MayStart (begins_with image windows b.past empty (Contains b.came) told deeds) b.now

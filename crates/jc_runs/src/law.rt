@@ -6,12 +6,16 @@ ghost use Rattle.jc_base.specs.declared.id.Key.{Key};
 ghost use Rattle.jc_base.specs.LogEntry.{IsKey};
 ghost use Rattle.jc_ledger.specs.Kept.{IsKept, NoneCollide};
 ghost use Rattle.jc_runs.specs.Between.{Between, Fate, nothing};
+ghost use Rattle.jc_runs.specs.Safe.{DeletesSafely, TellsAll};
 ghost use Rattle.jc_runs.specs.Stands.{Keeps, Stands};
 ghost use Rattle.jc_runs.specs.Steps.{LeadsOn, Step, Turn};
-ghost use Rattle.jc_runs.specs.Worked.{IsWorked};
+ghost use Rattle.jc_runs.specs.Worked.{IsWorked, StartsThird};
 
-use jc_collect::acknowledged_stored;
+use jc_base::Limits;
+use jc_collect::{acknowledged_stored, each_stored};
 use jc_ledger::union_laws;
+use jc_ledger_files::owners_are_no_harm;
+use jc_upload::one_saying;
 
 /// What is acknowledged is kept, once, and owners stay, whatever runs end or are stopped, databases take turns, are set aside
 /// or go for their age, and windows of notes go, in any order. Does nothing.
@@ -22,9 +26,22 @@ pub fn runs_keep()
     // Behind a run that ended a turn leaves no note unmade.
     ensures turns { (fate : Fate) (b c : Between) → Turn fate b c → IsKept b.known b.past b.now (Contains b.came)
         → (k : Key) → IsKey k → c.forgotten k ≡ b.forgotten k }
-    // There are such lists.
+    // If `acknowledged` ends with 0, a line acknowledges all of the upload, and all that this reads as is kept.
+    ensures tells { TellsAll }
+    ensures deletes { DeletesSafely }
+    // There are such lists, and such uploads.
     ensures worked { (c : Between) × IsWorked c }
+    ensures starts { (b : Between) × StartsThird b }
 {
     acknowledged_stored();
+    each_stored();
+    one_saying();
     union_laws();
+    let _limits = Limits::default();
+    jc_export::one_reading();
+    jc_export::canonical_texts_read_back();
+    jc_upload::one_head();
+    jc_upload::one_answer();
+    jc_ledger_files::one_reading();
+    owners_are_no_harm();
 }

@@ -1,6 +1,8 @@
 //! What the next run finds.
 
+ghost use Rattle.std.specs.Prelude.{ℕ, List, Option};
 ghost use Rattle.jc_command.specs.Run.{begins_with, devices};
+ghost use Rattle.jc_command_shared.specs.Deeds.{Deed};
 ghost use Rattle.jc_runs.specs.Next.{EndLeadsOn, NextBegins, StopLeadsOn};
 
 use jc_command::{Begun, NoteFolders};
@@ -14,9 +16,9 @@ use jc_ledger_files::LedgerInFiles;
 pub fn next_run<F: OpenFromFiles, S: Begun, N: NoteFolders<S>>(files: &F::Files, notes: &N::Notes)
 where
     N::Notes: LedgerInFiles,
-    ensures ended { EndLeadsOn (begins_with F.first S.windows S.finished S.aside S.came) (devices F.in_files ⟦<N::Notes as Ledger>⟧)
+    ensures ended { (told : List ℕ → Option (List ℕ)) (deeds : Option (List Deed)) → EndLeadsOn (begins_with F.first S.windows S.finished S.aside S.came told deeds) (devices F.in_files ⟦<N::Notes as Ledger>⟧)
         N.Notes.files_leave notes.now files.now }
-    ensures stopped { StopLeadsOn (begins_with F.first S.windows S.finished S.aside S.came) (devices F.in_files ⟦<N::Notes as Ledger>⟧)
+    ensures stopped { (told : List ℕ → Option (List ℕ)) (deeds : Option (List Deed)) → StopLeadsOn (begins_with F.first S.windows S.finished S.aside S.came told deeds) (devices F.in_files ⟦<N::Notes as Ledger>⟧)
         N.Notes.files_leave notes.now }
     ensures begins { NextBegins }
 {

@@ -5,7 +5,7 @@ ghost use Rattle.sqlite_disk.specs.Events.{raised, replay, settled};
 
 use crate::file_record::FileRecord;
 use crate::open_files::WindowFile;
-use crate::window_path::open_file;
+use crate::placed::open_file;
 use jc_ledger_files::{Found, WindowName};
 use sqlite_disk::{Disk, Tally, is_no_room};
 use sqlite_std_file::{File, OpenError};

@@ -4,12 +4,15 @@
 mod file_folder;
 mod file_record;
 mod found_file;
+mod listing;
 mod open_files;
 mod opening;
-mod window_path;
+mod placed;
 
 pub use file_folder::{FileFolder, WindowFolder};
 pub use file_record::FileRecord;
 pub use found_file::FoundFile;
+pub use listing::list_windows;
 pub use open_files::WindowFile;
 pub use opening::{FileSequences, Folders, open_sequences};
+pub use placed::window_path;

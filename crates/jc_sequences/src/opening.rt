@@ -12,7 +12,7 @@ ghost use Rattle.jc_sequences.specs.Opened.{IsFound};
 use crate::file_folder::{FileFolder, WindowFolder};
 use crate::found_file::FoundFile;
 use crate::open_files::WindowFile;
-use crate::window_path::{make_folder, sync_folder};
+use crate::placed::{make_folder, sync_folder};
 use jc_command_shared::Failure;
 use jc_ledger::Ledger;
 use jc_ledger_files::{
@@ -33,7 +33,7 @@ pub type FileSequences<'a, F, A> = SteadyOwners<
 /// the logs beside them, and no others.
 #[derive(Clone, Copy)]
 pub struct Folders<'a> {
-    runtime: &'a HostRuntime,
+    pub(crate) runtime: &'a HostRuntime,
 }
 
 impl<'a> Folders<'a> {

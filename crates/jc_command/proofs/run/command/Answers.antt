@@ -1,8 +1,8 @@
 -- The files are those that it was run with.
-use Rattle.jc_command.specs.Run.{EndsWithin, leaves}
+use Rattle.jc_command.specs.Run.{EndsWithin}
 use Rattle.jc_command.proofs.run.command.Goals as goal
 
 pub returns-clause-ended : goal.returns-clause-ended
 unfolding EndsWithin
 returns-clause-ended g c = λ status other number.
-    (leaves c.run_command.result.files c.run_command.result.ledger, c.run_command.ensures.ended status (λ failed. absurd (other failed)) number)
+    (c.run_command.result.files, c.run_command.result.ledger, c.run_command.ensures.ended status (λ failed. absurd (other failed)) number)

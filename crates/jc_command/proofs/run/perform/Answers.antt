@@ -1,33 +1,37 @@
 -- What each request comes to, from what its command does, and what is made of that.
-use Rattle.std.proofs.Common.{◌∙◌, sym, refl, rules}
-use Rattle.jc_command.proofs.Runs.{at_ok, collects_as, does_as, err_of, fails_of, leads_from, no_items, ok_of, performs_as, same_start, some_each, stays_quiet, unless_failed, write_fails}
+use Rattle.std.proofs.Common.{None, ◌∙◌, sym, refl, rules}
+use Rattle.std.proofs.KnownBytes.{Keeps-refl}
+use Rattle.jc_collector.specs.UnionRunLaws.{runs_left, runs_printed, runs_quiet, runs_stored, runs_untouched}
+use Rattle.jc_command.proofs.NotesFailing.{by_name}
+use Rattle.jc_command.proofs.Runs.{IfErr-each, at_ok, collects_as, does_as, err_and, err_any, err_is, err_of, fails_of, leads_from, leaves_as, leaves_one, ok_of, performs_as, same_start, stays_quiet, unless_failed, write_fails}
+use Rattle.jc_command.specs.Run.{begins_with, devices}
 use Rattle.jc_command.proofs.run.perform.Goals as goal
 
 pub returns-in-Verify-clause-performed : goal.returns-in-Verify-clause-performed
 returns-in-Verify-clause-performed g c =
     ok_of c.without.result c.verify.result _ _ c.without.ensures.done
-    (λ done it was same. performs_as _ _ _ _ _ _ _ _ (g.I.Read.remaining c.args.input.now) (g.O.Write.contents c.args.output.now)
+    (λ done it was same. performs_as _ _ _ _ _ _ _ _ _ (g.I.Read.remaining c.args.input.now) (g.O.Write.contents c.args.output.now)
     (g.O.Write.contents c.verify.new.output) _ _ c.in-Verify.is same.1 refl same.0
-    (at_ok c.verify.result it _ was c.verify.ensures.printed))
+    (at_ok c.verify.result it _ was c.verify.ensures.printed, λ held is. at_ok c.verify.result it _ was (c.verify.ensures.told held is)))
 
 pub returns-in-Inspect-clause-performed : goal.returns-in-Inspect-clause-performed
 returns-in-Inspect-clause-performed g c =
     ok_of c.without-in-Inspect.result c.inspect.result _ _ c.without-in-Inspect.ensures.done
-    (λ done it was same. performs_as _ _ _ _ _ _ _ _ (g.I.Read.remaining c.args.input.now) (g.O.Write.contents c.args.output.now)
+    (λ done it was same. performs_as _ _ _ _ _ _ _ _ _ (g.I.Read.remaining c.args.input.now) (g.O.Write.contents c.args.output.now)
     (g.O.Write.contents c.inspect.new.output) _ _ c.in-Inspect.is same.1 refl same.0
-    (at_ok c.inspect.result it _ was c.inspect.ensures.printed))
+    (at_ok c.inspect.result it _ was c.inspect.ensures.printed, λ upload is. at_ok c.inspect.result it _ was (c.inspect.ensures.says upload is)))
 
 pub returns-in-Upload-clause-performed : goal.returns-in-Upload-clause-performed
 returns-in-Upload-clause-performed g c =
     ok_of c.succeeded.result c.upload.result _ _ c.succeeded.ensures.done
-    (λ done it was same. performs_as _ _ _ _ _ _ _ _ (g.I.Read.remaining c.args.input.now) (g.O.Write.contents c.args.output.now)
+    (λ done it was same. performs_as _ _ _ _ _ _ _ _ _ (g.I.Read.remaining c.args.input.now) (g.O.Write.contents c.args.output.now)
     (g.O.Write.contents c.upload.new.output) _ _ c.in-Upload.is same.1 refl same.0
     (refl, at_ok c.upload.result it _ was c.upload.ensures.printed))
 
 pub returns-in-Ack-clause-performed : goal.returns-in-Ack-clause-performed
 returns-in-Ack-clause-performed g c =
     ok_of c.succeeded-in-Ack.result c.ack.result _ _ c.succeeded-in-Ack.ensures.done
-    (λ done it was same. performs_as _ _ _ _ _ _ _ _ (g.I.Read.remaining c.args.input.now) (g.O.Write.contents c.args.output.now)
+    (λ done it was same. performs_as _ _ _ _ _ _ _ _ _ (g.I.Read.remaining c.args.input.now) (g.O.Write.contents c.args.output.now)
     (g.O.Write.contents c.ack.new.output) _ _ c.in-Ack.is same.1 refl same.0
     (refl, at_ok c.ack.result it _ was c.ack.ensures.printed))
 
@@ -35,22 +39,20 @@ pub returns-in-Collect-clause-performed : goal.returns-in-Collect-clause-perform
 returns-in-Collect-clause-performed g c =
     let does = c.collect-closed.ensures in
     ok_of c.closed.result c.collect-closed.result _ _ c.closed.ensures.done
-    (λ done it was same. performs_as _ _ _ _ _ _ _ _ (g.I.Read.remaining c.args.input.now) (g.O.Write.contents c.args.output.now)
+    (λ done it was same. performs_as _ _ _ _ _ _ _ _ _ (g.I.Read.remaining c.args.input.now) (g.O.Write.contents c.args.output.now)
     (g.O.Write.contents c.collect-closed.new.output) _ _ c.in-Collect.is same.1 refl same.0
-    (collects_as _ _ _ _ c.as_slice-uploads.result.now c.in-Collect.uploads.items _ _ _ _ c.as_slice-uploads.ensures.value
+    (collects_as _ _ _ _ _ _ c.as_slice-uploads.result.now c.in-Collect.uploads.items _ _ _ _ c.as_slice-uploads.ensures.value
     (record {
       printed = at_ok c.collect-closed.result it _ was does.printed;
       kept = at_ok c.collect-closed.result it _ was does.kept;
       stores = at_ok c.collect-closed.result it _ was does.each;
-      collects = λ none. some_each (g.I.Read.remaining c.args.input.now) _ _
-          (λ upload collects. at_ok c.collect-closed.result it _ was collects)
-          (does.collected (no_items c.as_slice-uploads.result.now none));
+      collects = λ known are. at_ok c.collect-closed.result it _ was (does.collected known are);
     })))
 
 pub returns-in-CollectListed-clause-performed : goal.returns-in-CollectListed-clause-performed
 returns-in-CollectListed-clause-performed g c =
     ok_of c.closed-in-CollectListed.result c.collect_from_list-closed.result _ _ c.closed-in-CollectListed.ensures.done
-    (λ done it was same. performs_as _ _ _ _ _ _ _ _ (g.I.Read.remaining c.args.input.now) (g.O.Write.contents c.args.output.now)
+    (λ done it was same. performs_as _ _ _ _ _ _ _ _ _ (g.I.Read.remaining c.args.input.now) (g.O.Write.contents c.args.output.now)
     (g.O.Write.contents c.collect_from_list-closed.new.output) _ _ c.in-CollectListed.is same.1 refl same.0
     (record {
       printed = at_ok c.collect_from_list-closed.result it _ was c.collect_from_list-closed.ensures.printed;
@@ -61,25 +63,35 @@ returns-in-CollectListed-clause-performed g c =
 pub returns-in-Export-clause-performed : goal.returns-in-Export-clause-performed
 returns-in-Export-clause-performed g c =
     ok_of c.listed.result c.export-closed.result _ _ c.listed.ensures.done
-    (λ done it was same. performs_as _ _ _ _ _ _ _ _ (g.I.Read.remaining c.args.input.now) (g.O.Write.contents c.args.output.now)
+    (λ done it was same. performs_as _ _ _ _ _ _ _ _ _ (g.I.Read.remaining c.args.input.now) (g.O.Write.contents c.args.output.now)
     (g.O.Write.contents c.export-closed.new.output) _ _ c.in-Export.is same.1 refl same.0
     (refl, at_ok c.export-closed.result it _ was c.export-closed.ensures.printed))
 
 pub returns-in-Show-clause-performed : goal.returns-in-Show-clause-performed
 returns-in-Show-clause-performed g c =
     ok_of c.listed-in-Show.result c.show-closed.result _ _ c.listed-in-Show.ensures.done
-    (λ done it was same. performs_as _ _ _ _ _ _ _ _ (g.I.Read.remaining c.args.input.now) (g.O.Write.contents c.args.output.now)
+    (λ done it was same. performs_as _ _ _ _ _ _ _ _ _ (g.I.Read.remaining c.args.input.now) (g.O.Write.contents c.args.output.now)
     (g.O.Write.contents c.show-closed.new.output) _ _ c.in-Show.is same.1 refl same.0
     (refl, at_ok c.show-closed.result it _ was c.show-closed.ensures.printed))
 
 pub returns-in-Check-clause-performed : goal.returns-in-Check-clause-performed
-returns-in-Check-clause-performed g c = search rules
+returns-in-Check-clause-performed g c =
+    ok_of c.examined.result c.check-examined.result _ _ c.examined.ensures.done
+    (λ done it was same. let printed = at_ok c.check-examined.result it _ was c.check-examined.ensures.printed in
+    performs_as _ _ _ _ _ _ _ _ _ (g.I.Read.remaining c.args.input.now) (g.O.Write.contents c.args.output.now)
+    (g.O.Write.contents c.check-examined.new.output) _ _ c.in-Check.is same.1 refl same.0
+    (record {
+      health = printed.0;
+      is = printed.1;
+      printed = printed.2;
+      counted = at_ok c.check-examined.result it _ was c.check-examined.ensures.counted;
+    }))
 
 pub returns-in-Migrate-clause-performed : goal.returns-in-Migrate-clause-performed
 returns-in-Migrate-clause-performed g c =
     ok_of c.examined-in-Migrate.result c.migrate-examined.result _ _ c.examined-in-Migrate.ensures.done
     (λ done it was same. let printed = at_ok c.migrate-examined.result it _ was c.migrate-examined.ensures.printed in
-    performs_as _ _ _ _ _ _ _ _ (g.I.Read.remaining c.args.input.now) (g.O.Write.contents c.args.output.now)
+    performs_as _ _ _ _ _ _ _ _ _ (g.I.Read.remaining c.args.input.now) (g.O.Write.contents c.args.output.now)
     (g.O.Write.contents c.migrate-examined.new.output) _ _ c.in-Migrate.is same.1 refl same.0
     (record {
       health = printed.0;
@@ -91,24 +103,27 @@ returns-in-Migrate-clause-performed g c =
 pub returns-in-ListCodes-clause-performed : goal.returns-in-ListCodes-clause-performed
 returns-in-ListCodes-clause-performed g c =
     ok_of c.succeeded-in-ListCodes.result c.list_codes.result _ _ c.succeeded-in-ListCodes.ensures.done
-    (λ done it was same. performs_as _ _ _ _ _ _ _ _ (g.I.Read.remaining c.args.input.now) (g.O.Write.contents c.args.output.now)
+    (λ done it was same. performs_as _ _ _ _ _ _ _ _ _ (g.I.Read.remaining c.args.input.now) (g.O.Write.contents c.args.output.now)
     (g.O.Write.contents c.list_codes.new.output) _ _ c.in-ListCodes.is same.1 refl same.0
     (refl))
 
 pub returns-in_ok-run-in-CollectIntoUnion-clause-performed : goal.returns-in_ok-run-in-CollectIntoUnion-clause-performed
 returns-in_ok-run-in-CollectIntoUnion-clause-performed g c =
-    let it = c.in_ok-run-in-CollectIntoUnion.ensures in
+    let runs = c.in_ok-run-in-CollectIntoUnion.ensures.runs in
     let opened = c.in_ok-ledger-in-CollectIntoUnion.ensures in
-    performs_as _ _ _ _ _ _ _ _ _ _ _ _ _ c.in-CollectIntoUnion.is c.noted.ensures.files c.noted.ensures.ledger c.noted.ensures.status
-    (record {
-      printed = it.printed;
-      stores = leads_from _ _ _ _ _ _
-          (λ before asked. (same_start opened.known (λ e came. (opened.came e).1 came) asked.0, asked.1, asked.2)) it.each;
-      owners = record {
-        stay = c.show_steady.ensures.stay;
-        after = c.show_steady.ensures.stay_after;
-      };
-    })
+    performs_as _ _ _ _ _ _ _ _ _ _ _ _ _ _ c.in-CollectIntoUnion.is c.noted.ensures.files c.noted.ensures.ledger c.noted.ensures.status (
+      record {
+        printed = runs_printed _ _ _ _ _ _ _ _ _ _ _ _ _ _ _ runs;
+        stores = leads_from _ _ _ _ _ _
+            (λ before asked. (same_start opened.known (λ e came. (opened.came e).1 came) asked.0, asked.1, asked.2)) (runs_stored _ _ _ _ _ _ _ _ _ _ _ _ _ _ _ runs);
+        owners = record {
+          stay = c.show_steady.ensures.stay;
+          after = c.show_steady.ensures.stay_after;
+        };
+      },
+      leads_from _ _ _ _ _ _ (λ before asked. (same_start opened.known (λ e came. (opened.came e).1 came) asked.0, asked.1, asked.2))
+          c.in_ok-run-in-CollectIntoUnion.ensures.exported,
+    )
 
 pub returns-in-Verify-clause-quiet : goal.returns-in-Verify-clause-quiet
 returns-in-Verify-clause-quiet g c = stays_quiet c.without.result _ (g.E.Write.contents c.args.errors.now)
@@ -258,3 +273,234 @@ returns-in-Migrate-clause-touched g c = does_as _ _ _ _ c.in-Migrate.is c.migrat
 
 pub returns-in-ListCodes-clause-touched : goal.returns-in-ListCodes-clause-touched
 returns-in-ListCodes-clause-touched g c = does_as _ _ _ _ c.in-ListCodes.is refl
+
+pub returns-in-Acknowledged-clause-performed : goal.returns-in-Acknowledged-clause-performed
+returns-in-Acknowledged-clause-performed g c =
+    ok_of c.without-in-Acknowledged.result c.acknowledged.result _ _ c.without-in-Acknowledged.ensures.done
+    (λ done it was same. performs_as _ _ _ _ _ _ _ _ _ (g.I.Read.remaining c.args.input.now) (g.O.Write.contents c.args.output.now)
+    (g.O.Write.contents c.acknowledged.new.output) _ _ c.in-Acknowledged.is same.1 refl same.0
+    (at_ok c.acknowledged.result it _ was c.acknowledged.ensures.told, λ held is. at_ok c.acknowledged.result it _ was (c.acknowledged.ensures.bytes held is)))
+
+pub returns-in-Acknowledged-clause-quiet : goal.returns-in-Acknowledged-clause-quiet
+returns-in-Acknowledged-clause-quiet g c = stays_quiet c.without-in-Acknowledged.result _ (g.E.Write.contents c.args.errors.now)
+
+pub returns-in-Acknowledged-clause-untouched : goal.returns-in-Acknowledged-clause-untouched
+returns-in-Acknowledged-clause-untouched g c =
+    err_of c.without-in-Acknowledged.result c.acknowledged.result _ c.without-in-Acknowledged.ensures.failed (unless_failed c.acknowledged.result _ _ c.acknowledged.ensures.untouched)
+
+pub returns-in-Acknowledged-clause-touched : goal.returns-in-Acknowledged-clause-touched
+returns-in-Acknowledged-clause-touched g c = does_as _ _ _ _ c.in-Acknowledged.is refl
+
+pub returns-in-CheckNoted-clause-performed : goal.returns-in-CheckNoted-clause-performed
+returns-in-CheckNoted-clause-performed g c =
+    ok_of c.examined-in-CheckNoted.result c.check_noted-examined.result _ _ c.examined-in-CheckNoted.ensures.done
+    (λ done it was same. performs_as _ _ _ _ _ _ _ _ _ (g.I.Read.remaining c.args.input.now) (g.O.Write.contents c.args.output.now)
+    (g.O.Write.contents c.check_noted-examined.new.output) _ _ c.in-CheckNoted.is same.1 refl same.0
+    (at_ok c.check_noted-examined.result it _ was c.check_noted-examined.ensures.judged))
+
+pub returns-in-CheckNoted-clause-quiet : goal.returns-in-CheckNoted-clause-quiet
+returns-in-CheckNoted-clause-quiet g c = stays_quiet c.examined-in-CheckNoted.result _ (g.E.Write.contents c.args.errors.now)
+
+pub returns-in-CheckNoted-clause-failed : goal.returns-in-CheckNoted-clause-failed
+returns-in-CheckNoted-clause-failed g c =
+    fails_of c.examined-in-CheckNoted.result c.check_noted-examined.result _ _ _ c.in-CheckNoted.is c.examined-in-CheckNoted.ensures.failed c.check_noted-examined.ensures.failed
+
+pub returns-in-CheckNoted-clause-untouched : goal.returns-in-CheckNoted-clause-untouched
+returns-in-CheckNoted-clause-untouched g c =
+    err_of c.examined-in-CheckNoted.result c.check_noted-examined.result _ c.examined-in-CheckNoted.ensures.failed c.check_noted-examined.ensures.untouched
+
+pub returns-in-CheckNoted-clause-touched : goal.returns-in-CheckNoted-clause-touched
+returns-in-CheckNoted-clause-touched g c = does_as _ _ _ _ c.in-CheckNoted.is c.check_noted-examined.ensures.touched
+
+pub returns-in-Notes-clause-performed : goal.returns-in-Notes-clause-performed
+returns-in-Notes-clause-performed g c =
+    ok_of c.without-in-Notes.result c.work_on_notes.result _ _ c.without-in-Notes.ensures.done
+    (λ done it was same. performs_as _ _ _ _ _ _ _ _ _ (g.I.Read.remaining c.args.input.now) (g.O.Write.contents c.args.output.now)
+    (g.O.Write.contents c.work_on_notes.new.output) _ _ c.in-Notes.is same.1 refl same.0
+    (at_ok c.work_on_notes.result it _ was c.work_on_notes.ensures.judged))
+
+pub returns-in-Notes-clause-quiet : goal.returns-in-Notes-clause-quiet
+returns-in-Notes-clause-quiet g c = stays_quiet c.without-in-Notes.result _ (g.E.Write.contents c.args.errors.now)
+
+pub returns-in-Notes-clause-failed : goal.returns-in-Notes-clause-failed
+returns-in-Notes-clause-failed g c =
+    fails_of c.without-in-Notes.result c.work_on_notes.result _ _ _ c.in-Notes.is c.without-in-Notes.ensures.failed c.work_on_notes.ensures.failed
+
+pub returns-in-Notes-clause-untouched : goal.returns-in-Notes-clause-untouched
+returns-in-Notes-clause-untouched g c =
+    err_of c.without-in-Notes.result c.work_on_notes.result _ c.without-in-Notes.ensures.failed c.work_on_notes.ensures.untouched
+
+pub returns-in-Notes-clause-touched : goal.returns-in-Notes-clause-touched
+returns-in-Notes-clause-touched g c = does_as _ _ _ _ c.in-Notes.is c.work_on_notes.ensures.touched
+
+pub returns-in-ListOwners-clause-performed : goal.returns-in-ListOwners-clause-performed
+returns-in-ListOwners-clause-performed g c =
+    ok_of c.without-in-ListOwners.result c.list_all_owners.result _ _ c.without-in-ListOwners.ensures.done
+    (λ done it was same. performs_as _ _ _ _ _ _ _ _ _ (g.I.Read.remaining c.args.input.now) (g.O.Write.contents c.args.output.now)
+    (g.O.Write.contents c.list_all_owners.new.output) _ _ c.in-ListOwners.is same.1 refl same.0
+    (at_ok c.list_all_owners.result it _ was c.list_all_owners.ensures.judged))
+
+pub returns-in-ListOwners-clause-quiet : goal.returns-in-ListOwners-clause-quiet
+returns-in-ListOwners-clause-quiet g c = stays_quiet c.without-in-ListOwners.result _ (g.E.Write.contents c.args.errors.now)
+
+pub returns-in-ListOwners-clause-failed : goal.returns-in-ListOwners-clause-failed
+returns-in-ListOwners-clause-failed g c =
+    fails_of c.without-in-ListOwners.result c.list_all_owners.result _ _ _ c.in-ListOwners.is c.without-in-ListOwners.ensures.failed c.list_all_owners.ensures.failed
+
+pub returns-in-ListOwners-clause-untouched : goal.returns-in-ListOwners-clause-untouched
+returns-in-ListOwners-clause-untouched g c =
+    err_of c.without-in-ListOwners.result c.list_all_owners.result _ c.without-in-ListOwners.ensures.failed c.list_all_owners.ensures.untouched
+
+pub returns-in-ListOwners-clause-touched : goal.returns-in-ListOwners-clause-touched
+returns-in-ListOwners-clause-touched g c = does_as _ _ _ _ c.in-ListOwners.is refl
+
+pub returns-in-RenameOwner-clause-performed : goal.returns-in-RenameOwner-clause-performed
+returns-in-RenameOwner-clause-performed g c =
+    ok_of c.succeeded-in-RenameOwner.result c.rename_all.result _ _ c.succeeded-in-RenameOwner.ensures.done
+    (λ done it was same. performs_as _ _ _ _ _ _ _ _ _ (g.I.Read.remaining c.args.input.now) (g.O.Write.contents c.args.output.now)
+    (g.O.Write.contents c.rename_all.new.output) _ _ c.in-RenameOwner.is same.1 refl same.0
+    (refl))
+
+pub returns-in-RenameOwner-clause-quiet : goal.returns-in-RenameOwner-clause-quiet
+returns-in-RenameOwner-clause-quiet g c = stays_quiet c.succeeded-in-RenameOwner.result _ (g.E.Write.contents c.args.errors.now)
+
+pub returns-in-RenameOwner-clause-failed : goal.returns-in-RenameOwner-clause-failed
+returns-in-RenameOwner-clause-failed g c =
+    fails_of c.succeeded-in-RenameOwner.result c.rename_all.result _ _ _ c.in-RenameOwner.is c.succeeded-in-RenameOwner.ensures.failed c.rename_all.ensures.failed
+
+pub returns-in-RenameOwner-clause-untouched : goal.returns-in-RenameOwner-clause-untouched
+returns-in-RenameOwner-clause-untouched g c =
+    err_of c.succeeded-in-RenameOwner.result c.rename_all.result _ c.succeeded-in-RenameOwner.ensures.failed c.rename_all.ensures.untouched
+
+pub returns-in-RenameOwner-clause-touched : goal.returns-in-RenameOwner-clause-touched
+returns-in-RenameOwner-clause-touched g c = does_as _ _ _ _ c.in-RenameOwner.is c.rename_all.ensures.touched
+
+pub returns-in-ReleaseSequence-clause-performed : goal.returns-in-ReleaseSequence-clause-performed
+returns-in-ReleaseSequence-clause-performed g c =
+    ok_of c.succeeded-in-ReleaseSequence.result c.release_sequence.result _ _ c.succeeded-in-ReleaseSequence.ensures.done
+    (λ done it was same. performs_as _ _ _ _ _ _ _ _ _ (g.I.Read.remaining c.args.input.now) (g.O.Write.contents c.args.output.now)
+    (g.O.Write.contents c.release_sequence.new.output) _ _ c.in-ReleaseSequence.is same.1 refl same.0
+    (refl))
+
+pub returns-in-ReleaseSequence-clause-quiet : goal.returns-in-ReleaseSequence-clause-quiet
+returns-in-ReleaseSequence-clause-quiet g c = stays_quiet c.succeeded-in-ReleaseSequence.result _ (g.E.Write.contents c.args.errors.now)
+
+pub returns-in-ReleaseSequence-clause-failed : goal.returns-in-ReleaseSequence-clause-failed
+returns-in-ReleaseSequence-clause-failed g c =
+    fails_of c.succeeded-in-ReleaseSequence.result c.release_sequence.result _ _ _ c.in-ReleaseSequence.is c.succeeded-in-ReleaseSequence.ensures.failed (IfErr-each c.release_sequence.result _ _ (by_name c.in-ReleaseSequence.sequences.now) c.release_sequence.ensures.failed)
+
+pub returns-in-ReleaseSequence-clause-untouched : goal.returns-in-ReleaseSequence-clause-untouched
+returns-in-ReleaseSequence-clause-untouched g c =
+    err_of c.succeeded-in-ReleaseSequence.result c.release_sequence.result _ c.succeeded-in-ReleaseSequence.ensures.failed c.release_sequence.ensures.untouched
+
+pub returns-in-ReleaseSequence-clause-touched : goal.returns-in-ReleaseSequence-clause-touched
+returns-in-ReleaseSequence-clause-touched g c = does_as _ _ _ _ c.in-ReleaseSequence.is c.release_sequence.ensures.touched
+
+pub returns-in_ok-run-in-CollectIntoUnion-clause-quiet : goal.returns-in_ok-run-in-CollectIntoUnion-clause-quiet
+returns-in_ok-run-in-CollectIntoUnion-clause-quiet g c = λ success.
+    runs_quiet _ _ _ _ _ _ _ _ _ _ _ _ _ _ _ c.in_ok-run-in-CollectIntoUnion.ensures.runs (sym c.noted.ensures.status ∙ success)
+
+pub returns-in_err-run-in-CollectIntoUnion-clause-untouched : goal.returns-in_err-run-in-CollectIntoUnion-clause-untouched
+returns-in_err-run-in-CollectIntoUnion-clause-untouched g c =
+    err_is c.from_residual-in_err-run-in-CollectIntoUnion.result _ _ c.from_residual-in_err-run-in-CollectIntoUnion.ensures.1
+    (runs_untouched _ _ _ _ _ _ _ _ _ _ _ _ _ _ _ c.in_err-run-in-CollectIntoUnion.ensures.runs)
+
+pub returns-in_err-run-in-CollectIntoUnion-clause-left : goal.returns-in_err-run-in-CollectIntoUnion-clause-left
+returns-in_err-run-in-CollectIntoUnion-clause-left g c =
+    let opened = c.in_ok-ledger-in-CollectIntoUnion.ensures in
+    err_is c.from_residual-in_err-run-in-CollectIntoUnion.result _ _ c.from_residual-in_err-run-in-CollectIntoUnion.ensures.1
+    (leaves_one (begins_with g.F.OpenFromFiles.first g.S.Begun.windows g.S.Begun.finished g.S.Begun.aside g.S.Begun.came g.Y.System.told (g.Y.System.deeds c.args.rt.now)) (devices g.F.StoreInFiles.in_files g.N.Notes.Ledger)
+    _ _ (g.I.Read.remaining c.args.input.now) (g.O.Write.contents c.args.output.now) _ _ _ c.in-CollectIntoUnion.is refl
+    (runs_left _ _ _ _ _ _ _ _ _ _ _ _ _ _ _ _
+    (λ before noted. (same_start opened.known (λ e came. (opened.came e).1 came) noted, opened.sound)) c.in_err-run-in-CollectIntoUnion.ensures.runs))
+
+pub returns-in_err-ledger-in-CollectIntoUnion-clause-left : goal.returns-in_err-ledger-in-CollectIntoUnion-clause-left
+returns-in_err-ledger-in-CollectIntoUnion-clause-left g c =
+    err_and c.from_residual.result _ _ c.from_residual.ensures.1
+    (λ run is. leaves_one (begins_with g.F.OpenFromFiles.first g.S.Begun.windows g.S.Begun.finished g.S.Begun.aside g.S.Begun.came g.Y.System.told (g.Y.System.deeds c.args.rt.now)) (devices g.F.StoreInFiles.in_files g.N.Notes.Ledger)
+    _ _ (g.I.Read.remaining c.args.input.now) _ _ None run.left c.in-CollectIntoUnion.is is.1 (Keeps-refl (g.O.Write.contents c.args.output.now)))
+
+pub returns-in-Verify-clause-left : goal.returns-in-Verify-clause-left
+returns-in-Verify-clause-left g c =
+    leaves_as (begins_with g.F.OpenFromFiles.first g.S.Begun.windows g.S.Begun.finished g.S.Begun.aside g.S.Begun.came g.Y.System.told (g.Y.System.deeds c.args.rt.now)) (devices g.F.StoreInFiles.in_files g.N.Notes.Ledger)
+    _ _ _ (g.I.Read.remaining c.args.input.now) (g.O.Write.contents c.args.output.now) (g.O.Write.contents c.verify.new.output) c.in-Verify.is (err_any _ _ (λ run. tt))
+
+pub returns-in-Inspect-clause-left : goal.returns-in-Inspect-clause-left
+returns-in-Inspect-clause-left g c =
+    leaves_as (begins_with g.F.OpenFromFiles.first g.S.Begun.windows g.S.Begun.finished g.S.Begun.aside g.S.Begun.came g.Y.System.told (g.Y.System.deeds c.args.rt.now)) (devices g.F.StoreInFiles.in_files g.N.Notes.Ledger)
+    _ _ _ (g.I.Read.remaining c.args.input.now) (g.O.Write.contents c.args.output.now) (g.O.Write.contents c.inspect.new.output) c.in-Inspect.is (err_any _ _ (λ run. tt))
+
+pub returns-in-Upload-clause-left : goal.returns-in-Upload-clause-left
+returns-in-Upload-clause-left g c =
+    leaves_as (begins_with g.F.OpenFromFiles.first g.S.Begun.windows g.S.Begun.finished g.S.Begun.aside g.S.Begun.came g.Y.System.told (g.Y.System.deeds c.args.rt.now)) (devices g.F.StoreInFiles.in_files g.N.Notes.Ledger)
+    _ _ _ (g.I.Read.remaining c.args.input.now) (g.O.Write.contents c.args.output.now) (g.O.Write.contents c.upload.new.output) c.in-Upload.is (err_any _ _ (λ run. tt))
+
+pub returns-in-Ack-clause-left : goal.returns-in-Ack-clause-left
+returns-in-Ack-clause-left g c =
+    leaves_as (begins_with g.F.OpenFromFiles.first g.S.Begun.windows g.S.Begun.finished g.S.Begun.aside g.S.Begun.came g.Y.System.told (g.Y.System.deeds c.args.rt.now)) (devices g.F.StoreInFiles.in_files g.N.Notes.Ledger)
+    _ _ _ (g.I.Read.remaining c.args.input.now) (g.O.Write.contents c.args.output.now) (g.O.Write.contents c.ack.new.output) c.in-Ack.is (err_any _ _ (λ run. tt))
+
+pub returns-in-Collect-clause-left : goal.returns-in-Collect-clause-left
+returns-in-Collect-clause-left g c =
+    leaves_as (begins_with g.F.OpenFromFiles.first g.S.Begun.windows g.S.Begun.finished g.S.Begun.aside g.S.Begun.came g.Y.System.told (g.Y.System.deeds c.args.rt.now)) (devices g.F.StoreInFiles.in_files g.N.Notes.Ledger)
+    _ _ _ (g.I.Read.remaining c.args.input.now) (g.O.Write.contents c.args.output.now) (g.O.Write.contents c.collect-closed.new.output) c.in-Collect.is (err_any _ _ (λ run. tt))
+
+pub returns-in-CollectListed-clause-left : goal.returns-in-CollectListed-clause-left
+returns-in-CollectListed-clause-left g c =
+    leaves_as (begins_with g.F.OpenFromFiles.first g.S.Begun.windows g.S.Begun.finished g.S.Begun.aside g.S.Begun.came g.Y.System.told (g.Y.System.deeds c.args.rt.now)) (devices g.F.StoreInFiles.in_files g.N.Notes.Ledger)
+    _ _ _ (g.I.Read.remaining c.args.input.now) (g.O.Write.contents c.args.output.now) (g.O.Write.contents c.collect_from_list-closed.new.output) c.in-CollectListed.is (err_any _ _ (λ run. tt))
+
+pub returns-in-Export-clause-left : goal.returns-in-Export-clause-left
+returns-in-Export-clause-left g c =
+    leaves_as (begins_with g.F.OpenFromFiles.first g.S.Begun.windows g.S.Begun.finished g.S.Begun.aside g.S.Begun.came g.Y.System.told (g.Y.System.deeds c.args.rt.now)) (devices g.F.StoreInFiles.in_files g.N.Notes.Ledger)
+    _ _ _ (g.I.Read.remaining c.args.input.now) (g.O.Write.contents c.args.output.now) (g.O.Write.contents c.export-closed.new.output) c.in-Export.is (err_any _ _ (λ run. tt))
+
+pub returns-in-Show-clause-left : goal.returns-in-Show-clause-left
+returns-in-Show-clause-left g c =
+    leaves_as (begins_with g.F.OpenFromFiles.first g.S.Begun.windows g.S.Begun.finished g.S.Begun.aside g.S.Begun.came g.Y.System.told (g.Y.System.deeds c.args.rt.now)) (devices g.F.StoreInFiles.in_files g.N.Notes.Ledger)
+    _ _ _ (g.I.Read.remaining c.args.input.now) (g.O.Write.contents c.args.output.now) (g.O.Write.contents c.show-closed.new.output) c.in-Show.is (err_any _ _ (λ run. tt))
+
+pub returns-in-Check-clause-left : goal.returns-in-Check-clause-left
+returns-in-Check-clause-left g c =
+    leaves_as (begins_with g.F.OpenFromFiles.first g.S.Begun.windows g.S.Begun.finished g.S.Begun.aside g.S.Begun.came g.Y.System.told (g.Y.System.deeds c.args.rt.now)) (devices g.F.StoreInFiles.in_files g.N.Notes.Ledger)
+    _ _ _ (g.I.Read.remaining c.args.input.now) (g.O.Write.contents c.args.output.now) (g.O.Write.contents c.check-examined.new.output) c.in-Check.is (err_any _ _ (λ run. tt))
+
+pub returns-in-Migrate-clause-left : goal.returns-in-Migrate-clause-left
+returns-in-Migrate-clause-left g c =
+    leaves_as (begins_with g.F.OpenFromFiles.first g.S.Begun.windows g.S.Begun.finished g.S.Begun.aside g.S.Begun.came g.Y.System.told (g.Y.System.deeds c.args.rt.now)) (devices g.F.StoreInFiles.in_files g.N.Notes.Ledger)
+    _ _ _ (g.I.Read.remaining c.args.input.now) (g.O.Write.contents c.args.output.now) (g.O.Write.contents c.migrate-examined.new.output) c.in-Migrate.is (err_any _ _ (λ run. tt))
+
+pub returns-in-ListCodes-clause-left : goal.returns-in-ListCodes-clause-left
+returns-in-ListCodes-clause-left g c =
+    leaves_as (begins_with g.F.OpenFromFiles.first g.S.Begun.windows g.S.Begun.finished g.S.Begun.aside g.S.Begun.came g.Y.System.told (g.Y.System.deeds c.args.rt.now)) (devices g.F.StoreInFiles.in_files g.N.Notes.Ledger)
+    _ _ _ (g.I.Read.remaining c.args.input.now) (g.O.Write.contents c.args.output.now) (g.O.Write.contents c.list_codes.new.output) c.in-ListCodes.is (err_any _ _ (λ run. tt))
+
+pub returns-in-Acknowledged-clause-left : goal.returns-in-Acknowledged-clause-left
+returns-in-Acknowledged-clause-left g c =
+    leaves_as (begins_with g.F.OpenFromFiles.first g.S.Begun.windows g.S.Begun.finished g.S.Begun.aside g.S.Begun.came g.Y.System.told (g.Y.System.deeds c.args.rt.now)) (devices g.F.StoreInFiles.in_files g.N.Notes.Ledger)
+    _ _ _ (g.I.Read.remaining c.args.input.now) (g.O.Write.contents c.args.output.now) (g.O.Write.contents c.acknowledged.new.output) c.in-Acknowledged.is (err_any _ _ (λ run. tt))
+
+pub returns-in-CheckNoted-clause-left : goal.returns-in-CheckNoted-clause-left
+returns-in-CheckNoted-clause-left g c =
+    leaves_as (begins_with g.F.OpenFromFiles.first g.S.Begun.windows g.S.Begun.finished g.S.Begun.aside g.S.Begun.came g.Y.System.told (g.Y.System.deeds c.args.rt.now)) (devices g.F.StoreInFiles.in_files g.N.Notes.Ledger)
+    _ _ _ (g.I.Read.remaining c.args.input.now) (g.O.Write.contents c.args.output.now) (g.O.Write.contents c.check_noted-examined.new.output) c.in-CheckNoted.is (err_any _ _ (λ run. tt))
+
+pub returns-in-Notes-clause-left : goal.returns-in-Notes-clause-left
+returns-in-Notes-clause-left g c =
+    leaves_as (begins_with g.F.OpenFromFiles.first g.S.Begun.windows g.S.Begun.finished g.S.Begun.aside g.S.Begun.came g.Y.System.told (g.Y.System.deeds c.args.rt.now)) (devices g.F.StoreInFiles.in_files g.N.Notes.Ledger)
+    _ _ _ (g.I.Read.remaining c.args.input.now) (g.O.Write.contents c.args.output.now) (g.O.Write.contents c.work_on_notes.new.output) c.in-Notes.is (err_any _ _ (λ run. tt))
+
+pub returns-in-ListOwners-clause-left : goal.returns-in-ListOwners-clause-left
+returns-in-ListOwners-clause-left g c =
+    leaves_as (begins_with g.F.OpenFromFiles.first g.S.Begun.windows g.S.Begun.finished g.S.Begun.aside g.S.Begun.came g.Y.System.told (g.Y.System.deeds c.args.rt.now)) (devices g.F.StoreInFiles.in_files g.N.Notes.Ledger)
+    _ _ _ (g.I.Read.remaining c.args.input.now) (g.O.Write.contents c.args.output.now) (g.O.Write.contents c.list_all_owners.new.output) c.in-ListOwners.is (err_any _ _ (λ run. tt))
+
+pub returns-in-RenameOwner-clause-left : goal.returns-in-RenameOwner-clause-left
+returns-in-RenameOwner-clause-left g c =
+    leaves_as (begins_with g.F.OpenFromFiles.first g.S.Begun.windows g.S.Begun.finished g.S.Begun.aside g.S.Begun.came g.Y.System.told (g.Y.System.deeds c.args.rt.now)) (devices g.F.StoreInFiles.in_files g.N.Notes.Ledger)
+    _ _ _ (g.I.Read.remaining c.args.input.now) (g.O.Write.contents c.args.output.now) (g.O.Write.contents c.rename_all.new.output) c.in-RenameOwner.is (err_any _ _ (λ run. tt))
+
+pub returns-in-ReleaseSequence-clause-left : goal.returns-in-ReleaseSequence-clause-left
+returns-in-ReleaseSequence-clause-left g c =
+    leaves_as (begins_with g.F.OpenFromFiles.first g.S.Begun.windows g.S.Begun.finished g.S.Begun.aside g.S.Begun.came g.Y.System.told (g.Y.System.deeds c.args.rt.now)) (devices g.F.StoreInFiles.in_files g.N.Notes.Ledger)
+    _ _ _ (g.I.Read.remaining c.args.input.now) (g.O.Write.contents c.args.output.now) (g.O.Write.contents c.release_sequence.new.output) c.in-ReleaseSequence.is (err_any _ _ (λ run. tt))

@@ -1,4 +1,7 @@
+use Rattle.jc_runs.proofs.Acknowledging.{deletes_safely, tells_all}
 use Rattle.jc_runs.proofs.Course.{keeps_on, stands_at_first, turns_whole}
+use Rattle.jc_runs.proofs.Stepping.{Laws}
+use Rattle.jc_runs.proofs.WorkedFiles.{starts_third}
 use Rattle.jc_runs.proofs.WorkedSteps.{it_is_worked}
 use Rattle.jc_runs.proofs.law.runs_keep.Goals as goal
 
@@ -6,11 +9,52 @@ pub returns-clause-begins : goal.returns-clause-begins
 returns-clause-begins c = stands_at_first c.union_laws.ensures.same
 
 pub returns-clause-keeps : goal.returns-clause-keeps
-returns-clause-keeps c =
-    keeps_on (record { stored = c.acknowledged_stored.ensures.stored; found = c.acknowledged_stored.ensures.found; same = c.union_laws.ensures.same })
+returns-clause-keeps c = keeps_on (record {
+  collecting = record {
+    limits = c.default-limits.result;
+    defaults = c.default-limits.ensures;
+    each = c.each_stored.ensures.stored;
+    stored = c.acknowledged_stored.ensures.stored;
+    once = c.one_saying.ensures;
+  };
+  same = c.union_laws.ensures.same;
+})
 
 pub returns-clause-turns : goal.returns-clause-turns
 returns-clause-turns c = turns_whole
 
+pub returns-clause-tells : goal.returns-clause-tells
+returns-clause-tells c = tells_all
+
+pub returns-clause-deletes : goal.returns-clause-deletes
+returns-clause-deletes c = deletes_safely
+
 pub returns-clause-worked : goal.returns-clause-worked
-returns-clause-worked c = it_is_worked
+returns-clause-worked c =
+    let laws : Laws = record {
+      collecting = record {
+        limits = c.default-limits.result;
+        defaults = c.default-limits.ensures;
+        each = c.each_stored.ensures.stored;
+        stored = c.acknowledged_stored.ensures.stored;
+        once = c.one_saying.ensures;
+      };
+      same = c.union_laws.ensures.same;
+    } in
+    it_is_worked laws (record { some = c.one_reading.ensures.some; back = c.canonical_texts_read_back.ensures.whole })
+    (record { head = c.one_head.ensures.one; answer = c.one_answer.ensures })
+
+pub returns-clause-starts : goal.returns-clause-starts
+returns-clause-starts c =
+    let laws : Laws = record {
+      collecting = record {
+        limits = c.default-limits.result;
+        defaults = c.default-limits.ensures;
+        each = c.each_stored.ensures.stored;
+        stored = c.acknowledged_stored.ensures.stored;
+        once = c.one_saying.ensures;
+      };
+      same = c.union_laws.ensures.same;
+    } in
+    starts_third (record { read = c.one_reading-2.ensures.read; known = c.owners_are_no_harm.ensures.known }) laws
+    (record { some = c.one_reading.ensures.some; back = c.canonical_texts_read_back.ensures.whole })

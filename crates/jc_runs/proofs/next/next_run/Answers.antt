@@ -4,7 +4,7 @@ use Rattle.jc_runs.proofs.next.next_run.Goals as goal
 
 pub returns-clause-ended : goal.returns-clause-ended
 returns-clause-ended g c =
-    λ made kind list given old new status b windows image came does clean sound began begins found.
+    λ told done made kind list most_windows given old new status b windows image came deeds does clean sound began begins found.
     let ends = does.stores clean kind b.now began.holds (
       begins_alike (sym began.past) began.noted began.came begins,
       sound,
@@ -19,10 +19,10 @@ returns-clause-ended g c =
       holds = ends.keeps.left image found.image_left;
       is = record {
         text = ends.is.text;
-        input = ends.is.input;
+        listed = ends.is.listed;
         step = record {
           shown = ends.is.stored.stored.shown;
-          holds = end_step _ b _ ends.found windows came _ _ began.past leaves
+          holds = end_step _ _ b _ ends.found windows came _ _ began.past leaves
               (λ k key. left.1.1 k key ∙ g.met.N.Notes.Ledger.durable c.args.notes.now left.0 sound left.1.0 k)
               found.have_come ends.is.stored.kept ends.is.stored.stored.holds;
         };
@@ -31,16 +31,16 @@ returns-clause-ended g c =
 
 pub returns-clause-stopped : goal.returns-clause-stopped
 returns-clause-stopped g c =
-    λ made kind answers b windows image came stops clean began found.
+    λ told done made kind text most_windows answers b windows image came stops clean began found.
     let left = c.show_files.ensures.known windows found.files_left in
     let leaves = leaves_earlier made kind _ b stops.found windows came _ began (c.show_steady.ensures.stay_after clean)
     (c.show_files.ensures.owners windows found.files_left) found.had_come in
     record {
       now = stops.found;
       holds = stops.holds;
-      is = stop_step answers b _ stops.found windows came left.0 _ began.past leaves left.1.1 found.have_come (stops.lags left.0 left.1.0) stops.keeps;
+      is = stop_step _ answers b _ stops.found windows came left.0 _ began.past leaves left.1.1 found.have_come (stops.lags left.0 left.1.0) stops.keeps;
     }
 
 pub returns-clause-begins : goal.returns-clause-begins
-returns-clause-begins g c = λ made kind b now finished aside windows image came holds same.
+returns-clause-begins g c = λ made kind b now finished aside windows image came told deeds holds same.
     record { holds = inl holds; noted = λ k key. refl; owner = λ s. refl; past = same; came = λ e has. has }

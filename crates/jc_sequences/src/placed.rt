@@ -1,5 +1,9 @@
 //! Where the file of a window lies.
 
+ghost use Rattle.std.specs.Prelude.{◌≡◌, ◌∷◌, ◌++◌, IfOk, string_bytes};
+ghost use Rattle.hex.specs.Hex.{encode_lower};
+ghost use Rattle.jc_sequences.specs.Placed.{path_of};
+
 use jc_ledger_files::WindowName;
 use sqlite_disk::Files;
 use sqlite_std_file::{File, OpenError, Unknown, open};
@@ -38,11 +42,21 @@ pub(crate) fn open_file(
 fn path_of(rt: &HostRuntime, folder: &str, name: WindowName) -> io::Result<String> {
     let sequence = folder_of(rt.alloc(), folder, name)?;
     have_folder(rt, folder, &sequence)?;
-    let number = name.window;
-    Ok(format!(in rt.alloc(); "{sequence}/{number}")?)
+    window_path(rt.alloc(), folder, name)
 }
 
-fn folder_of(alloc: Global, folder: &str, name: WindowName) -> io::Result<String> {
+/// The path of a window's file, whether it is there or not.
+pub fn window_path(alloc: Global, folder: &str, name: WindowName) -> io::Result<String>
+    ensures { IfOk result (λ path. string_bytes path ≡ path_of folder.now name) }
+{
+    let sequence = folder_of(alloc, folder, name)?;
+    let number = name.window;
+    Ok(format!(in alloc; "{sequence}/{number}")?)
+}
+
+fn folder_of(alloc: Global, folder: &str, name: WindowName) -> io::Result<String>
+    ensures { IfOk result (λ path. string_bytes path ≡ folder.now ++ 47 ∷ encode_lower name.sequence.0) }
+{
     let digits = hex::encode(alloc, name.sequence.as_bytes())?;
     Ok(format!(in alloc; "{folder}/{digits}")?)
 }
