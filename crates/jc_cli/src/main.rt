@@ -66,7 +66,7 @@ struct Asked<'a, O: Write> {
 impl<'a, O: Write> OverFiles for Asked<'a, O> {
     type Outcome = u8;
 
-    ghost ends = { λ _ status. status ≤ 3 };
+    ghost ends = { λ _ status. status ≤ 4 };
 
     fn over<F: OpenFromFiles>(self, start: F::Start) -> u8 {
         let Asked {

@@ -11,19 +11,19 @@ use Rattle.jc_command_args.specs.declared.request.Request.{Request}
 use Rattle.jc_command_args.specs.Grammar.{IsGrammar, grammar}
 use Rattle.jc_command_args.specs.Words.{AreAnswered, AreRight, AskFor, Asks, AsksNothing}
 
-computed : (collect migrate verify upload ack : ValueParser) → is_simple_and_free (grammar collect migrate verify upload ack) ≡ true
+computed : (collect migrate tasks verify upload ack : ValueParser) → is_simple_and_free (grammar collect migrate tasks verify upload ack) ≡ true
 unfolding clap_on_literals
-computed collect migrate verify upload ack = refl
+computed collect migrate tasks verify upload ack = refl
 
-computed_simple : (collect migrate verify upload ack : ValueParser) → is_simple (grammar collect migrate verify upload ack) ≡ true
+computed_simple : (collect migrate tasks verify upload ack : ValueParser) → is_simple (grammar collect migrate tasks verify upload ack) ≡ true
 unfolding clap_on_literals
-computed_simple collect migrate verify upload ack = refl
+computed_simple collect migrate tasks verify upload ack = refl
 
 pub simple_and_free : (app : App) → IsGrammar app → is_simple_and_free app ≡ true
-simple_and_free app ours = ap is_simple_and_free ours.whole ∙ computed ours.collect ours.migrate ours.verify ours.upload ours.ack
+simple_and_free app ours = ap is_simple_and_free ours.whole ∙ computed ours.collect ours.migrate ours.tasks ours.verify ours.upload ours.ack
 
 pub simple : (app : App) → IsGrammar app → is_simple app ≡ true
-simple app ours = ap is_simple ours.whole ∙ computed_simple ours.collect ours.migrate ours.verify ours.upload ours.ack
+simple app ours = ap is_simple ours.whole ∙ computed_simple ours.collect ours.migrate ours.tasks ours.verify ours.upload ours.ack
 
 -- what clap finds in the words is what they name
 pub right : (app : App) (words : List Text) (r : Result ArgMatches Error) → IsGrammar app → FailsBy (fault_of app words) r

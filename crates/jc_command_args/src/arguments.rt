@@ -1,9 +1,9 @@
 //! The arguments of the commands, as `clap` has them.
 
 ghost use Rattle.std.specs.Prelude.{codes};
-ghost use Rattle.clap.specs.Words.{App};
+ghost use Rattle.clap.specs.Words.{App, new_rule};
 ghost use Rattle.clap.specs.declared.builder.value_parser.ValueParser.{ValueParser};
-ghost use Rattle.jc_command_args.specs.Grammar.{AreKinds, AreTables, IsRule, Makes, flag_rule, kind_rule, number_rule, option_rule, place_rule, required_rule, tables_rule, uploads_rule, with_source};
+ghost use Rattle.jc_command_args.specs.Grammar.{AreKinds, AreTables, AreTasks, IsRule, Makes, flag_rule, kind_rule, number_rule, option_rule, place_rule, required_rule, tables_rule, task_rule, uploads_rule, with_source};
 
 use crate::making::Making;
 use crate::texts;
@@ -14,6 +14,8 @@ use std::alloc::Global;
 static KINDS: [&str; 2] = ["export", "file"];
 
 static TABLES: [&str; 2] = ["2", "3"];
+
+static TASKS: [&str; 3] = ["has", "forget-after", "verify"];
 
 /// The greatest number that an argument takes.
 pub(crate) const MOST: u64 = (1 << 63) - 1;
@@ -82,6 +84,30 @@ pub(crate) fn tables_arg<'a>(alloc: Global, help: &'a str) -> Arg<'a>
     ensures { (tables : ValueParser) × AreTables tables × IsRule result (tables_rule tables) }
 {
     option_arg(alloc, "tables", "N", help).value_parser(TABLES.as_slice())
+}
+
+/// What is to be done with notes.
+pub(crate) fn task_arg<'a>(alloc: Global) -> Arg<'a>
+    ensures { (tasks : ValueParser) × AreTasks tasks × IsRule result (task_rule tasks) }
+{
+    Arg::new(alloc, "TASK")
+        .required(true)
+        .value_parser(TASKS.as_slice())
+        .help(texts::TASK_HELP)
+}
+
+/// `--sequences FOLDER`, which has to be given.
+pub(crate) fn notes_arg<'a>(alloc: Global) -> Arg<'a>
+    ensures { IsRule result (required_rule (codes "sequences")) }
+{
+    option_arg(alloc, "sequences", "FOLDER", texts::NOTES_HELP).required(true)
+}
+
+/// NEW, behind `--rename OLD`.
+pub(crate) fn new_name_arg<'a>(alloc: Global) -> Arg<'a>
+    ensures { IsRule result (new_rule (codes "NEW")) }
+{
+    Arg::new(alloc, "NEW").help(texts::NEW_NAME_HELP)
 }
 
 /// A value that has its place, and has to be given.

@@ -3,19 +3,18 @@
 ghost use Rattle.std.specs.Prelude.{◌≡◌, ◌≢◌, ◌↔◌, ℕ, Option, Some, IsSomeAnd, IsTrue, IfOk, MatchOption, codes, map, option_map};
 ghost use Rattle.clap.specs.Words.{first_of, subcommand_rows_of};
 ghost use Rattle.jc_command_args.specs.declared.request.Source.{Source as SourceWords};
-ghost use Rattle.jc_command_args.specs.Grammar.{kind_name, tables_name};
+ghost use Rattle.jc_command_args.specs.Grammar.{kind_name, tables_name, task_name};
 ghost use Rattle.jc_command_args.specs.Words.{AreTablesOr, AskBy, Asks, AsksNone, AsksNothing, IsGiven, IsNumberIfGiven, IsNumberOr, NameSource, all_given, command_name, given_rows};
 
 use crate::arguments::MOST;
-use crate::request::{InputKind, Request, Source, Tables};
+use crate::request::{InputKind, NotesTask, Request, Source, Tables};
 use clap::ArgMatches;
 use std::alloc::{AllocError, Global};
 
 /// How many entries an upload has at most if no limit is given.
 const ENTRIES: u64 = 1000;
 
-/// What the matches ask for; `None` if they lack what a command requires, name uploads in both ways, or name a folder of
-/// sequences and no list.
+/// What the matches ask for; `None` if they lack what a command requires, or have what doesn't go together.
 pub(crate) fn requested<'a>(
     alloc: Global,
     matches: &ArgMatches<'a>,
@@ -42,11 +41,14 @@ fn other_request<'a>(name: &str, given: &ArgMatches<'a>) -> Option<Request<'a>>
         "export" => export_request(given),
         "show" => show_request(given),
         "check" => check_request(given),
+        "notes" => notes_request(given),
+        "owners" => owners_request(given),
         "migrate" => migrate_request(given),
         "verify" => verify_request(given),
         "inspect" => inspect_request(given),
         "upload" => upload_request(given),
         "ack" => ack_request(given),
+        "acknowledged" => acknowledged_request(given),
         "codes" => Some(Request::ListCodes),
         _ => None,
     }
@@ -54,9 +56,27 @@ fn other_request<'a>(name: &str, given: &ArgMatches<'a>) -> Option<Request<'a>>
 
 /// Whether the matches name a folder of sequences, and no list of uploads.
 pub(crate) fn lacks_list(matches: &ArgMatches<'_>) -> bool {
+    has_alone(matches, "sequences", "files-from")
+}
+
+/// Whether the matches bound windows of sequences, and name no folder of these.
+pub(crate) fn lacks_sequences(matches: &ArgMatches<'_>) -> bool {
+    has_alone(matches, "most-windows", "sequences")
+}
+
+/// Whether the matches are those of `owners`.
+pub(crate) fn is_about_owners(matches: &ArgMatches<'_>) -> bool {
+    match matches.subcommand() {
+        Some((name, _)) => name == "owners",
+        None => false,
+    }
+}
+
+/// Whether one argument is given, and another one isn't.
+fn has_alone(matches: &ArgMatches<'_>, one: &str, other: &str) -> bool {
     match matches.subcommand() {
         Some((_, given)) => {
-            text_given(given, "sequences").is_some() && text_given(given, "files-from").is_none()
+            text_given(given, one).is_some() && text_given(given, other).is_none()
         }
         None => false,
     }
@@ -75,8 +95,12 @@ fn collect_request<'a>(
     let Some(tables) = tables_given(given) else {
         return Ok(None);
     };
+    let most_windows = match number_if_given(given, "most-windows") {
+        Some(most_windows) => most_windows,
+        None => return Ok(None),
+    };
     let uploads = texts_given(alloc, given, "UPLOAD")?;
-    Ok(collect_by(given, database, tables, uploads))
+    Ok(collect_by(given, database, tables, most_windows, uploads))
 }
 
 /// A `collect` of uploads that are named, or of those that a list names.
@@ -84,10 +108,12 @@ fn collect_by<'a>(
     given: &ArgMatches<'a>,
     database: &'a str,
     tables: Tables,
+    most_windows: Option<u64>,
     uploads: Vec<&'a str>,
 ) -> Option<Request<'a>>
     ensures { IsGiven (given_rows given.now) (codes "DB") database.entry.now
         → AreTablesOr Tables.ByKey (first_of (codes "tables") (given_rows given.now)) tables
+        → IsNumberIfGiven (first_of (codes "most-windows") (given_rows given.now)) most_windows
         → map (λ text. text.now) uploads.entry.items ≡ all_given (given_rows given.now) (codes "UPLOAD")
         → MatchOption result (AsksNone (given_rows given.now) (codes "collect"))
         (λ request. (command_name request ≡ codes "collect") × AskBy (given_rows given.now) request) }
@@ -95,23 +121,26 @@ fn collect_by<'a>(
     let then_export = text_given(given, "then-export");
     let sequences = text_given(given, "sequences");
     match (text_given(given, "files-from"), sequences) {
-        (None, None) => Some(Request::Collect {
+        (None, None) if most_windows.is_none() => Some(Request::Collect {
             database,
             tables,
             uploads,
             then_export,
         }),
-        (Some(list), None) if uploads.is_empty() => Some(Request::CollectListed {
-            database,
-            tables,
-            list,
-            then_export,
-        }),
+        (Some(list), None) if uploads.is_empty() && most_windows.is_none() => {
+            Some(Request::CollectListed {
+                database,
+                tables,
+                list,
+                then_export,
+            })
+        }
         (Some(list), Some(sequences)) if uploads.is_empty() => Some(Request::CollectIntoUnion {
             database,
             tables,
             list,
             sequences,
+            most_windows,
             then_export,
         }),
         _ => None,
@@ -147,7 +176,58 @@ fn check_request<'a>(given: &ArgMatches<'a>) -> Option<Request<'a>>
         (λ request. (command_name request ≡ codes "check") × AskBy (given_rows given.now) request) }
 {
     let database = text_given(given, "DB")?;
-    Some(Request::Check { database })
+    match text_given(given, "sequences") {
+        Some(sequences) => Some(Request::CheckNoted {
+            database,
+            sequences,
+        }),
+        None => Some(Request::Check { database }),
+    }
+}
+
+fn notes_request<'a>(given: &ArgMatches<'a>) -> Option<Request<'a>>
+    ensures { MatchOption result (AsksNone (given_rows given.now) (codes "notes"))
+        (λ request. (command_name request ≡ codes "notes") × AskBy (given_rows given.now) request) }
+{
+    let sequences = text_given(given, "sequences")?;
+    let task = task_of(text_given(given, "TASK")?)?;
+    Some(Request::Notes { sequences, task })
+}
+
+fn task_of(text: &str) -> Option<NotesTask>
+    ensures { MatchOption result ((task : NotesTask) → task_name task ≢ text.now)
+        (λ task. task_name task ≡ text.now) }
+{
+    match text {
+        "has" => Some(NotesTask::Has),
+        "forget-after" => Some(NotesTask::ForgetAfter),
+        "verify" => Some(NotesTask::Verify),
+        _ => None,
+    }
+}
+
+fn owners_request<'a>(given: &ArgMatches<'a>) -> Option<Request<'a>>
+    ensures { MatchOption result (AsksNone (given_rows given.now) (codes "owners"))
+        (λ request. (command_name request ≡ codes "owners") × AskBy (given_rows given.now) request) }
+{
+    let sequences = text_given(given, "sequences")?;
+    match (
+        text_given(given, "rename"),
+        text_given(given, "NEW"),
+        text_given(given, "release"),
+    ) {
+        (None, None, None) => Some(Request::ListOwners { sequences }),
+        (Some(old), Some(new), None) => Some(Request::RenameOwner {
+            sequences,
+            old,
+            new,
+        }),
+        (None, None, Some(sequence)) => Some(Request::ReleaseSequence {
+            sequences,
+            sequence,
+        }),
+        _ => None,
+    }
 }
 
 fn migrate_request<'a>(given: &ArgMatches<'a>) -> Option<Request<'a>>
@@ -175,12 +255,14 @@ fn inspect_request<'a>(given: &ArgMatches<'a>) -> Option<Request<'a>>
     let most_entries = number_given(given, "most-entries", MOST)?;
     let most_fields = number_given(given, "most-fields", MOST)?;
     let most_bytes = number_given(given, "most-bytes", MOST)?;
+    let most_windows = number_given(given, "most-windows", MOST)?;
     let file = text_given(given, "FILE")?;
     Some(Request::Inspect {
         file,
         most_entries,
         most_fields,
         most_bytes,
+        most_windows,
     })
 }
 
@@ -206,6 +288,14 @@ fn ack_request<'a>(given: &ArgMatches<'a>) -> Option<Request<'a>>
 {
     let source = source_given(given)?;
     Some(Request::Ack { source })
+}
+
+fn acknowledged_request<'a>(given: &ArgMatches<'a>) -> Option<Request<'a>>
+    ensures { MatchOption result (AsksNone (given_rows given.now) (codes "acknowledged"))
+        (λ request. (command_name request ≡ codes "acknowledged") × AskBy (given_rows given.now) request) }
+{
+    let upload = text_given(given, "UPLOAD")?;
+    Some(Request::Acknowledged { upload })
 }
 
 fn source_given<'a>(given: &ArgMatches<'a>) -> Option<Source<'a>>

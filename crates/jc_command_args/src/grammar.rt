@@ -3,11 +3,11 @@
 ghost use Rattle.std.specs.Prelude.{IfOk, codes};
 ghost use Rattle.clap.specs.Words.{app_of, new_app};
 ghost use Rattle.clap.specs.declared.builder.value_parser.ValueParser.{ValueParser};
-ghost use Rattle.jc_command_args.specs.Grammar.{AreKinds, AreTables, IsGrammar, Makes, ack_grammar, collect_grammar, collector_grammar, database_grammar, inspect_grammar, migrate_grammar, show_grammar, top_grammar, upload_grammar, verify_grammar};
+ghost use Rattle.jc_command_args.specs.Grammar.{AreKinds, AreTables, AreTasks, IsGrammar, Makes, ack_grammar, acknowledged_grammar, check_grammar, collect_grammar, collector_grammar, database_grammar, databases_grammar, inspect_grammar, migrate_grammar, notes_grammar, owners_grammar, show_grammar, top_grammar, upload_grammar, verify_grammar};
 
 use crate::arguments::{
-    flag_arg, kind_arg, list_arg, number_arg, option_arg, place_arg, sequences_arg, tables_arg,
-    then_export_arg, uploads_arg, with_source,
+    flag_arg, kind_arg, list_arg, new_name_arg, notes_arg, number_arg, option_arg, place_arg,
+    sequences_arg, tables_arg, task_arg, then_export_arg, uploads_arg, with_source,
 };
 use crate::codes::CODES;
 use crate::making::Making;
@@ -24,14 +24,25 @@ pub(crate) fn program<'a>(alloc: Global) -> Result<Box<Command<'a>>, AllocError>
         .subcommand(inspect_command(alloc))
         .subcommand(upload_command(alloc))
         .subcommand(ack_command(alloc))
+        .subcommand(acknowledged_command(alloc))
         .subcommand(codes_command(alloc))
         .command
 }
 
-/// The program with the commands over a database.
+/// The program with the collector's commands.
 fn collector<'a>(alloc: Global) -> Making<'a>
+    ensures { (collect migrate tasks : ValueParser) × AreTables collect × AreTables migrate × AreTasks tasks
+        × Makes result (collector_grammar collect migrate tasks) }
+{
+    over_databases(alloc)
+        .subcommand(notes_command(alloc))
+        .subcommand(owners_command(alloc))
+}
+
+/// The program with the commands over a database.
+fn over_databases<'a>(alloc: Global) -> Making<'a>
     ensures { (collect migrate : ValueParser) × AreTables collect × AreTables migrate
-        × Makes result (collector_grammar collect migrate) }
+        × Makes result (databases_grammar collect migrate) }
 {
     top(alloc)
         .subcommand(collect_command(alloc))
@@ -63,6 +74,7 @@ pub(crate) fn collect_command<'a>(alloc: Global) -> Making<'a>
         .arg(uploads_arg(alloc))
         .arg(list_arg(alloc))
         .arg(sequences_arg(alloc))
+        .arg(number_arg(alloc, "most-windows", texts::MOST_WINDOWS_HELP))
         .arg(then_export_arg(alloc))
         .arg(tables_arg(alloc, texts::MADE_TABLES_HELP))
 }
@@ -84,9 +96,14 @@ fn show_command<'a>(alloc: Global) -> Making<'a>
 }
 
 fn check_command<'a>(alloc: Global) -> Making<'a>
-    ensures { Makes result (database_grammar (codes "check")) }
+    ensures { Makes result check_grammar }
 {
-    database_command(alloc, "check", texts::CHECK, texts::CHECK_MORE)
+    database_command(alloc, "check", texts::CHECK, texts::CHECK_MORE).arg(option_arg(
+        alloc,
+        "sequences",
+        "FOLDER",
+        texts::CHECKED_NOTES_HELP,
+    ))
 }
 
 fn migrate_command<'a>(alloc: Global) -> Making<'a>
@@ -96,6 +113,24 @@ fn migrate_command<'a>(alloc: Global) -> Making<'a>
         alloc,
         texts::NEW_TABLES_HELP,
     ))
+}
+
+fn notes_command<'a>(alloc: Global) -> Making<'a>
+    ensures { (tasks : ValueParser) × AreTasks tasks × Makes result (notes_grammar tasks) }
+{
+    new_command(alloc, "notes", texts::NOTES, texts::NOTES_MORE)
+        .arg(notes_arg(alloc))
+        .arg(task_arg(alloc))
+}
+
+pub(crate) fn owners_command<'a>(alloc: Global) -> Making<'a>
+    ensures { Makes result owners_grammar }
+{
+    new_command(alloc, "owners", texts::OWNERS, texts::OWNERS_MORE)
+        .arg(notes_arg(alloc))
+        .arg(option_arg(alloc, "rename", "OLD", texts::RENAME_HELP))
+        .arg(option_arg(alloc, "release", "SEQUENCE", texts::RELEASE_HELP))
+        .arg(new_name_arg(alloc))
 }
 
 fn verify_command<'a>(alloc: Global) -> Making<'a>
@@ -114,6 +149,7 @@ fn inspect_command<'a>(alloc: Global) -> Making<'a>
         .arg(number_arg(alloc, "most-entries", texts::MOST_ENTRIES_HELP))
         .arg(number_arg(alloc, "most-fields", texts::MOST_FIELDS_HELP))
         .arg(number_arg(alloc, "most-bytes", texts::MOST_BYTES_HELP))
+        .arg(number_arg(alloc, "most-windows", texts::MOST_WINDOWS_HELP))
 }
 
 fn upload_command<'a>(alloc: Global) -> Making<'a>
@@ -131,6 +167,18 @@ fn ack_command<'a>(alloc: Global) -> Making<'a>
 {
     let command = new_command(alloc, "ack", texts::ACK, texts::ACK_MORE);
     with_source(alloc, command)
+}
+
+fn acknowledged_command<'a>(alloc: Global) -> Making<'a>
+    ensures { Makes result acknowledged_grammar }
+{
+    new_command(
+        alloc,
+        "acknowledged",
+        texts::ACKNOWLEDGED,
+        texts::ACKNOWLEDGED_MORE,
+    )
+    .arg(place_arg(alloc, "UPLOAD", texts::UPLOAD_FILE_HELP))
 }
 
 fn codes_command<'a>(alloc: Global) -> Making<'a>

@@ -11,5 +11,5 @@ mod texts;
 mod words;
 
 pub use codes::CODES;
-pub use request::{InputKind, Request, Source, Tables};
+pub use request::{InputKind, NotesTask, Request, Source, Tables};
 pub use words::parse;

@@ -22,12 +22,13 @@ pub enum Request<'a> {
         then_export: Option<&'a str>,
     },
     /// The same, where this database and those whose entries are noted in a folder are one journal. Their new entries are
-    /// noted there too.
+    /// noted there too. An upload that touches more windows of sequences is refused, if they are bounded.
     CollectIntoUnion {
         database: &'a str,
         tables: Tables,
         list: &'a str,
         sequences: &'a str,
+        most_windows: Option<u64>,
         then_export: Option<&'a str>,
     },
     /// All entries of the journal of a database, as an export stream.
@@ -47,6 +48,31 @@ pub enum Request<'a> {
     Check {
         database: &'a str,
     },
+    /// The same, and how many of its entries aren't noted in a folder; or which one differs from its note.
+    CheckNoted {
+        database: &'a str,
+        sequences: &'a str,
+    },
+    /// What is to be done with the notes in a folder.
+    Notes {
+        sequences: &'a str,
+        task: NotesTask,
+    },
+    /// Which sequence is which machine's, by the notes in a folder.
+    ListOwners {
+        sequences: &'a str,
+    },
+    /// What is noted there as a machine's is noted as another one's.
+    RenameOwner {
+        sequences: &'a str,
+        old: &'a str,
+        new: &'a str,
+    },
+    /// A sequence, by the digits of its id, is nobody's any more.
+    ReleaseSequence {
+        sequences: &'a str,
+        sequence: &'a str,
+    },
     /// The journal of a database put into these tables, or what is wrong with it.
     Migrate {
         database: &'a str,
@@ -58,12 +84,13 @@ pub enum Request<'a> {
         file: &'a str,
     },
     /// What the file says as an upload, up to the first entry with which it has more than this many entries, fields of
-    /// all of them, or bytes of these fields' names and values.
+    /// all of them, or bytes of these fields' names and values, or touches more windows of sequences.
     Inspect {
         file: &'a str,
         most_entries: u64,
         most_fields: u64,
         most_bytes: u64,
+        most_windows: u64,
     },
     /// The next upload of a source, of at most this many entries, and of no more than fit in this many bytes, if they are
     /// bounded; if it is to be whole, a collector takes all of it or nothing.
@@ -77,8 +104,23 @@ pub enum Request<'a> {
     Ack {
         source: Source<'a>,
     },
+    /// Whether answers acknowledge all of an upload.
+    Acknowledged {
+        upload: &'a str,
+    },
     /// What each code means.
     ListCodes,
+}
+
+/// What is to be done with notes.
+#[derive(Clone, Copy)]
+pub enum NotesTask {
+    /// To say of each key on standard input whether it is noted.
+    Has,
+    /// To keep so many notes of each window on standard input.
+    ForgetAfter,
+    /// To read all of them.
+    Verify,
 }
 
 /// The tables of a database.

@@ -19,6 +19,7 @@ Exit status:
   1  what was read or asked for is refused
   2  the command line is wrong
   3  a file, the database, standard output or memory failed
+  4  of `acknowledged`: no answer is about the upload
 
 share/doc/journal-collect, where this program is installed, has a guide (GUIDE.md), every rule (FORMATS.md), and how
 large things can be and how fast (PERFORMANCE.md).
@@ -44,6 +45,17 @@ pub(crate) const TWO_LISTS: &str =
 /// The mistake in arguments that name a folder of sequences, and uploads in another way than by a list.
 pub(crate) const NO_LIST: &str =
     "the argument '--sequences <FOLDER>' cannot be used without '--files-from <FILE>'";
+
+/// The mistake in arguments that bound the windows of sequences, and name no folder of these.
+pub(crate) const NO_SEQUENCES: &str =
+    "the argument '--most-windows <N>' cannot be used without '--sequences <FOLDER>'";
+
+/// The name of the command in usage lines.
+pub(crate) const OWNERS_NAME: &str = "journal-collect owners";
+
+/// The mistake in arguments that change owners in two ways, or half.
+pub(crate) const NO_CHANGE: &str =
+    "the argument '--rename <OLD>' needs NEW, which goes with it alone, and cannot be used with '--release <SEQUENCE>'";
 
 pub(crate) const COLLECT_MORE: &str =
     "The database is made if it is missing or empty. Prints one line for each upload, in their order:
@@ -106,9 +118,34 @@ pub(crate) const CHECK_MORE: &str = "Prints one line:
   bad 64 0    it isn't a database of this program, or it is damaged
   bad 65 ROW  the row with this number, counted from 0, isn't an entry
   bad 67 0    its tables are of an older version: see `migrate`
+With --sequences it compares the entries with their notes, and notes nothing:
+  ok COUNT LEFT  none of COUNT entries differs from its note; LEFT of them have none
+  bad 60 PLACE   this entry, counted from 0 in the order of `export`, differs from its note
 
 Example: a database of one entry prints `ok 1`
   journal-collect check logs.db";
+
+pub(crate) const NOTES: &str = "Reads or shortens the notes of sequences in a folder";
+
+pub(crate) const NOTES_MORE: &str = "TASK is one of three:
+  has           for each line `SEQUENCE NUMBER` of standard input, `noted` or `lacking`
+  forget-after  for each line `SEQUENCE WINDOW COUNT`, only the first COUNT notes of this window stay
+  verify        for each window `SEQUENCE WINDOW COUNT SHA256`, how many notes it has and their sum; or
+                `bad SEQUENCE WINDOW`, if its file can't be read, or has a note of another window
+A window has 4,096 numbers of a sequence. What is forgotten may be stored again. Nobody may store meanwhile.
+
+Example: whether entry 17 of a sequence is stored
+  echo a0a1a2a3a4a5a6a7a8a9aaabacadaeaf 17 | journal-collect notes --sequences sequences has";
+
+pub(crate) const OWNERS: &str = "Prints or changes which machine each sequence belongs to";
+
+pub(crate) const OWNERS_MORE: &str = "Prints a line for each sequence that is a machine's:
+  SEQUENCE SHA256  the digest of the machine's name
+With --rename or --release, it does so for each sequence that it changes, with the digest that is noted then; a sequence
+that is nobody's has `-`. Nobody may store meanwhile.
+
+Example: the machine web is now called web1
+  journal-collect owners --sequences sequences --rename web web1";
 
 pub(crate) const MIGRATE: &str = "Puts the entries of a database with older tables into newer ones";
 
@@ -170,6 +207,20 @@ Example: the collector's answers to the uploads of today.export
   journal-collect ack --source a0a1a2a3a4a5a6a7a8a9aaabacadaeaf --resume today.resume \\
     export today.export < today.answers";
 
+pub(crate) const ACKNOWLEDGED: &str =
+    "Reads the collector's answers from standard input and says whether all of an upload is stored";
+
+pub(crate) const ACKNOWLEDGED_MORE: &str =
+    "UPLOAD is one that `upload --whole` wrote, from the first entry of its source on; else the status is 2.
+
+Exit status:
+  0  an answer acknowledges all of it
+  1  none does, and the last one that refuses it is printed
+  4  no answer is about it
+
+Example: a machine deletes what is stored
+  journal-collect acknowledged today.upload < today.answers && rm today.upload";
+
 pub(crate) const CODES_ABOUT: &str =
     "Prints what the codes in answers and in `bad` lines mean, and what to do";
 
@@ -183,6 +234,23 @@ pub(crate) const LIST_HELP: &str =
 
 pub(crate) const SEQUENCES_HELP: &str =
     "The databases whose entries are noted in FOLDER and DB are one journal; with --files-from alone";
+
+pub(crate) const NOTES_HELP: &str = "The folder in which sequences have their notes";
+
+pub(crate) const CHECKED_NOTES_HELP: &str =
+    "Compare the entries with those that are noted in FOLDER";
+
+pub(crate) const TASK_HELP: &str = "What is to be done with the notes";
+
+pub(crate) const RENAME_HELP: &str = "What belongs to the machine OLD belongs to NEW from now on";
+
+pub(crate) const NEW_NAME_HELP: &str = "The other name of the machine OLD";
+
+pub(crate) const RELEASE_HELP: &str =
+    "This sequence belongs to the machine that brings a new entry of it next";
+
+pub(crate) const MOST_WINDOWS_HELP: &str =
+    "Refuse an upload at the first entry with which it touches over N windows of 4,096 numbers";
 
 pub(crate) const THEN_EXPORT_HELP: &str =
     "A file that gets all stored entries as an export stream, once the uploads are answered";

@@ -4,8 +4,8 @@ ghost use Rattle.std.specs.Prelude.{◌≡◌, ◌⊎◌, IfOk, IfErr, IsSomeAnd
 ghost use Rattle.clap.specs.Words.{kind_of, subcommand_rows_of};
 ghost use Rattle.jc_command_args.specs.Words.{AreAnswered, AreRight, AskFor, Asks, AsksNothing};
 
-use crate::asked::{lacks_list, requested};
-use crate::grammar::{collect_command, program};
+use crate::asked::{is_about_owners, lacks_list, lacks_sequences, requested};
+use crate::grammar::{collect_command, owners_command, program};
 use crate::making::named;
 use crate::request::Request;
 use crate::texts;
@@ -53,27 +53,36 @@ fn found<'a>(alloc: Global, words: &'a [String]) -> Result<ArgMatches<'a>, Error
 fn mistake(alloc: Global, matches: &ArgMatches<'_>) -> Error
     ensures { (kind_of result ≡ ErrorKind.OutOfMemory) ⊎ (kind_of result ≡ ErrorKind.ArgumentConflict) }
 {
-    match conflict(alloc, mistake_in(matches)) {
+    match conflict(alloc, matches) {
         Ok(error) => error,
         Err(refused) => Error::from(refused),
     }
 }
 
-/// What is wrong with a `collect` that asks for nothing: its uploads are named in both ways, or not as its folder of
-/// sequences needs it. All else that a command requires is there once `clap` has passed the arguments.
+/// What is wrong with arguments that ask for nothing: those of `owners` change it in two ways or in none, or uploads are
+/// named in both ways, or not as the folder of sequences needs it. All else that a command requires is there once `clap` has
+/// passed the arguments.
 fn mistake_in(matches: &ArgMatches<'_>) -> &'static str {
-    if lacks_list(matches) {
+    if is_about_owners(matches) {
+        texts::NO_CHANGE
+    } else if lacks_list(matches) {
         texts::NO_LIST
+    } else if lacks_sequences(matches) {
+        texts::NO_SEQUENCES
     } else {
         texts::TWO_LISTS
     }
 }
 
-/// A mistake in the arguments of `collect`, as `clap` puts such mistakes.
-fn conflict(alloc: Global, text: &str) -> Result<Error, AllocError>
+/// A mistake in the arguments of `collect` or `owners`, as `clap` puts such mistakes.
+fn conflict(alloc: Global, matches: &ArgMatches<'_>) -> Result<Error, AllocError>
     ensures { IfOk result (λ e. kind_of e ≡ ErrorKind.ArgumentConflict) }
 {
-    let collect = named(alloc, collect_command(alloc).command, texts::COLLECT_NAME);
-    let mut collect = Box::into_inner(collect?);
-    collect.error(ErrorKind::ArgumentConflict, text)
+    let command = if is_about_owners(matches) {
+        named(alloc, owners_command(alloc).command, texts::OWNERS_NAME)
+    } else {
+        named(alloc, collect_command(alloc).command, texts::COLLECT_NAME)
+    };
+    let mut command = Box::into_inner(command?);
+    command.error(ErrorKind::ArgumentConflict, mistake_in(matches))
 }

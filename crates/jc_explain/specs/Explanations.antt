@@ -80,11 +80,12 @@ module _ (subject : Subject) where
     pub rest : List ℕ
     pub begins : line ≡ codes "bad 60 " ++ rest
 
-  -- What is said of a line: of a failure, of an answer that is none, of an entry that differs from the one that is noted,
+  -- What is said of a line: of a failure, of a line that is no answer or isn't read, of an entry that differs from the one that is noted,
   -- of another code, or of a reading that had no complete entry.
   pub data Explains (table line : List ℕ) (text : List ℕ) : Type 0 where
     failed : (told : Failure) → IsPlain told → line_of told ≡ line → SaysFailure told text → Explains table line text
     no_answer : (rest : List ℕ) → line ≡ codes "bad answer " ++ rest → text ≡ advice_of (failure.BadAnswer 0) → Explains table line text
+    no_line : (rest : List ℕ) → line ≡ codes "bad line " ++ rest → text ≡ advice_of (failure.BadLine 0) → Explains table line text
     differs : (path folder : List ℕ) → Differs line path folder → text ≡ differs_text path folder → Explains table line text
     refused : (code : ℕ) → ((path folder : List ℕ) → ¬ Differs line path folder) → HasCode line code → SaysCode table code text
         → Explains table line text

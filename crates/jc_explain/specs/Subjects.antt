@@ -32,16 +32,22 @@ Concerns (request.Collect database tables uploads then_export) subject =
     IsAbout subject (Some database.now) true None (map (λ path. path.now) uploads.items) true
 Concerns (request.CollectListed database tables list then_export) subject =
     IsAbout subject (Some database.now) true None (list.now ∷ []) true
-Concerns (request.CollectIntoUnion database tables list sequences then_export) subject =
+Concerns (request.CollectIntoUnion database tables list sequences most_windows then_export) subject =
     IsAbout subject (Some database.now) true (Some sequences.now) (list.now ∷ []) true
 Concerns (request.Export database) subject = IsAbout subject (Some database.now) false None [] false
 Concerns (request.Show database field id first last) subject = IsAbout subject (Some database.now) false None [] false
 Concerns (request.Check database) subject = IsAbout subject (Some database.now) false None [] true
+Concerns (request.CheckNoted database sequences) subject = IsAbout subject (Some database.now) false (Some sequences.now) [] true
+Concerns (request.Notes sequences task) subject = IsAbout subject None false (Some sequences.now) [] true
+Concerns (request.ListOwners sequences) subject = IsAbout subject None false (Some sequences.now) [] true
+Concerns (request.RenameOwner sequences old new) subject = IsAbout subject None false (Some sequences.now) [] true
+Concerns (request.ReleaseSequence sequences sequence) subject = IsAbout subject None false (Some sequences.now) [] true
 Concerns (request.Migrate database tables) subject = IsAbout subject (Some database.now) false None [] true
 Concerns (request.Verify kind file) subject = IsAbout subject None false None (file.now ∷ []) true
-Concerns (request.Inspect file most_entries most_fields most_bytes) subject = IsAbout subject None false None (file.now ∷ []) true
+Concerns (request.Inspect file most_entries most_fields most_bytes most_windows) subject = IsAbout subject None false None (file.now ∷ []) true
 Concerns (request.Upload source limit most_bytes whole) subject = ReadsSource source subject
 Concerns (request.Ack source) subject = ReadsSource source subject
+Concerns (request.Acknowledged upload) subject = IsAbout subject None false None (upload.now ∷ []) true
 Concerns request.ListCodes subject = IsAboutNothing subject
 
 -- What words ask to be worked on; nothing if they are answered with a mistake or with help, or memory was refused to read

@@ -30,6 +30,8 @@ text_of cause.Unknown = codes "can't be opened, and nothing about it says why: h
 abbrev pub advice_of : Failure → List ℕ
 advice_of failure.BadResume = codes "the resume file has something else in it: remove it and take a new id"
 advice_of (failure.BadAnswer _) = codes "this line of standard input is no answer: give `ack` what `collect` printed"
+advice_of (failure.BadLine _) = codes "this line of standard input isn't one that the command reads: see its manual page"
+advice_of failure.BadUpload = codes "the file is no whole upload of an export stream: name one that `upload --whole` made"
 advice_of failure.BadId = codes "an id is 32 hexadecimal digits: write it without dashes"
 advice_of failure.BadFieldName = codes "a field's name has no `=` and no newline in it, and does not begin with `__`"
 advice_of failure.BadDatabaseName = codes "SQLite takes a name that begins with `:` or `file:` for something else: write `./` in front of it"
@@ -46,5 +48,6 @@ abbrev pub IsPlain : Failure → Type 0
 IsPlain (failure.Bad _) = ⊥
 IsPlain failure.SourceChanged = ⊥
 IsPlain (failure.BadAnswer _) = ⊥
+IsPlain (failure.BadLine _) = ⊥
 IsPlain failure.WordsAreNoText = ⊥
 IsPlain _ = ⊤

@@ -1,6 +1,6 @@
 //! Runs of which what is refused or fails is explained.
 
-ghost use Rattle.std.specs.Prelude.{◌≡◌, ◌≢◌, ◌≤◌, ℕ, List, Option as Maybe, map, string_bytes};
+ghost use Rattle.std.specs.Prelude.{◌≡◌, ◌≢◌, ◌≤◌, ℕ, List, None, Option as Maybe, map, string_bytes};
 ghost use Rattle.jc_command_shared.specs.Status.{number_of};
 ghost use Rattle.jc_command_shared.specs.declared.status.Status.{Status};
 ghost use Rattle.jc_command.specs.Run.{EndsWithin, begins_with, devices};
@@ -26,11 +26,11 @@ pub fn explained<'a, F: OpenFromFiles, S: Begun, I: Read, O: Write + Drop, E: Wr
     output: &mut Watched<O>,
     errors: &mut Watched<E>,
 ) -> u8
-    ensures status { result ≤ 3 }
+    ensures status { result ≤ 4 }
     // `told` is what `errors` had before the explanations, and what came then goes on from there.
     ensures ended { (status : Status) → status ≢ Status.Failed → result ≡ number_of status → (told : Maybe (List ℕ))
-        × EndsWithin (begins_with F.first S.windows S.finished S.aside S.came) (devices F.in_files ⟦<Sequences<'a, S> as Ledger>⟧)
-        (map string_bytes words.items) (I.remaining input.old) (O.contents output.old.inner) (O.contents output.new.inner)
+        × EndsWithin (begins_with F.first S.windows S.finished S.aside S.came (λ _. None) None) (devices F.in_files ⟦<Sequences<'a, S> as Ledger>⟧)
+        None (map string_bytes words.items) (I.remaining input.old) (O.contents output.old.inner) (O.contents output.new.inner)
         (E.contents errors.old.inner) told status
         × TellsOn (map string_bytes words.items) CODES.now told (E.contents errors.new.inner) }
 {

@@ -28,6 +28,7 @@ pub fn failure_of<'a>(line: &'a str) -> Option<Failure<'a>>
         "write failed" => Some(Failure::WriteFailed),
         "store failed" => Some(Failure::StoreFailed),
         "out of memory" => Some(Failure::OutOfMemory),
+        "bad upload" => Some(Failure::BadUpload),
         _ => None,
     }
 }
@@ -42,6 +43,12 @@ pub fn advice(failure: &Failure<'_>) -> &'static str
         }
         Failure::BadAnswer(_) => {
             "this line of standard input is no answer: give `ack` what `collect` printed"
+        }
+        Failure::BadLine(_) => {
+            "this line of standard input isn't one that the command reads: see its manual page"
+        }
+        Failure::BadUpload => {
+            "the file is no whole upload of an export stream: name one that `upload --whole` made"
         }
         Failure::BadId => "an id is 32 hexadecimal digits: write it without dashes",
         Failure::BadFieldName => {

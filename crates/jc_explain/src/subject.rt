@@ -57,6 +57,17 @@ fn subject_in<'a>(alloc: Global, request: Request<'a>) -> Result<Subject<'a>, Al
         Request::Check { database } | Request::Migrate { database, .. } => {
             Ok(over_database(alloc, Some(database), true))
         }
+        Request::CheckNoted {
+            database,
+            sequences,
+        } => Ok(over_notes(alloc, Some(database), sequences)),
+        Request::Notes { sequences, .. }
+        | Request::ListOwners { sequences }
+        | Request::RenameOwner { sequences, .. }
+        | Request::ReleaseSequence { sequences, .. } => Ok(over_notes(alloc, None, sequences)),
+        Request::Acknowledged { upload } => {
+            Ok(over_files(Vec::from_slice(alloc, &[upload])?, true))
+        }
         Request::Verify { file, .. } | Request::Inspect { file, .. } => {
             Ok(over_files(Vec::from_slice(alloc, &[file])?, true))
         }
@@ -94,6 +105,18 @@ fn over_database<'a>(alloc: Global, database: Option<&'a str>, answers: bool) ->
         sequences: None,
         files: Vec::new(alloc),
         answers,
+    }
+}
+
+fn over_notes<'a>(alloc: Global, database: Option<&'a str>, sequences: &'a str) -> Subject<'a>
+    ensures { IsAbout result (option_map (λ path. path.now) database.entry) false (Some sequences.entry.now) [] true }
+{
+    Subject {
+        database,
+        makes: false,
+        sequences: Some(sequences),
+        files: Vec::new(alloc),
+        answers: true,
     }
 }
 

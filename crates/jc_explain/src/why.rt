@@ -22,6 +22,9 @@ const DIFFERS: &str = "bad 60 ";
 /// What begins the line of a line that is no answer. Its number is behind.
 const BAD_ANSWER: &str = "bad answer ";
 
+/// What begins the line of a line that a command doesn't read. Its number is behind.
+const BAD_LINE: &str = "bad line ";
+
 /// What is to be said about a line, if anything is.
 pub(crate) fn explanation(
     rt: &HostRuntime,
@@ -35,6 +38,10 @@ pub(crate) fn explanation(
     }
     if line.starts_with(BAD_ANSWER) {
         let told = advice(&Failure::BadAnswer(0));
+        return Ok(Some(String::from_str(rt.alloc(), told)?));
+    }
+    if line.starts_with(BAD_LINE) {
+        let told = advice(&Failure::BadLine(0));
         return Ok(Some(String::from_str(rt.alloc(), told)?));
     }
     if let Some((database, folder)) = noted_beside(subject, line) {

@@ -40,11 +40,12 @@ number_or_null word = if bytes_eq word (codes "-") then codes "null" else word
 -- The words of what an upload has, behind `upload` and a blank.
 abbrev pub SaysUpload : Upload → List ℕ → Type 0
 SaysUpload upload rest = rest ≡ upload.source.now ++ 32 ∷ (upload.start.now ++ 32 ∷ (upload.entries.now ++ 32 ∷ (upload.left.now
-    ++ 32 ∷ (upload.id.now ++ 32 ∷ upload.number.now))))
+    ++ 32 ∷ (upload.id.now ++ 32 ∷ (upload.number.now ++ 32 ∷ upload.windows.now)))))
 
--- what the object ends with: the last entry's id and number, as they are spelled
-abbrev pub end_text : (id number : List ℕ) → List ℕ
-end_text id number = codes ",\"id\":" ++ (id ++ (codes ",\"number\":" ++ (number ++ codes "}")))
+-- what the object ends with: the last entry's id and number, as they are spelled, and the windows
+abbrev pub end_text : (id number windows : List ℕ) → List ℕ
+end_text id number windows =
+    codes ",\"id\":" ++ (id ++ (codes ",\"number\":" ++ (number ++ (codes ",\"windows\":" ++ (windows ++ codes "}")))))
 
 -- the object of these words, with its end
 abbrev pub upload_text : Upload → (end : List ℕ) → List ℕ
@@ -53,7 +54,7 @@ upload_text upload end =
     ++ (codes ",\"entries\":" ++ (upload.entries.now ++ (codes ",\"left\":" ++ (upload.left.now ++ end)))))))
 
 abbrev pub upload_object : Upload → List ℕ
-upload_object upload = upload_text upload (end_text (id_or_null upload.id.now) (number_or_null upload.number.now))
+upload_object upload = upload_text upload (end_text (id_or_null upload.id.now) (number_or_null upload.number.now) upload.windows.now)
 
 abbrev pub IsUpload : (rest object : List ℕ) → Type 0
 IsUpload rest object = (upload : Upload) × SaysUpload upload rest × (object ≡ upload_object upload)

@@ -76,6 +76,7 @@ struct Upload<'a> {
     left: &'a str,
     id: &'a str,
     number: &'a str,
+    windows: &'a str,
 }
 
 /// The object of what an upload has.
@@ -85,7 +86,7 @@ fn object_of_upload(alloc: Global, rest: &str) -> Result<Option<String>, AllocEr
     let Some(upload) = upload_in(rest) else {
         return Ok(None);
     };
-    let end = end_of_upload(alloc, upload.id, upload.number)?;
+    let end = end_of_upload(alloc, upload.id, upload.number, upload.windows)?;
     let Upload {
         source,
         start,
@@ -99,13 +100,13 @@ fn object_of_upload(alloc: Global, rest: &str) -> Result<Option<String>, AllocEr
     Ok(Some(told))
 }
 
-/// What an object of an upload ends with: its last entry.
-fn end_of_upload(alloc: Global, id: &str, number: &str) -> Result<String, AllocError>
-    ensures { IfOk result (λ told. string_bytes told ≡ end_text (id_or_null id.now) (number_or_null number.now)) }
+/// What an object of an upload ends with: its last entry, and its windows.
+fn end_of_upload(alloc: Global, id: &str, number: &str, windows: &str) -> Result<String, AllocError>
+    ensures { IfOk result (λ told. string_bytes told ≡ end_text (id_or_null id.now) (number_or_null number.now) windows.now) }
 {
     let id = id_or_null(alloc, id)?;
     let number = number_or_null(number);
-    let told = format!(in alloc; ",\"id\":{id},\"number\":{number}}}")?;
+    let told = format!(in alloc; ",\"id\":{id},\"number\":{number},\"windows\":{windows}}}")?;
     Ok(told)
 }
 
@@ -117,7 +118,8 @@ fn upload_in(rest: &str) -> Option<Upload<'_>>
     let (start, rest) = rest.split_once(' ')?;
     let (entries, rest) = rest.split_once(' ')?;
     let (left, rest) = rest.split_once(' ')?;
-    let (id, number) = rest.split_once(' ')?;
+    let (id, rest) = rest.split_once(' ')?;
+    let (number, windows) = rest.split_once(' ')?;
     Some(Upload {
         source,
         start,
@@ -125,6 +127,7 @@ fn upload_in(rest: &str) -> Option<Upload<'_>>
         left,
         id,
         number,
+        windows,
     })
 }
 

@@ -19,15 +19,21 @@ units_in _ bytes = count_by (λ b. b == 10) bytes
 abbrev pub Counts : Request → Option Task → Type 0
 Counts (request.Collect database tables uploads then_export) found = IsSomeAnd found (λ task. task.unit ≡ Uploads (max (vec_len uploads) 1))
 Counts (request.CollectListed database tables list then_export) found = IsSomeAnd found (λ task. task.unit ≡ Listed)
-Counts (request.CollectIntoUnion database tables list sequences then_export) found = IsSomeAnd found (λ task. task.unit ≡ Listed)
+Counts (request.CollectIntoUnion database tables list sequences most_windows then_export) found = IsSomeAnd found (λ task. task.unit ≡ Listed)
 Counts (request.Export database) found = IsSomeAnd found (λ task. task.unit ≡ Exported)
 Counts (request.Show database field id first last) found = IsSomeAnd found (λ task. task.unit ≡ Shown)
 Counts (request.Check database) found = IsSomeAnd found (λ task. task.unit ≡ Checked)
+Counts (request.CheckNoted database sequences) found = IsSomeAnd found (λ task. task.unit ≡ Checked)
+Counts (request.Notes sequences task) found = IsNone found
+Counts (request.ListOwners sequences) found = IsNone found
+Counts (request.RenameOwner sequences old new) found = IsNone found
+Counts (request.ReleaseSequence sequences sequence) found = IsNone found
 Counts (request.Migrate database tables) found = IsSomeAnd found (λ task. task.unit ≡ Migrated)
 Counts (request.Verify kind file) found = IsSomeAnd found (λ task. task.unit ≡ Verified)
 Counts (request.Upload source limit most_bytes whole) found = IsNone found
 Counts (request.Ack source) found = IsNone found
-Counts (request.Inspect file most_entries most_fields most_bytes) found = IsNone found
+Counts (request.Acknowledged upload) found = IsNone found
+Counts (request.Inspect file most_entries most_fields most_bytes most_windows) found = IsNone found
 Counts request.ListCodes found = IsNone found
 
 -- What words ask for, by what is counted of it.

@@ -43,7 +43,9 @@ pub fn task_of(rt: &HostRuntime, request: &Request<'_>) -> Option<Task>
         Request::CollectListed { .. } | Request::CollectIntoUnion { .. } => (Unit::Listed, ""),
         Request::Export { database } => (Unit::Exported, *database),
         Request::Show { database, .. } => (Unit::Shown, *database),
-        Request::Check { database } => (Unit::Checked, *database),
+        Request::Check { database } | Request::CheckNoted { database, .. } => {
+            (Unit::Checked, *database)
+        }
         Request::Migrate { database, .. } => (Unit::Migrated, *database),
         Request::Verify { file, .. } => (Unit::Verified, *file),
         _ => return None,

@@ -43,14 +43,13 @@
 //! | `uploader` | limit | an export stream, a resume point and answers: an uploader makes its next upload and takes these |
 //! | `schedules` | | schedules of events, each in worlds of its own; `schedules.rt` says what the files are |
 //! | `journal` | | steps over a journal; `journals.rt` says what the files are |
-//! | `world` | | events of a world; `worked.rt` says what the files are |
 //!
 //! Where a call answers that memory was refused, `refused` is printed in the place of what it makes.
 
 use crate::kept::Given;
 use crate::operands::number_in;
 use crate::output::{Output, write_line};
-use crate::{collecting, entries, journals, readings, schedules, spaces, values, worked};
+use crate::{collecting, entries, journals, readings, schedules, spaces, values};
 use jc_base::Limits;
 use jc_keeper::MapKeeper;
 use std::alloc::Global;
@@ -91,7 +90,7 @@ impl Calls {
             "texts" => self.spell(operand),
             "line" => write_line(&mut self.output, operand, &[]),
             "get" => collecting::get(self.alloc, &mut self.keeper, operand, &mut self.output),
-            "scanner" | "uploader" | "schedules" | "journal" | "world" => {
+            "scanner" | "uploader" | "schedules" | "journal" => {
                 self.call_together(word, &read_files(rt, operand)?);
             }
             _ => self.call(word, &fs::read(rt, operand)?),
@@ -126,7 +125,6 @@ impl Calls {
             "scanner" => readings::feed_each(alloc, files, limits, output),
             "uploader" => entries::uploader(alloc, files, &self.numbers, limits, output),
             "schedules" => schedules::take_all(alloc, files, output),
-            "world" => worked::take_all(alloc, files, output),
             _ => journals::take_all(
                 Given {
                     alloc,

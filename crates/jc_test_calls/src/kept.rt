@@ -59,7 +59,7 @@ impl<'a> Given<'a> {
 }
 
 /// A source of an export stream's entries, if there is memory for them.
-pub fn source_of(alloc: Global, bytes: &[u8]) -> Option<ListSource> {
+fn source_of(alloc: Global, bytes: &[u8]) -> Option<ListSource> {
     let reading = read_all(alloc, bytes, &Limits::default()).ok()?;
     let entries = VecDeque::from(reading.entries);
     Some(ListSource::new(entries, Ending::End { left: 0 }))
@@ -124,7 +124,7 @@ fn add<K: Keeper>(given: Given<'_>, keeper: &mut K, digits: &str, output: &mut O
 }
 
 /// What becomes of a reading. What calls this has nothing of `absorb`'s contract to prove with.
-pub fn absorb<K: Keeper>(keeper: &mut K, reading: &mut ListSource) -> Result<Absorbed, KeepStop> {
+fn absorb<K: Keeper>(keeper: &mut K, reading: &mut ListSource) -> Result<Absorbed, KeepStop> {
     keeper.absorb(reading)
 }
 
@@ -143,7 +143,7 @@ fn write_absorbed(output: &mut Output, absorbed: Result<Absorbed, KeepStop>) {
 }
 
 /// Writes the texts of the entries that are stored under the numbers 1 to 4, one after the other.
-pub fn write_stored<K: Keeper>(alloc: Global, keeper: &mut K, output: &mut Output) {
+fn write_stored<K: Keeper>(alloc: Global, keeper: &mut K, output: &mut Output) {
     let mut texts = Output::new(alloc);
     for seqnum in 1..=4 {
         add_stored(alloc, keeper, seqnum, &mut texts);

@@ -18,7 +18,6 @@ mod schedules;
 mod spaces;
 mod stock;
 mod values;
-mod worked;
 mod worlds;
 
 use calls::Calls;

@@ -91,7 +91,7 @@ fn text_of(stock: &Stock, world: World<MapKeeper>) -> Output {
 }
 
 /// The sources of two machines, if there is memory for them.
-pub fn sources(alloc: Global) -> Option<Vec<Id128>> {
+fn sources(alloc: Global) -> Option<Vec<Id128>> {
     Vec::from_array(alloc, [Id128(SOURCE_ID), Id128(OTHER_ID)]).ok()
 }
 
@@ -113,7 +113,7 @@ fn two_machines(alloc: Global, output: &mut Output) -> Option<World<MapKeeper>> 
 }
 
 /// Takes an event, and writes whether it happened.
-pub fn step(world: &mut World<MapKeeper>, event: &Event, output: &mut Output) {
+fn step(world: &mut World<MapKeeper>, event: &Event, output: &mut Output) {
     for _ in 0..TIMES {
         match world.step(event) {
             Ok(true) => return output.put(b"1"),

@@ -18,7 +18,7 @@ pub fn write_world(alloc: Global, world: World<MapKeeper>, entries: &[Entry], ou
 }
 
 /// Writes the uploads, the answers and the machines.
-pub fn write_sent(alloc: Global, world: &World<MapKeeper>, output: &mut Output) {
+fn write_sent(alloc: Global, world: &World<MapKeeper>, output: &mut Output) {
     for upload in world.uploads() {
         write_line(output, "upload", &[upload.len() as u64]);
         output.put(upload);

@@ -100,6 +100,7 @@ fn union_stops<F: OpenFromFiles>(run: Stopping<'_>, start: F::Start) -> Told {
         run.tables,
         None,
         &mut names,
+        None,
         &mut output,
         &mut errors,
     ) {

@@ -1,27 +1,20 @@
--- The commands over a database in turn.
-use Rattle.std.proofs.Common.{codes}
+-- The commands over databases, and those over notes.
 use Rattle.clap.specs.Words.{with_subcommand}
-use Rattle.jc_command_args.specs.Grammar.{collect_grammar, database_grammar, migrate_grammar, show_grammar, top_grammar}
+use Rattle.jc_command_args.specs.Grammar.{databases_grammar, notes_grammar, owners_grammar}
 use Rattle.jc_command_args.proofs.grammar.collector.Goals as goal
 
 pub returns : goal.returns
 returns c =
-    let collect = c.collect_command.ensures in
-    let migrate = c.migrate_command.ensures in
-    let exported = database_grammar (codes "export") in
-    let checked = database_grammar (codes "check") in
-    let one = with_subcommand top_grammar (collect_grammar collect.0).top in
-    let two = with_subcommand one exported.top in
-    let three = with_subcommand two show_grammar.top in
-    let four = with_subcommand three checked.top in (
-      collect.0,
-      migrate.0,
-      collect.1,
-      migrate.1,
-      c.subcommand-5.ensures four (migrate_grammar migrate.0)
-          (c.subcommand-4.ensures three checked
-          (c.subcommand-3.ensures two show_grammar
-          (c.subcommand-2.ensures one exported
-          (c.subcommand.ensures top_grammar (collect_grammar collect.0) c.top.ensures collect.2) c.export_command.ensures)
-          c.show_command.ensures) c.check_command.ensures) migrate.2,
+    let databases = c.over_databases.ensures in
+    let base = databases_grammar databases.0 databases.1 in
+    let notes = c.notes_command.ensures in
+    let one = with_subcommand base (notes_grammar notes.0).top in (
+      databases.0,
+      databases.1,
+      notes.0,
+      databases.2,
+      databases.3,
+      notes.1,
+      c.subcommand-2.ensures one owners_grammar
+          (c.subcommand.ensures base (notes_grammar notes.0) databases.4 notes.2) c.owners_command.ensures,
     )

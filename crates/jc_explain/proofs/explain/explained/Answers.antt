@@ -14,7 +14,7 @@ returns-in-Ok-clause-ended g c = λ status other number.
     let part = tells_part (map string_bytes c.deref.result.now) CODES.now c.deref-in-Ok.result.now c.deref-in-Ok-2.result.now
     (g.E.Write.contents c.take_kept-failures.new.self.inner) (g.E.Write.contents c.tell.new.to) c.tell.result c.tell.ensures.ok c.tell.ensures.err in (
       g.E.Write.contents c.command-status.new.errors.inner,
-      within_as _ _ _ _ _ _ _ _ _ _ (ap g.O.Write.contents c.take_kept-answers.ensures.inner) (c.command-status.ensures.ended status other number),
+      within_as _ _ _ _ _ _ _ _ _ _ _ (ap g.O.Write.contents c.take_kept-answers.ensures.inner) (c.command-status.ensures.ended status other number),
       (
         c.deref-in-Ok.result.now,
         c.deref-in-Ok-2.result.now,

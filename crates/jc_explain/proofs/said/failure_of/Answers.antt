@@ -14,7 +14,8 @@ returns-in_default-line c =
     let write : c.args.line.now ≢ codes "write failed" = search rules in
     let store : c.args.line.now ≢ codes "store failed" = search rules in
     let memory : c.args.line.now ≢ codes "out of memory" = search rules in
-    none_other c.args.line.now c.in_default.ensures.cases resume id field database export read write store memory
+    let upload : c.args.line.now ≢ codes "bad upload" = search rules in
+    none_other c.args.line.now c.in_default.ensures.cases resume id field database export read write store memory upload
 
 pub returns-in-text-2 : goal.returns-in-text-2
 returns-in-text-2 c = search rules

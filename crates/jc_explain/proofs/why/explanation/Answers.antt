@@ -2,7 +2,7 @@
 use Rattle.std.proofs.Common.{◌∙◌, drop}
 use Rattle.std.proofs.lemmas.Option.{IfSome_then}
 use Rattle.std.proofs.lemmas.Result.{IfOk-weaker}
-use Rattle.jc_explain.specs.Explanations.{differs, failed, no_answer, nothing, refused}
+use Rattle.jc_explain.specs.Explanations.{differs, failed, no_answer, no_line, nothing, refused}
 use Rattle.jc_explain.proofs.why.explanation.Goals as goal
 
 pub returns-in-Some : goal.returns-in-Some
@@ -12,6 +12,11 @@ pub returns-then-starts_with : goal.returns-then-starts_with
 returns-then-starts_with c =
     let (count, found, at) = c.if-starts_with.ensures.cases in
     no_answer (drop count c.args.line.now) found.1 (c.in_ok-from_str.ensures.ok ∙ c.advice-told.ensures)
+
+pub returns-then-starts_with-2 : goal.returns-then-starts_with-2
+returns-then-starts_with-2 c =
+    let (count, found, at) = c.if-starts_with-2.ensures.cases in
+    no_line (drop count c.args.line.now) found.1 (c.in_ok-from_str-2.ensures.ok ∙ c.advice-told-then-starts_with-2.ensures)
 
 pub returns-in-Some-noted_beside : goal.returns-in-Some-noted_beside
 returns-in-Some-noted_beside c =

@@ -1,0 +1,6 @@
+pub mod Failures
+pub mod Found
+pub mod InFolder
+pub mod LinesRead
+pub mod Printing
+pub mod Turns

@@ -1,0 +1,10 @@
+use Rattle.std.proofs.Common.{length}
+use Rattle.jc_notes.specs.Lines.{key_at}
+use Rattle.jc_notes.proofs.LinesRead.{AreReadSoFar}
+use Rattle.jc_notes.proofs.lines.keys_in.Given as goal
+
+abbrev pub invariant-loop-rest : goal.invariant-loop-rest
+invariant-loop-rest l = AreReadSoFar key_at l.text l.rest l.keys.items
+
+abbrev pub decreases-loop-rest : goal.decreases-loop-rest
+decreases-loop-rest l = length l.rest
