@@ -1,12 +1,12 @@
 #!/bin/bash
-# build-deb.sh FOLDER: a Debian package of what `make install` installs, in this folder. It has to stand beside a
-# program that is built.
+# build-deb.sh FOLDER: a Debian package of what `make install` installs, in this folder, with the program that is built,
+# or the one that PROGRAM names.
 set -euo pipefail
 folder=$(realpath -m "$1")
 cd "$(dirname "$0")/.."
 umask 022
 
-program=crates/jc_cli/out/jc_cli
+program=${PROGRAM:-crates/jc_cli/out/jc_cli}
 version=$("$program" --version | cut -d ' ' -f 2)
 architecture=$(dpkg --print-architecture)
 libc=$(objdump --dynamic-syms "$program" | grep -o 'GLIBC_[0-9.]*' | sort -uV | tail -n 1)
@@ -15,7 +15,7 @@ rm -rf "$tree"
 mkdir -p "$tree/DEBIAN"
 
 # The units of a package are below /usr/lib, and the documents are compressed.
-env -u MAKEFLAGS -u MAKELEVEL make --silent -o "$program" install DESTDIR="$tree" PREFIX=/usr
+env -u MAKEFLAGS -u MAKELEVEL make --silent -o "$program" install PROGRAM="$program" DESTDIR="$tree" PREFIX=/usr
 strip "$tree/usr/bin/journal-collect"
 # Modules are compiled by the Python of the machine that has the package.
 find "$tree" -name __pycache__ -prune -exec rm -r {} +

@@ -88,6 +88,7 @@ def remove(to: Path, name: str) -> None:
 
 def copy_notes(sequences: Path, to: Path) -> None:
     """Copies the files of notes that changed. Who stores only adds to them."""
+    to.mkdir(exist_ok=True)
     for path in sequences.glob("*/*"):
         copy = to / path.parent.name / path.name
         with contextlib.suppress(FileNotFoundError):
@@ -99,7 +100,7 @@ def copy_notes(sequences: Path, to: Path) -> None:
 # Putting it back ------------------------------------------------------------------------------------------------------
 
 
-def restore(folder: Folder, backup: Path) -> Iterator[str]:
+def restore(folder: Folder, backup: Path, lock: int) -> Iterator[str]:
     """Puts back each database that isn't there or isn't whole; what is known, and the notes, only into an empty folder.
     The next start sees to the rest. Nothing that is whole is replaced."""
     if not (backup / "state.sqlite").is_file():
@@ -116,7 +117,7 @@ def restore(folder: Folder, backup: Path) -> Iterator[str]:
     if is_empty:
         shutil.copyfile(backup / "state.sqlite", folder.state)
         shutil.copytree(backup / "sequences", folder.sequences, dirs_exist_ok=True)
-        Notes(State(folder), threading.Event()).forget()
+        Notes(State(folder), lock, threading.Event()).forget()
     own(folder.path)
     os.sync()
     yield f"{count} of {len(known)} databases are put back, as of {moment(backup / 'state.sqlite')}"

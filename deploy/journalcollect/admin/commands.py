@@ -21,7 +21,8 @@ from .operations import No
 JOURNAL_FILE, FILE_ID = b"LPKSHHRH", slice(24, 40)
 # What a name of a command has for its words, and what it does.
 COMMANDS = {
-    "admit": ("NAME", "lets a machine in, whose public key is on standard input"),
+    "admit": ("NAME", "lets a machine in, whose public key is on standard input; or each of a folder's files NAME.pub, "
+                      "if a path with a / is said"),
     "retire": ("NAME", "lets a machine in no more; what it sent stays its days"),
     "rename": ("OLD NEW", "gives a machine another name"),
     "release": ("SEQUENCE", "makes a sequence nobody's, until a machine brings a new entry of it"),
@@ -81,7 +82,8 @@ def done(chosen: Settings, do: str, words: list[str]) -> Iterator[Any]:
     folder, etc = Folder(Path(chosen.folder)), settings.FOLDER
     match do, words:
         case "admit", [name]:
-            yield admit(folder, etc, name, sys.stdin.read().strip())
+            for machine, key in brought(name):
+                yield admit(folder, etc, machine, key)
         case "retire", [name]:
             key_of(etc, name).unlink()
             keys.write(etc, folder.sockets)
@@ -99,7 +101,7 @@ def done(chosen: Settings, do: str, words: list[str]) -> Iterator[Any]:
         case "restore", [of]:
             if (lock := folder.locked()) is None:
                 raise No("the service runs: systemctl stop journal-collect")
-            yield from backup.restore(folder, Path(of))
+            yield from backup.restore(folder, Path(of), lock)
             os.close(lock)
         case "rebuild", [""]:
             yield from asked_of(chosen, "journals", [])
@@ -118,12 +120,24 @@ def key_of(etc: Path, name: str) -> Path:
     return path
 
 
+def brought(name: str) -> Iterator[tuple[str, str]]:
+    """A machine and its key, or those of a folder. No machine's name has a /."""
+    if "/" not in name:
+        yield name, sys.stdin.read().strip()
+        return
+    paths = sorted(Path(name).glob("*.pub"))
+    if not paths:
+        raise No(f"there is no NAME.pub in {name}")
+    for path in paths:
+        yield path.stem, path.read_text(errors="replace").strip()
+
+
 def admit(folder: Folder, etc: Path, name: str, key: str) -> str:
     """Lets a machine in. No key is that of two machines."""
     if not names.is_machine(name):
         raise No(f"{name} can't be a machine's name: letters, digits, `.`, `_` and `-`, at most 64")
-    if not keys.is_key(key):
-        raise No("standard input isn't a public key")
+    if not keys.KEY.fullmatch(key):
+        raise No(f"what is given for {name} isn't a public key")
     for path in (etc / "keys").glob("*.pub"):
         if path.stem != name and path.read_text().split()[:2] == key.split()[:2]:
             raise No(f"this is the key of {path.stem}: each machine has a key of its own")

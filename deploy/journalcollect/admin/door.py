@@ -37,14 +37,11 @@ class Door(threading.Thread):
                 time.sleep(1.0)                        # there are too many open files, or threads
 
     def answer(self, one: socket.socket) -> None:
-        """Does what each request of a connection asks."""
+        """Does what a connection asks."""
         with one:
             try:
-                while line := socket.recv_fds(one, LONGEST, 1)[:2]:
-                    if not line[0]:
-                        return
-                    for each in self.done(*line):
-                        one.sendall(json.dumps(each).encode() + b"\n")
+                for each in self.done(*socket.recv_fds(one, LONGEST, 1)[:2]):
+                    one.sendall(json.dumps(each).encode() + b"\n")
             except (OSError, ValueError, KeyError, TypeError) as error:
                 log(f"a command: {type(error).__name__}: {error}")
 

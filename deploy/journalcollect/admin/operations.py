@@ -14,7 +14,7 @@ from ..collector.gate import Gate
 from ..collector.keeping import Keeping
 from ..collector.store import Store
 from ..collector.turns import Waiting
-from ..common import files, names, note_files
+from ..common import files, names, program
 from ..common.protocol import HEX_ID
 
 PIECE = 1 << 20
@@ -69,7 +69,7 @@ class Operations:
             time.sleep(0.1)
 
         def do() -> None:
-            note_files.rename_owner(self.folder.sequences, old, new)
+            program.rename_owner(self.folder.sequences, old, new)
             self.state.rename(old, new)
 
         self.store.alone(do)
@@ -77,9 +77,9 @@ class Operations:
 
     def release(self, sequence: str) -> Iterator[str]:
         """A sequence is nobody's, until a machine brings a new entry of it."""
-        if not HEX_ID.fullmatch(sequence) or sequence not in note_files.owners(self.folder.sequences):
+        if not HEX_ID.fullmatch(sequence) or sequence not in program.owners(self.folder.sequences):
             raise No(f"{sequence} is no machine's")
-        self.store.alone(lambda: note_files.release(self.folder.sequences, sequence))
+        self.store.alone(lambda: program.release(self.folder.sequences, sequence))
         self.state.released(sequence)
         yield f"{sequence} is the machine's that brings a new entry of it next"
 

@@ -4,6 +4,8 @@ import os
 import socket
 import threading
 import time
+from io import BufferedReader
+from typing import cast
 
 from ..common import files, protocol
 from ..common.protocol import Answer, Had, Known, NotALine, Put, Upload, Verdict
@@ -14,7 +16,8 @@ from .turns import Waiting
 
 # Seconds without a byte within an upload, and between requests; bytes a second that come at least.
 IDLE, REST, RATE = 90.0, 3600.0, 1_000
-PIECE = 1 << 16
+# What is read at once of an upload, and what a connection holds between requests.
+PIECE, BUFFER = 1 << 16, 512
 # What is too large is read to its end, so that it can be answered, if it is no larger than this.
 READ_TO_END = 256 << 20
 
@@ -25,11 +28,11 @@ class Connection(threading.Thread):
     def __init__(self, one: socket.socket, machine: str, store: Store, gate: Gate) -> None:
         super().__init__(name=machine, daemon=True)
         self.one, self.machine, self.store, self.gate = one, machine, store, gate
-        self.rest = b""
+        self.input = cast(BufferedReader, one.makefile("rb", BUFFER))
 
     def run(self) -> None:
         try:
-            with self.one, self.gate.entered(self.machine, self.one):
+            with self.one, self.input, self.gate.entered(self.machine, self.one):
                 self.one.settimeout(IDLE)
                 self.say(protocol.Greeting(time.time_ns() // 1000, self.store.head()))
                 while line := self.line():
@@ -45,18 +48,13 @@ class Connection(threading.Thread):
     def line(self) -> str | None:
         """The next line; None at the end."""
         self.one.settimeout(REST)
-        while b"\n" not in self.rest:
-            piece = self.one.recv(protocol.LONGEST_LINE)
-            if not piece or len(self.rest) > protocol.LONGEST_LINE:
-                return None
-            self.rest += piece
-        line, _, self.rest = self.rest.partition(b"\n")
-        return protocol.decoded(line + b"\n")
+        line = self.input.readline(protocol.LONGEST_LINE + 1)
+        return protocol.decoded(line) if line else None
 
     def reply(self, request: Had | Upload) -> protocol.Reply:
         if isinstance(request, Had):
             return self.known(request)
-        self.gate.told_time(self.machine, request.realtime / 1e6)
+        self.store.state.saw(self.machine).skew = request.realtime / 1e6 - time.time()
         return self.upload(request)
 
     def known(self, key: Had) -> Known:
@@ -75,25 +73,27 @@ class Connection(threading.Thread):
             raise NotALine(str(told))
         refusal = self.gate.before(self.machine, told.size)
         with files.unnamed(self.store.folder.recent) as handle:
-            digest, refusal = self.read(handle, told.size, refusal)
+            digest, lines, refusal = self.read(handle, told.size, refusal)
             if digest != told.sha256:
                 raise NotALine("another digest")
-            return (refusal or self.gate.of_upload(self.machine, handle, told.size)
-                    or self.store.ask(Waiting(self.machine, handle, told.size)))
+            new_files = refusal or self.gate.of_upload(self.machine, handle, told.size)
+            if isinstance(new_files, Put):
+                return new_files
+            return self.store.ask(Waiting(self.machine, handle, told.size, lines, new_files))
 
-    def read(self, handle: int, size: int, refusal: Put | None) -> tuple[str, Put | None]:
-        """Reads an upload; its digest, and why it isn't taken. Then it is read to its end, and kept nowhere."""
+    def read(self, handle: int, size: int, refusal: Put | None) -> tuple[str, int, Put | None]:
+        """Reads an upload; its digest, its lines, and why it isn't taken: then it is kept nowhere."""
         self.one.settimeout(IDLE)
-        end, digest = time.monotonic() + IDLE + size / RATE, hashlib.sha256()
+        end, digest, lines = time.monotonic() + IDLE + size / RATE, hashlib.sha256(), 0
         while size:
-            piece = self.rest or self.one.recv(min(size, PIECE))
+            piece = self.input.read1(min(size, PIECE))
             if not piece or time.monotonic() > end:
                 raise NotALine("it was cut")
-            piece, self.rest = piece[:size], piece[size:]
             size -= len(piece)
             digest.update(piece)
+            lines += piece.count(b"\n")
             refusal = refusal or written(handle, piece)
-        return digest.hexdigest(), refusal
+        return digest.hexdigest(), lines, refusal
 
 
 def written(handle: int, piece: bytes) -> Put | None:

@@ -15,17 +15,21 @@ from dataclasses import dataclass
 from pathlib import Path
 
 from ..common import files
+from ..common.uploads import WINDOW
 from .settings import Folder
 
 # A log without a page has at most so many bytes.
 EMPTY_LOG = 55
 # Less than the tables take.
 NO_TABLES = 4096
-WINDOW = 4096
 
 
 class Damaged(Exception):
     """A database isn't what it was when it was finished, and how."""
+
+
+class Unrecovered(Exception):
+    """A database can't be taken up now, or notes can't be made anew: nothing is stored until they are."""
 
 
 @dataclass(frozen=True)
@@ -109,9 +113,9 @@ def tables_of(path: Path, digest: str) -> Summary:
     try:
         with contextlib.closing(sqlite3.connect(f"file:{path}?immutable=1", uri=True)) as tables:
             entries, first, last = tables.execute(
-                "SELECT count(*), min(realtime), max(realtime) FROM record").fetchone()
+                "SELECT count(*), min(realtime), max(realtime) FROM entry").fetchone()
             windows = {(sequence, window): count for sequence, window, count in tables.execute(
-                f"SELECT lower(hex(seqid)), seqnum / {WINDOW}, count(*) FROM record GROUP BY 1, 2")}
+                f"SELECT lower(hex(seqid)), seqnum / {WINDOW}, count(*) FROM entry GROUP BY 1, 2")}
     except sqlite3.Error as error:
         raise Damaged(f"{path}: {error}") from error
     return Summary(entries, first, last, path.stat().st_size, digest, windows)

@@ -5,22 +5,18 @@ import os
 import re
 import socket
 import threading
-import time
 from collections.abc import Iterator
 
-from ..common import entries, note_files
+from ..common import program
 from ..common.protocol import Put, Verdict
-from .settings import CONNECTIONS, HEADER, LARGE, MIB, MOST_WINDOWS, UPLOAD_BYTES, WINDOWS_A_DAY, Settings
+from ..common.uploads import COUNT, HEADER, MOST_WINDOWS, START, WHOLE, WINDOW
+from .settings import CONNECTIONS, LARGE, MIB, UPLOAD_BYTES, WINDOWS_A_DAY, Settings
 from .state import State
 
-# The first bytes of an export upload of version 2 that is to be whole, with zeros up to its source; where its start and
-# its number of entries stand.
-WHOLE = b"JCUPLD02\1\1" + bytes(6)
-START, COUNT = slice(32, 40), slice(40, 48)
 # The lines that say which entry it is. A message may have such lines, too, so these are at least all there are.
 NUMBERS = re.compile(rb"^__SEQNUM(?:=|\n.{8})([0-9]{1,20})\n", re.MULTILINE | re.DOTALL)
 IDS = re.compile(rb"^__SEQNUM_ID(?:=|\n.{8})([0-9A-Fa-f]{32})\n", re.MULTILINE | re.DOTALL)
-# Up to so many files of notes an upload isn't read entry by entry.
+# Of more files of notes the program says how many these are.
 LOOKED_UP = 2
 
 
@@ -42,7 +38,7 @@ class Gate:
             there.append(one)
             oldest = there.popleft() if len(there) > CONNECTIONS else None
         if oldest:
-            self.bounded(machine, "connections", f"it has over {CONNECTIONS} connections: the oldest is ended")
+            self.state.tell(f"connections {machine}", f"{machine}: over {CONNECTIONS} connections: the oldest is ended")
             end(oldest)
         self.state.saw(machine)
         try:
@@ -80,41 +76,34 @@ class Gate:
             return self.refuse(machine, Verdict.LATER, f"its entries made over {WINDOWS_A_DAY} files of notes today")
         return None
 
-    def of_upload(self, machine: str, handle: int, size: int) -> Put | None:
-        """Why an upload that came isn't handed to the program; None if it is. Its new files of notes are counted."""
+    def of_upload(self, machine: str, handle: int, size: int) -> Put | int:
+        """Why an upload that came isn't handed to the program; how many files are made for its notes if it is."""
         header = os.pread(handle, HEADER, 0)
         if len(header) < HEADER or not header.startswith(WHOLE) or any(header[START]):
             return self.refuse(machine, Verdict.NEVER, "it is no upload of a stream that is to be whole")
         if size <= LARGE:
-            touched = windows(os.pread(handle, size, HEADER))
-            if len(touched) > MOST_WINDOWS:
+            touched, new = self.windows(handle, size)
+            if touched > MOST_WINDOWS:
                 return self.refuse(machine, Verdict.NEVER, f"it touches over {MOST_WINDOWS} files of notes")
-            self.state.machine(machine).windows += sum(
-                not (self.folder.sequences / sequence / str(window)).exists() for sequence, window in touched)
-        elif int.from_bytes(header[COUNT], "little") != 1:
+            self.state.machine(machine).windows += new
+            return new
+        if int.from_bytes(header[COUNT], "little") != 1:
             return self.refuse(machine, Verdict.NEVER, f"it has over {LARGE // MIB} MiB, and more than one entry")
-        return None
+        return 1
 
-    def told_time(self, machine: str, realtime: float) -> None:
-        """A machine says what its clock says."""
-        self.state.saw(machine).skew = realtime - time.time()
+    def windows(self, handle: int, size: int) -> tuple[int, int]:
+        """How many files of notes an upload touches, and how many of them it makes: all of them, if they are many."""
+        body = os.pread(handle, size, HEADER)
+        numbers = {int(number) // WINDOW for number in NUMBERS.findall(body)}
+        ids = {each.decode("ascii").lower() for each in IDS.findall(body)}
+        if (few := len(ids) * len(numbers)) > LOOKED_UP:
+            touched = program.touched(handle)
+            return touched, touched
+        return few, sum(not (self.folder.sequences / each / str(number)).exists() for each in ids for number in numbers)
 
     def refuse(self, machine: str, verdict: Verdict, why: str) -> Put:
-        self.bounded(machine, verdict.value, why)
+        self.state.tell(f"{verdict.value} {machine}", f"{machine}: {why}")
         return Put(verdict, why)
-
-    def bounded(self, machine: str, cause: str, why: str) -> None:
-        self.state.tell(f"{cause} {machine}", f"{machine}: {why}")
-
-
-def windows(body: bytes) -> set[tuple[str, int]]:
-    """The windows of sequences that the entries of an upload are in, or more if they are few or it has a fault."""
-    numbers = {int(number) // note_files.WINDOW for number in NUMBERS.findall(body)}
-    ids = {each.decode("ascii").lower() for each in IDS.findall(body)}
-    if len(ids) * len(numbers) > LOOKED_UP:
-        with contextlib.suppress(entries.Malformed):
-            return note_files.windows(body)
-    return {(each, number) for each in ids for number in numbers}
 
 
 def end(one: socket.socket) -> None:

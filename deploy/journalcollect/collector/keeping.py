@@ -1,11 +1,10 @@
 """What is done now and then beside storing: old databases go, and finished ones are packed and looked at."""
 import os
-import subprocess
 import threading
 import time
 
-from ..common import note_files, program
-from ..reading.places import made
+from ..common import program
+from ..reading.places import Places
 from . import databases
 from .databases import Damaged
 from .settings import Settings
@@ -34,7 +33,7 @@ class Keeping(threading.Thread):
             try:
                 self.round()
                 self.state.over("keeping")
-            except (OSError, subprocess.SubprocessError, Damaged, program.Failed) as error:
+            except Exception as error:
                 self.state.tell("keeping", f"old databases, packing and checks: {error}")
 
     def round(self) -> None:
@@ -81,7 +80,7 @@ class Keeping(threading.Thread):
         """Finished databases are packed PACK_DAYS after, once journal files are made of them."""
         due = self.state.ask("SELECT name, digest FROM database WHERE standing = 'finished' AND packed IS NULL "
                              "AND age < ? ORDER BY id", age - self.settings.pack_days)
-        shown = made(self.folder.path) if due else set()
+        shown = Places(self.folder.path).made() if due else {}
         for name, digest in due:
             if self.store.stops.is_set():
                 return
@@ -107,7 +106,7 @@ class Keeping(threading.Thread):
     def look_at_owners(self) -> None:
         """Whose a sequence is stands in its notes alone, and can't be made anew: the next that comes has it."""
         known = dict(self.state.ask("SELECT id, machine FROM sequence GROUP BY id HAVING count(*) = 1"))
-        if gone := sorted(known.keys() - note_files.owners(self.folder.sequences).keys()):
+        if gone := sorted(known.keys() - program.owners(self.folder.sequences).keys()):
             self.state.tell("owners", f"whose sequences are isn't noted any more, as {known[gone[0]]}'s {gone[0]}, of "
                             f"{len(gone)}: {self.folder.sequences} was damaged: put it back from a backup")
 
@@ -127,6 +126,8 @@ class Keeping(threading.Thread):
                 fault = self.fault(name)
         if fault:
             self.state.tell(f"damaged {name}", f"{fault}: restore it from a backup")
+        else:
+            self.state.over(f"damaged {name}")
         self.state.ask("UPDATE database SET checked = ? WHERE name = ?", self.state.age.grown().days, name)
         return fault
 

@@ -1,8 +1,9 @@
 """The files of notes, sequences/SEQUENCE/WINDOW: whether each is as it was when its databases were finished.
 
-The program writes notes as it stores. Here is known that a file is a row of blocks of 41 bytes with one byte behind
-them, that it is only added to, and that it has the notes of one database after the other. So what finished databases
-were noted in is told by a number of notes and a digest of their bytes, and they are made anew by opening databases.
+The program alone writes notes, and says what they are. Here is known that a file is a row of blocks of 41 bytes with
+one byte behind them, that it is only added to, and that it has the notes of one database after the other. So what
+finished databases were noted in is told by a number of notes and a digest of their bytes, and they are made anew by
+opening databases.
 """
 import contextlib
 import hashlib
@@ -12,12 +13,17 @@ import time
 from collections.abc import Iterable, Iterator
 from pathlib import Path
 
-from ..common import files, note_files, program
+from ..common import files, program
+from ..common.uploads import WINDOW
 from . import databases
-from .databases import Damaged, Summary
+from .databases import Damaged, Summary, Unrecovered
+from .process import Process
 from .state import State, Window, log
 
-NOTE = note_files.NOTE.size
+# A note's bytes, the first of which says that it is one. What is a machine's is noted in a window of its own.
+NOTE, OPEN, OWNED = 41, b"\1", str(2**63 // WINDOW)
+# In place of the digest of a window that has to be made anew.
+UNMADE = ""
 
 Name = tuple[str, int]
 
@@ -25,8 +31,8 @@ Name = tuple[str, int]
 class Notes:
     """The notes of a collector. What changes them is called only while no process of the program stores."""
 
-    def __init__(self, state: State, stops: threading.Event) -> None:
-        self.folder, self.state, self.stops = state.folder, state, stops
+    def __init__(self, state: State, lock: int, stops: threading.Event) -> None:
+        self.folder, self.state, self.lock, self.stops = state.folder, state, lock, stops
 
     def path(self, sequence: str, window: int) -> Path:
         return self.folder.sequences / sequence / str(window)
@@ -36,13 +42,15 @@ class Notes:
         return [self.measured(*name, self.state.notes_of(*name) + count) for name, count in had.windows.items()]
 
     def measured(self, sequence: str, window: int, notes: int) -> Window:
-        """A window that ought to have so many notes of finished databases, as it is."""
+        """A window that ought to have so many notes of finished databases, as it is. It has no digest if it has less,
+        or if a gate is closed before the last one."""
         data = b""
         with contextlib.suppress(OSError):
             if self.size(sequence, window) >= 0:
                 with open(self.path(sequence, window), "rb") as file:
                     data = file.read(NOTE * notes)
-        return Window(sequence, window, notes, hashlib.sha256(data).hexdigest())
+        is_whole = len(data) == NOTE * notes and data[::NOTE] == OPEN * notes
+        return Window(sequence, window, notes, hashlib.sha256(data).hexdigest() if is_whole else UNMADE)
 
     def size(self, sequence: str, window: int) -> int:
         """How many bytes the file of a window has; -1 if it is none."""
@@ -58,12 +66,12 @@ class Notes:
         """The windows whose files have other notes than finished databases have entries. Asked while no other database
         is there."""
         return [(each.sequence, each.window) for each in windows
-                if self.size(each.sequence, each.window) != NOTE * each.notes + 1]
+                if each.sum == UNMADE or self.size(each.sequence, each.window) != NOTE * each.notes + 1]
 
     def short(self) -> list[Name]:
-        """The windows that are gone, emptied or cut."""
+        """The windows that are gone, emptied or cut, or were being made anew when that was stopped."""
         return [(each.sequence, each.window) for each in self.state.windows()
-                if self.size(each.sequence, each.window) < NOTE * each.notes]
+                if each.sum == UNMADE or self.size(each.sequence, each.window) < NOTE * each.notes]
 
     def changed(self, rest: float) -> list[Name]:
         """The windows whose bytes aren't what they were; after each there is so many times as long of rest."""
@@ -81,25 +89,25 @@ class Notes:
     def forget(self) -> None:
         """Only notes of finished databases stay, which stand first in each file."""
         found = [(path.parent.name, int(path.name)) for path in self.files()]
-        for name in found:
-            notes = self.state.notes_of(*name)
-            if self.size(*name) > NOTE * notes + 1:
-                note_files.keep(self.path(*name), notes)
+        known = [(*name, self.state.notes_of(*name)) for name in found]
+        if more := [each for each in known if self.size(*each[:2]) > NOTE * each[2] + 1]:
+            program.forget_after(self.folder.sequences, more)
 
     def files(self) -> Iterator[Path]:
         """All files of notes but those that say whose a sequence is."""
         return (path for path in self.folder.sequences.glob("*/*")
-                if path.name.isascii() and path.name.isdigit() and path.name != note_files.OWNED)
+                if path.name.isascii() and path.name.isdigit() and path.name != OWNED)
 
     def make_anew(self, names: Iterable[Name], why: str) -> None:
-        """Windows that aren't as they were are put aside, and made anew of the databases that were noted in them. If it
-        is stopped, the next start finds them short."""
+        """Windows that aren't as they were are put aside, and made anew of the databases that were noted in them. If
+        that is stopped, nothing is stored until it is done: they have no digest until then."""
         wanted: dict[int, str] = {}
         names = sorted(names)
         if names:
             others = f", and so are {len(names) - 1} others" if len(names) > 1 else ""
             first = self.path(*names[0])
             self.state.tell(f"notes {first}", f"{first}: {why}: it is put aside, and made anew of databases{others}")
+        self.unmake(names)
         for name in names:
             self.put_aside(self.path(*name))
             for number, database in self.state.ask(
@@ -107,13 +115,17 @@ class Notes:
                     "noted.last WHERE sequence = ? AND window = ? AND standing = 'finished'", *name):
                 wanted[number] = database
         for _, database in sorted(wanted.items()):
-            if self.stops.is_set():
-                return
             self.note(database)
         for name in names:
             notes = max(0, self.size(*name) // NOTE)
             self.state.ask("UPDATE noted SET notes = ?, sum = ? WHERE sequence = ? AND window = ?", notes,
                            self.measured(*name, notes).sum, *name)
+
+    def unmake(self, names: Iterable[Name]) -> None:
+        """Whatever stops what comes now, these windows are made anew."""
+        with self.state.transaction():
+            for name in names:
+                self.state.ask("UPDATE noted SET sum = ? WHERE sequence = ? AND window = ?", UNMADE, *name)
 
     def put_aside(self, path: Path) -> None:
         if path.is_symlink() or path.exists():
@@ -123,20 +135,16 @@ class Notes:
         """Notes what a finished database has, and isn't noted."""
         try:
             with databases.unpacked(self.folder, database) as copy:
-                ended = program.run(*program.collecting(self.folder.sequences, copy, "/dev/null")[1:])
-            said = ended.stderr.decode(errors="replace").strip() if ended.returncode else ""
-            if ended.returncode not in (program.OK, program.REFUSED):
-                raise program.Failed(f"{database} isn't noted: status {ended.returncode}: {said}")
+                process = Process(self.folder, copy, self.lock, "/dev/null")
+                status, said = process.finish(self.stops), process.said()
         except Damaged as error:
-            said = str(error)
-        if said:
+            status, said = program.REFUSED, str(error)
+        if status not in (program.OK, program.REFUSED):
+            why = "the service stops" if self.stops.is_set() else said or f"status {status}"
+            raise Unrecovered(f"{database} isn't noted: {why}")
+        if status:
             self.state.stands(database, "damaged")
             self.state.tell(f"damaged {database}", f"{database} can't be noted: {said}: restore it from a backup")
-
-    def of_database(self, name: str) -> list[Name]:
-        """The windows that may have been noted in a database."""
-        return self.state.ask("SELECT sequence, window FROM noted JOIN database ON database.id BETWEEN noted.first AND "
-                              "noted.last WHERE name = ?", name)
 
     def expire(self, age: float) -> None:
         """The windows go in which nothing was noted since an age, and with the last one of a sequence whose it is."""
@@ -146,7 +154,7 @@ class Notes:
             self.state.ask("DELETE FROM noted WHERE sequence = ? AND window = ?", sequence, window)
         for sequence in {sequence for sequence, _ in old}:
             folder = self.folder.sequences / sequence
-            if [path.name for path in folder.glob("*") if path.name.isdigit()] == [note_files.OWNED]:
+            if [path.name for path in folder.glob("*") if path.name.isdigit()] == [OWNED]:
                 for path in folder.iterdir():
                     path.unlink()
                 folder.rmdir()

@@ -13,13 +13,11 @@ from collections.abc import Iterator, Sequence
 from pathlib import Path
 
 from ..common import program, protocol
+from ..common.codes import Code
 from .settings import CPU_SECONDS, MEMORY, Folder
 
 # So long it may take for its next answer, and to note what a database has.
 PATIENCE, LONGEST = 180.0, 3600.0
-LONGEST_STAT = 4096
-TICKS = os.sysconf("SC_CLK_TCK")
-UNREAD, FAILED, NO_MEMORY = 61, 62, 63
 # The signals that end a program by its own doing, or since it took too long on a processor.
 OWN = {signal.SIGXCPU, signal.SIGSEGV, signal.SIGABRT, signal.SIGBUS, signal.SIGILL, signal.SIGFPE, signal.SIGTRAP}
 WINDOW = re.compile(r"([0-9a-f]{32})/([0-9]{1,16})")
@@ -54,7 +52,7 @@ class Process:
             words = Path(f"/proc/{self.process.pid}/stat").read_text().rpartition(")")[2].split()
         except (FileNotFoundError, ProcessLookupError):
             return 0.0
-        return (int(words[11]) + int(words[12])) / TICKS
+        return (int(words[11]) + int(words[12])) / os.sysconf("SC_CLK_TCK")
 
     def ask(self, uploads: Sequence[tuple[str, Path]]) -> Iterator[protocol.Answer]:
         """Has uploads of machines stored, all handed over at once; the answer to each, in order. An answer says what is
@@ -76,7 +74,7 @@ class Process:
             answer = protocol.reply(line)
         except protocol.NotALine:
             raise self.ended(f"said {line!r}") from None
-        if not isinstance(answer, protocol.Answer) or answer.code in (FAILED, NO_MEMORY):
+        if not isinstance(answer, protocol.Answer) or answer.code in (Code.STORE_FAILED, Code.OUT_OF_MEMORY):
             raise self.ended(line)
         return answer
 

@@ -2,25 +2,21 @@
 
 What a stop or a failure left is taken up here. All of it is called while no process of the program stores.
 """
+import hashlib
 import threading
 import time
 from pathlib import Path
 
-from ..common import files, names, note_files
+from ..common import files, names, program
 from ..reading.present import Present
 from . import databases
-from .databases import Damaged
+from .databases import Damaged, Unrecovered
 from .notes import Notes
 from .process import WINDOW, Process
 from .settings import KEYS, Settings
 from .state import State, log
 
-TRIES = 5
-REFUSED = 1
-
-
-class Unrecovered(Exception):
-    """A database can't be taken up now: nothing is stored until it is."""
+TRIES, REFUSED = 5, 1
 
 
 class Recovery:
@@ -29,7 +25,7 @@ class Recovery:
     def __init__(self, settings: Settings, state: State, lock: int, present: Present) -> None:
         self.settings, self.state, self.lock, self.present = settings, state, lock, present
         self.folder, self.stops = state.folder, threading.Event()
-        self.notes = Notes(state, self.stops)
+        self.notes = Notes(state, lock, self.stops)
 
     # Sealing ----------------------------------------------------------------------------------------------------------
 
@@ -64,8 +60,8 @@ class Recovery:
     def owners(self) -> dict[str, str]:
         """Whose each sequence is, by name, as far as the machine is known."""
         known = {path.stem for path in KEYS.glob("*.pub") if names.is_machine(path.stem)} | self.state.machines.keys()
-        digests = {note_files.name_digest(name): name for name in known}
-        found = note_files.owners(self.folder.sequences)
+        digests = {hashlib.sha256(name.encode("ascii")).hexdigest(): name for name in known}
+        found = program.owners(self.folder.sequences)
         return {sequence: digests[digest] for sequence, digest in found.items() if digest in digests}
 
     # What a start finds -----------------------------------------------------------------------------------------------
@@ -91,7 +87,9 @@ class Recovery:
         """A database is gone that nobody deleted or moved: what it had isn't acknowledged any more."""
         self.state.tell(f"missing {name}", f"{name} is missing: what it had isn't acknowledged any more, and is stored "
                         "if its machine has it still; restore it from a backup")
-        windows = self.notes.of_database(name)
+        windows = self.state.ask("SELECT sequence, window FROM noted JOIN database ON database.id BETWEEN noted.first "
+                                 "AND noted.last WHERE name = ?", name)
+        self.notes.unmake(windows)
         self.state.stands(name, "missing")
         self.notes.make_anew(windows, f"{name}, which it notes, is missing")
 
@@ -161,7 +159,7 @@ class Recovery:
         quarantined = set(self.state.names("quarantined"))
         uploads = []
         for folder in sorted(self.folder.recent.iterdir()):
-            if folder.name in quarantined:
+            if folder.name in quarantined or not self.state.is_known(folder.name):
                 uploads += self.uploads(folder.name)
             else:
                 self.present.turn(folder.name)

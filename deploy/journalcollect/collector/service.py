@@ -2,7 +2,7 @@
 import argparse
 import resource
 import signal
-import sys
+import sqlite3
 import threading
 import time
 from pathlib import Path
@@ -31,11 +31,10 @@ FLUSH_SECONDS = 5.0
 class Service:
     """All that runs."""
 
-    def __init__(self, chosen: Settings, lock: int) -> None:
-        self.folder = Folder(Path(chosen.folder))
-        self.folder.make()
-        self.state = State(self.folder)
-        self.present = Present(self.folder.path, log, chosen.read_keys)
+    def __init__(self, chosen: Settings, folder: Folder, lock: int) -> None:
+        folder.make()
+        self.state = State(folder)
+        self.present = Present(folder.path, log, chosen.read_keys)
         self.store = Store(chosen, Recovery(chosen, self.state, lock, self.present))
         self.stops, self.gate = self.store.stops, Gate(chosen, self.state)
         self.keeping = Keeping(chosen, self.store)
@@ -46,7 +45,7 @@ class Service:
         signal.signal(signal.SIGINT, lambda *_: self.stops.set())
         signal.signal(signal.SIGHUP, lambda *_: self.store.is_asked_to_finish.set())
         threading.stack_size(STACK)
-        doors = Doors(self.folder, self.gate)
+        doors = Doors(self.state.folder, self.gate)
         self.present.start()
         self.store.start()
         self.keeping.start()
@@ -75,20 +74,27 @@ def main() -> int:
     try:
         chosen = settings.read()
         look_at_program()
+        if not asked.check:
+            serve(chosen)
     except Wrong as error:
         log(str(error))
         return 2
-    if asked.check:
-        return 0
-    raise_files()
+    except (OSError, sqlite3.Error) as error:
+        log(f"the service can't go on: {error}: look at the disk of its FOLDER; systemd begins it again")
+        return 3
+    return 0
+
+
+def serve(chosen: Settings) -> None:
+    """With as many open files as it may have: each connection has up to two."""
+    _, hard = resource.getrlimit(resource.RLIMIT_NOFILE)
+    resource.setrlimit(resource.RLIMIT_NOFILE, (hard, hard))
     folder = Folder(Path(chosen.folder))
-    lock = folder.locked()
-    if lock is None:
+    if (lock := folder.locked()) is None:
         log(f"another service, or a process that it began, stores in {folder.path}: this one waits for its end")
         lock = folder.locked(is_waiting=True)
     assert lock is not None
-    Service(chosen, lock).run()
-    return 0
+    Service(chosen, folder, lock).run()
 
 
 def look_at_program() -> None:
@@ -100,13 +106,3 @@ def look_at_program() -> None:
     if version != f"journal-collect {journalcollect.VERSION}":
         raise Wrong(f"{program.path()} is `{version}`, and this service of version {journalcollect.VERSION}: "
                     "install both anew")
-
-
-def raise_files() -> None:
-    """As many open files as it may have: each connection has up to two."""
-    _, hard = resource.getrlimit(resource.RLIMIT_NOFILE)
-    resource.setrlimit(resource.RLIMIT_NOFILE, (hard, hard))
-
-
-if __name__ == "__main__":
-    sys.exit(main())

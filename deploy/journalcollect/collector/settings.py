@@ -7,15 +7,14 @@ from pathlib import Path
 
 from ..common import files, settings
 
-KIB, MIB = 1 << 10, 1 << 20
+MIB = 1 << 20
 # The machines' keys, NAME.pub.
 KEYS = settings.FOLDER / "keys"
-# An upload has at most so many bytes; over LARGE it has one entry, and it is no upload without a header.
-UPLOAD_BYTES, LARGE, HEADER = 36 * MIB, MIB, 48
-# An upload touches at most so many files of notes, and a machine makes at most so many new ones in a day.
-MOST_WINDOWS, WINDOWS_A_DAY = 16, 10_000
-CONNECTIONS = 4
-FREE_FILES = 10_000
+# An upload has at most so many bytes, and over LARGE one entry.
+UPLOAD_BYTES, LARGE = 36 * MIB, MIB
+# A machine makes at most so many new files of notes in a day.
+WINDOWS_A_DAY = 10_000
+CONNECTIONS, FREE_FILES = 4, 10_000
 # What the program's process may take: seconds of a processor for what it is handed at once, and memory.
 CPU_SECONDS, MEMORY = 60, 1 << 30
 # Notes are kept for so many days at least: machines ask within a week whether an entry is known still.

@@ -8,11 +8,12 @@ import sqlite3
 import sys
 import threading
 import time
-from collections.abc import Iterable, Iterator
+from collections.abc import Iterator
 from dataclasses import astuple, dataclass, fields
 from typing import Any
 
 from ..common import files
+from ..common.damage import is_damage
 from .age import Age
 from .databases import Summary
 from .settings import Folder
@@ -45,9 +46,8 @@ def log(text: str) -> None:
 
 @dataclass
 class Machine:
-    """What is known of a machine: when it was seen, when something new of it was stored, how many entries were, how
-    many uploads were refused, by how many seconds its clock goes ahead; and the bytes and new files of notes of a
-    day."""
+    """What is known of a machine: when it was seen and something new of it stored, how many entries were, how many
+    uploads were refused, by how many seconds its clock goes ahead; and the bytes and new files of notes of a day."""
     name: str
     seen: float = 0.0
     stored: float = 0.0
@@ -86,6 +86,8 @@ class State:
         try:
             self.open()
         except sqlite3.DatabaseError as error:
+            if not is_damage(error):
+                raise
             log(f"{folder.state}: {error}: it is put aside, and made anew")
             self.rows.close()
             files.move(folder.state, folder.quarantine / f"state.sqlite-{time.time_ns()}")
@@ -99,8 +101,7 @@ class State:
             raise sqlite3.DatabaseError("it is damaged")
         self.machines = {row[0]: Machine(*row) for row in self.rows.execute("SELECT * FROM machine")}
         self.told = {row[0]: Told(*row) for row in self.rows.execute("SELECT * FROM told")}
-        self.changed: set[str] = set()
-        self.is_changed = False
+        self.changed, self.is_changed = set[str](), False
         found = self.rows.execute("SELECT days, boot, running, wall, uncounted FROM clock").fetchone()
         self.age = Age(*found) if found else Age.now()
 
@@ -109,7 +110,7 @@ class State:
             return self.rows.execute(text, values).fetchall()
 
     @contextlib.contextmanager
-    def together(self) -> Iterator[None]:
+    def transaction(self) -> Iterator[None]:
         """What is changed meanwhile is changed at once, or not at all."""
         with self.rows_lock:
             self.rows.execute("BEGIN IMMEDIATE")
@@ -133,19 +134,16 @@ class State:
             self.told = {cause: each for cause, each in self.told.items() if time.time() - each.last < TOLD_SECONDS}
             told = [astuple(each) for each in self.told.values()]
         try:
-            with self.together():
-                self.put("machine", machines, Machine)
+            with self.transaction():
                 self.ask("DELETE FROM told")
-                self.put("told", told, Told)
+                for table, rows, kind in (("machine", machines, Machine), ("told", told, Told)):
+                    marks = ", ".join("?" for _ in fields(kind))
+                    self.rows.executemany(f"INSERT OR REPLACE INTO {table} VALUES({marks})", rows)
                 self.ask("INSERT OR REPLACE INTO clock VALUES(1, ?, ?, ?, ?, ?)", *astuple(age))
             self.over("state")
         except sqlite3.Error as error:
             self.changed.update(row[0] for row in machines)
             self.tell("state", f"{self.folder.state} can't be written: {error}: look at its disk")
-
-    def put(self, table: str, rows: Iterable[tuple[Any, ...]], kind: type) -> None:
-        marks = ", ".join("?" for _ in fields(kind))
-        self.rows.executemany(f"INSERT OR REPLACE INTO {table} VALUES({marks})", rows)
 
     # What people are told ---------------------------------------------------------------------------------------------
 
@@ -185,7 +183,7 @@ class State:
             return found
 
     def rename(self, old: str, new: str) -> None:
-        with self.together():
+        with self.transaction():
             self.ask("UPDATE OR REPLACE machine SET name = ? WHERE name = ?", new, old)
             self.ask("UPDATE OR IGNORE sequence SET machine = ? WHERE machine = ?", new, old)
             self.ask("DELETE FROM sequence WHERE machine = ?", old)
@@ -212,7 +210,7 @@ class State:
                  packed: int | None) -> None:
         """A database was finished: what it has, how its windows are now, and whose its sequences are."""
         age = self.age.grown().days
-        with self.together():
+        with self.transaction():
             self.ask("DELETE FROM database WHERE name = ?", name)
             self.ask("INSERT INTO database(name, standing, finished, age, checked, first, last, entries, bytes, "
                      "digest, packed) VALUES(?1, 'finished', ?2, ?3, ?3, ?4, ?5, ?6, ?7, ?8, ?9)", name, time.time(),
@@ -236,8 +234,7 @@ class State:
     def head(self, day: str) -> str | None:
         """The digest over the digests of all databases that were begun on a day (UTC); None if there are none. It is
         that of the files NAME.db.sha256 one after the other: `cat 2026-12-01T*.db.sha256 | sha256sum`. Machines keep
-        what they are told of it: so whoever changes a database later, and all that is known here, has that against
-        him."""
+        what they are told: whoever changes a database later, and all that is known here, has that against him."""
         found = self.ask("SELECT name, digest FROM database WHERE name > ?1 || 'T' AND name < ?1 || 'U' "
                          "AND digest IS NOT NULL ORDER BY name", day)
         text = "".join(f"{digest}  {name}.db\n" for name, digest in found)
@@ -258,11 +255,10 @@ class State:
 
     def notes_of(self, sequence: str, window: int) -> int:
         """How many notes of finished databases a window has."""
-        found = self.ask("SELECT notes FROM noted WHERE sequence = ? AND window = ?", sequence, window)
-        return int(found[0][0]) if found else 0
+        return int(self.ask("SELECT total(notes) FROM noted WHERE sequence = ? AND window = ?", sequence, window)[0][0])
 
     def forget(self) -> None:
         """Nothing is known any more of what databases have; what was deleted or moved away stays so."""
-        with self.together():
+        with self.transaction():
             self.ask("DELETE FROM database WHERE standing NOT IN ('deleted', 'moved')")
             self.ask("DELETE FROM noted")

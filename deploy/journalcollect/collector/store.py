@@ -1,5 +1,6 @@
 """The store: one thread that has the present database, and stores what waits, in turns."""
 import collections
+import contextlib
 import os
 import shutil
 import threading
@@ -8,13 +9,16 @@ from collections.abc import Callable, Iterator
 from concurrent.futures import Future
 from pathlib import Path
 
-from ..common import files, note_files, program
+from ..common import files, program
+from ..common.codes import Code
 from ..common.protocol import Answer, Put, Verdict
+from ..common.uploads import HEADER, MOST_WINDOWS
 from . import databases
+from .databases import Unrecovered
 from .gate import IDS
-from .process import OWN, UNREAD, Ended, Process
-from .recovery import Recovery, Unrecovered
-from .settings import HEADER, MOST_WINDOWS, NOTES_DAYS, Settings
+from .process import OWN, Ended, Process
+from .recovery import Recovery
+from .settings import NOTES_DAYS, Settings
 from .state import log
 from .turns import Turns, Waiting
 
@@ -22,7 +26,9 @@ from .turns import Turns, Waiting
 KILLS = 3
 # So long a stop waits for what is being stored, and so long a database that can't be taken up is left alone.
 LAST_SECONDS, REST_SECONDS = 30.0, 3.0
-CLOSED_WELL, NOT_THE_OWNER = (0, 1), 71
+# An upload waits for its turn as long as this: less than its machine waits for an answer.
+LONGEST_WAIT = 60.0
+CLOSED_WELL, UNREADABLE = (0, 1), "it couldn't be read"
 
 
 class Store(threading.Thread):
@@ -35,7 +41,7 @@ class Store(threading.Thread):
         self.turns, self.tasks = Turns(), collections.deque[tuple[Callable[[], None], Future[None]]]()
         self.present: Process | None = None
         self.numbers: Iterator[int] = iter(())
-        self.recent_bytes, self.is_taken_up = 0, False
+        self.recent_bytes, self.is_taken_up, self.over = 0, False, set[str]()
         self.is_asked_to_finish, self.is_begun = threading.Event(), threading.Event()
         # Whoever reads notes has this, and whoever changes what isn't only added.
         self.notes = threading.Lock()
@@ -43,8 +49,12 @@ class Store(threading.Thread):
     # What others ask for ----------------------------------------------------------------------------------------------
 
     def ask(self, upload: Waiting) -> Answer | Put:
-        """Has an upload stored, and waits for what becomes of it."""
+        """Has an upload stored, and waits for what becomes of it. It comes again if its turn doesn't come for long."""
         self.turns.put(upload)
+        with contextlib.suppress(TimeoutError):
+            return upload.reply.result(LONGEST_WAIT)
+        if self.turns.take(upload):
+            upload.put(Verdict.LATER, "too many others wait")
         return upload.reply.result()
 
     def alone(self, task: Callable[[], None]) -> None:
@@ -58,7 +68,7 @@ class Store(threading.Thread):
         """Whether an entry is noted as stored."""
         self.is_begun.wait()
         with self.notes:
-            return note_files.note(self.folder.sequences, sequence, number) is not None
+            return program.has_note(self.folder.sequences, sequence, number)
 
     def stop(self) -> None:
         """What is being stored is brought to its end, for some seconds. What isn't answered comes again."""
@@ -108,12 +118,20 @@ class Store(threading.Thread):
         """Uploads of databases that were set aside are stored in another one."""
         for machine, path in uploads:
             with open(path, "rb") as file:
-                self.store([Waiting(machine, file.fileno(), files.size(path))])
+                upload = Waiting(machine, file.fileno(), files.size(path))
+                self.store([upload])
+            if isinstance(put := upload.reply.result(), Put):
+                why = f"{path} can't be stored again: {put.why}"
+                if put.verdict is Verdict.LATER and put.why != UNREADABLE:
+                    raise Unrecovered(why)
+                self.state.tell(f"again {path}", f"{why}: it is in {self.folder.quarantine}")
+                files.move(path, self.folder.quarantine / f"{path.parent.name}-{path.name}")
         if uploads:
             self.close()
             log(f"{len(uploads)} uploads are stored again")
         for folder in {path.parent for _, path in uploads}:
             self.recovery.present.turn(folder.name)
+            self.over.add(folder.name)
             shutil.rmtree(folder, ignore_errors=True)
 
     def fail(self, group: list[Waiting], why: str) -> None:
@@ -197,7 +215,7 @@ class Store(threading.Thread):
         return Process(self.folder, databases.path_of(self.folder, name), self.recovery.lock)
 
     def is_taken(self, name: str) -> bool:
-        return (self.state.is_known(name) or databases.path_of(self.folder, name).exists()
+        return (name in self.over or self.state.is_known(name) or databases.path_of(self.folder, name).exists()
                 or (self.folder.recent / name).exists())
 
     def give_name(self, upload: Waiting, database: str) -> bool:
@@ -223,8 +241,8 @@ class Store(threading.Thread):
         else:
             upload.path.unlink(missing_ok=True)
             self.recent_bytes -= upload.size
-        if answer.code == UNREAD:
-            upload.put(Verdict.LATER, "it couldn't be read")
+        if answer.code == Code.READ_FAILED:
+            upload.put(Verdict.LATER, UNREADABLE)
         else:
             upload.reply.set_result(answer)
         machine = self.state.saw(upload.machine)
@@ -234,7 +252,7 @@ class Store(threading.Thread):
             machine.stored = time.time()
         if not answer.is_ack:
             machine.refused += 1
-            whose = self.whose(upload) if answer.code == NOT_THE_OWNER else ""
+            whose = self.whose(upload) if answer.code == Code.NOT_THE_OWNER else ""
             self.state.tell(f"refused {upload.machine}", f"{upload.machine}: refused: {answer.line}{whose}")
 
     def whose(self, upload: Waiting) -> str:

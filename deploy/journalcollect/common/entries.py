@@ -8,12 +8,13 @@ from collections.abc import Iterator
 from mmap import mmap
 from typing import NamedTuple
 
+from .export_stream import PLAIN
+
 Data = bytes | mmap
 
-# Names that journald has; what begins with `__` is about the entry, and nearly always comes first.
-PLAIN = re.compile(rb"(?:[A-Z_][A-Z0-9_]{0,63}+=[^\n]*+\n)++\n")
+# What begins with `__` is about the entry, and nearly always comes first.
 ABOUT = re.compile(rb"(__[A-Z0-9_]++)=([^\n]*+)\n")
-HEAD = re.compile(rb"(?:__[^\n]*+\n)*+")
+HEAD = re.compile(rb"(?:__[^\n]*+\n)*")
 NAME = re.compile(rb"[A-Z_][A-Z0-9_]{0,63}")
 OWN = b"_COLLECTED_"
 BOOT, BOOT_ID, NO_BOOT = re.compile(rb"\n_BOOT_ID=([^\n]*)"), re.compile(rb"[0-9a-f]{32}"), b"0" * 32
@@ -63,36 +64,21 @@ def spans(data: Data, at: int = 0) -> Iterator[Span]:
             at += 1
             continue
         plain = PLAIN.match(data, at)
-        end = plain.end() if plain else end_by_fields(data, at)
+        end = plain.end() if plain else at + sum(len(spelled) for _, _, spelled in fields(data, at)) + 1
         yield Span(at, end, plain is not None)
         at = end
-
-
-def end_by_fields(data: Data, at: int) -> int:
-    """Where the entry ends that begins here, field by field."""
-    while True:
-        end = data.find(b"\n", at)
-        if end == at:
-            return end + 1
-        if end < 0:
-            raise Malformed("the stream ends within an entry")
-        if data.find(b"=", at, end) < 0:
-            end += 9 + int.from_bytes(data[end + 1:end + 9], "little")
-            if data[end:end + 1] != b"\n":
-                raise Malformed("no newline after a value")
-        at = end + 1
 
 
 def entry(data: Data, span: Span) -> Entry:
     """The entry that a span has. What systemd-journal-remote doesn't take is Untaken."""
     text = data[span.begin:span.end]
     head = HEAD.match(text)
-    fields = text[head.end():-1] if head else text
-    if head and span.is_plain and b"\n__" not in fields and OWN not in fields:
-        about, boots, count = dict(ABOUT.findall(head[0])), BOOT.findall(b"\n" + fields), fields.count(b"\n")
+    own = text[head.end():-1] if head else text
+    if head and span.is_plain and b"\n__" not in own and OWN not in own:
+        about, boots, count = dict(ABOUT.findall(head[0])), BOOT.findall(b"\n" + own), own.count(b"\n")
     else:
         about, kept = by_fields(text)
-        fields, boots, count = b"".join(kept), [each[9:-1] for each in kept if each[:9] == b"_BOOT_ID="], len(kept)
+        own, boots, count = b"".join(kept), [each[9:-1] for each in kept if each[:9] == b"_BOOT_ID="], len(kept)
     try:
         realtime, monotonic = int(about[b"__REALTIME_TIMESTAMP"]), int(about[b"__MONOTONIC_TIMESTAMP"])
         sequence, number = about[b"__SEQNUM_ID"].decode("ascii").lower(), int(about[b"__SEQNUM"])
@@ -104,26 +90,34 @@ def entry(data: Data, span: Span) -> Entry:
         raise Untaken("they aren't of one boot")
     if count > MOST_FIELDS:
         raise Untaken(f"they have over {MOST_FIELDS} fields")
-    return Entry(realtime, monotonic, sequence, number, boots[0].decode("ascii"), fields)
+    return Entry(realtime, monotonic, sequence, number, boots[0].decode("ascii"), own)
 
 
-def by_fields(data: bytes) -> tuple[dict[bytes, bytes], list[bytes]]:
-    """What is said about an entry that has values with newlines in them, and its fields as the stream spells them."""
-    about: dict[bytes, bytes] = {}
-    fields: list[bytes] = []
-    at = 0
-    while at < len(data) - 1:
-        end = data.index(b"\n", at)
+def fields(data: Data, at: int = 0) -> Iterator[tuple[bytes, bytes, bytes]]:
+    """The fields of the entry that begins here, in either spelling: name, value, and how it is spelled."""
+    while (end := data.find(b"\n", at)) != at:
+        if end < 0:
+            raise Malformed("the stream ends within an entry")
         name, equals, value = data[at:end].partition(b"=")
         if not equals:
             begin = end + 9
             end = begin + int.from_bytes(data[end + 1:begin], "little")
             value = data[begin:end]
+            if data[end:end + 1] != b"\n":
+                raise Malformed("no newline after a value")
+        yield name, value, data[at:end + 1]
+        at = end + 1
+
+
+def by_fields(text: bytes) -> tuple[dict[bytes, bytes], list[bytes]]:
+    """What is said about an entry that has values with newlines in them, and its fields as the stream spells them."""
+    about: dict[bytes, bytes] = {}
+    kept: list[bytes] = []
+    for name, value, spelled in fields(text):
         if name.startswith((b"__", OWN)):
             about[name] = value
         elif not NAME.fullmatch(name):
             raise Untaken("a field's name is none of journald's")
         else:
-            fields.append(data[at:end + 1])
-        at = end + 1
-    return about, fields
+            kept.append(spelled)
+    return about, kept

@@ -1,34 +1,21 @@
-"""Export streams, entry by entry. Lengths are followed, so no line of a message is taken for a field.
+"""Export streams. Lengths are followed, so no line of a message is taken for a field.
 
-An entry that is short is read at once: a block of whole lines is gone through, and a field whose value has its length
-before it is read where it comes. What is longer goes field by field to whoever takes it, each in pieces. So a reader
-holds a block, and what the taker keeps.
+An entry that is short and has only lines NAME=VALUE, as nearly all have, is read at once; others go field by field,
+each in parts. So a reader holds a block, and what is made of the parts.
 """
-from collections.abc import Callable, Iterator
-from io import BufferedReader, BytesIO
-from typing import Protocol, TypeVar
+import re
+from collections.abc import Iterator
+from io import BufferedReader, BytesIO, RawIOBase
+from typing import cast
 
-# The text of an entry's fields, the values of its metadata, the names of all others, and how these are spelled.
-Short = tuple[bytes, dict[bytes, bytes], list[bytes], list[bytes]]
-
-
-class Taker(Protocol):
-    """What is made of a long entry."""
-    known: dict[bytes, bytes]
-
-    def begin(self, name: bytes) -> None:
-        """A field of this name begins."""
-
-    def count_value(self, length: int) -> None:
-        """So many more bytes belong to its value; they come after this."""
-
-    def add(self, piece: bytes) -> None:
-        """Some more of the field, as the stream spells it."""
-
-
-Kind = TypeVar("Kind", bound=Taker)
-Source = BufferedReader | BytesIO
-PIECE = BLOCK = 1 << 16
+# What is read at once, and the longest part of a field.
+BLOCK = 1 << 16
+# journald takes no value of 768 MiB, so a length over this is of no stream.
+LONGEST = 1 << 30
+# Names are those that journald has. The group isn't possessive (`++`): Python 3.11.2 takes half of one then.
+PLAIN = re.compile(rb"(?:[A-Z_][A-Z0-9_]{0,63}+=[^\n]*+\n)+\n")
+# A field's name, or none where it is some more of the last one; its text as it is spelled, and of that the value.
+Part = tuple[bytes, bytes, bytes]
 
 
 class Unfit(Exception):
@@ -48,146 +35,42 @@ class CutOff(Unfit):
         self.known = known
 
 
-class Stream:
-    """A stream of which values of at most so many bytes are taken."""
+def buffered(data: bytes) -> BufferedReader:
+    """Some bytes, which are read as a file is."""
+    return BufferedReader(cast(RawIOBase, BytesIO(data)))
 
-    def __init__(self, source: Source, longest: int) -> None:
-        self.source, self.longest = source, longest
-        # What was read, how much of it is gone through, and where it begins.
-        self.data, self.at, self.begin = b"", 0, 0
 
-    @property
-    def place(self) -> int:
-        """How many bytes were gone through."""
-        return self.begin + self.at
+def plain(source: BufferedReader) -> bytes:
+    """The next entry, if it is short and plain and was read already; otherwise nothing."""
+    found = PLAIN.match(source.peek())
+    return source.read(found.end()) if found else b""
 
-    def more(self) -> bool:
-        """Reads what comes next, if there is more."""
-        piece = self.source.read1(PIECE)
-        self.data = self.data[self.at:] + piece
-        self.begin, self.at = self.begin + self.at, 0
-        return bool(piece)
 
-    def entries(self, long: Callable[[], Kind]) -> Iterator[Short | Kind]:
-        """Each entry, once it is read whole; one that isn't short is what was made for it."""
-        while True:
-            yield from self.short()
-            if len(self.data) - self.at >= BLOCK or not self.more():
-                taker = long()
-                if not self.read(taker):
-                    return
-                yield taker
+def parts(source: BufferedReader, line: bytes) -> Iterator[Part]:
+    """The parts of the field that begins with this line, as far as the stream goes."""
+    name, equals, value = line.partition(b"=")
+    if not name:
+        raise Damaged("a field has no name")
+    if not equals:
+        yield from binary(source, line)
+        return
+    yield name, line, value.removesuffix(b"\n")
+    while not line.endswith(b"\n") and (line := source.readline(BLOCK)):
+        yield b"", line, line.removesuffix(b"\n")
 
-    def short(self) -> Iterator[Short]:
-        """The entries that are whole in what was read."""
-        data, begin = self.data, self.at
-        # The last one of them ends here, if this isn't within a value.
-        last = data.rfind(b"\n\n", begin) + 2
-        known: dict[bytes, bytes] = {}
-        names: list[bytes] = []
-        fields: list[bytes] = []
-        lines = BytesIO(data)
-        lines.seek(begin)
-        for line in lines if last > begin else ():
-            name, equals, value = line.partition(b"=")
-            if not equals and line != b"\n":
-                name, value = line[:-1], self.value(lines)
-                if not value:
-                    return
-                line, value = line + value, value[8:]
-            if line == b"\n":
-                self.at = end = lines.tell()
-                if known or names:
-                    yield data[begin:end - 1], known, names, fields
-                    known, names, fields = {}, [], []
-                if end >= last:
-                    return
-                begin = end
-            elif name[:2] == b"__":
-                known[name] = value[:-1]
-            else:
-                names.append(name)
-                fields.append(line)
 
-    def value(self, lines: BytesIO) -> bytes:
-        """A length, so many bytes, and a newline; nothing if they aren't there."""
-        length = lines.read(8)
-        count = int.from_bytes(length, "little")
-        value = lines.read(min(count, len(self.data)) + 1)
-        return length + value if len(value) > count and value[-1] == 10 else b""
-
-    def read(self, taker: Taker) -> bool:
-        """Reads an entry field by field; whether there is one."""
-        is_begun = False
-        while line := self.line():
-            if line != b"\n":
-                is_begun = True
-                self.field(line, taker)
-            elif is_begun:
-                return True
-        if is_begun:
-            raise CutOff(taker.known)
-        return False
-
-    def line(self) -> bytes:
-        """The next line; of a long one its beginning."""
-        while (end := self.data.find(b"\n", self.at)) < 0 and len(self.data) - self.at < PIECE and self.more():
-            pass
-        end = min(end + 1 or len(self.data), self.at + PIECE)
-        line, self.at = self.data[self.at:end], end
-        return line
-
-    def exactly(self, length: int, taker: Taker) -> bytes:
-        """So many bytes, of which there are few."""
-        while len(self.data) - self.at < length:
-            if not self.more():
-                raise CutOff(taker.known)
-        self.at += length
-        return self.data[self.at - length:self.at]
-
-    def field(self, line: bytes, taker: Taker) -> None:
-        """The field that begins with this line."""
-        if b"=" in line:
-            value = self.text(line, taker)
-        elif line.endswith(b"\n"):
-            value = self.binary(line, taker)
-        elif len(line) < PIECE:
-            raise CutOff(taker.known)
-        else:
-            raise Damaged("a name is too long")
-        if line.startswith(b"__") and line.endswith(b"\n"):
-            taker.known[line[:-1].partition(b"=")[0]] = value
-
-    def text(self, line: bytes, taker: Taker) -> bytes:
-        """A field NAME=VALUE; its value, if it is short."""
-        name, _, value = line.partition(b"=")
-        taker.begin(name)
-        piece, added = line, value
-        while True:
-            taker.count_value(len(added) - added.endswith(b"\n"))
-            taker.add(piece)
-            if piece.endswith(b"\n"):
-                return value[:-1]
-            piece = added = self.line()
-            if not piece:
-                raise CutOff(taker.known)
-
-    def binary(self, line: bytes, taker: Taker) -> bytes:
-        """A field whose value has a length before it; its value, if it is short."""
-        taker.begin(line[:-1])
-        length = self.exactly(8, taker)
-        left = int.from_bytes(length, "little")
-        if left > self.longest:
-            raise Damaged(f"a value of {left} bytes")
-        taker.count_value(left)
-        taker.add(line + length)
-        value = b""
-        while left:
-            value = self.exactly(min(left, PIECE), taker)
-            taker.add(value)
-            left -= len(value)
-        newline = self.exactly(1, taker)
-        if newline != b"\n":
-            raise Damaged("no newline after a value")
-        taker.add(newline)
-        return value
+def binary(source: BufferedReader, line: bytes) -> Iterator[Part]:
+    """The field whose name is in this line, and whose value has its length before it."""
+    if len(line) == BLOCK and not line.endswith(b"\n"):
+        raise Damaged("a name is too long")
+    length = source.read(8)
+    count = int.from_bytes(length, "little") if len(length) == 8 else 0
+    if count > LONGEST:
+        raise Damaged(f"a value of {count} bytes")
+    yield line.removesuffix(b"\n"), line + length, b""
+    left = count + 1
+    while left and (piece := source.read(min(left, BLOCK))):
+        left -= len(piece)
+        yield b"", piece, piece if left else piece[:-1]
+    if not left and not piece.endswith(b"\n"):
+        raise Damaged("no newline after a value")

@@ -6,15 +6,16 @@ message, so memory is bounded whatever the stream has. A field says what isn't t
 journald drops names that begin with `_`, and whatever somebody logs beside message, unit and user hides none of these.
 """
 import argparse
+import re
 import sys
 from collections.abc import Callable, Iterator
-from io import BytesIO
+from dataclasses import dataclass
+from io import BufferedReader
 
-from journalcollect.common.export_stream import Damaged, Source, Stream, Unfit
+from journalcollect.common.export_stream import BLOCK, CutOff, Unfit, buffered, parts, plain
 
 NAME, VALUE, FIELDS, ENTRY = 1_024, 16_777_216, 4_096, 33_554_432
-# journald takes no value of 768 MiB, so a length over this is of no stream.
-LONGEST = 1 << 30
+ABOUT = re.compile(rb"^(__[^=\n]*)=(.*)$", re.MULTILINE)
 LEFT_OUT = b"_JOURNAL_COLLECT_LEFT_OUT"
 # The bytes of a field that is short, and of a message's beginning; how many fields are kept of each sort.
 SHORT, BEGINNING = 4_096, 2_048
@@ -27,78 +28,77 @@ KNOWN_NAMES = frozenset((b"MESSAGE", b"MESSAGE_ID", b"PRIORITY", b"SYSLOG_IDENTI
 PLAIN, MOST_NAMES = frozenset(b"ABCDEFGHIJKLMNOPQRSTUVWXYZ0123456789_"), 8
 
 
+@dataclass
 class Field:
     """A field as the stream spells it, or the beginning of a long one; `length` is that of all of it."""
-
-    def __init__(self, name: bytes) -> None:
-        self.name, self.pieces, self.length = name, list[bytes](), 0
+    name: bytes
+    text: bytearray
+    length: int = 0
 
     def cut(self) -> None:
-        if self.length > SHORT:
-            self.pieces = [b"".join(self.pieces)[:SHORT]]
+        del self.text[SHORT:]
 
 
 class Entry:
     """One entry: its metadata, and its text while it is within the limits. The text of a larger one is handed to
     `overflow`, if there is one."""
 
-    def __init__(self, overflow: Callable[[bytes], object] | None = None) -> None:
+    def __init__(self, overflow: Callable[[bytes], object] | None = None, whole: bytes = b"") -> None:
         self.overflow = overflow
-        self.known: dict[bytes, bytes] = {}
-        self.held: list[Field] = []
-        # In its place: the text of an entry that was taken at once.
-        self.whole = b""
-        self.fields = self.counted = self.bytes = 0
+        # The text of a short one, or its fields.
+        self.whole, self.held = whole, list[Field]()
+        self.known: dict[bytes, bytes] = dict(ABOUT.findall(whole))
+        self.fields = self.counted = self.bytes = self.value = 0
         self.is_large = False
-        # Where it ends in its stream.
-        self.end = 0
-
-    def take(self, text: bytes, known: dict[bytes, bytes], names: list[bytes]) -> None:
-        """All of it at once; it is short."""
-        self.known, self.whole = known, text
-        longest = max(map(len, names), default=0), max(map(len, known), default=0)
-        if max(longest) > NAME or len(names) > FIELDS or b"" in names:
+        if whole.count(b"\n") > FIELDS:
             self.unfold()
 
     def unfold(self) -> None:
         """Takes field by field what was taken at once."""
         if self.whole:
             text, self.whole = self.whole, b""
-            Stream(BytesIO(text + b"\n"), LONGEST).read(self)
+            self.read(buffered(text))
 
-    def begin(self, name: bytes) -> None:
-        """A field of this name begins."""
-        if not name:
-            raise Damaged("a field has no name")
-        if len(self.held) < 2 * FIELDS:
-            self.held.append(Field(name))           # the last of so many stands for those behind it
-        self.is_metadata, self.value = name.startswith(b"__"), 0
-        self.fields += not self.is_metadata
-        self.count(len(name), len(name) > NAME)
+    def read(self, source: BufferedReader) -> bool:
+        """Reads it field by field; whether there is one."""
+        while line := source.readline(BLOCK):
+            if line != b"\n":
+                for name, text, value in parts(source, line):
+                    self.add(name, text, value)
+            elif self.held:
+                return True
+        if self.held:
+            raise CutOff(self.known)
+        return False
 
-    def count_value(self, length: int) -> None:
-        """So many more bytes belong to the field's value."""
-        self.value += length
-        self.count(length, self.value > VALUE)
-
-    def count(self, length: int, is_over: bool) -> None:
-        self.counted += 0 if self.is_metadata else length
-        # Metadata aren't counted, but they take memory as all else does.
-        self.bytes += length
-        is_over = is_over or self.fields > FIELDS or self.counted > ENTRY or self.bytes > ENTRY + VALUE
-        if is_over and not self.is_large:
-            self.shorten()
-
-    def add(self, piece: bytes) -> None:
-        """Some more of its text."""
+    def add(self, name: bytes, text: bytes, value: bytes) -> None:
+        """One more field, or some more of the last one."""
+        if name:
+            self.value = 0
+            if len(self.held) < 2 * FIELDS:
+                self.held.append(Field(name, bytearray()))      # the last of so many stands for those behind it
         field = self.held[-1]
+        is_metadata = field.name.startswith(b"__")
+        if is_metadata and text.endswith(b"\n"):
+            self.known[field.name] = value
+        self.count(is_metadata, len(name), len(value))
         if self.is_large and self.overflow:
-            self.overflow(piece)
-        if not self.is_large or field.length < SHORT:
-            field.pieces.append(piece)
-        field.length += len(piece)
+            self.overflow(text)
+        field.text += text
+        field.length += len(text)
         if self.is_large:
             field.cut()
+
+    def count(self, is_metadata: bool, name: int, value: int) -> None:
+        """Metadata aren't counted, but they take memory as all else does."""
+        self.value += value
+        self.bytes += name + value
+        if not is_metadata:
+            self.fields += name > 0
+            self.counted += name + value
+        if not self.is_large and (name > NAME or self.value > VALUE or self.fields > FIELDS or self.counted > ENTRY
+                                  or self.bytes > ENTRY + VALUE):
+            self.shorten()
 
     def shorten(self) -> None:
         """It goes out with less."""
@@ -106,8 +106,7 @@ class Entry:
         self.is_large = True
         for field in self.held:
             if self.overflow:
-                for piece in field.pieces:
-                    self.overflow(piece)
+                self.overflow(field.text)
             field.cut()
 
     def key(self) -> tuple[bytes, bytes]:
@@ -120,28 +119,30 @@ class Entry:
         except (KeyError, ValueError):
             raise Unfit("an entry has neither a sequence number nor a cursor that has it") from None
 
-    def missing(self) -> bytes:
-        """The lines of its key that its text lacks, and its end."""
-        sequence, number = self.key()
-        lines = [b"__SEQNUM_ID=%s\n" % sequence] * (b"__SEQNUM_ID" not in self.known)
-        return b"".join(lines + [b"__SEQNUM=%s\n" % number] * (b"__SEQNUM" not in self.known)) + b"\n"
+    @property
+    def realtime(self) -> int:
+        """When it was logged, by the clock that it had, in microseconds."""
+        text = self.known.get(b"__REALTIME_TIMESTAMP", b"")
+        return int(text) if text.isdigit() and len(text) <= 20 else 0
+
+    def missing(self, sequence: bytes | None = None) -> bytes:
+        """The lines of its key that its text lacks, perhaps under another sequence id, and its end."""
+        own, number = self.key()
+        lines = b""
+        if sequence or b"__SEQNUM_ID" not in self.known:
+            lines = b"__SEQNUM_ID=%s\n" % (sequence or own)
+        if b"__SEQNUM" not in self.known:
+            lines += b"__SEQNUM=%s\n" % number
+        return lines + b"\n"
 
     def text(self, sequence: bytes | None = None) -> bytes:
         """Its text with its key, perhaps under another sequence id; of a large one what is left of it."""
-        if sequence is not None:
-            self.unfold()
-            self.held = [field for field in self.held if field.name != b"__SEQNUM_ID"]
-            self.known |= {b"__SEQNUM_ID": sequence, b"__SEQNUM": self.key()[1]}
-            pieces = [b"__SEQNUM_ID=%s\n" % sequence]
-            if not any(field.name == b"__SEQNUM" for field in self.held):
-                pieces.append(b"__SEQNUM=%s\n" % self.key()[1])
-            return b"".join([*pieces, *self.body(), b"\n"])
-        return b"".join([*self.body(), self.missing()])
-
-    def body(self) -> list[bytes]:
-        if self.is_large:
-            return rest(self.held)
-        return [self.whole] if self.whole else [piece for field in self.held for piece in field.pieces]
+        if self.whole and not sequence:
+            return self.whole[:-1] + self.missing()
+        self.unfold()
+        held = [field for field in self.held if not (sequence and field.name == b"__SEQNUM_ID")]
+        kept = rest(held) if self.is_large else [field.text for field in held]
+        return b"".join([*kept, self.missing(sequence)])
 
     @property
     def was_shortened(self) -> bool:
@@ -161,7 +162,7 @@ def rest(fields: list[Field]) -> list[bytes]:
     for field in fields:
         sort = "__" if field.name.startswith(b"__") else "_" if field.name.startswith(b"_") else \
             "known" if field.name in KNOWN_NAMES else ""
-        text = b"".join(field.pieces)
+        text = bytes(field.text)
         if field.length > SHORT or not room[sort]:
             count, length = count + 1, length + field.length
             if PLAIN.issuperset(field.name) and len(field.name) <= 64 and len(names) < MOST_NAMES:
@@ -188,17 +189,12 @@ def beginning(text: bytes) -> bytes:
     return b"MESSAGE\n%s%s\n" % (len(value).to_bytes(8, "little"), value) if is_binary else b"MESSAGE=%s\n" % value
 
 
-def entries(source: Source, overflow: Callable[[bytes], object] | None = None) -> Iterator[Entry]:
+def entries(source: BufferedReader, overflow: Callable[[bytes], object] | None = None) -> Iterator[Entry]:
     """Each entry of a stream, once it is read whole."""
-    stream = Stream(source, LONGEST)
-    for found in stream.entries(lambda: Entry(overflow)):
-        if isinstance(found, tuple):
-            text, known, names, _ = found
-            entry = Entry(overflow)
-            entry.take(text, known, names)
-        else:
-            entry = found
-        entry.end = stream.place
+    while True:
+        entry = Entry(overflow, plain(source))
+        if not entry.whole and not entry.held and not entry.read(source):
+            return
         yield entry
 
 
@@ -207,17 +203,17 @@ def main() -> None:
                                      description="Makes an export stream one that journal-collect takes.")
     parser.add_argument("--leave-out-large", action="store_true", help="leave out entries over the limits")
     leave_out_large = parser.parse_args().leave_out_large
-    # The buffer is its own, for a write without one may be cut short and say nothing.
-    out = open(1, "wb", closefd=False)
+    source = BufferedReader(open(0, "rb", 0), BLOCK)
     try:
-        for entry in entries(open(0, "rb"), None if leave_out_large else out.write):
-            if not entry.is_large:
-                out.write(entry.text())
-            elif leave_out_large:
-                print("left out:", entry.named(), file=sys.stderr)
-            else:
-                out.write(entry.missing())
-        out.flush()
+        # The buffer is its own, for a write without one may be cut short and say nothing.
+        with open(1, "wb", closefd=False) as out:
+            for entry in entries(source, None if leave_out_large else out.write):
+                if not entry.is_large:
+                    out.write(entry.text())
+                elif leave_out_large:
+                    print("left out:", entry.named(), file=sys.stderr)
+                else:
+                    out.write(entry.missing())
     except Unfit as fault:
         sys.exit(str(fault))
     except OSError as error:

@@ -1,20 +1,12 @@
 """The program journal-collect: every call of it is made here."""
-import mmap
 import os
 import subprocess
-import tempfile
 from collections.abc import Iterable
-from dataclasses import dataclass
 from pathlib import Path
-
-from . import note_files
-from .protocol import ANSWER
 
 # The environment variable that names another program than the installed one, as tests do.
 VARIABLE = "JOURNAL_COLLECT"
-OK, REFUSED, USAGE, FAILED = range(4)
-# What an upload of an export stream that is to be whole begins with, and how long its header is.
-HEADER, WHOLE = 48, b"JCUPLD02\1\1" + bytes(6)
+OK, REFUSED, USAGE, FAILED, NONE = range(5)
 
 
 class Failed(Exception):
@@ -32,49 +24,28 @@ def run(*words: str | Path, given: bytes = b"") -> subprocess.CompletedProcess[b
     return subprocess.run([path(), *words], input=given, capture_output=True, check=False)
 
 
-def said(*words: str | Path, given: bytes = b"", allowed: Iterable[int] = (OK,)) -> str:
-    """What the program says on its output, if it ends with a status that is allowed."""
+def told(*words: str | Path, given: bytes = b"", allowed: Iterable[int] = (OK,)) -> tuple[int, str]:
+    """With which status the program ends, and what it says on its output, if the status is allowed."""
     ended = run(*words, given=given)
     if ended.returncode not in allowed:
         raise Failed(f"journal-collect {' '.join(map(str, words))}: status {ended.returncode}: "
                      f"{ended.stderr.decode(errors='replace').strip()}")
-    return ended.stdout.decode(errors="replace")
+    return ended.returncode, ended.stdout.decode(errors="replace").strip()
+
+
+def said(*words: str | Path, given: bytes = b"", allowed: Iterable[int] = (OK,)) -> str:
+    """What the program says on its output."""
+    return told(*words, given=given, allowed=allowed)[1]
 
 
 def version() -> str:
-    return said("--version").strip()
+    return said("--version")
 
 
-@dataclass(frozen=True)
-class Acknowledged:
-    """Some answer acknowledges all of an upload."""
-
-
-@dataclass(frozen=True)
-class Refused:
-    """No answer acknowledges the upload, and this line refuses it."""
-    line: str
-
-
-@dataclass(frozen=True)
-class Unanswered:
-    """No answer is about the upload."""
-
-
-def acknowledged(upload: Path, answers: str) -> Acknowledged | Refused | Unanswered:
-    """What some answers, a line each, mean to an upload that is to be whole: all of it is acknowledged by an answer to
-    its source, from its first entry on, that counts as many as its header, and leaves no byte."""
-    with open(upload, "rb") as file:
-        head = file.read(HEADER)
-    if len(head) < HEADER or not head.startswith(WHOLE) or any(head[32:40]):
-        raise Failed(f"{upload} isn't an upload of a stream that is to be whole")
-    source, count = head[16:32].hex(), int.from_bytes(head[40:48], "little")
-    lines = [line.split(" ") for line in answers.splitlines() if ANSWER.fullmatch(line)]
-    own = [words for words in lines if words[1:3] == [source, "0"]]
-    if any(words[0] == "ack" and words[3] == str(count) and words[5] == "0" for words in own):
-        return Acknowledged()
-    refusals = [words for words in own if words[0] == "no"]
-    return Refused(" ".join(refusals[-1])) if refusals else Unanswered()
+def acknowledged(upload: Path, answers: str) -> tuple[int, str]:
+    """What some answers, a line each, mean to an upload that is to be whole: OK, all of it is acknowledged; REFUSED,
+    and the line that refuses it; NONE is about it."""
+    return told("acknowledged", upload, given=answers.encode(), allowed=(OK, REFUSED, NONE))
 
 
 # What the collector asks ----------------------------------------------------------------------------------------------
@@ -85,17 +56,49 @@ def collecting(sequences: Path, database: Path, names: str = "-") -> list[str | 
     return [path(), "collect", "--sequences", sequences, "--tables", "3", "--files-from", names, database]
 
 
+def has_note(sequences: Path, sequence: str, number: int) -> bool:
+    """Whether an entry is noted as stored."""
+    return said("notes", "--sequences", sequences, "has", given=f"{sequence} {number}\n".encode()) == "noted"
+
+
+def forget_after(sequences: Path, windows: Iterable[tuple[str, int, int]]) -> None:
+    """Of each window of a sequence only the first so many notes stay. Nobody may store meanwhile."""
+    lines = "".join(f"{sequence} {window} {count}\n" for sequence, window, count in windows)
+    said("notes", "--sequences", sequences, "forget-after", given=lines.encode())
+
+
+def owners(sequences: Path) -> dict[str, str]:
+    """Of each sequence that is a machine's, the SHA-256 digest of the machine's name."""
+    lines = said("owners", "--sequences", sequences, allowed=(OK, REFUSED)).splitlines()
+    return dict(line.split(" ") for line in lines if not line.startswith("bad "))
+
+
+def rename_owner(sequences: Path, old: str, new: str) -> None:
+    """What was a machine's is its own under another name. Nobody may store meanwhile."""
+    said("owners", "--sequences", sequences, "--rename", old, new)
+
+
+def release(sequences: Path, sequence: str) -> None:
+    """A sequence is nobody's, and then the machine's that brings a new entry of it. Nobody may store meanwhile."""
+    said("owners", "--sequences", sequences, "--release", sequence)
+
+
 def differs(sequences: Path, database: Path) -> str | None:
     """How a database differs from its notes; None if each of its entries is noted as it is."""
-    with tempfile.TemporaryFile(dir=database.parent) as out:
-        ended = subprocess.run([path(), "export", database], stdout=out, stderr=subprocess.PIPE, check=False)
-        if ended.returncode:
-            return ended.stderr.decode(errors="replace").strip()
-        if not out.seek(0, os.SEEK_END):
-            return None
-        with mmap.mmap(out.fileno(), 0, access=mmap.ACCESS_READ) as stream:
-            found = next(note_files.unlike(sequences, stream), None)
-    return f"entry {found[1]} of {found[0]} isn't the one that is noted" if found else None
+    ended = run("check", "--sequences", sequences, database)
+    told = ended.stdout.decode(errors="replace").strip()
+    if ended.returncode == OK and told.endswith(" 0"):
+        return None
+    return f"{told} {ended.stderr.decode(errors='replace')}".strip()
+
+
+def touched(upload: int) -> int:
+    """How many files of notes an upload touches, which is in an open file; 0 if it has a fault."""
+    ended = subprocess.run([path(), "inspect", "/dev/stdin"], stdin=upload, capture_output=True, check=False)
+    if ended.returncode not in (OK, REFUSED):
+        raise Failed(f"journal-collect inspect: status {ended.returncode}")
+    words = ended.stdout.split()
+    return int(words[7]) if ended.returncode == OK else 0
 
 
 class Bad(Exception):

@@ -7,6 +7,7 @@ that.
 import enum
 import re
 from dataclasses import dataclass
+from typing import NamedTuple
 
 VERSION = 1
 LONGEST_LINE = 200
@@ -88,8 +89,7 @@ class Verdict(enum.Enum):
     NEVER = "never"
 
 
-@dataclass(frozen=True)
-class Put:
+class Put(NamedTuple):
     """An upload wasn't stored, and why."""
     verdict: Verdict
     why: str
@@ -98,8 +98,7 @@ class Put:
         return f"{self.verdict.value} {plain(self.why)}"
 
 
-@dataclass(frozen=True)
-class Answer:
+class Answer(NamedTuple):
     """The program's line about an upload, `ack ..` or `no ..`: `journal-collect acknowledged` says what it means."""
     line: str
 

@@ -2,11 +2,9 @@
 merged with the first one."""
 import http.client
 import re
+import signal
 import socket
-import threading
-from contextlib import suppress
 from dataclasses import dataclass
-from typing import Any
 from urllib.parse import urlencode
 
 from . import settings
@@ -57,9 +55,8 @@ class ClickHouse:
         parts, context, self.seconds = chosen.parts, settings.encryption(chosen), seconds
         self.table, self.path, self.headers = chosen.table, parts.path.rstrip("/"), settings.headers(chosen)
         host, port = parts.hostname or "", parts.port
-        self.connection = http.client.HTTPSConnection(host, port, timeout=self.seconds, context=context) if context \
-            else http.client.HTTPConnection(host, port, timeout=self.seconds)
-        self.used: Any = None
+        self.connection = http.client.HTTPSConnection(host, port, context=context) if context \
+            else http.client.HTTPConnection(host, port)
         self.insert = "/?" + urlencode({"query": f"INSERT INTO {self.table} FORMAT JSONEachRow", **STRICT})
 
     def look(self) -> None:
@@ -88,34 +85,25 @@ class ClickHouse:
 
     def post(self, target: str, body: bytes) -> Answer:
         """A request, and its answer. All of it has a deadline, however slowly something comes."""
-        is_late = threading.Event()
-        timer = threading.Timer(self.seconds, self.cut, [is_late])
-        timer.start()
+        signal.signal(signal.SIGALRM, self.end)
         try:
-            answer = self.exchange(target, body)
-            if is_late.is_set():
-                raise TimeoutError("what came is cut")
-            return answer
+            signal.setitimer(signal.ITIMER_REAL, self.seconds)
+            try:
+                return self.exchange(target, body)
+            finally:
+                signal.setitimer(signal.ITIMER_REAL, 0)
         except (OSError, http.client.HTTPException) as error:
             self.connection.close()
-            reason = f"no answer within {self.seconds:g} s" if is_late.is_set() else str(error) or type(error).__name__
             is_cut = not isinstance(error, (ConnectionRefusedError, socket.gaierror))
-            raise Unavailable(f"it can't be reached: {reason}", is_cut) from error
-        finally:
-            timer.cancel()
+            raise Unavailable(f"it can't be reached: {str(error) or type(error).__name__}", is_cut) from error
 
-    def cut(self, is_late: threading.Event) -> None:
-        """Ends what is under way. The connection forgets its socket when an answer has no length."""
-        is_late.set()
-        for used in {self.used, self.connection.sock} - {None}:
-            with suppress(OSError):
-                used.shutdown(socket.SHUT_RDWR)
+    def end(self, *_: object) -> None:
+        raise TimeoutError(f"no answer within {self.seconds:g} s")
 
     def exchange(self, target: str, body: bytes) -> Answer:
         # It may have closed the connection while nothing was under way.
         self.connection.close()
         self.connection.connect()
-        self.used = self.connection.sock
         try:
             self.connection.request("POST", self.path + target, body, self.headers)
         except (BrokenPipeError, ConnectionResetError):

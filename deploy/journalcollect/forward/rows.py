@@ -5,6 +5,8 @@ from datetime import date
 from hashlib import blake2b
 from typing import Any
 
+from ..common.entries import fields
+
 COLUMNS = {
     "_BOOT_ID": "boot", "_MACHINE_ID": "machine", "_HOSTNAME": "host", "_SYSTEMD_UNIT": "unit",
     "_SYSTEMD_USER_UNIT": "user_unit", "_SYSTEMD_SLICE": "slice", "_SYSTEMD_CGROUP": "cgroup",
@@ -47,21 +49,6 @@ def as_text(value: bytes) -> str:
     return MARK + escaped.replace(b"\\udc", b"\\x").replace(b"\\ud800", b"\\\\").decode("utf-8")
 
 
-def pairs(entry: bytes) -> list[tuple[bytes, bytes]]:
-    """The names and values of an entry in canonical text, what is about it first."""
-    found, at, end = [], 0, len(entry) - 1
-    while at < end:
-        line = entry.index(b"\n", at)
-        name, equals, value = entry[at:line].partition(b"=")
-        if not equals:
-            begin = line + 9
-            line = begin + int.from_bytes(entry[line + 1:begin], "little")
-            value = entry[begin:line]
-        found.append((name, value))
-        at = line + 1
-    return found
-
-
 def content(realtime: int, monotonic: int, names: list[bytes], values: list[str]) -> int:
     """What tells apart two entries that differ under one key: 64 bits of a digest of all else."""
     said = "\n".join(json.dumps(value, ensure_ascii=False)[1:-1] for value in values).encode()
@@ -79,8 +66,8 @@ def day_of(realtime: int, database: date) -> str:
 def row(entry: bytes, database: date) -> Row:
     """An entry of a database that was begun on a day. An empty column stands for no field, so an empty value is among
     the others, and so are further values of a field."""
-    (_, realtime), (_, monotonic), (_, number), (_, sequence), *fields = pairs(entry)
-    names, values = [name for name, _ in fields], [as_text(value) for _, value in fields]
+    (_, realtime, _), (_, monotonic, _), (_, number, _), (_, sequence, _), *own = fields(entry)
+    names, values = [name for name, *_ in own], [as_text(value) for _, value, _ in own]
     said: dict[str, Any] = {
         "day": day_of(int(realtime), database), "realtime": int(realtime), "sequence": sequence.decode("ascii"),
         "number": int(number), "content": content(int(realtime), int(monotonic), names, values),

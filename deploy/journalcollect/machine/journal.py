@@ -15,7 +15,7 @@ from io import BufferedReader
 from pathlib import Path
 from typing import cast
 
-from journalcollect.common.export_stream import CutOff
+from journalcollect.common.export_stream import BLOCK, CutOff
 from journalcollect.common.fit import Entry, entries
 
 MACHINE_ID = Path("/etc/machine-id")
@@ -79,7 +79,7 @@ class Reading:
         self.errors = open(os.memfd_create("errors"), "w+b")
         command = ["journalctl", "--quiet", "--output=export", f"--file=/proc/self/fd/{handle}", *options]
         self.process = subprocess.Popen(command, stdin=subprocess.DEVNULL, stdout=subprocess.PIPE, stderr=self.errors,
-                                        pass_fds=[handle])
+                                        bufsize=BLOCK, pass_fds=[handle])
         self.output = cast(BufferedReader, self.process.stdout)
         self.whole = whole
         # The metadata of the entry at which journalctl broke off, if it began to write one.

@@ -1,26 +1,22 @@
 """The outbox: uploads that are whole, and never change until they are acknowledged.
 
-outbox/N.upload, where N is when it was made, in microseconds, or a greater number: a name is never given twice. The
-program writes them, so it alone decides what an upload looks like, and none gets here that it couldn't read. An upload
-is on the disk before it has its name, and has its name on the disk before `put` returns.
+outbox/N.upload, where N is when the last of its entries was logged, in microseconds, or the next number that is free.
+The program writes them, so it alone decides what an upload looks like, and none gets here that it couldn't read. One is
+on the disk before it has its name, and has its name on the disk before `put` returns.
 """
 import os
 import re
 import time
 from collections.abc import Iterable
 from dataclasses import dataclass
-from io import BytesIO
 from itertools import accumulate, groupby
 from pathlib import Path
 
 from journalcollect.common import files, program
-from journalcollect.common.export_stream import Unfit
+from journalcollect.common.export_stream import Unfit, buffered
 from journalcollect.common.fit import Entry, entries
+from journalcollect.common.uploads import HEADER, MOST_WINDOWS, WINDOW
 from journalcollect.machine.refused import Refused
-
-HEADER_BYTES, WINDOW = 48, 4_096
-# So many files of notes an upload touches at most: the collector takes no more.
-MOST_WINDOWS = 16
 
 
 @dataclass
@@ -28,20 +24,22 @@ class Piece:
     """An entry as it goes out."""
     sequence: str
     number: int
+    realtime: int
     text: bytes
 
     @classmethod
     def of(cls, entry: Entry, sequence: str | None = None) -> "Piece":
         """The entry, perhaps in another sequence."""
         own, number = entry.key()
-        return cls(sequence or own.decode("ascii"), int(number), entry.text(sequence.encode() if sequence else None))
+        text = entry.text(sequence.encode() if sequence else None)
+        return cls(sequence or own.decode("ascii"), int(number), entry.realtime, text)
 
     @property
     def name(self) -> str:
         return f"{self.sequence[:32]}-{self.number}.export".replace("/", "_")
 
     def entry(self) -> Entry:
-        return next(entries(BytesIO(self.text)))
+        return next(entries(buffered(self.text)))
 
     def shortened(self) -> "Piece | None":
         """What goes out in its place where it is too large; None if that is what it is."""
@@ -54,13 +52,13 @@ class Piece:
 
 def pieces_in(data: bytes) -> tuple[list[Piece], bytes]:
     """The entries of an upload, as far as they can be followed, and the rest."""
-    pieces, end = list[Piece](), HEADER_BYTES
-    body = BytesIO(data)
+    pieces, end = list[Piece](), HEADER
+    body = buffered(data)
     body.seek(end)
     try:
         for entry in entries(body):
-            (sequence, number), text = entry.key(), data[end:HEADER_BYTES + entry.end]
-            pieces.append(Piece(sequence.decode("ascii"), int(number), text))
+            (sequence, number), text = entry.key(), data[end:body.tell()]
+            pieces.append(Piece(sequence.decode("ascii"), int(number), entry.realtime, text))
             end += len(text)
     except (Unfit, ValueError):
         pass
@@ -109,10 +107,11 @@ class Outbox:
                 piece = pieces.pop(at_byte(pieces, bad.place))
                 self.refused.put(piece.name, piece.text, f"an entry can't be taken (code {bad.code})")
                 continue
-            number = max(time.time_ns() // 1_000, max(self.sizes, default=0) + 1)
-            size = files.size(new)
+            number = min(max(piece.realtime for piece in pieces), time.time_ns() // 1_000)
+            while self.path(number).exists():
+                number += 1
             files.move(new, self.path(number))
-            self.sizes[number] = size
+            self.sizes[number] = files.size(self.path(number))
             return [number]
         return []
 
@@ -152,7 +151,7 @@ class Making:
         self.most = most
         self.pieces: list[Piece] = []
         self.windows: set[int] = set()
-        self.size = HEADER_BYTES
+        self.size = HEADER
 
     def fits(self, piece: Piece) -> bool:
         """The entry may go out with these: the first one always."""

@@ -19,6 +19,7 @@ from dataclasses import astuple, dataclass
 from pathlib import Path
 from typing import Any
 
+from journalcollect.common.damage import is_damage
 from journalcollect.common.report import LOOK, Report
 from journalcollect.machine.journal import JournalFile, cursor_of, cursor_parts
 
@@ -38,8 +39,6 @@ COMMIT;
 """
 # How often an upload went out in vain, and until when it rests, if it didn't yet; how long one rests at most.
 NEVER, LONGEST_REST = (0, 0.0), 300.0
-# Errors of SQLite that say that the file isn't what was made here; others, as of a full disk, may pass.
-DAMAGED = (sqlite3.SQLITE_CORRUPT, sqlite3.SQLITE_NOTADB, sqlite3.SQLITE_ERROR)
 
 
 @dataclass
@@ -103,7 +102,7 @@ class Places:
 
     def mend(self, error: sqlite3.DatabaseError) -> bool:
         """Puts aside a file that isn't what was made here, and begins another; whether the error says that."""
-        if getattr(error, "sqlite_errorcode", DAMAGED[0]) not in DAMAGED:
+        if not is_damage(error):
             return False
         self.database.close()
         aside = self.path.with_name("places.damaged")

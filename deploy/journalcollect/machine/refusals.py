@@ -9,13 +9,13 @@
 - `smaller`, `never`: it is halved, down to the entry that is meant.
 """
 from journalcollect.common import program
+from journalcollect.common.codes import FAILURES, TOO_LARGE, Code
 from journalcollect.common.protocol import Answer
 from journalcollect.common.report import LOOK, Report
 from journalcollect.machine.outbox import Outbox, Piece, at_byte
 from journalcollect.machine.places import Places
 from journalcollect.machine.refused import Refused
 
-FAILURES, OVER_BOUNDS, CONFLICT, NOT_THE_OWNER, TOO_LARGE = (61, 62, 63), 6, 60, 71, (11, 12, 14, 15)
 # An entry whose text is whole here is believed to be at fault once the collector said so as often.
 BELIEVED = 2
 
@@ -29,11 +29,11 @@ class Refusals:
         if answer.code in FAILURES:
             return False
         pieces = self.outbox.pieces(number)
-        if answer.code == OVER_BOUNDS and 0 < answer.place < len(pieces):
+        if answer.code == Code.OVER_BOUNDS and 0 < answer.place < len(pieces):
             self.outbox.replace(number, [pieces[:answer.place], pieces[answer.place:]])
-        elif answer.code == OVER_BOUNDS:
+        elif answer.code == Code.OVER_BOUNDS:
             self.halve(number, pieces, "it passes a bound of the collector")
-        elif answer.code in (CONFLICT, NOT_THE_OWNER) and answer.place < len(pieces):
+        elif answer.code in (Code.CONFLICT, Code.NOT_THE_OWNER) and answer.place < len(pieces):
             self.take_conflict(number, pieces, answer)
         else:
             return self.take_byte(number, answer, pieces, tries)
@@ -46,7 +46,7 @@ class Refusals:
         if any(each.number == piece.number for each in pieces[:answer.place]):
             self.outbox.replace(number, [pieces[:answer.place], pieces[answer.place:]])
         elif self.places.forked(piece.sequence, piece.number) == piece.sequence:
-            first = piece.number if code == CONFLICT else 0
+            first = piece.number if code == Code.CONFLICT else 0
             new = self.places.fork(piece.sequence, first)
             self.report.say(LOOK, f"forked: {piece.sequence} goes on as {new} from entry {first} (code {code}): this "
                             "machine was set back or cloned, or another one has its journal")
@@ -71,7 +71,7 @@ class Refusals:
                 return False
         except program.Bad as bad:
             code, place = bad.code, bad.place
-        if pieces and code > OVER_BOUNDS:
+        if pieces and code > Code.OVER_BOUNDS:
             at = at_byte(pieces, place)
             pieces[at:at + 1] = self.without(pieces[at], f"code {code}", code in TOO_LARGE)
         self.outbox.replace(number, [pieces])

@@ -1,8 +1,8 @@
 """Sending: the outbox goes out, an upload at a time, and the answer to each comes before the next one goes.
 
-The newest upload and the oldest take turns. So what was just logged doesn't wait behind a backlog, and over a link that
-carries no more than is logged what is old comes nevertheless. Order is free, since each entry is stored by its key. An
-upload that was in vain twice lets all others go first, and rests, each time for twice as long.
+The newest upload and the oldest take turns, by the times of their entries. So what was just logged doesn't wait behind
+a backlog, and over a link that carries no more than is logged what is old comes nevertheless. Order is free, since each
+entry is stored by its key. An upload that was in vain twice goes after all others, and rests, each time twice as long.
 """
 import hashlib
 import random
@@ -56,6 +56,7 @@ class Sending:
         except FAILURES as error:
             self.outbox.look()                      # somebody may have taken it away
             self.rest(number, f"sending failed: {error}", FAILED)
+        self.places.forget_tries(self.outbox.sizes)     # names come again
         return True
 
     def send(self, number: int) -> None:
@@ -107,24 +108,21 @@ class Sending:
     def take_answer(self, number: int, data: bytes, lines: str) -> bool:
         """What some lines of the program mean to an upload; whether it is acknowledged. That alone deletes it."""
         try:
-            means = program.acknowledged(self.outbox.path(number), lines)
+            status, line = program.acknowledged(self.outbox.path(number), lines)
         except program.Failed:
             self.outbox.replace(number, [self.outbox.pieces(number)])    # damaged: what can be followed of it goes on
             raise
-        match means:
-            case program.Acknowledged():
-                acks = [line.split(" ") for line in lines.splitlines() if line.startswith(f"ack {data[16:32].hex()} ")]
-                self.acknowledge(number, data, any(words[4:5] not in ([], ["0"]) for words in acks))
-                return True
-            case program.Refused(line):
-                answer = Answer(line)
-                tries = self.places.tries().get(number, NEVER)[0] + 1
-                if not self.refusals.take(number, answer, tries):
-                    self.rest(number, f"the collector refuses an upload (code {answer.code})")
-            case program.Unanswered() if self.link.is_open:
-                self.link.close()
-                self.rest(number, "the collector answers to another upload")
-        return False
+        if status == program.OK:
+            acks = [line.split(" ") for line in lines.splitlines() if line.startswith(f"ack {data[16:32].hex()} ")]
+            self.acknowledge(number, data, any(words[4:5] not in ([], ["0"]) for words in acks))
+        elif status == program.REFUSED:
+            answer = Answer(line)
+            if not self.refusals.take(number, answer, self.places.tries().get(number, NEVER)[0] + 1):
+                self.rest(number, f"the collector refuses an upload (code {answer.code})")
+        elif self.link.is_open:
+            self.link.close()
+            self.rest(number, "the collector answers to another upload")
+        return status == program.OK
 
     def take_answers(self, lines: str) -> None:
         """What answers that were brought by hand mean to what waits."""
@@ -137,7 +135,6 @@ class Sending:
         if pieces and (is_new or not self.places.value("had")):
             self.places.set(had=f"{pieces[-1].sequence} {pieces[-1].number} {int(time.time())}")
         self.outbox.remove(number)
-        self.places.forget_tries(self.outbox.sizes)
         self.places.set(acknowledged=int(time.time()), trouble="")
         self.pause = 0.0
 

@@ -4,12 +4,10 @@ import math
 import os
 import subprocess
 import sys
-import tempfile
 import threading
 import time
 from collections import Counter
 from collections.abc import Iterator
-from concurrent.futures import ProcessPoolExecutor, ThreadPoolExecutor
 from itertools import product
 from typing import IO, Any, NamedTuple
 
@@ -44,18 +42,21 @@ def moment(microseconds: int) -> str:
     return f"@{microseconds // 1_000_000}.{microseconds % 1_000_000:06}"
 
 
-def microseconds(word: str | None, otherwise: int) -> int:
-    """What a time is in journalctl's words; systemd itself reads them."""
-    if word is None:
-        return otherwise
-    said = subprocess.run(["systemd-analyze", "timestamp", word], capture_output=True, text=True, check=False,
+def times(words: list[str]) -> dict[str, int]:
+    """The times that words of journalctl name, in microseconds, as systemd reads them; without those that it can't."""
+    if not words:
+        return {}
+    said = subprocess.run(["systemd-analyze", "timestamp", "--", *words], capture_output=True, text=True, check=False,
                           env={**os.environ, "LC_ALL": "C"})
+    found, word = dict[str, int](), ""
     for line in said.stdout.splitlines():
-        name, _, value = line.partition(": ")
-        if name.strip() == "UNIX seconds" and value.startswith("@"):
+        name, _, value = line.strip().partition(": ")
+        if name == "Original form":
+            word = value
+        elif name == "UNIX seconds" and value.startswith("@"):
             seconds, _, part = value[1:].partition(".")
-            return int(seconds) * 1_000_000 + int((part + "000000")[:6])
-    return otherwise
+            found[word] = int(seconds) * 1_000_000 + int((part + "000000")[:6])
+    return found
 
 
 def windows(standing: Standing, since: int, until: int, many: int) -> list[Window]:
@@ -85,8 +86,7 @@ def become(window: Window, call: Call) -> int:
 
 
 def entries(window: Window, call: Call, *fields: str, end: float = math.inf) -> Iterator[dict[str, Any]]:
-    """The entries as JSON says them, with some fields alone if these are named; those that come until a moment of the
-    monotonic clock."""
+    """The entries as JSON says them, with some fields alone if named; those until a moment of the monotonic clock."""
     call = call.without("output", "output-fields", "quiet").plus(("output", "json"), ("quiet", None))
     if fields:
         call = call.plus(("output-fields", ",".join(fields)))
@@ -105,6 +105,8 @@ def entries(window: Window, call: Call, *fields: str, end: float = math.inf) -> 
 
 def side_by_side(found: list[Window], call: Call) -> int:
     """Says what each window has in turn, read on all processors; the status is 1 if a word isn't found."""
+    import tempfile                                     # here, and below, since most calls do without
+    from concurrent.futures import ThreadPoolExecutor
     if os.isatty(1):
         os.environ.setdefault("SYSTEMD_COLORS", "1")
 
@@ -130,14 +132,15 @@ def side_by_side(found: list[Window], call: Call) -> int:
 
 def newest(found: list[Window], call: Call, lines: int) -> int:
     """The time of the oldest of so many newest entries; 0 if there are fewer."""
+    from concurrent.futures import ThreadPoolExecutor
     call = call.without("lines", "reverse", "no-tail", "pager-end").plus(("lines", str(lines)))
     times: list[int] = []
-    together = os.cpu_count() or 1
-    with ThreadPoolExecutor(together) as pool:
-        for place in range(len(found), 0, -together):
+    at_once = os.cpu_count() or 1
+    with ThreadPoolExecutor(at_once) as pool:
+        for place in range(len(found), 0, -at_once):
             for part in pool.map(lambda window: [int(each["__REALTIME_TIMESTAMP"]) for each in
                                                  entries(window, call, "_BOOT_ID")],
-                                 found[max(place - together, 0):place]):
+                                 found[max(place - at_once, 0):place]):
                 times += part
             if len(times) >= lines:
                 return sorted(times)[-lines]
@@ -161,8 +164,8 @@ def texts(value: Any) -> list[str]:
 
 def count(found: list[Window], call: Call, *names: str) -> Counter[tuple[int, tuple[str, ...]]]:
     """The same of all windows, on all processors."""
-    for window in found:
-        for handle in window.handles:
-            os.set_inheritable(handle, True)
+    from concurrent.futures import ProcessPoolExecutor
+    for handle in {each for window in found for each in window.handles}:
+        os.set_inheritable(handle, True)
     with ProcessPoolExecutor(os.cpu_count()) as pool:
         return sum(pool.map(count_one, found, [call] * len(found), [list(names)] * len(found)), Counter())

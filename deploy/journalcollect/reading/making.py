@@ -9,12 +9,10 @@ import heapq
 import mmap
 import os
 import shutil
-import sqlite3
 import subprocess
 import sys
 import time
 from collections.abc import Iterable, Iterator
-from contextlib import closing
 from pathlib import Path
 from typing import NamedTuple
 
@@ -29,6 +27,8 @@ from .remote import Remote
 
 UNKNOWN = "systemd-journal-remote didn't write them"
 TOGETHER = 256
+# One of them costs the files of a database or of a day, until the next run.
+FAILURES = (OSError, EOFError, ValueError, program.Failed, databases.Damaged, remote.Failed, Malformed)
 
 
 class Said(NamedTuple):
@@ -71,7 +71,8 @@ class Maker:
 
     def __init__(self, folder: Path, chosen: collector_settings.Settings) -> None:
         self.places, self.folder, self.chosen = Places(folder), Folder(folder), chosen
-        self.owners = owners(self.folder.state)
+        # The machine of each sequence; of what came by hand there may be none.
+        self.owners: dict[str, str] = dict(places.known(folder, "SELECT id, machine FROM sequence"))
 
     def run(self, is_anew: bool) -> int:
         """One run at a time; who comes while another one is under way leaves it that, if not all is to be made anew."""
@@ -97,22 +98,25 @@ class Maker:
                 return told(f"FREE_BYTES is {self.chosen.free_bytes}, and fewer are free: none are made")
             try:
                 self.make(name)
-            except (OSError, program.Failed, databases.Damaged, remote.Failed, Malformed, ValueError) as error:
+            except FAILURES as error:
                 status = told(f"none are made of {name}: {error}")
-        for day in sorted(set(map(self.day_of, self.places.of_today())), reverse=True):
-            if self.is_over(day):
+        for day in filter(self.is_over, sorted(set(map(self.day_of, self.places.of_today())), reverse=True)):
+            try:
                 self.make_day(day)
+            except FAILURES as error:
+                status = told(f"none are made of {day}: {error}")
+        if status:
+            self.clean()
         self.forget()
         return status
 
-    def databases(self) -> set[str]:
-        """The finished ones."""
+    def finished(self) -> set[str]:
         return {path.name.removesuffix(".db.sha256") for path in self.folder.databases.glob("*.db.sha256")}
 
     def wanted(self) -> set[str]:
         """The finished databases of the days that are kept."""
-        days = sorted(set(map(self.day_of, self.databases())), reverse=True)[:self.chosen.read_days]
-        return {name for name in self.databases() if self.day_of(name) in days}
+        days = sorted(set(map(self.day_of, self.finished())), reverse=True)[:self.chosen.read_days]
+        return {name for name in self.finished() if self.day_of(name) in days}
 
     def make(self, name: str) -> None:
         """Journal files of one database, and its text for the day's."""
@@ -151,7 +155,7 @@ class Maker:
 
     def is_over(self, day: str) -> bool:
         """Nothing more comes of a day: a database began after it, or a day has gone by."""
-        newest = max(map(self.day_of, self.databases()))
+        newest = max(map(self.day_of, self.finished()))
         return newest > day or day < time.strftime("%F", time.gmtime(time.time() - 86_400))
 
     def make_day(self, day: str) -> None:
@@ -183,18 +187,8 @@ class Maker:
         """Days that are over READ_DAYS days go: days on which something came, so a clock that is wrong costs one."""
         days = {day.name[:10] for day in self.places.days()} | set(map(self.day_of, self.places.of_today()))
         kept = sorted(days, reverse=True)[:self.chosen.read_days]
-        for folder in self.places.days():
-            if folder.name[:10] not in kept:
-                shutil.rmtree(folder)
-
-
-def owners(state: Path) -> dict[str, str]:
-    """The machine of each sequence, as the service knows it. Of what came by hand there may be none."""
-    try:
-        with closing(sqlite3.connect(f"file:{state}?mode=ro", uri=True)) as rows:
-            return dict(rows.execute("SELECT id, machine FROM sequence"))
-    except sqlite3.Error:
-        return {}
+        for folder in (each for each in self.places.days() if each.name[:10] not in kept):
+            shutil.rmtree(folder)
 
 
 def told(text: str) -> int:
@@ -208,7 +202,10 @@ def main(words: list[str] | None = None) -> int:
     parser.add_argument("folder", metavar="FOLDER", type=Path)
     asked = parser.parse_args(words)
     os.umask(0o027)
-    return Maker(asked.folder, collector_settings.read()).run(asked.anew)
+    try:
+        return Maker(asked.folder, collector_settings.read()).run(asked.anew)
+    except OSError as error:
+        return told(str(error))
 
 
 if __name__ == "__main__":

@@ -14,13 +14,14 @@ import os
 import re
 from dataclasses import asdict, dataclass, field
 from pathlib import Path
+from typing import Any
 
 from ..common import files
 
 DAY = re.compile(r"\d{4}-\d\d-\d\d(\.\d+)?", re.ASCII)
 ALL, ABOUT = "all", "about.json"
 # The group that a collector's folder has may read, whatever else who makes them leaves to others.
-MODE, FOLDER_MODE = 0o640, 0o2750
+MODE, FOLDER_MODE = 0o640, 0o750
 # A machine that says more boots of one day than these isn't listened to.
 MOST_BOOTS = 1_000
 
@@ -78,8 +79,8 @@ class Places:
 
     def make(self) -> None:
         for folder in (self.journals, self.present, self.today):
-            if not folder.exists():
-                folder.mkdir()
+            folder.mkdir(exist_ok=True)
+            if folder.stat().st_mode & 0o777 != FOLDER_MODE:
                 folder.chmod(FOLDER_MODE)
 
     def days(self) -> list[Path]:
@@ -98,6 +99,12 @@ class Places:
         return found
 
 
-def made(folder: Path) -> set[str]:
-    """The databases of a collector whose journal files stand."""
-    return set(Places(folder).made())
+def known(folder: Path, query: str) -> list[Any]:
+    """What the service knows of a collector; nothing, if that can't be read."""
+    import sqlite3                                      # here, since most searches do without
+    from contextlib import closing
+    try:
+        with closing(sqlite3.connect(f"file:{folder}/state.sqlite?mode=ro", uri=True)) as rows:
+            return rows.execute(query).fetchall()
+    except sqlite3.Error:
+        return []

@@ -1,5 +1,4 @@
 """Journal files: systemd-journal-remote writes them, and their headers say what they have."""
-import os
 import re
 import struct
 import subprocess
@@ -30,11 +29,8 @@ class Header(NamedTuple):
 def header(file: Path | int) -> Header | None:
     """What a journal file has, of a path or an open file; nothing if it is none."""
     try:
-        if isinstance(file, int):
-            head = os.pread(file, HEADER, 0)
-        else:
-            with open(file, "rb") as opened:
-                head = opened.read(HEADER)
+        with open(file, "rb", buffering=0, closefd=not isinstance(file, int)) as opened:
+            head = opened.read(HEADER)
     except OSError:
         return None
     if len(head) < HEADER or not head.startswith(SIGNATURE):

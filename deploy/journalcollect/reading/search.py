@@ -5,22 +5,20 @@ collector's name of a machine, and boots are counted for each machine by itself.
 """
 import fnmatch
 import os
-import sqlite3
 import sys
 import time
 from collections import Counter
 from collections.abc import Iterable
-from contextlib import closing
 from operator import itemgetter
 from pathlib import Path
 
 from ..collector import settings
 from ..common.settings import Wrong as WrongSettings
-from . import choosing, journalctl, words
+from . import choosing, journalctl, places, words
 from .choosing import FOREVER, Standing
 from .journalctl import Window
 from .places import Places
-from .words import FOLLOWS, Call, Wrong
+from .words import BEHIND, Call, Wrong
 
 HELP = """\
 Usage: journal-collect-search [OPTIONS..] [MATCHES..]
@@ -59,8 +57,9 @@ class Search:
         if call.has("utc"):
             os.environ["TZ"] = "UTC"
             time.tzset()
-        self.since = journalctl.microseconds(call.value("since"), 0)
-        self.until = journalctl.microseconds(call.value("until"), FOREVER)
+        since, until = call.value("since") or "", call.value("until") or ""
+        times = journalctl.times(list(filter(None, (since, until))))
+        self.since, self.until = times.get(since, 0), times.get(until, FOREVER)
         self.call = call.of([f"_COLLECTED_FROM={name}" for name in self.machines()])
         if (call.has("boot") or call.has("dmesg")) and call.value("boot") != "all" and not call.has("list-boots"):
             self.call = self.of_boots()
@@ -76,7 +75,8 @@ class Search:
         known = [name for name in choosing.about(self.at).boots if name]
         found = sorted({name for pattern in patterns for name in known if fnmatch.fnmatchcase(name, pattern)})
         if not found:
-            raise Wrong(f"nothing of a machine {' or '.join(patterns)} was collected; --list-machines says of which")
+            raise Wrong(f"nothing of a machine {' or '.join(patterns)} can be read yet: journal-collect-status says "
+                        "whether it sends, --list-machines of which something can be read")
         return found
 
     def boots(self) -> dict[str, list[tuple[str, int, int]]]:
@@ -88,7 +88,7 @@ class Search:
     def of_boots(self) -> Call:
         """The boot that is asked for, of each machine that has it."""
         said = self.asked.value("boot") or "0"
-        match = FOLLOWS["boot"].fullmatch(said)
+        match = BEHIND["boot"].fullmatch(said)
         if not match:
             raise Wrong(f"{said} is no boot")
         boot, offset = (match[1] or "").lower(), int(match[2] or 0)
@@ -161,7 +161,8 @@ class Search:
 
     def list_machines(self) -> int:
         """Each machine with its first and last entry, when it was seen last, and how far its clock is ahead."""
-        seen = machines(self.at.folder / "state.sqlite")
+        seen = {name: (at or 0.0, skew or 0.0)
+                for name, at, skew in places.known(self.at.folder, "SELECT name, seen, skew FROM machine")}
         about = choosing.about(self.at)
         wanted = self.machines() or sorted({*about.boots, *seen} - {""})
         print(f"{'MACHINE':<24} {'FIRST ENTRY':<27} {'LAST ENTRY':<27} {'SEEN':<27} CLOCK AHEAD")
@@ -232,16 +233,6 @@ class Search:
 def one_line(value: str) -> str:
     """A value as a terminal may have it."""
     return "".join(each if each.isprintable() else "?" for each in value)
-
-
-def machines(state: Path) -> dict[str, tuple[float, float]]:
-    """When each machine was seen last, and by how many seconds its clock was ahead, if that may be read."""
-    try:
-        with closing(sqlite3.connect(f"file:{state}?mode=ro", uri=True)) as rows:
-            return {name: (seen or 0.0, skew or 0.0) for name, seen, skew in
-                    rows.execute("SELECT name, seen, skew FROM machine")}
-    except sqlite3.Error:
-        return {}
 
 
 def main() -> int:

@@ -15,7 +15,7 @@ KINDS = {words[0]: (kind, words[1] if len(words) > 1 else "") for kind in (NONE,
          for words in (each.split() for each in kind.split(", "))}
 LETTERS = {letter: name for name, (_, letter) in KINDS.items() if letter}
 # What may be the value of an option that can stand without one.
-FOLLOWS = {"lines": re.compile(r"\d+|all"), "boot": re.compile(r"all|(?=.)([0-9a-fA-F]{32})?([+-]?\d+)?")}
+BEHIND = {"lines": re.compile(r"\d+|all"), "boot": re.compile(r"all|(?=.)([0-9a-fA-F]{32})?([+-]?\d+)?")}
 
 
 class Wrong(Exception):
@@ -104,6 +104,6 @@ def following(name: str, left: list[str]) -> str | None:
     """The value of an option that has none of its own: the next word, where that is to be one."""
     if KINDS[name][0] == VALUE and not left:
         raise Wrong(f"--{name} takes a value")
-    if KINDS[name][0] == VALUE or left and name in FOLLOWS and FOLLOWS[name].fullmatch(left[0]):
+    if KINDS[name][0] == VALUE or left and name in BEHIND and BEHIND[name].fullmatch(left[0]):
         return left.pop(0)
     return None

@@ -2,13 +2,12 @@
 import argparse
 import pwd
 import re
-import sys
 from collections.abc import Sequence
 from pathlib import Path
 
 from journalcollect.common import settings
 from journalcollect.setup import keys
-from journalcollect.setup.deeds import Deeds, Stopped, as_root, fail, is_true, output, told
+from journalcollect.setup.deeds import Deeds, Stopped, as_root, fail, is_true, output
 
 LIBRARY = Path(__file__).resolve().parents[2]
 SSHD = Path("/etc/ssh/sshd_config.d/journal-collect.conf")
@@ -40,7 +39,8 @@ def set_up(deeds: Deeds, etc: Path) -> None:
     if not deeds.is_rehearsal:
         check_sshd(etc)
     deeds.runs(SERVICE, is_new=False)
-    told(deeds, "this is a collector")
+    if not deeds.count:
+        print("this is a collector already; nothing was to do")
     if not deeds.is_rehearsal:
         print("machines join with: journal-collect-join HOST; the keys of this host, to compare:")
         for line in fingerprints():
@@ -106,7 +106,3 @@ def fingerprints() -> list[str]:
     """The host keys of this computer, as who joins is shown them."""
     paths = sorted(Path("/etc/ssh").glob("ssh_host_*_key.pub"))
     return [output("ssh-keygen", "-l", "-f", path).strip() for path in paths]
-
-
-if __name__ == "__main__":
-    sys.exit(main())

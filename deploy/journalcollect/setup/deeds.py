@@ -5,6 +5,7 @@ A rehearsal says the same lines and does nothing.
 import grp
 import os
 import pwd
+import shutil
 import subprocess
 import sys
 from pathlib import Path
@@ -26,15 +27,14 @@ class Deeds:
         self.count += 1
         print(f"would: {text}" if self.is_rehearsal else text, flush=True)
 
-    def write(self, path: Path, text: str, mode: int = 0o644, owner: str = "root") -> bool:
+    def write(self, path: Path, text: str) -> bool:
         """A file has this text. True if it hadn't before."""
         if path.is_file() and path.read_text(encoding="utf-8", errors="replace") == text:
             return False
         self.say(f"writes {path}")
         if not self.is_rehearsal:
             path.parent.mkdir(parents=True, exist_ok=True)
-            files.replace(path, text.encode(), mode)
-            os.chown(path, pwd.getpwnam(owner).pw_uid, pwd.getpwnam(owner).pw_gid)
+            files.replace(path, text.encode(), 0o644)
         return True
 
     def folder(self, path: Path, mode: int, owner: str = "root", group: str = "root") -> None:
@@ -42,7 +42,7 @@ class Deeds:
             self.say(f"makes the folder {path}, mode {mode:04o}, of {owner}:{group}")
             if not self.is_rehearsal:
                 path.mkdir(parents=True, exist_ok=True)
-                os.chown(path, pwd.getpwnam(owner).pw_uid, grp.getgrnam(group).gr_gid)
+                shutil.chown(path, owner, group)
                 path.chmod(mode)
 
     @staticmethod
@@ -54,15 +54,16 @@ class Deeds:
         except (FileNotFoundError, KeyError):
             return False
 
-    def call(self, text: str, *words: str | Path, given: bytes = b"") -> str:
-        """A command that changes something; its output. It has to end with 0."""
+    def call(self, text: str, *words: str | Path, given: bytes = b"") -> None:
+        """A command that changes something. It has to end with 0."""
         self.say(text)
-        return "" if self.is_rehearsal else output(*words, given=given)
+        if not self.is_rehearsal:
+            output(*words, given=given)
 
     def users(self) -> None:
         """Those that the package's list has."""
         try:
-            for name in ("journal-collect", "journal-collect-login", "journal-collect-send"):
+            for name in ("journal-collect", "journal-collect-login", "journal-collect-send", "journal-collect-alarm"):
                 pwd.getpwnam(name)
             grp.getgrnam("journal-collect-read")
         except KeyError:
@@ -97,12 +98,6 @@ def is_true(*words: str | Path) -> bool:
 def as_root() -> None:
     if os.geteuid():
         raise Stopped("root sets up a computer: call it with sudo")
-
-
-def told(deeds: Deeds, what: str) -> None:
-    """The last line of a set-up that changed nothing."""
-    if not deeds.count:
-        print(f"{what} already; nothing was to do")
 
 
 def fail(name: str, error: Exception) -> int:

@@ -7,6 +7,7 @@ import argparse
 import pwd
 import shutil
 import socket
+import subprocess
 import sys
 import time
 from collections.abc import Sequence
@@ -98,7 +99,7 @@ class Joining:
         if self.host_keys:
             found = Path(self.host_keys).read_text()
         elif self.via:
-            found = output("ssh", "-o", "StrictHostKeyChecking=yes", self.via, "cat /etc/ssh/ssh_host_*_key.pub")
+            found = told_by_login(self.via)
         elif is_true("ssh-keygen", "-F", where, "-f", self.known):
             return False
         else:
@@ -113,11 +114,12 @@ class Joining:
         if not scanned.strip():
             raise Stopped(f"no sshd answers at {self.host}, port {self.port}")
         print(f"{self.host} has these host keys; journal-collect-admin setup prints them there:")
-        print(output("ssh-keygen", "-l", "-f", "-", given=scanned.encode()), end="", flush=True)
+        by_kind = "\n".join(sorted(scanned.splitlines()))      # in the order in which setup prints them
+        print(output("ssh-keygen", "-l", "-f", "-", given=by_kind.encode()), end="", flush=True)
         if self.deeds.is_rehearsal:
             return scanned
         try:
-            answer = input("Are they the same? (yes) ")
+            answer = input("Are they the same? (yes/no) ")
         except EOFError:
             answer = ""
         if answer.strip() != "yes":
@@ -153,13 +155,22 @@ class Joining:
         return 0
 
     def tell_what_to_do(self) -> int:
-        try:
-            output("runuser", "-u", USER, "--", SEND, "--check")
-        except Stopped as error:
-            print(f"{self.host} doesn't take the machine's key yet: {error}", file=sys.stderr)
+        told = subprocess.run(["runuser", "-u", USER, "--", SEND, "--check"], capture_output=True, check=False)
+        said = told.stderr.decode(errors="replace").strip()
+        if "Permission denied" not in said:
+            print(f"{self.host} isn't reached yet: {said}", file=sys.stderr)
         print(f"on {self.host}, as root:\n  echo '{self.public_key()}' | journal-collect-admin admit {self.name}")
-        print(f"then {self.name} sends by itself; journal-collect-status says how it stands")
+        print(f"then {self.name} sends by itself, within a minute; journal-collect-status says how it stands")
         return 1
+
+
+def told_by_login(via: str) -> str:
+    """The collector's host keys, as root's own ssh is told them there."""
+    try:
+        return output("ssh", "-o", "StrictHostKeyChecking=yes", via, "cat /etc/ssh/ssh_host_*_key.pub")
+    except Stopped as error:
+        raise Stopped(f"{error}\nlog in there by `ssh {via}` once, and call this again; "
+                      "or leave --via out, and compare the host keys") from None
 
 
 def key_of(line: str) -> str:
@@ -168,7 +179,3 @@ def key_of(line: str) -> str:
         if found := keys.KEY.fullmatch(text):
             return found[1]
     return ""
-
-
-if __name__ == "__main__":
-    sys.exit(main())

@@ -9,10 +9,6 @@ KEY = re.compile(r"((?:ssh|ecdsa|sk)-[a-z0-9@.-]+ [A-Za-z0-9+/]+=*)(?: [^\x00-\x
 NETCAT = "/usr/bin/nc.openbsd"
 
 
-def is_key(line: str) -> bool:
-    return KEY.fullmatch(line) is not None
-
-
 def machines(etc: Path) -> list[str]:
     """The names that have a key."""
     return sorted(path.stem for path in (etc / "keys").glob("*.pub") if names.is_machine(path.stem))

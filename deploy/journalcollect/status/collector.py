@@ -1,8 +1,7 @@
 """How the collector stands: its service, its machines, its databases, its disk, and what it told of."""
 from collections import Counter
-from dataclasses import asdict, dataclass, field
+from dataclasses import dataclass, field
 from pathlib import Path
-from typing import Any
 
 from journalcollect.collector import settings as collector_settings
 from journalcollect.common import files, settings
@@ -15,7 +14,7 @@ SERVICE = "journal-collect.service"
 SSHD = Path("/etc/ssh/sshd_config.d/journal-collect.conf")
 HOUR, DAY = 3600.0, 86400.0
 # A machine whose journal grows is seen within a minute; a quiet one logs something within hours.
-SILENT_SECONDS, SKEW_SECONDS, LEAST_DAYS, BEHIND_SECONDS = 2 * HOUR, 60.0, 7.0, HOUR
+SILENT_SECONDS, LEAST_DAYS, BEHIND_SECONDS = 2 * HOUR, 7.0, HOUR
 REBUILD = "journal-collect-admin check; then put back a backup, or: journal-collect-admin rebuild"
 
 
@@ -44,9 +43,6 @@ class Collector:
     days_left: float | None = None
     waiting_for_files: int = 0
 
-    def as_json(self) -> dict[str, Any]:
-        return asdict(self)
-
 
 def is_set_up(etc: Path) -> bool:
     return (etc / "authorized_keys").exists() or Path(collector_settings.Settings().folder, "state.sqlite").exists()
@@ -69,35 +65,25 @@ def look(now: float, findings: Findings) -> Collector:
 
 
 def look_at_service(found: Collector, folder: Path, findings: Findings) -> None:
-    unit = looking.unit(SERVICE)
-    if unit:
-        found.service = "runs" if unit.runs else "doesn't run"
     if not folder.is_dir():
         findings.failed("folder", "collector", f"there is no {folder}", "journal-collect-admin setup")
-    if unit and not unit.runs:
-        findings.failed("service", "collector", f"{SERVICE} doesn't run",
-                        f"systemctl enable --now {SERVICE}; journalctl -u {SERVICE} says why it ended")
-    elif unit and unit.enabled != "enabled":
-        findings.look("service", "collector", f"{SERVICE} isn't started with the computer",
-                      f"systemctl enable {SERVICE}")
-    if unit and not SSHD.exists():
+    found.service = looking.service(SERVICE, "collector", findings)
+    if found.service == "unknown":
+        return
+    if not SSHD.exists():
         findings.failed("sshd", "collector", f"sshd doesn't take machines' keys: there is no {SSHD}",
                         "journal-collect-admin setup")
-    for name in ("ssh.service", "ssh.socket"):
-        if (sshd := looking.unit(name)) and sshd.runs:
-            return
-    if unit:
+    if not any(sshd and sshd.runs for sshd in map(looking.unit, ("ssh.service", "ssh.socket"))):
         findings.failed("sshd", "collector", "sshd doesn't run, so no machine can send",
                         "systemctl enable --now ssh.service")
 
 
 def look_at_machines(found: Collector, folder: Path, there: Path, now: float, findings: Findings) -> None:
     """Those that have a key: a retired one is none."""
-    known = {str(row["name"]): row for row in looking.rows(
+    known = {row[0]: Machine(*row) for row in looking.rows(
         folder / "state.sqlite", "SELECT name, seen, stored, entries, refused, skew FROM machine")}
-    for name in keys.machines(there.parent):
-        found.machines.append(Machine(**known.get(name) or {"name": name}))
-    admitted = settings_text(there.parent / "authorized_keys")
+    found.machines = [known.get(name, Machine(name)) for name in keys.machines(there.parent)]
+    admitted = text_of(there.parent / "authorized_keys")
     for machine in found.machines:
         if f"/{machine.name}\",restrict" not in admitted:
             findings.failed("key", machine.name, f"{there / machine.name}.pub is no key that sshd takes",
@@ -105,7 +91,7 @@ def look_at_machines(found: Collector, folder: Path, there: Path, now: float, fi
         judge_machine(machine, now, findings)
 
 
-def settings_text(path: Path) -> str:
+def text_of(path: Path) -> str:
     try:
         return path.read_text(errors="replace")
     except OSError:
@@ -115,18 +101,16 @@ def settings_text(path: Path) -> str:
 def judge_machine(machine: Machine, now: float, findings: Findings) -> None:
     name = machine.name
     if not machine.seen:
-        findings.look("never", name, "it never called", f"on {name}: journal-collect-status; no more a machine: "
-                      f"journal-collect-admin retire {name}")
+        findings.look("never", name, "it never called", f"wait a minute, then on {name}: journal-collect-status; "
+                      f"no more a machine: journal-collect-admin retire {name}")
     elif now - machine.seen > SILENT_SECONDS:
         findings.look("silent", name, f"it called {words.ago(machine.seen, now)} for the last time",
                       f"on {name}: journal-collect-status; gone for good: journal-collect-admin retire {name}")
     elif machine.stored and now - machine.stored > DAY:
         findings.look("old", name, f"its last new entry came {words.ago(machine.stored, now)}, though it calls",
                       f"on {name}: journal-collect-status")
-    if machine.seen and abs(machine.skew) > SKEW_SECONDS:
-        side = "ahead" if machine.skew > 0 else "behind"
-        findings.look("clock", name, f"its clock is {words.span(abs(machine.skew))} {side} of this one",
-                      "timedatectl on both says which is wrong; timedatectl set-ntp yes mends it")
+    if machine.seen:
+        findings.clock(name, machine.skew, "its clock", "this one")
 
 
 STANDINGS = {"missing": "it is gone, and nobody said so", "quarantined": "it can't be opened, and is set aside",
@@ -135,22 +119,19 @@ STANDINGS = {"missing": "it is gone, and nobody said so", "quarantined": "it can
 
 def look_at_databases(found: Collector, folder: Path, shown: float, now: float, findings: Findings) -> None:
     """Journal files are made of those that were finished within so many seconds."""
-    rows = looking.rows(folder / "state.sqlite",
-                        "SELECT name, standing, finished, entries, bytes FROM database")
-    for row in rows:
-        standing = str(row["standing"])
-        found.databases[standing] = found.databases.get(standing, 0) + 1
+    rows = looking.rows(folder / "state.sqlite", "SELECT name, standing, finished, entries, bytes FROM database")
+    found.databases = dict(Counter(standing for _, standing, *_ in rows))
+    for name, standing, *_ in rows:
         if standing in STANDINGS:
-            findings.look(standing, str(row["name"]), STANDINGS[standing], REBUILD)
-    finished = [row for row in rows if row["standing"] == "finished"]
-    found.entries = sum(number(row["entries"]) for row in finished)
-    found.bytes = sum(number(row["bytes"]) for row in finished)
-    recent = [row for row in finished if now - 7 * DAY < number(row["finished"]) <= now]
-    if recent and (days := (now - min(number(row["finished"]) for row in recent)) / DAY) > 0.25:
-        found.bytes_a_day = sum(number(row["bytes"]) for row in recent) / days
-    done = places.made(folder)
-    waiting = [number(row["finished"]) for row in finished
-               if row["name"] not in done and now - number(row["finished"]) < shown]
+            findings.look(standing, name, STANDINGS[standing], REBUILD)
+    finished = {name: row for name, standing, *row in rows if standing == "finished"}
+    found.entries = sum(entries for _, entries, _ in finished.values())
+    found.bytes = sum(size for _, _, size in finished.values())
+    recent = [(at, size) for at, _, size in finished.values() if now - 7 * DAY < at <= now]
+    if recent and (days := (now - min(recent)[0]) / DAY) > 0.25:
+        found.bytes_a_day = sum(size for _, size in recent) / days
+    done = places.Places(folder).made()
+    waiting = [at for name, (at, *_) in finished.items() if name not in done and now - at < shown]
     found.waiting_for_files = len(waiting)
     if waiting and now - min(waiting) > BEHIND_SECONDS:
         findings.look("behind", "collector", f"{len(waiting)} databases wait for their journal files, the oldest for "
@@ -166,10 +147,6 @@ def look_at_what_is_in_databases_alone(folder: Path, findings: Findings) -> None
     for reason, count in counts.items():
         findings.look("untaken", "collector", f"{count} entries aren't in journal files, since {reason}",
                       "databases have them: journal-collect export DATABASE")
-
-
-def number(value: Any) -> Any:
-    return value or 0
 
 
 def look_at_disk(found: Collector, folder: Path, chosen: collector_settings.Settings, now: float,
@@ -190,14 +167,31 @@ def look_at_disk(found: Collector, folder: Path, chosen: collector_settings.Sett
             findings.look("disk", "collector", f"at this rate the disk is full in {found.days_left:.1f} days", remedy)
 
 
+# What the service tells of, and what is to be done; of other causes its own words say that.
+MORE = f"journalctl -u {SERVICE} has more"
+TOLD = {
+    "refused": "on {about}: journal-collect-status; journal-collect codes says what a code means",
+    "lost": "nothing: {about} brings once more what its journal has",
+    "later": "on {about}: journal-collect-status; DAY_BYTES in collector.conf.d bounds what it may send a day",
+    "never": "on {about}: journal-collect-status; what isn't taken is in refused/ there",
+    "connections": "another computer may have its key: on each journal-collect-join --name NEW --new-key HOST",
+    "damaged": REBUILD,
+    "notes": "nothing, if it was once; if it comes again, look at the disk",
+}
+# Causes that are about a file, and not about a machine. A damaged one is to be put back, so it is said for longer.
+OF_FILES, SECONDS_SAID = ("damaged", "notes"), {"damaged": 7 * DAY}
+
+
 def look_at_what_was_told(found: Collector, folder: Path, now: float, findings: Findings) -> None:
-    """What the service told of within a day, unless it is about a machine that has no key any more."""
-    there = {machine.name for machine in found.machines}
-    for row in looking.rows(folder / "state.sqlite", "SELECT cause, text, first, last, count FROM told"):
-        name, _, about = str(row["cause"]).partition(" ")
-        if now - number(row["last"]) < DAY and (not about or about in there or name == "database"):
-            findings.look(name, about or "collector", f"{row['text']} ({row['count']} times, last "
-                          f"{words.ago(number(row['last']), now)})", f"journalctl -u {SERVICE} has more")
+    """What the service told of lately, unless it is about a machine that has no key any more, or was said above."""
+    there, said = {machine.name for machine in found.machines}, {(each.name, each.about) for each in findings.found}
+    for cause, text, last, count in looking.rows(folder / "state.sqlite", "SELECT cause, text, last, count FROM told"):
+        name, _, about = cause.partition(" ")
+        is_there = not about or about in there or name in OF_FILES
+        is_recent = now - last < SECONDS_SAID.get(name, DAY)
+        if is_recent and is_there and (name, about) not in said:
+            findings.look(name, about or "collector", f"{text} ({count} times, last {words.ago(last, now)})",
+                          TOLD.get(name, MORE).format(about=about))
 
 
 def lines(found: Collector, now: float) -> list[tuple[str, str]]:

@@ -1,6 +1,12 @@
 """What isn't as it should be: each finding has a name for programs, a sentence, and what to do."""
 import enum
-from dataclasses import asdict, dataclass, field
+from dataclasses import dataclass, field
+
+from journalcollect.status import words
+
+
+SKEW_SECONDS = 60.0
+CLOCK = "timedatectl on both says which is wrong; timedatectl set-ntp yes mends it"
 
 
 class Status(enum.IntEnum):
@@ -21,9 +27,6 @@ class Finding:
     text: str
     remedy: str
 
-    def as_json(self) -> dict[str, object]:
-        return {**asdict(self), "status": int(self.status)}
-
     def line(self) -> str:
         return f"{self.status.word}: {self.about}: {self.text}\n    → {self.remedy}"
 
@@ -43,6 +46,12 @@ class Findings:
     def failed(self, name: str, about: str, text: str, remedy: str) -> None:
         """Nothing comes, or is stored, until it is mended."""
         self.found.append(Finding(Status.FAILED, name, about, text, remedy))
+
+    def clock(self, about: str, ahead: float, this: str, other: str) -> None:
+        """By so many seconds a clock goes ahead of another one."""
+        if abs(ahead) > SKEW_SECONDS:
+            side = "ahead of" if ahead > 0 else "behind"
+            self.look("clock", about, f"{this} is {words.span(abs(ahead))} {side} {other}", CLOCK)
 
     @property
     def status(self) -> Status:

@@ -1,12 +1,12 @@
-"""Looks at what others write meanwhile: their tables, their files, and what systemd says of their units."""
-import os
+"""Looks at what others write meanwhile: their tables, and what systemd says of their units."""
 import sqlite3
 import subprocess
 import tempfile
-from collections.abc import Iterator
-from contextlib import closing, contextmanager
+from contextlib import closing
 from pathlib import Path
 from typing import Any, NamedTuple
+
+from journalcollect.status.findings import Findings
 
 SECONDS = 10
 
@@ -32,53 +32,37 @@ def unit(name: str) -> Unit | None:
     return Unit(known["ActiveState"], known["UnitFileState"]) if known.get("LoadState") == "loaded" else None
 
 
-def is_readable(rows: sqlite3.Connection) -> bool:
-    try:
-        rows.execute("SELECT count(*) FROM sqlite_schema")
-        return True
-    except sqlite3.OperationalError:
-        return False
+def service(name: str, about: str, findings: Findings) -> str:
+    """How a service stands that is to run; `unknown` where systemd doesn't know it."""
+    told = unit(name)
+    if not told:
+        return "unknown"
+    if not told.runs:
+        findings.failed("service", about, f"{name} doesn't run",
+                        f"systemctl enable --now {name}; journalctl -u {name} says why it ended")
+    elif told.enabled != "enabled":
+        findings.look("service", about, f"{name} isn't started with the computer", f"systemctl enable {name}")
+    return "runs" if told.runs else "doesn't run"
 
 
-@contextmanager
-def table(path: Path) -> Iterator[sqlite3.Connection]:
-    """A file of SQLite, which stays as it is. If nobody has it open, its log can't be read there: a copy is read."""
-    with closing(sqlite3.connect(f"file:{path}?mode=ro", uri=True, timeout=SECONDS)) as rows:
-        if is_readable(rows):
-            yield rows
-            return
-    with tempfile.TemporaryDirectory() as folder:
-        for each in path.parent.glob(f"{path.name}*"):
-            (Path(folder) / each.name).write_bytes(each.read_bytes())
-        with closing(sqlite3.connect(Path(folder) / path.name)) as rows:
-            yield rows
+def answer(path: Path, mode: str, query: str) -> list[Any]:
+    with closing(sqlite3.connect(f"file:{path}?mode={mode}", uri=True, timeout=SECONDS)) as table:
+        return table.execute(query).fetchall()
 
 
-def rows(path: Path, query: str) -> list[dict[str, Any]]:
-    """What a question finds, each row by its columns' names; nothing of a file that isn't there or has no such one."""
+def rows(path: Path, query: str) -> list[Any]:
+    """What a question finds; nothing of a file that isn't there, or has no such table. The file stays as it is: if
+    nobody has it open, its log can't be read there, and a copy is read."""
     if not path.exists():
         return []
     try:
-        with table(path) as found:
-            told = found.execute(query)
-            names = [column[0] for column in told.description]
-            return [dict(zip(names, row)) for row in told]
+        return answer(path, "ro", query)
     except sqlite3.DatabaseError:
-        return []
-
-
-def sizes(folder: Path, pattern: str = "*") -> list[int]:
-    """The bytes of each file of a folder; what goes meanwhile isn't counted."""
-    return [told.st_size for path in names(folder, pattern) if (told := status(path))]
-
-
-
-def names(folder: Path, pattern: str = "*") -> list[Path]:
-    return sorted(folder.glob(pattern)) if folder.is_dir() else []
-
-
-def status(path: Path) -> os.stat_result | None:
-    try:
-        return path.lstat()
-    except OSError:
-        return None
+        pass
+    with tempfile.TemporaryDirectory() as folder:
+        for each in path.parent.glob(f"{path.name}*"):
+            (Path(folder) / each.name).write_bytes(each.read_bytes())
+        try:
+            return answer(Path(folder) / path.name, "rw", query)
+        except sqlite3.DatabaseError:
+            return []

@@ -1,32 +1,42 @@
 """How a machine stands: what it sent, what waits, and what holds it up."""
 import re
-from dataclasses import asdict, dataclass
+from contextlib import suppress
+from dataclasses import dataclass
 from pathlib import Path
-from typing import Any
 
-from journalcollect.common import settings
+from journalcollect.common import files, settings
 from journalcollect.machine import settings as machine_settings
 from journalcollect.status import looking, words
-from journalcollect.status.findings import Findings
+from journalcollect.status.findings import CLOCK, Findings
 
 SERVICE, FILES = "journal-collect-send.service", "machine.conf.d"
 HOUR, DAY = 3600.0, 86400.0
-STALE_SECONDS, SKEW_SECONDS = HOUR, 60.0
+STALE_SECONDS = HOUR
+# As few files as these are made in seconds.
+FREE_FILES = 16
 JOIN = "journal-collect-join HOST, as the guide has it"
-# What ssh or the collector say, and what mends it.
+SERVICE_THERE = "on {host}: journal-collect-status; its service may not run"
+# What was told, or ssh or the collector say, and what mends it.
 REMEDIES = (
+    (r"^forked: ", "nothing, if it was set back; if it is a clone: journal-collect-join --name NEW --new-key {host}"),
+    (r"lost what it had", "nothing: it goes out by itself"),
+    (r"'s clock is", CLOCK),
+    (r"^a gap: ", "raise SystemMaxUse= of journald, so that it keeps more"),
+    (r"no space left", "make room on this machine's disk"),
     (r"host key verification failed|host identification has changed",
      "somebody else answers, or the collector has new host keys: compare them, then journal-collect-join "
      "{host} --host-keys FILE"),
+    (r"its service doesn't run", SERVICE_THERE),
     (r"permission denied", "on {host}: journal-collect-admin admit NAME, with what /etc/journal-collect/key.pub has"),
     (r"connection refused", "sshd doesn't run on {host}, or listens at another port"),
     (r"could not resolve|name or service not known|temporary failure in name",
      "{host} has no address: look at the DNS"),
     (r"timed out|no route|unreachable", "{host} isn't reached: look at the network and its firewall"),
     (r"room|free", "on {host}: make room; journal-collect-status says how much"),
-    (r"no such file|connection closed|ended|broken pipe|reset",
-     "on {host}: journal-collect-status; its service may not run"),
+    (r"no such file|connection closed|ended|broken pipe|reset", SERVICE_THERE),
 )
+# What is over once something is acknowledged again, and is said as trouble meanwhile.
+PASSING = re.compile("no connection to|sending failed|the collector takes nothing|the collector answers|failed, and is")
 
 
 @dataclass
@@ -44,9 +54,6 @@ class Machine:
     refused: int = 0
     skew: float = 0.0
     trouble: str = ""
-
-    def as_json(self) -> dict[str, Any]:
-        return asdict(self)
 
 
 def is_set_up(etc: Path) -> bool:
@@ -66,38 +73,29 @@ def look(now: float, findings: Findings) -> Machine:
     for name in ("key", "known_hosts"):
         if not (settings.FOLDER / name).exists() and not chosen.connect:
             findings.wrong(name, "machine", f"there is no {settings.FOLDER / name}", JOIN)
-    look_at_service(found, findings)
+    found.service = looking.service(SERVICE, "machine", findings)
     look_at_folder(found, Path(chosen.folder), now, findings)
+    look_at_room(found, chosen, findings)
     judge(found, now, findings)
     return found
 
 
-def look_at_service(found: Machine, findings: Findings) -> None:
-    unit = looking.unit(SERVICE)
-    if unit:
-        found.service = "runs" if unit.runs else "doesn't run"
-        if not unit.runs:
-            findings.failed("service", "machine", f"{SERVICE} doesn't run",
-                            f"systemctl enable --now {SERVICE}; journalctl -u {SERVICE} says why it ended")
-        elif unit.enabled != "enabled":
-            findings.look("service", "machine", f"{SERVICE} isn't started with the computer",
-                          f"systemctl enable {SERVICE}")
-
-
 def look_at_folder(found: Machine, folder: Path, now: float, findings: Findings) -> None:
-    told = [each for path in looking.names(folder / "outbox", "*.upload") if (each := looking.status(path))]
-    found.waiting, found.waiting_bytes = len(told), sum(each.st_size for each in told)
-    found.waiting_since = min((each.st_mtime for each in told), default=0.0)
-    found.refused = len(looking.names(folder / "refused"))
+    for path in (folder / "outbox").glob("*.upload"):
+        with suppress(FileNotFoundError):
+            told = path.lstat()
+            found.waiting, found.waiting_bytes = found.waiting + 1, found.waiting_bytes + told.st_size
+            found.waiting_since = min(found.waiting_since or told.st_mtime, told.st_mtime)
+    found.refused = len(list((folder / "refused").glob("*")))
     places = folder / "places.sqlite"
-    values = {str(row["name"]): str(row["value"]) for row in looking.rows(places, "SELECT name, value FROM value")}
+    values = dict(looking.rows(places, "SELECT name, value FROM value"))
     found.acknowledged, found.answered, found.skew = (
         as_number(values.get(name, "")) for name in ("acknowledged", "answered", "skew"))
     found.trouble = values.get("trouble", "")
-    for row in looking.rows(places, "SELECT max(time) AS time, text FROM told GROUP BY text ORDER BY time"):
-        if now - float(str(row["time"])) < DAY:
-            findings.look("told", "machine", f"{row['text']} ({words.ago(float(str(row['time'])), now)})",
-                          f"journalctl -u {SERVICE} has more")
+    for at, text in looking.rows(places, "SELECT max(time) AS time, text FROM told GROUP BY text ORDER BY time"):
+        is_over = PASSING.match(text) and (found.trouble or found.acknowledged >= at)
+        if now - at < DAY and not is_over:
+            findings.look("told", "machine", f"{text} ({words.ago(at, now)})", remedy(text, host_of(found)))
 
 
 def as_number(text: str) -> float:
@@ -107,8 +105,25 @@ def as_number(text: str) -> float:
         return 0.0
 
 
+def host_of(found: Machine) -> str:
+    return found.collector.rpartition("@")[2]
+
+
+def look_at_room(found: Machine, chosen: machine_settings.Settings, findings: Findings) -> None:
+    """An upload has room in the outbox, and on the disk."""
+    if found.waiting and found.waiting_bytes + chosen.upload_bytes > found.folder_bytes:
+        findings.look("full", "machine", f"{words.size(found.waiting_bytes)} wait, so nothing more is gathered until "
+                      "they went out; journald keeps what it can", "mend what holds them up, or raise FOLDER_BYTES")
+    if not Path(found.folder).is_dir():
+        return
+    free_bytes, free_files = files.free(Path(found.folder))
+    if free_bytes < chosen.upload_bytes or free_files < FREE_FILES:
+        findings.failed("disk", "machine", f"the disk of {found.folder} has room for {words.size(free_bytes)} and "
+                        f"{free_files} files: nothing can be gathered", "make room on this machine's disk")
+
+
 def judge(found: Machine, now: float, findings: Findings) -> None:
-    host = found.collector.rpartition("@")[2]
+    host = host_of(found)
     if found.trouble:
         findings.failed("trouble", "machine", f"nothing goes out: {found.trouble}", remedy(found.trouble, host))
     elif not found.acknowledged:
@@ -117,16 +132,10 @@ def judge(found: Machine, now: float, findings: Findings) -> None:
     elif found.waiting and now - max(found.acknowledged, found.waiting_since) > STALE_SECONDS:
         findings.look("waits", "machine", f"{found.waiting} uploads wait since {words.day(found.waiting_since)}",
                       f"on {host}: journal-collect-status; here: journalctl -u {SERVICE}")
-    if found.waiting_bytes >= found.folder_bytes > 0:
-        findings.look("full", "machine", f"{words.size(found.waiting_bytes)} wait, so nothing more is gathered until "
-                      "they went out; journald keeps what it can", "mend what holds them up, or raise FOLDER_BYTES")
     if found.refused:
         findings.look("refused", "machine", f"{found.refused} files in {found.folder}/refused: entries that no "
                       "collector takes", "journal-collect verify export FILE says why; remove them once you saw them")
-    if abs(found.skew) > SKEW_SECONDS:
-        side = "behind" if found.skew > 0 else "ahead of"
-        findings.look("clock", "machine", f"this clock is {words.span(abs(found.skew))} {side} the collector's",
-                      "timedatectl on both says which is wrong; timedatectl set-ntp yes mends it")
+    findings.clock("machine", -found.skew, "this clock", "the collector's")
 
 
 def remedy(trouble: str, host: str) -> str:

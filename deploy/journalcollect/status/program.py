@@ -5,9 +5,10 @@ import os
 import sys
 import time
 from collections.abc import Sequence
+from dataclasses import asdict
 from pathlib import Path
 
-from journalcollect.common import settings
+from journalcollect.common import files, settings
 from journalcollect.status import collector, machine, prometheus, words
 from journalcollect.status.findings import Findings, Status
 
@@ -44,9 +45,9 @@ class Sides:
     def as_json(self) -> str:
         return json.dumps({
             "version": VERSION, "status": int(self.findings.status), "time": int(self.now),
-            "collector": self.collector.as_json() if self.collector else None,
-            "machine": self.machine.as_json() if self.machine else None,
-            "findings": [finding.as_json() for finding in self.findings.found]}, indent=2, sort_keys=True)
+            "collector": asdict(self.collector) if self.collector else None,
+            "machine": asdict(self.machine) if self.machine else None,
+            "findings": [asdict(finding) for finding in self.findings.found]}, indent=2, sort_keys=True)
 
     def as_text(self, is_quiet: bool) -> str:
         parts = []
@@ -87,5 +88,6 @@ def figures(sides: Sides, path: str) -> int:
     if path == "-":
         print(text, end="", flush=True)
     else:
-        prometheus.write(Path(path), text)
+        # node_exporter finds the old figures or the new ones, whole
+        files.replace(Path(path), text.encode(), mode=0o644)
     return Status.WELL
