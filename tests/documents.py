@@ -1,10 +1,9 @@
 #!/usr/bin/env python3
 """Compares the documents with each other and with the sources: documents.py PROGRAM [FOLDER]
 
-One version, one toolchain, one table of codes, which the program prints too, a list of crates that is whole, scripts
-that say what they test, the number of edits, each of which names a goal, one table of the figures to plan with, the
-functions that the README names for its claims on the page of contracts, links to headings that are there, and a README
-that stays short. Prints what differs.
+One version, one toolchain, one table of codes, which the program prints too, and one of limits, a list of crates that
+is whole, scripts that say what they test, the number of edits, each of which names a goal, one table of the figures to
+plan with, links to headings that are there, and pages that stay short. Prints what differs.
 """
 import re
 import subprocess
@@ -15,14 +14,16 @@ from pathlib import Path
 ROOT = Path(sys.argv[2] if len(sys.argv) > 2 else __file__ + "/../..").resolve()
 # The code that the library alone has: in its place the program prints `write failed`.
 UNPRINTED = (66, "WriteFailed")
-README_LINES = 200
+# The documents that are written by hand, and how many lines these may have: each one, and all of them.
+PAGE_LINES = {"README.md": 200, "docs/PROOFS.md": 200, "docs/GATE.md": 60}
+ALL_LINES = 3000
 # The one table of figures, the parts of its own page that may have no other ones, and the documents that may not.
 FIGURES = "docs/PERFORMANCE.md", "Figures to plan with"
 FIGURES_BESIDE = "Limits", "A machine's commands", "The collector's commands"
 FIGURES_IN = (
     "README.md", "CONTRIBUTING.md", "docs/GUIDE.md", "docs/DECISIONS.md", "docs/FORWARDING.md",
-    "docs/ARCHITECTURE.md", "docs/GATE.md", "docs/journal-collect.1", "deploy/settings/collector.conf",
-    "deploy/settings/machine.conf", "deploy/settings/forward.conf")
+    "docs/ARCHITECTURE.md", "docs/GATE.md", "docs/PROVING.md", "docs/journal-collect.1",
+    "deploy/settings/collector.conf", "deploy/settings/machine.conf", "deploy/settings/forward.conf")
 AN_ENTRY = r"(?: of (?:memory|disk|the disk))? (?:an|per|for each(?: [a-z]+)?) entry\b"
 FIGURE = re.compile(
     rf"(?:\b(\d[\d.,]* (?:ms|µs|us)) and )?\b(\d[\d.,]* (?:ms|µs|us|kB|bytes)){AN_ENTRY}"
@@ -88,6 +89,20 @@ def printed_codes(program: str) -> Iterator[str]:
     yield from (f"code {code} isn't both printed and in the sources" for code in sorted(told ^ known))
 
 
+def python() -> Iterator[str]:
+    """Codes and limits of deploy/ that aren't those of the tables."""
+    named = re.compile(r"^    ([A-Z_, ]+) = ([\d, ]+)$", re.MULTILINE)
+    for names, numbers in named.findall(text_of("deploy/journalcollect/common/codes.py")):
+        for name, number in zip(names.split(", "), map(int, numbers.split(", "))):
+            if (number, name.title().replace("_", "")) not in codes_of_table():
+                yield f"deploy/journalcollect/common/codes.py: {number} isn't {name} in docs/FORMATS.md"
+    rows = dict(re.findall(r"^\| (\w+) \| .* \| [\d,]+ \| ([\d,]+) \|$", text_of("docs/FORMATS.md"), re.MULTILINE))
+    limits = found(r"^NAME, VALUE, FIELDS, ENTRY = (.*)$", "deploy/journalcollect/common/fit.py")
+    if limits is None or limits.replace("_", "").split(", ") != [
+            rows[it].replace(",", "") for it in ("name", "value", "fields", "entry")]:
+        yield "deploy/journalcollect/common/fit.py has other limits than docs/FORMATS.md"
+
+
 def toolchains() -> Iterator[str]:
     """Pages that say another toolchain than tools/kit.py knows."""
     tried = text_of("tools/kit.py").partition("TRIED = ")[2].partition("\n")[0]
@@ -145,21 +160,13 @@ def told_figures() -> Iterator[str]:
             yield f"{told}: the figure '{it}' isn't in the table of {path}"
 
 
-def claims() -> set[str]:
-    """The functions that the README's list of what is proved names for its claims."""
-    proved = text_of("README.md").partition("\n### Proved\n")[2].partition("\n### ")[0]
-    named = re.findall(r"\(((?:[^()`]|`[^`]+`)*)\)\s*(?=\n|$)", proved)
-    return {name for it in named for name in re.findall(r"`([\w:]+)`", it)}
-
-
-def told_claims() -> Iterator[str]:
-    """Functions that the README names for a claim, and that the page of contracts doesn't have."""
-    named = claims()
-    if not named:
-        yield "README.md names no function for its claims"
-    there = set(re.findall(r"\*\*`([\w:]+)`\*\*", text_of("docs/CONTRACTS.md")))
-    for it in sorted(named - there):
-        yield f"README.md names {it} for a claim, and docs/CONTRACTS.md doesn't have it"
+def lengths() -> Iterator[str]:
+    """Documents that are longer than somebody reads."""
+    pages = *ROOT.glob("*.md"), *ROOT.glob("docs/*.md")
+    long = {str(it.relative_to(ROOT)): len(it.read_text().splitlines()) for it in pages}
+    yield from (f"{path} has more than {most} lines" for path, most in PAGE_LINES.items() if long[path] > most)
+    if (lines := sum(long.values())) > ALL_LINES:
+        yield f"the documents have {lines} lines, and at most {ALL_LINES} are read"
 
 
 def headings(path: Path) -> set[str]:
@@ -182,14 +189,13 @@ def differences(program: str) -> Iterator[str]:
     if len(set(known.values())) != 1:
         yield f"versions: {known}"
     yield from (f"code {code} isn't in both tables" for code in sorted(codes_of_sources() ^ codes_of_table()))
-    if len(text_of("README.md").splitlines()) >= README_LINES:
-        yield f"README.md has {README_LINES} lines or more"
+    yield from lengths()
     yield from printed_codes(program)
+    yield from python()
     yield from toolchains()
     yield from lists()
     yield from edits()
     yield from told_figures()
-    yield from told_claims()
     yield from broken_links()
 
 

@@ -8,7 +8,6 @@ A text in quotation marks is itself, with `\n` for a newline. Each other word is
 - `entries:FIRST:LAST`: the entries with these numbers
 - `byte:N`, `number:N`: one byte, and eight with the least first
 - `fill:N:COUNT`: so many bytes, each of them N
-- `tail:PLACE`: the journal file from this place on
 - `set:PLACE:N`, `put:PLACE:N`: one byte, or eight, in the place of what is there
 - `cut:N`: only the first N bytes of all that was named before
 - `again:COUNT:N`: the last COUNT bytes of all that was named before, N times more
@@ -32,7 +31,6 @@ SAMPLES = {
     "CHANGED_ENTRY": H1,
     "LAST_ENTRY": E1.replace(SEQNUM_ID.hex().encode(), b"f" * 32),
     **dict(zip(("METADATA", "METADATA_2", "METADATA_3"), METADATA)),
-    **dict(zip(("REALTIME", "MONOTONIC", "SEQNUM", "SEQNUM_ID"), METADATA[0].splitlines(keepends=True))),
     "BOOT_FIELD": b"_BOOT_ID=%s\n" % BOOT_ID.hex().encode(),
     # the name and the length of a field whose value is as long as an entry
     "BINARY_FRONT": b"MESSAGE\n" + struct.pack("<Q", len(E1)),
@@ -62,7 +60,6 @@ MADE: dict[tuple[str, int], Callable[..., bytes]] = {
     ("byte", 1): lambda made, value: made + bytes([value]),
     ("number", 1): lambda made, value: made + struct.pack("<Q", value),
     ("fill", 2): lambda made, value, count: made + bytes([value]) * count,
-    ("tail", 1): lambda made, place: made + FILE[place:],
     ("set", 2): lambda made, place, value: put(made, place, bytes([value])),
     ("put", 2): lambda made, place, value: put(made, place, struct.pack("<Q", value)),
     ("cut", 1): cut,

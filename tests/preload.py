@@ -5,7 +5,6 @@ from __future__ import annotations
 import os
 import shutil
 import subprocess
-import sys
 import tempfile
 from collections.abc import Mapping, Sequence
 from typing import Any, NamedTuple
@@ -43,15 +42,3 @@ def run(
                               timeout=600, env=environment, pass_fds=[note.fileno()], **options)
         note.seek(0)
         return Told(told.stdout, told.stderr.decode(errors="replace"), told.returncode, note.read())
-
-
-def begin_again_with(source: str) -> str:
-    """The library of a source, which this program has as well: it is begun again with it. Its folder is the caller's to
-    remove. Nothing, if there is no compiler."""
-    if not shutil.which("rt"):
-        return ""
-    if "PRELOADED" not in os.environ:
-        library = built(source, tempfile.mkdtemp())
-        os.execve(sys.executable, [sys.executable, "-B", *sys.argv],
-                  {**os.environ, "LD_PRELOAD": library, "PRELOADED": library})
-    return os.environ["PRELOADED"]

@@ -46,8 +46,8 @@ for name in _ _A A__ " " $'\t' "größe" "$(printf 'A%.0s' {1..2000})"; do
 done
 
 # the file of `inspect`, and that of `--then-export`, before the database and after it
-expect 0 "upload $id 0 2 0 000102030405060708090a0b0c0d0e0f 2" "" "$PROGRAM" inspect "$a"
-expect 0 "upload $id 0 1 0 000102030405060708090a0b0c0d0e0f 10" "" env -C "$folder" "$PROGRAM" inspect -- -a
+expect 0 "upload $id 0 2 0 000102030405060708090a0b0c0d0e0f 2 1" "" "$PROGRAM" inspect "$a"
+expect 0 "upload $id 0 1 0 000102030405060708090a0b0c0d0e0f 10 1" "" env -C "$folder" "$PROGRAM" inspect -- -a
 expect 0 "ack $id 0 1 0 0" "" "$PROGRAM" collect --then-export "$folder/out" "$db" "$b"
 cmp -s "$folder/all" "$folder/out" || differs "--then-export before the database"
 rm "$folder/out"

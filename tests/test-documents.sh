@@ -1,8 +1,8 @@
 #!/usr/bin/env bash
 # The documents agree with each other, with the sources and with the program: one version, one toolchain, one table of
-# codes, all crates in the list, scripts that say what they test, the number of edits, each of which names a goal, one
-# table of the figures to plan with, the functions that the README names for its claims on the page of contracts, links
-# to headings that are there, and a README that stays short. Each file says what it is about (`make files`).
+# codes and of limits, all crates in the list, scripts that say what they test, the number of edits, each of which names
+# a goal, one table of the figures to plan with, links to headings that are there, and pages that stay short. Each file
+# says what it is about (`make files`).
 set -uo pipefail
 . "$(dirname "$0")/expect.sh"
 
@@ -23,6 +23,7 @@ changed() {
     mkdir -p "$folder/tree/crates/jc_base/specs" "$folder/tree/tests" "$folder/tree/tools" "$folder/tree/deploy"
     cp -r README.md CHANGELOG.md CONTRIBUTING.md crates.txt docs "$folder/tree/"
     cp -r deploy/settings "$folder/tree/deploy/"
+    cp --parents deploy/journalcollect/common/{codes,fit}.py "$folder/tree/"
     cp --parents crates/*/refused/*.edit "$folder/tree/"
     cp crates/jc_base/specs/Fault.antt "$folder/tree/crates/jc_base/specs/"
     cp --parents crates/jc_collector/specs/Inspected.antt "$folder/tree/"
@@ -33,7 +34,8 @@ changed() {
 }
 changed README.md '' ''
 changed README.md 's/rattle-kit-\w+/rattle-kit-1/' "README.md is for rattle-kit-1, which tools/kit.py doesn't know"
-changed README.md '1s/^/\n/;1s/$/\n'"$(printf '\\n%.0s' {1..200})"'/' "README.md has 200 lines or more"
+changed README.md '1s/^/\n/;1s/$/\n'"$(printf '\\n%.0s' {1..200})"'/' "~README.md has more than 200 lines*"
+changed docs/FAULTS.md '$a '"$(printf '\\n%.0s' {1..1000})" "~the documents have *, and at most 3000 are read"
 changed docs/PROOFS.md 's/rattle-kit-\w+//' "docs/PROOFS.md is for None, which tools/kit.py doesn't know"
 changed crates.txt 's/^jc_file:/jc_files:/' \
     "docs/ARCHITECTURE.md: the crate jc_file isn't both there and listed
@@ -56,9 +58,9 @@ changed docs/GUIDE.md 's/\]\(#at-three-in-the-morning\)/](#at-four)/' "docs/GUID
 changed docs/GATE.md 's/^There are [0-9]+\.$/There are 7./' "~docs/GATE.md tells of 7 edits, and there are *"
 changed crates/jc_base/refused/limit-off-by-one.edit '/^goal:/d' \
     "crates/jc_base/refused/limit-off-by-one.edit names no goal that has to refuse it"
-changed docs/CONTRACTS.md 's/\*\*`export_reads_back`\*\*/**`export_reads`**/' \
-    "README.md names export_reads_back for a claim, and docs/CONTRACTS.md doesn't have it"
-changed README.md 's/\(`Keeper::absorb`, /(`Keeper::absorbs`, /' \
-    "README.md names Keeper::absorbs for a claim, and docs/CONTRACTS.md doesn't have it"
 changed docs/FORMATS.md 's/^\| 60 \|/| 59 |/' "~code (59, *code (60, *"
+changed docs/FORMATS.md 's/16,777,216/33,554,432/' \
+    "deploy/journalcollect/common/fit.py has other limits than docs/FORMATS.md"
+changed deploy/journalcollect/common/codes.py 's/OVER_BOUNDS = 6/OVER_BOUNDS = 7/' \
+    "deploy/journalcollect/common/codes.py: 7 isn't OVER_BOUNDS in docs/FORMATS.md"
 finish

@@ -108,7 +108,7 @@ explains 1 "bad 23 0" "" '23 NoSeqnum (`__SEQNUM` is missing): *`fit-stream`*' v
 # shellcheck disable=SC2016 # as above
 explains 1 "bad 2 0" "" '2 BadMagic (an upload begins with neither `JCUPLD01` nor `JCUPLD02`): *' \
     inspect "$folder/garbage"
-explains 0 "upload $id 0 0 12 - -" "" "no entry is complete: the 12 bytes *" inspect "$folder/cut-up"
+explains 0 "upload $id 0 0 12 - - 0" "" "no entry is complete: the 12 bytes *" inspect "$folder/cut-up"
 
 # answers; each code is explained once, and not what came of an upload that was stored
 explains 1 "no $id 0 60 0" "" "60 Conflict (*): *" collect "$db" "$folder/changed"

@@ -26,6 +26,9 @@ expect 0 "$again"$'\n'"$again" "" "$PROGRAM" collect "$db" --files-from=- < <(pr
 # a last line without a newline is a name too, and a carriage return belongs to the name
 expect 0 "$again" "" "$PROGRAM" collect "$db" --files-from - < <(printf '%s' "$up")
 expect 3 "$unread" "cannot open $up"$'\r' "$PROGRAM" collect "$db" --files-from - < <(printf '%s\r\n' "$up")
+# without `--sequences` a tab is a part of the name, too
+cp "$up" "$folder/one"$'\t'"upload"
+expect 0 "$again" "" "$PROGRAM" collect "$db" --files-from - < <(printf '%s/one\tupload\n' "$folder")
 # an empty line is a name that no file has, so each line has its answer
 expect 3 "$unread"$'\n'"$again" "cannot open " "$PROGRAM" collect "$db" --files-from - < <(printf '\n%s\n' "$up")
 # a name that isn't UTF-8 can't be opened, and is printed as it was given

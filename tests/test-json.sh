@@ -33,9 +33,10 @@ prints 0 '{"result": "ok", "entries": 0, "left": 8}' verify export "$folder/pros
 prints 0 '{"result": "ok", "entries": 1, "left": 0}' verify file "$folder/journal"
 prints 1 '{"result": "bad", "code": 10, "name": "EmptyName", "meaning": "a field begins with `=`", "place": 0}' \
     verify export "$folder/bad"
-prints 0 "{$numbers, \"start\": 0, \"entries\": 2, \"left\": 0, \"number\": 2,
+prints 0 "{$numbers, \"start\": 0, \"entries\": 2, \"left\": 0, \"number\": 2, \"windows\": 1,
     \"id\": \"000102030405060708090a0b0c0d0e0f\"}" inspect "$folder/up"
-prints 0 "{$numbers, \"start\": 7, \"entries\": 0, \"left\": 20, \"id\": null, \"number\": null}" inspect "$folder/none"
+prints 0 "{$numbers, \"start\": 7, \"entries\": 0, \"left\": 20, \"id\": null, \"number\": null, \"windows\": 0}" \
+    inspect "$folder/none"
 prints 1 '{"result": "bad", "code": 1, "name": "ShortHeader", "meaning": "an upload has fewer bytes than a header",
     "place": 9}' inspect "$folder/short-head"
 

@@ -59,13 +59,6 @@ skipped: rattle isn't installed, so 0 texts of rattle aren't read by it"
 expect 1 "$found
 9 texts: 9 mistakes, 0 exceptions, 3 checks skipped" "" lint_alone "$folder/tree"
 
-# a page that isn't as its tool prints it
-printf 'import sys\nsys.exit("it is older")\n' > "$folder/tree/tools/contracts.py"
-expect 1 "~*
-docs/CONTRACTS.md:1: it is older (printed)
-*" "" lint_alone "$folder/tree"
-rm "$folder/tree/tools/contracts.py"
-
 # what a library calls public and doesn't hand on; a module that it opens, and a program, may call all so
 mkdir -p "$folder/library/crates/lends/src" "$folder/library/crates/runs/src"
 (

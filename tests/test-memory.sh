@@ -7,5 +7,5 @@ set -uo pipefail
 # shellcheck source=tests/trials.sh
 . "$(dirname "$0")/trials.sh"
 
-trials memory sweeps calls worlds
+trials memory sweeps calls
 finish

@@ -28,11 +28,10 @@ MADE
 size='1[0-9].[0-9] MB'
 # A command that takes more than a second, as on a busy machine, tells it again.
 large=$folder/large.db
-expect 0 "~+(${cleared}check: reads a database of $size)$cleared" "" \
-    on_terminal "$folder/told" "$PROGRAM" check "$large"
+told="+(${cleared}check: reads a database of $size)"
+expect 0 "~$told$cleared" "" on_terminal "$folder/told" "$PROGRAM" check "$large"
 [[ $(< "$folder/told") == "ok 20" ]] || differs "what check prints: $(< "$folder/told")"
-expect 0 "~+(${cleared}check: reads a database of $size)${cleared}ok 20"$'\r' "" \
-    on_terminal - "$PROGRAM" check "$large"
+expect 0 "~$told${cleared}ok 20"$'\r'"?("$'\n'"$told$cleared)" "" on_terminal - "$PROGRAM" check "$large"
 expect 0 "~+(${cleared}verify: reads 12.0 MB)$cleared" "" \
     on_terminal "$folder/told" "$PROGRAM" verify export "$folder/large.export"
 cp "$large" "$folder/copy.db"
@@ -50,8 +49,10 @@ for words in "export $large" "show $large" "show --json $large"; do
     "$PROGRAM" $words > "$folder/wanted"
     mkfifo "$folder/pipe"
     { head -c 1300000; sleep 1.5; head -c 1300000; sleep 1.5; cat; } < "$folder/pipe" > "$folder/told" &
+    SECONDS=0
     # shellcheck disable=SC2086 # these are words
     on_terminal "$folder/pipe" "$PROGRAM" $words > "$folder/seen" || differs "$words"
+    most=$((SECONDS + 3))
     wait
     rm "$folder/pipe"
     cmp -s "$folder/wanted" "$folder/told" || differs "$words prints something else beside a terminal"
@@ -60,7 +61,7 @@ for words in "export $large" "show $large" "show --json $large"; do
         export*) grep -q 'export: [1-9]\.[0-9] MB written, of a database of 1[0-9]\.[0-9] MB' "$folder/seen" ;;
         *) grep -q 'show: [1-9][0-9]* entries, of a database of 1[0-9]\.[0-9] MB' "$folder/seen" ;;
     esac || differs "$words is told as $(< "$folder/seen")"
-    [[ $(grep -o "${words%% *}:" "$folder/seen" | wc -l) -le 6 ]] || differs "$words is told too often"
+    [[ $(grep -o "${words%% *}:" "$folder/seen" | wc -l) -le $most ]] || differs "$words is told too often"
 done
 
 # on a terminal that has the output too, the line stands between two lines of it, and takes the place of none
@@ -87,9 +88,15 @@ wait
 seen=$(< "$folder/seen")
 [[ $seen == *"${clear}collect: "[12]" uploads answered"*"$clear" ]] || differs "a list: $seen"
 
-# what takes no second says nothing, and each line on standard error begins where one was cleared
-expect 0 "" "" on_terminal "$folder/told" "$PROGRAM" check "$folder/logs.db"
-expect 0 "" "" on_terminal "$folder/told" "$PROGRAM" collect "$folder/logs.db" "$folder/up"
+# what takes no second says nothing; on a busy machine it may take one
+for words in "check $folder/logs.db" "collect $folder/logs.db $folder/up"; do
+    begun=${EPOCHREALTIME/./}
+    # shellcheck disable=SC2086 # these are words
+    seen=$(on_terminal "$folder/told" "$PROGRAM" $words) || differs "$words"
+    [[ -z $seen || $((${EPOCHREALTIME/./} - begun)) -ge 1000000 ]] || differs "$words says $seen"
+done
+
+# each line on standard error begins where one was cleared
 expect 3 "~${cleared}cannot open $folder/gone"$'\r' "" on_terminal "$folder/told" "$PROGRAM" check "$folder/gone"
 expect 3 "~${cleared}cannot open $folder/gone"$'\r\n'"${cleared}explain: $folder/gone is missing: *" "" \
     on_terminal "$folder/told" "$PROGRAM" --explain check "$folder/gone"

@@ -1,6 +1,6 @@
 #!/usr/bin/env bash
 # Resume files and pipes, as only a process shows them: what a failure leaves of the old file, and sources that come
-# once.
+# once. Rows of tests/commands have the rest.
 set -uo pipefail
 . "$(dirname "$0")/expect.sh"
 
@@ -10,7 +10,6 @@ in=$folder/in
 resume=$folder/resume
 cp examples/one-entry.export "$in"
 printf 'ack %s 0 1 1 0\n' $id > "$folder/answers"
-printf 'ack %s\n' $id > "$folder/no-answers"
 samples 'upload=stream(read("examples/one-entry.export"))'
 
 upload() { "$PROGRAM" upload --source $id --resume "$resume" "$@"; }
@@ -30,32 +29,15 @@ holds "$point"
 expect 1 "" "bad 30 121" upload file <(cat "$in")
 expect 1 "bad 30 121" "" "$PROGRAM" verify file /dev/stdin < <(cat "$in")
 
-# standard output that takes nothing: the resume file was written before
-rm "$resume"
-expect 3 "" "write failed" bash -c \
-    "'$PROGRAM' ack --source $id --resume '$resume' export '$in' < '$folder/answers' > /dev/full"
-holds "$point"
-rm "$resume"
-expect 3 "" "write failed" bash -c "'$PROGRAM' upload --source $id --resume '$resume' export '$in' > /dev/full"
-[[ ! -e $resume ]] || differs "an upload made a resume file"
-
-# standard input that can't be read, and lines that aren't answers
+# standard input that can't be read
 echo "$point" > "$resume"
 expect 3 "" "read failed" ack export "$in" < "$folder"
-holds "$point"
-expect 1 "" "bad answer 1" ack export "$in" < "$folder/no-answers"
 holds "$point"
 
 # what was left by a run that was stopped is written over
 echo "resume" > "$resume.new"
 expect 0 "resume 1" "" ack export "$in" < "$folder/answers"
 holds "$point"
-
-# a new file that can't be made beside the old one
-mkdir "$resume.new"
-expect 3 "" "write failed" ack export "$in" < "$folder/answers"
-[[ $(cat "$resume") == "$point" ]] || differs "a failure changed the resume file"
-rmdir "$resume.new"
 
 # a folder, a folder that isn't there, and a device that never ends
 mkdir "$folder/sub"

@@ -46,6 +46,15 @@ done
 chmod 755 "$folder/slow/rt" "$gate/tests/test-nothing.sh" "$gate/crates/jc_cli/out/jc_cli"
 expect 0 "~*10 passed, 0 failed" "" env PATH="$folder/slow:$PATH" "$gate/tests/run.sh"
 
+# a folder of pytest's counts as pytest says, and once for a status that this doesn't explain
+if /usr/bin/python3 -c 'import pytest' 2> /dev/null; then
+    mkdir -p "$folder/fails" "$folder/broken"
+    printf 'def test_a():\n    pass\ndef test_b():\n    assert 0, "7 failed"\n' > "$folder/fails/test_it.py"
+    echo 'import nothing' > "$folder/broken/conftest.py"
+    expect 1 "~*FAILED: $folder/broken: status 4"$'\n'"1 passed, 2 failed" "~ImportError*" \
+        env PROGRAM="$real" bash tests/python.sh "$folder/fails" "$folder/broken"
+fi
+
 # which libraries are built at one time, with how many processors and at what priority: `a` is what the longest chain
 # waits for, `lone` is not; `large` takes the memory of two jobs; what stands on one that isn't built is left out
 "$python" -ESB - "$tools" > "$folder/lanes" << 'END'

@@ -6,7 +6,7 @@
 files_in_memory
 memory_in_large_pages
 export CALLS=${CALLS:-crates/jc_test_calls/out/jc_test_calls}
-export PYTHONPATH=tests:tests/collect:tests/hostile:tests/schedules:tests/shared:tests/stops
+export PYTHONPATH=tests:tests/collect:tests/hostile:tests/shared:tests/stops
 export PROGRAM PYTHONDONTWRITEBYTECODE=1
 
 # trials FOLDER PART..: the parts of a folder of tests/, one after the other.

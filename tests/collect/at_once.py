@@ -6,7 +6,7 @@ import subprocess
 from make import Machine
 from model import Journal
 from stock import IS_HERE, stock
-from trial import ROWS, Trial, as_output, run, start
+from trial import ROWS, Trial, answers, as_output, run, start
 
 RACES = 10
 RACERS = 4
@@ -50,13 +50,12 @@ def race(trial: Trial, what: str) -> int:
         if told == refused:
             refusals.append(number)
         else:
-            lines = [journal.take(upload) for upload in uploads[number]]
-            trial.expect(f"{what}: lines", told, ((as_output(lines), b""), 0))
+            trial.expect(f"{what}: lines", told, ((answers(journal, uploads[number])[0], b""), 0))
     trial.expect(f"{what}: one got through", len(refusals) < RACERS, True)
     trial.holds(what, database, journal)
     for number in refusals:
-        lines = [journal.take(upload) for upload in uploads[number]]
-        trial.expect(f"{what}: sent again", run("collect", database, *names[number]), (as_output(lines), "", 0))
+        again = run("collect", database, *names[number])
+        trial.expect(f"{what}: sent again", again, answers(journal, uploads[number]))
     trial.holds(f"{what}: all of them", database, journal)
     return len(refusals)
 

@@ -4,15 +4,16 @@ from __future__ import annotations
 
 import copy
 import os
+from collections.abc import Iterable, Sequence
 from random import Random
 from typing import NamedTuple
 
 import samples
 from make import Machine
-from runs import delivery
+from model import Journal
 
 # What machines are named. A line of a list may name one that has no letters.
-NAMES = ("web", "web2", "größe 7", "")
+NAMES = ("web", "web2", "größe/7", "", "a" * 5000)
 # How many of the uploads of named machines another machine brings.
 OTHERS = 0.1
 MIXED = 0.3
@@ -26,6 +27,43 @@ class Brought(NamedTuple):
     """An upload, and the machine that brings it, if one is named."""
     machine: str | None
     upload: bytes
+
+
+def stranger(sequence: bytes) -> Brought:
+    """An upload of a machine that has no sequence, with an entry that nobody has."""
+    text = samples.entry_text(50000).replace(samples.SEQNUM_ID.hex().encode(), sequence.hex().encode())
+    return Brought("stranger", samples.stream(text))
+
+
+def take(journal: Journal, brought: Brought) -> str:
+    """The line that answers an upload; what is accepted is stored, and claimed."""
+    return journal.take(brought.upload, brought.machine)
+
+
+def take_all(journal: Journal, uploads: Iterable[Brought]) -> list[str]:
+    return [take(journal, brought) for brought in uploads]
+
+
+def as_lines(names: Sequence[str], uploads: Sequence[Brought]) -> bytes:
+    """The list that names the files of these uploads, with the machine of each."""
+    return "".join(name + "\n" if brought.machine is None else f"{brought.machine}\t{name}\n"
+                   for name, brought in zip(names, uploads)).encode()
+
+
+def delivery(dice: Random, machines: list[Machine], made: list[bytes]) -> bytes:
+    """An upload, often one that is harmed or was made before."""
+    machine = dice.choice(machines)
+    count = len(machine.entries)
+    first, last = sorted(dice.choices(range(count + 1), k=2))
+    sound = machine.stream(first, last)
+    other = machine.other(dice.randrange(count))
+    return dice.choice((
+        *[lambda: sound] * 2, *[lambda: machine.file(last)] * 2,
+        lambda: sound[:dice.randint(0, len(sound))], lambda: machine.file(last)[:dice.randint(0, 1000)],
+        lambda: sound + b"=x\n", lambda: sound + b"A\n" + bytes(8) + b"x", lambda: sound + b"A=1\n\n",
+        lambda: other, lambda: sound + other[48:] + b"=x", lambda: b"X" + sound[1:],
+        *[lambda: dice.choice(made or [sound])] * 4,
+    ))()
 
 
 def makers(dice: Random) -> list[Machine]:
@@ -108,14 +146,13 @@ def listed(dice: Random, base: str, brought: list[Brought]) -> str:
     """A list of uploads, each with its machine, below a folder."""
     for folder in (FOLDER, WITH_TAB):
         os.makedirs(os.path.join(base, folder), exist_ok=True)
-    lines = []
+    paths = []
     for number, (machine, upload) in enumerate(brought):
         folder = FOLDER if machine is None else dice.choice((FOLDER, WITH_TAB))
-        path = os.path.join(base, folder, f"{number}")
-        with open(path, "wb") as file:
+        paths.append(os.path.join(base, folder, f"{number}"))
+        with open(paths[-1], "wb") as file:
             file.write(upload)
-        lines.append(path if machine is None else f"{machine}\t{path}")
     name = os.path.join(base, "list")
-    with open(name, "w", encoding="utf-8") as file:
-        file.write("".join(f"{line}\n" for line in lines))
+    with open(name, "wb") as file:
+        file.write(as_lines(paths, brought))
     return name

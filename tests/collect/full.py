@@ -11,7 +11,7 @@ from collections.abc import Callable
 
 from make import Machine
 from model import Journal
-from trial import Trial, as_output, run, status_of
+from trial import Trial, answers, run, status_of
 
 SIZES = 60
 
@@ -58,8 +58,7 @@ def try_size(trial: Trial, size: int, uploads: list[bytes], names: list[str]) ->
     found = trial.left(what, database, journals)
     trial.expect(f"{what}: no journal", found is None and bool(lines), False)
     journal = journals[found or 0]
-    again = [journal.take(upload) for upload in uploads]
-    trial.expect(f"{what}: sent again", run("collect", database, *names), (as_output(again), "", 0))
+    trial.expect(f"{what}: sent again", run("collect", database, *names), answers(journal, uploads))
     trial.holds(f"{what}: complete", database, journal)
     return failures
 

@@ -12,9 +12,9 @@ from random import Random
 
 from make import Machine
 from model import Journal
-from trial import Trial, as_output, run, start, status_of
+from trial import Trial, answers, as_output, run, start, status_of
 
-MANY = 3000
+MANY = 1000
 OPEN_FILES = 64
 # How many names come one by one, and how long the answer to one is waited for, in seconds.
 ONE_BY_ONE = 20
@@ -41,18 +41,12 @@ def uploads_of(dice: Random, count: int) -> list[bytes]:
     return made
 
 
-def answered(journal: Journal, uploads: list[bytes]) -> tuple[bytes, str, int]:
-    """What a run over a journal prints, which then has what is accepted."""
-    lines = [journal.take(upload) for upload in uploads]
-    return as_output(lines), "", status_of(lines)
-
-
 def many_in_a_list(trial: Trial) -> int:
     """The list is a file, and then standard input: the answers are those to the same uploads among the arguments."""
     uploads = uploads_of(trial.dice, MANY)
     names = trial.put(uploads)
     journal = Journal()
-    usual = answered(journal, uploads)
+    usual = answers(journal, uploads)
     listed, piped, named = (trial.database() for _ in range(3))
     [path] = trial.put([as_list(names)])
     trial.expect("many, by a list", run("collect", listed, "--files-from", path, preexec_fn=few_files), usual)

@@ -6,9 +6,9 @@ import shutil
 from collections.abc import Sequence
 
 import samples
-from model import named, read_stream
-from owned import Brought, OwnedJournal, as_lines, notes_of, stranger
-from sequences import NOTE
+from brought import Brought, as_lines, stranger, take, take_all
+from model import Journal, named, read_stream
+from note_files import NOTE, file_of, noted, notes_of
 from trial import Trial, as_output, run, status_of
 
 LISTED = ["--tables", "3", "--files-from", "-"]
@@ -19,30 +19,30 @@ class MayBe:
     the uploads that failed since then, too. One that failed may have claimed its sequences. One that can't be read
     leaves all as it is."""
 
-    def __init__(self, journal: OwnedJournal) -> None:
+    def __init__(self, journal: Journal) -> None:
         self.journals = [journal.copy()]
-        self.with_failed: list[OwnedJournal] = []
+        self.with_failed: list[Journal] = []
 
     def take(self, line: str, brought: Brought) -> None:
         whose = named(brought.upload)
         if line in (f"no {whose} 62 0", f"no {whose} 63 0"):
             self.fail(brought)
         elif line not in (f"no {whose} 61 0", "no - - 61 0"):
-            self.journals = [journal for journal in self.journals if journal.take(brought) == line]
+            self.journals = [journal for journal in self.journals if take(journal, brought) == line]
             # a refusal needs no store
             failed = [] if line.startswith("ack ") else self.with_failed
-            self.with_failed = [journal for journal in failed if journal.take(brought) == line]
+            self.with_failed = [journal for journal in failed if take(journal, brought) == line]
 
     def fail(self, brought: Brought) -> None:
         stored = [journal.copy() for journal in self.journals]
         claimed = [journal.copy() for journal in self.journals]
         for with_upload, with_claim in zip(stored, claimed):
-            with_upload.take(brought)
-            with_claim.owners = with_upload.owners
+            take(with_upload, brought)
+            with_claim.owners = dict(with_upload.owners)
         self.with_failed += stored
         self.journals += claimed
 
-    def all(self) -> list[OwnedJournal]:
+    def all(self) -> list[Journal]:
         return self.journals + self.with_failed
 
 
@@ -55,19 +55,19 @@ class NotedRun:
     ) -> None:
         self.trial = trial
         self.uploads = uploads
-        self.start = OwnedJournal()
+        self.start = Journal()
         self.base = trial.folder()
-        lines = self.start.take_all(before)
+        lines = take_all(self.start, before)
         told = run(*words_in(self.base), stdin=listed(trial, before))
         trial.expect(f"{name}: before", told, (as_output(lines), "", status_of(lines)))
         if unnoted:
-            path = os.path.join(self.base, "sequences", samples.SEQNUM_ID.hex(), "0")
+            path = file_of(os.path.join(self.base, "sequences"), samples.SEQNUM_ID, 1)
             os.truncate(path, os.path.getsize(path) // NOTE.size * NOTE.size - unnoted * NOTE.size)
         elif not before:
             shutil.rmtree(self.base)
             os.mkdir(self.base)
         complete = self.start.copy()
-        lines = complete.take_all(uploads)
+        lines = take_all(complete, uploads)
         self.strangers = {sequence: stranger(sequence) for sequence in complete.owners}
         self.usual = as_output(lines), "", status_of(lines)
         self.stdin = listed(trial, uploads)
@@ -96,17 +96,17 @@ class NotedRun:
         uploads = [*(self.strangers[sequence] for sequence in sorted(first)), *self.uploads, *self.strangers.values()]
         told = run(*words_in(folder), stdin=listed(self.trial, uploads))
         for journal in journals:
-            lines = journal.take_all(uploads)
+            lines = take_all(journal, uploads)
             if told == (as_output(lines), "", status_of(lines)):
                 self.hold(what, folder, journal)
                 return
         self.trial.expect(f"{what}: {told}, all sent again", False, True)
 
-    def hold(self, what: str, folder: str, journal: OwnedJournal) -> None:
+    def hold(self, what: str, folder: str, journal: Journal) -> None:
         output, *end = run("export", os.path.join(folder, "db"))
-        self.trial.expect(f"{what}: export", (end, list(read_stream(output))), (["", 0], journal.stored.in_order()))
-        noted = notes_of(os.path.join(folder, "sequences"))
-        self.trial.expect(f"{what}: what is noted", noted, journal.noted())
+        self.trial.expect(f"{what}: export", (end, list(read_stream(output))), (["", 0], journal.in_order()))
+        notes = notes_of(os.path.join(folder, "sequences"))
+        self.trial.expect(f"{what}: what is noted", notes, noted(journal))
 
 
 def words_in(folder: str) -> list[str]:

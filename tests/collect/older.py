@@ -1,22 +1,17 @@
 """Databases of the first version of the tables, as an earlier program left them and as the stock sqlite3 makes them:
-`migrate` takes their journals over, also where it is killed or a file can't grow, and no other command does.
-
-After a stop the database has the whole journal, in the old tables or in the new ones.
+`migrate` takes their journals over, and no other command does. tests/stops has it stopped anywhere.
 """
 from __future__ import annotations
 
 import gzip
 import os
-import resource
 import shutil
-import signal
-import time
 
 import samples
 from make import Machine
 from model import Journal, read_stream
 from stock import IS_HERE, stock
-from trial import ROWS, SCHEMA, TABLES, Trial, as_output, run, start
+from trial import ROWS, SCHEMA, TABLES, Trial, as_output, run
 
 FIXTURES = os.path.join(os.path.dirname(os.path.abspath(__file__)), "..", "fixtures")
 # The databases of an earlier program: one was closed, and of the other what is stored is in the log.
@@ -36,8 +31,6 @@ SELECT lower(hex(seqid)) || ' ' || seqnum || ' ' || realtime || ' ' || monotonic
 FROM entry ORDER BY seqid, seqnum
 """
 REFUSED = (b"bad 67 0\n", "", 1)
-KILLS = 60
-SIZES = 40
 
 
 def earlier_journal() -> Journal:
@@ -137,39 +130,6 @@ def one_after_the_other(trial: Trial, what: str, database: str, journal: Journal
     is_over(trial, f"{what} and more", database, journal)
 
 
-def at_moments(trial: Trial, journal: Journal) -> tuple[int, int]:
-    """Answers how many runs were killed, and how many of these had not yet gone over."""
-    database = older(trial, journal)
-    began = time.monotonic()
-    trial.expect("undisturbed", run("migrate", database)[2], 0)
-    undisturbed = time.monotonic() - began
-    kills = before = 0
-    for _ in range(KILLS):
-        what = f"kill {kills}"
-        database = older(trial, journal)
-        with start("migrate", database) as process:
-            time.sleep(trial.dice.random() * 1.2 * undisturbed)
-            process.kill()
-        kills += process.returncode == -signal.SIGKILL
-        before += not is_over(trial, what, database, journal)
-        migrate(trial, what, database, journal)
-    return kills, before
-
-
-def at_sizes(trial: Trial, journal: Journal) -> int:
-    """No file may grow past a size: the signal that says so ends the run within the write."""
-    for number in range(SIZES):
-        size = 4096 * number
-
-        def limit():
-            resource.setrlimit(resource.RLIMIT_CORE, (0, 0))
-            resource.setrlimit(resource.RLIMIT_FSIZE, (size, size))
-        database = older(trial, journal)
-        with start("migrate", database, preexec_fn=limit) as process:
-            process.stdout.read()
-        migrate(trial, f"ended at {size} bytes", database, journal)
-
-
 def main() -> None:
     with Trial("older") as trial:
         machine = Machine(trial.dice, 110)
@@ -178,14 +138,9 @@ def main() -> None:
             one_after_the_other(trial, name, earlier(trial, name), earlier_journal(), uploads)
         if not IS_HERE:
             trial.finish(f"{len(EARLIER)} databases of an earlier program")
-        for count in (0, 1, 100):
-            journal = Journal(machine.entries[:count])
-            uploads = [machine.stream(0, count + 10)]
-            one_after_the_other(trial, f"{count} entries", older(trial, journal), journal, uploads)
-        journal = Journal(Machine(trial.dice, 60).entries)
-        kills, before = at_moments(trial, journal)
-        at_sizes(trial, journal)
-        trial.finish(f"{kills} kills, {before} of them before the journal was over", f"{SIZES} sizes")
+        journal = Journal(machine.entries[:100])
+        one_after_the_other(trial, "many entries", older(trial, journal), journal, [machine.stream(0, 110)])
+        trial.finish(f"{len(EARLIER)} databases of an earlier program, and a larger one")
 
 
 if __name__ == "__main__":

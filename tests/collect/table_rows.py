@@ -10,7 +10,7 @@ import subprocess
 import sys
 from collections.abc import Callable, Iterator
 
-from samples import entry_text, stream
+from samples import H1, entry_text, stream
 
 PROGRAM, FOLDER = sys.argv[1:]
 SOURCE = "a0a1a2a3a4a5a6a7a8a9aaabacadaeaf"
@@ -64,7 +64,7 @@ def with_two(number: int) -> bytes:
     return entry_text(number).replace(b"MESSAGE=hi\n", b"MESSAGE=hi\nPRIORITY=6\n")
 
 
-def hostile(tables: str, changes: dict[str, tuple[str, str]]) -> None:
+def hostile(tables: str, changes: dict[str, tuple[str, str]], table: str = "record") -> None:
     """Changes that somebody else made of three entries with two fields each, and what `check` says then: the first bad
     row in the order of keys is told, and nothing is stored over it."""
     for number, (what, (change, says)) in enumerate(changes.items()):
@@ -72,13 +72,32 @@ def hostile(tables: str, changes: dict[str, tuple[str, str]]) -> None:
         collect(path, *map(with_two, (1, 2, 3)), tables=tables)
         with stock(path) as connection:
             connection.executescript(change)
-            left, = connection.execute("SELECT count(*) FROM record").fetchone()
+            left, = connection.execute(f"SELECT count(*) FROM {table}").fetchone()
         good = says.startswith("ok")
         expect(what, run("check", path), (0 if good else 1, says + "\n"))
         expect(f"{what}: collect", collect(path, with_two(4), tables=tables)[0], 0 if good else 1)
         with stock(path) as connection:
-            stored, = connection.execute("SELECT count(*) FROM record").fetchone()
+            stored, = connection.execute(f"SELECT count(*) FROM {table}").fetchone()
         expect(f"{what}: what is stored", stored, left + good)
+
+
+def in_another_order(tables: str, changes: dict[str, str]) -> None:
+    """Changes of three entries with two fields each that leave the same journal: all entries are there, a repeat stores
+    none, another entry under a key is a conflict, and more are stored."""
+    one, two, three, four = map(with_two, (1, 2, 3, 4))
+    for number, (what, change) in enumerate(changes.items()):
+        path = new(f"order-{number}")
+        collect(path, one, two, three, tables=tables)
+        listed = run("export", path), run("show", path)
+        with stock(path) as connection:
+            connection.executescript(change)
+        expect(what, run("check", path), (0, "ok 3\n"))
+        expect(f"{what}: what is listed", (run("export", path), run("show", path)), listed)
+        expect(f"{what}: again", collect(path, three, one, two, tables=tables), (0, ACK.format(3, 0)))
+        expect(f"{what}: in order", collect(path, one, two, three, tables=tables), (0, ACK.format(3, 0)))
+        expect(f"{what}: one more", collect(path, two, four, tables=tables), (0, ACK.format(2, 1)))
+        expect(f"{what}: a conflict", collect(path, H1, tables=tables), (1, f"no {SOURCE} 0 60 0\n"))
+        expect(f"{what}: then", run("check", path), (0, "ok 4\n"))
 
 
 def run_all(parts: tuple[Callable[[], None], ...]) -> None:

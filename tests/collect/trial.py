@@ -64,6 +64,12 @@ def as_output(lines: Iterable[str]) -> bytes:
     return "".join(line + "\n" for line in lines).encode()
 
 
+def answers(journal: Journal, uploads: Iterable[bytes]) -> tuple[bytes, str, int]:
+    """What a run over a journal prints, which then has what is accepted, and its status."""
+    lines = [journal.take(upload) for upload in uploads]
+    return as_output(lines), "", status_of(lines)
+
+
 class Trial:
     """One script's trials, in a folder of their own, with the random choices of a seed that is printed."""
 
@@ -125,7 +131,8 @@ class Trial:
 
     def holds(self, what: str, database: str, journal: Journal) -> None:
         """The database is read by the program and by the stock sqlite3, and each finds just this journal."""
-        self.expect(f"{what}: export", run("export", self.copy(database)), (journal.text(), "", 0))
+        for command, wanted in (("export", journal.text()), ("show", journal.lines())):
+            self.expect(f"{what}: {command}", run(command, self.copy(database)), (wanted, "", 0))
         self.holds_rows(what, database, journal)
 
     def holds_rows(self, what: str, database: str, journal: Journal) -> None:

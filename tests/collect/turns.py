@@ -13,9 +13,9 @@ import signal
 import sys
 from pathlib import Path
 
-import whose
 from brought import NAMES, Brought, Machines, listed
 from model import Entry, Journal, read_stream
+from note_files import OWNER, Notes, give, lose_notes, noted, notes_of, release
 from trial import PROGRAM, Trial, as_output, run, status_of
 
 sys.path.insert(0, os.path.join(os.path.dirname(os.path.abspath(__file__)), "..", "stops"))
@@ -74,8 +74,15 @@ class Union:
         lines = [self.take(each) for each in brought]
         told = run(*self.words(brought))
         self.trial.expect(f"{self.what}: {what}", told, (as_output(lines), "", status_of(lines)))
-        self.trial.expect(f"{self.what}: {what}: owners", self.owners(), self.journal.owners)
         self.is_noted = True
+
+    def check_notes(self, what: str) -> None:
+        """All is noted, and nothing else."""
+        self.trial.expect(f"{self.what}: {what}: notes", notes_of(self.sequences) == noted(self.journal), True)
+
+    def answer(self) -> None:
+        self.collect("answers", self.machines.some())
+        self.check_notes("answers")
 
     def stop(self) -> None:
         """A run is killed before or within a call that changes a file."""
@@ -100,7 +107,7 @@ class Union:
     def found(self, what: str, journals: list[Journal]) -> None:
         """All that the run acknowledged is stored, and of the next upload all or nothing. Sequences of that one may be
         its machine's though it isn't stored, but not the other way round."""
-        stored, owners = self.stored(), self.owners()
+        stored, owners = self.stored(), owners_in(notes_of(self.sequences))
         claimed = journals[-1].owners.items()
         for journal in journals:
             if stored == self.there(journal) and journal.owners.items() <= owners.items() <= claimed:
@@ -111,9 +118,6 @@ class Union:
     def note(self) -> None:
         """What a stop left stored, but not noted, is noted."""
         self.collect("noted", [])
-
-    def owners(self) -> dict[bytes, str]:
-        return whose.owners(self.sequences, NAMES)
 
     def there(self, journal: Journal) -> Entries:
         """What the databases that weren't deleted have of a journal."""
@@ -155,7 +159,7 @@ class Union:
         """The notes are lost, and are made anew from the databases, in any order. What the deleted ones had isn't known
         any more. Whose a sequence is stays known, or is lost, too."""
         if self.dice.random() < 0.7:
-            whose.lose_notes(self.sequences)
+            lose_notes(self.sequences)
         else:
             shutil.rmtree(self.sequences, ignore_errors=True)
             self.journal.owners = {}
@@ -169,27 +173,35 @@ class Union:
         for key in self.gone:
             del self.journal.entries[key]
         self.gone = {}
+        self.check_notes("made anew")
 
     def say_whose(self) -> None:
         """A person says that a sequence is nobody's, or another machine's."""
         if owners := self.journal.owners:
             sequence, machine = self.dice.choice(sorted(owners)), self.dice.choice((None, *NAMES))
             if machine is None:
-                whose.release(self.sequences, sequence)
+                release(self.sequences, sequence)
                 del owners[sequence]
             else:
-                whose.give(self.sequences, sequence, machine)
+                give(self.sequences, sequence, machine)
                 owners[sequence] = machine
 
     def step(self) -> None:
-        steps = [lambda: self.collect("answers", self.machines.some())] * 6 + [self.stop] * 4 + [self.turn] * 2
+        steps = [self.answer] * 6 + [self.stop] * 4 + [self.turn] * 2
         self.dice.choice([*steps, self.delete, self.note_anew, *[self.say_whose] * 2])()
 
     def end(self) -> None:
         """All machines send all that they have, and then all that was sent comes once more."""
         self.collect("at its end", self.machines.all())
         self.collect("once more", self.machines.again())
+        self.check_notes("at its end")
         self.trial.expect(f"{self.what}: what is stored", self.stored() == self.there(self.journal), True)
+
+
+def owners_in(notes: Notes) -> dict[bytes, str]:
+    """The machine of each sequence that is somebody's."""
+    named = {noted(Journal((), {b"": name}))[b"", OWNER]: name for name in NAMES}
+    return {sequence: named[digest] for (sequence, number), digest in notes.items() if number == OWNER}
 
 
 def main() -> None:

@@ -3,7 +3,6 @@ import contextlib
 import hashlib
 import json
 import os
-import signal
 import socket
 import sqlite3
 import subprocess
@@ -15,7 +14,9 @@ from pathlib import Path
 import pytest
 
 ROOT = Path(__file__).resolve().parents[2]
-sys.path.insert(0, str(ROOT / "deploy"))
+sys.path[:0] = [str(ROOT / "deploy"), str(ROOT / "tests")]
+import processes  # noqa: E402
+from waiting import PATIENCE, wait_until  # noqa: E402
 
 PROGRAM = Path(os.environ["JOURNAL_COLLECT"])
 REALTIME = 1_700_000_000_000_000
@@ -46,13 +47,16 @@ class Machine:
 
     def __init__(self, path: Path) -> None:
         self.socket = socket.socket(socket.AF_UNIX)
-        self.socket.settimeout(300)
+        self.socket.settimeout(PATIENCE)
         self.socket.connect(str(path))
         self.file = self.socket.makefile("rb")
         self.greeting = self.line()
 
     def line(self) -> str:
-        return self.file.readline().decode().rstrip("\n")
+        """The next line; none if the service ended the connection, also before it read all."""
+        with contextlib.suppress(ConnectionResetError):
+            return self.file.readline().decode().rstrip("\n")
+        return ""
 
     def say(self, text: str) -> None:
         self.socket.sendall(text.encode() + b"\n")
@@ -104,27 +108,32 @@ class Collector:
             self.process = subprocess.Popen([*self.under, ROOT / "deploy/programs/journal-collect-service"], stderr=log,
                                             env=self.environment())
 
-    def stop(self, by: int = signal.SIGTERM, seconds: float = 60) -> int:
+    def stop(self) -> int:
         assert self.process
-        self.process.send_signal(by)
-        return self.process.wait(seconds)
+        self.process.terminate()
+        return self.ended()
+
+    def ended(self) -> int:
+        """Its status, once it has ended."""
+        assert self.process
+        return self.process.wait(PATIENCE)
 
     def kill(self) -> None:
         """Kills the service and its program at once, as a failure of power does."""
         assert self.process
-        children = Path(f"/proc/{self.process.pid}/task/{self.process.pid}/children").read_text().split()
-        children += [child for task in Path(f"/proc/{self.process.pid}/task").iterdir()
-                     for child in (task / "children").read_text().split()]
+        children = processes.children(self.process.pid)
         self.process.kill()
-        for child in set(children):
-            try:
-                os.kill(int(child), signal.SIGKILL)
-            except ProcessLookupError:
-                pass
+        for child in children:
+            processes.kill(child)
         self.process.wait()
 
+    def programs(self) -> list[int]:
+        """The processes of the program that store."""
+        assert self.process
+        return [each for each in processes.children(self.process.pid) if b"collect" in processes.words(each)]
+
     def connect(self, name: str) -> Machine:
-        path, end = self.folder / "sockets" / name, time.monotonic() + 120
+        path, end = self.folder / "sockets" / name, time.monotonic() + PATIENCE
         while True:
             try:
                 return Machine(path)
@@ -147,10 +156,7 @@ class Collector:
         """Calls journal-collect-admin. The service runs meanwhile, unless that isn't asked for."""
         if not self.runs() and words[0] not in ("admit", "retire", "restore"):
             self.start()
-            end = time.monotonic() + 60
-            while not self.ask("status")[0]["say"]["is_begun"]:   # type: ignore[index]
-                assert time.monotonic() < end
-                time.sleep(0.1)
+            wait_until(self.is_begun)
             try:
                 return self.admin(*words, given=given)
             finally:
@@ -158,13 +164,14 @@ class Collector:
         return subprocess.run([ROOT / "deploy/programs/journal-collect-admin", *words], env=self.environment(),
                               input=given, capture_output=True, text=True, timeout=600)
 
+    def is_begun(self) -> object:
+        """Whether the service has taken up what was left."""
+        return self.ask("status")[0]["say"]["is_begun"]   # type: ignore[index]
+
     def ask(self, do: str, *words: str) -> list[dict[str, object]]:
         """Asks the service as journal-collect-admin does."""
         with socket.socket(socket.AF_UNIX) as one:
-            end = time.monotonic() + 60
-            while one.connect_ex(str(self.folder / "admin")):
-                assert time.monotonic() < end
-                time.sleep(0.05)
+            wait_until(lambda: one.connect_ex(str(self.folder / "admin")) == 0)
             one.sendall(json.dumps({"do": do, "words": words}).encode())
             lines = []
             with one.makefile() as file:
@@ -176,11 +183,28 @@ class Collector:
 
     def rows(self, text: str, *values: object) -> list[tuple[object, ...]]:
         """What a statement says of state.sqlite, or changes in it."""
-        with contextlib.closing(sqlite3.connect(self.folder / "state.sqlite")) as tables, tables:
+        there = sqlite3.connect(self.folder / "state.sqlite", timeout=PATIENCE)
+        with contextlib.closing(there) as tables, tables:
             return tables.execute(text, values).fetchall()
 
     def said(self) -> str:
         return self.log.read_text()
+
+    @contextlib.contextmanager
+    def on_disk(self, disk: Path, options: str) -> Iterator[None]:
+        """Its folder is a disk of its own, with these options of tmpfs, while this lasts."""
+        disk.mkdir()
+        words = ["mount", "-t", "tmpfs", "-o", options, "tmpfs", disk]
+        if subprocess.run(words, capture_output=True).returncode:
+            pytest.skip("no file system can be mounted here")
+        self.folder = disk
+        self.values["FOLDER"] = str(disk)
+        try:
+            yield
+        finally:
+            if self.runs():
+                self.kill()
+            subprocess.run(["umount", "--lazy", disk], check=True)
 
     def databases(self) -> list[Path]:
         return sorted((self.folder / "databases").glob("*.db"))

@@ -5,6 +5,7 @@ from pathlib import Path
 
 import pytest
 from conftest import PROGRAM, Collector, Machine, entries, sequence, upload
+from waiting import wait_until
 
 A, B = sequence("a"), sequence("b")
 ID = "cd" * 16
@@ -44,6 +45,19 @@ def test_a_machine_is_admitted_under_one_name_and_retired(collector: Collector) 
     assert (collector.settings / "authorized_keys").read_text() == ""
     said(collector, "retire", "web", status=1)
     assert collector.stop() == 0
+
+
+def test_a_folder_of_keys_is_admitted_and_again_changes_nothing(collector: Collector, tmp_path: Path) -> None:
+    said(collector, "admit", f"{tmp_path}", status=1)
+    for name, letter in (("db", "B"), ("web", "A")):
+        (tmp_path / f"{name}.pub").write_text(f"{key(letter, 'root@somewhere')}\n")
+    assert said(collector, "admit", f"{tmp_path}") == "db may send\nweb may send\n"
+    admitted = (collector.settings / "authorized_keys").read_text()
+    assert [line.split()[-1] for line in admitted.splitlines()] == ["db", "web"]
+    said(collector, "admit", f"{tmp_path}")
+    assert (collector.settings / "authorized_keys").read_text() == admitted
+    (tmp_path / "mail.pub").write_text("nothing\n")
+    assert "for mail" in said(collector, "admit", f"{tmp_path}", status=1)
 
 
 def test_a_renamed_machine_has_its_sequences(collector: Collector) -> None:
@@ -109,6 +123,19 @@ def test_a_backup_is_put_back_and_its_notes_are_those_of_its_databases(collector
     assert machine.send(upload(entries(A, range(1, 9)), 8)) == f"ack {ID} 0 8 3 0"
     assert collector.stop() == 0
     assert collector.stored() == [(A, number, b"m%d" % number) for number in range(1, 9)]
+
+
+def test_a_backup_of_a_collector_that_stored_nothing_is_put_back(collector: Collector, tmp_path: Path) -> None:
+    collector.admit("web")
+    collector.start()
+    wait_until(collector.is_begun)
+    said(collector, "backup", tmp_path / "backup")
+    assert collector.stop() == 0
+    shutil.rmtree(collector.folder)
+    collector.folder.mkdir()
+    said(collector, "restore", tmp_path / "backup")
+    collector.start()
+    assert collector.send("web", upload(entries(A, range(1, 4)), 3)) == f"ack {ID} 0 3 3 0"
 
 
 def test_a_backup_mends_a_single_database(collector: Collector, tmp_path: Path) -> None:

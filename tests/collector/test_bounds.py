@@ -1,11 +1,12 @@
 """What a machine may not do: each bound is answered, told once, and holds up nobody else."""
-import os
+import contextlib
 import subprocess
 import time
 from pathlib import Path
 
 import pytest
 from conftest import PROGRAM, Collector, entries, entry, sequence, upload
+from waiting import PATIENCE, wait_until
 
 A, B = sequence("a"), sequence("b")
 ID = "cd" * 16
@@ -71,17 +72,27 @@ def test_thousands_of_sequences_and_windows_are_refused_at_once_beside_others(co
     hostile.put(upload(sequences, 3900))
     for number, other in enumerate(others):
         other.put(upload(entries(f"{number:032d}", [1]), 1))
-    begun = time.monotonic()
     assert hostile.line() == "never it touches over 16 files of notes"
     assert all(other.line() == f"ack {ID} 0 1 1 0" for other in others)
     assert hostile.send(upload(windows, 3900)) == "never it touches over 16 files of notes"
-    taken = time.monotonic() - begun
-    print(f"{taken:.2f} s")
     assert not (collector.folder / "sequences" / A).exists()
     assert len(list((collector.folder / "sequences").iterdir())) == 5
-    begun = time.monotonic()
     assert collector.stop() == 0
-    assert time.monotonic() - begun < 30
+
+
+def test_an_upload_whose_files_of_notes_cannot_be_counted_comes_again(collector: Collector, tmp_path: Path) -> None:
+    """The program is killed as it counts them, as where memory is short."""
+    odd = tmp_path / "odd"
+    odd.write_text(f'#!/bin/bash\n[[ $1 != inspect ]] || kill -KILL $$\nexec {PROGRAM} "$@"\n')
+    odd.chmod(0o755)
+    collector.program = odd
+    collector.admit("web")
+    collector.start()
+    data = upload(b"".join(entry(A, 1 + 4096 * number) for number in range(3)), 3)
+    assert collector.send("web", data) == ""
+    wait_until(lambda: "web: Failed: journal-collect inspect: status -9" in collector.said())
+    assert collector.stop() == 0
+    assert collector.stored() == []
 
 
 def test_new_files_of_notes_have_a_share_of_the_day(collector: Collector) -> None:
@@ -150,54 +161,61 @@ sys.exit(real.wait())
 
 def test_a_disk_without_files_left_is_told_later(collector: Collector, tmp_path: Path) -> None:
     """A file system of its own, with few inodes."""
-    disk = tmp_path / "disk"
-    disk.mkdir()
-    mounted = subprocess.run(["mount", "-t", "tmpfs", "-o", "nr_inodes=9000", "tmpfs", disk], capture_output=True)
-    if mounted.returncode:
-        pytest.skip("no file system can be mounted here")
-    try:
-        os.chmod(disk, 0o755)
-        collector.folder = disk
-        collector.values["FOLDER"] = str(disk)
+    with collector.on_disk(tmp_path / "disk", "nr_inodes=9000"):
         collector.admit("web")
         collector.start()
         assert collector.send("web", upload(entries(A, [1]), 1)).startswith("later only ")
         assert "more files can be made" in collector.said()
         assert collector.stop() == 0
-    finally:
-        if collector.runs():
-            collector.kill()
-        subprocess.run(["umount", disk], check=True)
 
 
 def test_a_full_disk_loses_nothing_and_all_goes_on_when_it_has_room(collector: Collector, tmp_path: Path) -> None:
     """A file system of 6 MiB, filled to its last byte, as no FREE_BYTES keeps anything free."""
-    disk = tmp_path / "disk"
-    disk.mkdir()
-    if subprocess.run(["mount", "-t", "tmpfs", "-o", "size=6m", "tmpfs", disk], capture_output=True).returncode:
-        pytest.skip("no file system can be mounted here")
-    try:
-        collector.folder = disk
-        collector.values |= {"FOLDER": str(disk), "DATABASE_BYTES": "1000000"}
+    with collector.on_disk(tmp_path / "disk", "size=6m"):
+        collector.values["DATABASE_BYTES"] = "1000000"
         collector.admit("web")
         collector.start()
-        acknowledged, first, end = 0, 1, time.monotonic() + 120
+        acknowledged, first, end = 0, 1, time.monotonic() + PATIENCE
         while time.monotonic() < end:
             answer = collector.send("web", upload(entries(A, range(first, first + 500), "x" * 300), 500))
             if not answer.startswith("ack"):
                 break
             acknowledged, first = first + 499, first + 500
         assert answer.startswith("later"), answer
-        subprocess.run(["mount", "-o", "remount,size=64m", disk], check=True)
+        subprocess.run(["mount", "-o", "remount,size=64m", collector.folder], check=True)
         while not answer.startswith("ack"):
-            assert time.monotonic() < end + 120, answer
+            assert time.monotonic() < end + PATIENCE, answer
             answer = collector.send("web", upload(entries(A, range(first, first + 500), "x" * 300), 500))
         assert answer == f"ack {ID} 0 500 500 0"
         assert acknowledged >= 500
         assert collector.stop() == 0
         assert [number for _, number, _ in collector.stored()] == list(range(1, first + 500))
         assert collector.rows("SELECT name FROM database WHERE standing <> 'finished'") == []
-    finally:
-        if collector.runs():
-            collector.kill()
-        subprocess.run(["umount", disk], check=True)
+
+
+@pytest.mark.parametrize("damage", ["gone", "overwritten"])
+def test_a_service_that_begins_on_a_full_disk_is_begun_again(
+        collector: Collector, tmp_path: Path, damage: str) -> None:
+    """It can't make a table. That is no damage: what was damaged is set aside once, and what is new never."""
+    with collector.on_disk(tmp_path / "disk", "size=6m"):
+        collector.admit("web")
+        collector.start()
+        assert collector.send("web", upload(entries(A, [1]), 1)) == f"ack {ID} 0 1 1 0"
+        assert collector.stop() == 0
+        (collector.folder / "state.sqlite").unlink()
+        if damage == "overwritten":
+            (collector.folder / "state.sqlite").write_bytes(b"no table" * 1000)
+        with contextlib.suppress(OSError), open(collector.folder / "others", "wb", buffering=0) as file:
+            while file.write(bytes(4096)):
+                pass
+        for _ in range(3):
+            collector.start()
+            assert collector.ended() == 3
+        assert collector.said().count("disk is full: look at the disk of its FOLDER") == 3
+        assert "Traceback" not in collector.said()
+        assert len(list((collector.folder / "quarantine").iterdir())) == (damage == "overwritten")
+        (collector.folder / "others").unlink()
+        collector.start()
+        assert collector.send("web", upload(entries(A, [1, 2]), 2)) == f"ack {ID} 0 2 1 0"
+        assert collector.stop() == 0
+        assert collector.stored() == [(A, 1, b"m1"), (A, 2, b"m2")]

@@ -1,14 +1,15 @@
-"""Random kills and damage: what was acknowledged is stored, and nothing twice of which nobody is told. CHAOS_ROUNDS and
-CHAOS_SEED say which rounds."""
+"""Random kills and damage: what was acknowledged is stored, and nothing twice. CHAOS_ROUNDS and CHAOS_SEED say which
+rounds."""
 import os
 import random
 import signal
 import threading
 import time
-from pathlib import Path
 
+import processes
 import pytest
 from conftest import Collector, Machine, entries, upload
+from waiting import PATIENCE, wait_until
 
 ROUNDS, SEED = int(os.environ.get("CHAOS_ROUNDS", "2")), int(os.environ.get("CHAOS_SEED", "1"))
 MACHINES, SEQUENCES, DEEDS = 4, 2, 12
@@ -55,18 +56,9 @@ class Sender(threading.Thread):
             self.wrong.append(answer)
 
 
-def children(process: int) -> list[int]:
-    found: list[int] = []
-    for task in Path(f"/proc/{process}/task").iterdir():
-        found += map(int, (task / "children").read_text().split())
-    return found
-
-
 def kill_program(collector: Collector) -> None:
-    assert collector.process
-    for child in children(collector.process.pid):
-        if b"collect\0" in Path(f"/proc/{child}/cmdline").read_bytes():
-            os.kill(child, signal.SIGKILL)
+    for each in collector.programs():
+        processes.kill(each)
 
 
 def begin_again(collector: Collector) -> None:
@@ -85,11 +77,9 @@ def stop(collector: Collector) -> None:
 
 
 def finish(collector: Collector) -> None:
+    collector.ask("status")                            # else it may have hardly begun, and the signal would end it
     assert collector.process
     collector.process.send_signal(signal.SIGHUP)
-    time.sleep(0.5)
-    if not collector.runs():                           # it had hardly begun
-        collector.start()
 
 
 def forget(collector: Collector) -> None:
@@ -134,28 +124,19 @@ def test_what_was_acknowledged_is_stored(collector: Collector, round: int) -> No
         time.sleep(dice.random() * 2)
         event = dice.choice(EVENTS)
         done.append(event.__name__)
-        try:
-            event(collector)
-        except (FileNotFoundError, ProcessLookupError):
-            pass                                       # the process has just ended
-    end = time.monotonic() + 120
-    while not all(sender.acknowledged for sender in senders) and time.monotonic() < end:
-        time.sleep(0.2)
+        event(collector)
+    wait_until(lambda: all(sender.acknowledged for sender in senders))
     for sender in senders:
         sender.stops.set()
     for sender in senders:
-        sender.join(300)
-    end = time.monotonic() + 120
-    while not collector.ask("status")[0]["say"]["is_begun"]:    # type: ignore[index]
-        assert time.monotonic() < end
-        time.sleep(0.1)
+        sender.join(2 * PATIENCE)
+    wait_until(collector.is_begun)
     assert collector.stop() == 0
     stored = [(of, number) for of, number, _ in collector.stored()]
     acknowledged = set().union(*(sender.acknowledged for sender in senders))
     assert not [answer for sender in senders for answer in sender.wrong], done
-    twice = {each for each in stored if stored.count(each) > 1}
-    # a window of notes that was emptied may let some in again before it is whole; people are told its path
-    assert not [each for each in twice if f"sequences/{each[0]}/{each[1] // 4096}: " not in collector.said()], done
+    twice = {one for one, other in zip(stored, stored[1:]) if one == other}
+    assert not twice, (done, sorted(twice)[:5])
     assert acknowledged <= set(stored), (done, sorted(acknowledged - set(stored))[:5])
     assert acknowledged
     print(len(acknowledged), done)

@@ -1,13 +1,11 @@
 """How long things are kept, and how finished databases are packed."""
-import contextlib
 import os
 import subprocess
-import time
-from collections.abc import Callable
 from pathlib import Path
 
 import pytest
 from conftest import Collector, entries, sequence, upload
+from waiting import wait_until
 
 A, B = sequence("a"), sequence("b")
 ID = "cd" * 16
@@ -17,13 +15,6 @@ def stored_by_a_run(collector: Collector, numbers: range, of: str = A) -> None:
     collector.start()
     collector.send("web", upload(entries(of, numbers), len(numbers)))
     assert collector.stop() == 0
-
-
-def wait_for(is_so: Callable[[], object], seconds: float = 60) -> None:
-    end = time.monotonic() + seconds
-    while not is_so():
-        assert time.monotonic() < end
-        time.sleep(0.2)
 
 
 def grow_older(collector: Collector, days: float) -> None:
@@ -40,7 +31,7 @@ def test_databases_and_notes_go_after_their_days(collector: Collector) -> None:
     collector.rows("UPDATE noted SET age = age + 20 WHERE sequence = ?", B)
     grow_older(collector, 30.5)
     collector.start()
-    wait_for(lambda: f"deleted: {first.stem}, 30.5 days after" in collector.said())
+    wait_until(lambda: f"deleted: {first.stem}, 30.5 days after" in collector.said())
     assert not first.exists() and not first.with_name(first.name + ".sha256").exists() and second.exists()
     assert collector.send("web", upload(entries(B, [9]), 1)) == f"ack {ID} 0 1 1 0"
     assert collector.stop() == 0
@@ -55,13 +46,13 @@ def test_the_clock_of_the_day_deletes_nothing(collector: Collector) -> None:
     stored_by_a_run(collector, range(1, 4))
     collector.rows("UPDATE clock SET wall = wall - 40 * 86400, boot = 'another'")
     collector.start()
-    wait_for(lambda: "40 days more went by" in collector.said())
+    wait_until(lambda: "40 days more went by" in collector.said())
     assert len(collector.databases()) == 1
     assert collector.admin("passed", "41").returncode == 1
     assert collector.admin("passed", "40").returncode == 0
     assert collector.stop() == 0
     collector.start()
-    wait_for(lambda: not collector.databases())
+    wait_until(lambda: not collector.databases())
     assert collector.stop() == 0
 
 
@@ -73,7 +64,7 @@ def test_the_oldest_go_if_all_have_too_many_bytes(collector: Collector) -> None:
     names = [path.name for path in collector.databases()]
     collector.values["KEEP_BYTES"] = str(size)
     collector.start()
-    wait_for(lambda: "over KEEP_BYTES" in collector.said())
+    wait_until(lambda: "over KEEP_BYTES" in collector.said())
     assert [path.name for path in collector.databases()] == names[1:]
     assert collector.stop() == 0
 
@@ -88,10 +79,7 @@ def test_a_finished_database_is_packed_once_journal_files_are_made(
     collector.values["PACK_DAYS"] = "0"
     packed = path.with_name(path.name + ".zst")
     collector.start()
-    with contextlib.suppress(AssertionError):
-        wait_for(packed.exists, 90)
-    assert packed.exists(), collector.said()
-    assert not path.exists()
+    wait_until(lambda: packed.exists() and not path.exists())
     assert packed.stat().st_size < collector.rows("SELECT bytes FROM database")[0][0] // 2  # type: ignore[operator]
     assert collector.send("web", upload(entries(A, range(1, 400)), 399)) == f"ack {ID} 0 399 0 0"
     assert collector.admin("check").returncode == 0

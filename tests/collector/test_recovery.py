@@ -1,10 +1,10 @@
 """Kills, and files that were damaged while the service didn't run or ran."""
 import os
-import signal
-import time
 from pathlib import Path
 
+import processes
 from conftest import Collector, entries, sequence, upload
+from waiting import wait_until
 
 A, B = sequence("a"), sequence("b")
 ID = "cd" * 16
@@ -43,10 +43,8 @@ def test_what_was_acknowledged_is_there_after_a_kill(collector: Collector) -> No
 def test_the_program_is_killed_and_nothing_is_lost(collector: Collector) -> None:
     begun(collector)
     assert collector.process
-    children = {child for task in Path(f"/proc/{collector.process.pid}/task").iterdir()
-                for child in (task / "children").read_text().split()}
-    for child in children:
-        os.kill(int(child), signal.SIGKILL)
+    for child in processes.children(collector.process.pid):
+        processes.kill(child)
     assert collector.send("web", upload(entries(A, range(1, 5)), 4)) == f"ack {ID} 0 4 1 0"
     assert collector.stop() == 0
     assert collector.stored() == texts(range(1, 5))
@@ -102,11 +100,14 @@ def test_a_window_that_is_damaged_while_the_service_runs_sets_no_database_aside(
     window = collector.folder / "sequences" / A / "0"
     window.unlink()
     window.mkdir()
-    again = upload(entries(A, range(1, 5)), 4)
-    end = time.monotonic() + 60
-    while (answer := collector.send("web", again)).startswith("later"):
-        assert time.monotonic() < end
-    assert answer == f"ack {ID} 0 4 1 0"
+    answers: list[str] = []
+
+    def is_taken() -> bool:
+        answers.append(collector.send("web", upload(entries(A, range(1, 5)), 4)))
+        return not answers[-1].startswith("later")
+
+    wait_until(is_taken)
+    assert answers[-1] == f"ack {ID} 0 4 1 0"
     assert collector.stop() == 0
     assert collector.rows("SELECT name FROM database WHERE standing <> 'finished'") == []
     assert collector.stored() == [*texts(range(1, 5)), (B, 1, b"m1")]
@@ -195,6 +196,6 @@ def test_a_program_of_another_version_stores_nothing(collector: Collector, tmp_p
     other.chmod(0o755)
     collector.program = other
     collector.start()
-    assert collector.process and collector.process.wait(30) == 2
+    assert collector.ended() == 2
     assert "0.0.9" in collector.said()
     assert not (collector.folder / "databases").exists()

@@ -1,9 +1,11 @@
 """Uploads that come, and what is stored of them."""
 import hashlib
+import os
+import signal
 import subprocess
-import time
 
 from conftest import Collector, entries, entry, sequence, upload
+from waiting import wait_until
 
 A, B = sequence("a"), sequence("b")
 ID = "cd" * 16
@@ -114,13 +116,26 @@ def test_a_database_is_finished_by_age_and_a_digest_is_beside_it(collector: Coll
     collector.admit("web")
     collector.start()
     collector.send("web", upload(entries(A, [1]), 1))
-    end = time.monotonic() + 60
-    while not list((collector.folder / "databases").glob("*.sha256")):
-        assert time.monotonic() < end
-        time.sleep(0.2)
+    wait_until(lambda: list((collector.folder / "databases").glob("*.sha256")))
     subprocess.run("sha256sum --check --quiet *.sha256", shell=True, cwd=collector.folder / "databases", check=True)
     assert not list((collector.folder / "databases").glob("*-wal"))
     assert collector.send("web", upload(entries(A, [1, 2]), 2)) == f"ack {ID} 0 2 1 0"
     assert collector.stop() == 0
     assert [len(path.name) > 0 for path in collector.databases()] == [True, True]
     assert collector.stored() == [(A, 1, b"m1"), (A, 2, b"m2")]
+
+
+def test_who_waits_for_long_comes_again(collector: Collector) -> None:
+    """The program stands still: what wasn't handed to it is told `later`, and what was is answered in the end."""
+    collector.admit("web", "other")
+    collector.start()
+    assert collector.send("web", upload(entries(A, [1]), 1)) == f"ack {ID} 0 1 1 0"
+    [program] = collector.programs()
+    os.kill(program, signal.SIGSTOP)
+    handed, waits = collector.connect("web"), collector.connect("other")
+    handed.put(upload(entries(A, [2]), 1))
+    wait_until(lambda: len(list((collector.folder / "recent").glob("*/*.web"))) == 2)
+    assert waits.send(upload(entries(B, [1]), 1)) == "later too many others wait"
+    os.kill(program, signal.SIGCONT)
+    assert handed.line() == f"ack {ID} 0 1 1 0"
+    assert waits.send(upload(entries(B, [1]), 1)) == f"ack {ID} 0 1 1 0"

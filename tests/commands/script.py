@@ -10,7 +10,7 @@ has to do:
 | `remove PATH` | removes a file |
 | `statement PATH SQL` | runs SQL on a database, which is made if there is none |
 | `older PATH` | makes a database with an empty journal in tables of the older version |
-| `< TEXT` | standard input of the next run has this line next |
+| `< TEXT` | standard input of the next run has this line next, in which `\\t` is a tab |
 | `input PIECES` | standard input of the next run has these bytes next |
 | `room N` | standard output of the next run takes N bytes and then fails |
 | `run ARGUMENTS` | a run with these arguments; `""` is an empty one |
@@ -155,7 +155,7 @@ class Case:
                 raise ValueError(", ".join(differences))
 
     def add_line(self, text: str) -> None:
-        self.input += f"{text}\n".encode()
+        self.input += f"{text}\n".replace("\\t", "\t").encode()
 
     def add_input(self, pieces: str) -> None:
         self.input += bytes_of(pieces)

@@ -8,20 +8,10 @@ from samples import E1
 from script import reports
 
 # A script, in which the front of the report stands below each line that is wrong.
-REPORTED = r"""reads ENTRY => ok 2 0
-    ok 1 0 and not ok 2 0
-reads ENTRY => ok 1
-    ok 1 0 and not ok 1
-reads METADATA "=x\n\n" => bad 10 108
+REPORTED = r"""cut METADATA "=x\n\n" => bad 10 108
     bad 10 109 and not bad 10 108
 cut ENTRY => ok 0
     (the entry)ok 0 and not ok 0
-file JOURNAL_FILE => ok 0
-    ok 1 and not ok 0
-file JOURNAL_FILE put:88:200 => ok 1
-    bad 0 32 88 and not ok 1
-arrays JOURNAL_FILE => ok 1 2
-    ok 1 1 and not ok 1 2
 fields "A=1\n" => some 2
     some 1 and not some 2
 text byte:255 => yes
@@ -32,27 +22,26 @@ answer "no - - 1 47\n" => none
     no - - 1 47\n and not none
 resume "resume 1 - -\n" == "resume 1 - -\n"
     none and not resume 1 - -\n
-read ENTRY => ok 1 0
+read ENTRY => ok 0
     no such word and not read
-reads ENTRIES => ok 0 0
-    no row (no piece is ENTRIES) and not ENTRIES => ok 0 0
-reads "ENTRY => ok 1 0
-    no row (a quotation mark has no other one) and not "ENTRY => ok 1 0
-reads ENTRY
+cut ENTRIES => ok 0
+    no row (no piece is ENTRIES) and not ENTRIES => ok 0
+cut "ENTRY => ok 0
+    no row (a quotation mark has no other one) and not "ENTRY => ok 0
+cut ENTRY
     no row (nothing is wanted) and not ENTRY
 limits 1 2 3
     no limits and not 1 2 3
-reads ENTRY => ok 1 0
 fails 1,1 "" => stop
     ok 0 and not stop
 fed "a" , "" => takes 1 1, entry
     takes 1 1, none and not takes 1 1, entry
-first JOURNAL_FILE cut:399 == BOOT_FIELD
-    none and not _BOOT_ID=101112131415161718191a1b1c1d1e1f\n
 payload 320 JOURNAL_FILE => none
     MESSAGE=hi and not none
 ends 400 JOURNAL_FILE => ok 1 1 400
     ok 1 1 394 and not ok 1 1 400
+ends 400 JOURNAL_FILE put:88:200 => ok 1 0 0
+    bad 0 32 88 0 208 and not ok 1 0 0
 asked 400,320 JOURNAL_FILE => ok 1 25
     ok 1 26 and not ok 1 25
 parts 400,0 JOURNAL_FILE => 2 LPKSHHRH

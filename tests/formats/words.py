@@ -2,17 +2,15 @@
 
 | Word | |
 |---|---|
-| `reads` | an export stream: `ok ENTRIES LEFT`, or `bad CODE PLACE`; the same by a scanner, in pieces of each length |
-| `cut` | the same in pieces of each length: the entries' canonical texts, and then `ok LEFT` or `bad CODE PLACE` |
+| `cut` | an export stream, in pieces of each length: the entries' canonical texts, and then `ok LEFT` or |
+| | `bad CODE PLACE` |
 | `fails MOST,READS` | the same from a device that gives so many bytes at most and fails after so many reads: `stop` |
 | `fed` | pieces: how many bytes a scanner takes of each, how many it has then, its first fields; where one is empty, |
 | | whether it gives an `entry`, a `fault` or `none` |
-| `file` | a journal file: `ok ENTRIES`, or `bad ENTRIES CODE PLACE` |
-| `arrays` | the same, and then the number of its arrays |
-| `first` | a journal file: the canonical text of its first entry, or `none` |
-| `payload OFFSET` | the payload of its object at the offset, or `none` |
-| `ends LENGTH` | as `arrays` in a space of this length, and then where the last range ended that was asked for |
-| `asked LENGTH,PLACE` | as `file` in such a space, and then how many bytes were asked for from the place on |
+| `payload OFFSET` | the payload of a journal file's object at the offset, or `none` |
+| `ends LENGTH` | a journal file in a space of this length: `ok ENTRIES`, or `bad ENTRIES CODE PLACE`; the number of |
+| | its arrays, and where the last range ended that was asked for |
+| `asked LENGTH,PLACE` | the same end, and then how many bytes were asked for from the place on |
 | `parts LENGTH,PLACE..` | by pages of such a space: after each place how often it was read by now, and eight bytes |
 | `fields` | a text of fields: `some NUMBER`, or `none` |
 | `text` | a value: whether it is a text, `yes` or `no` |
@@ -74,10 +72,6 @@ def one(ways: Sequence[Any]) -> Any:
 
 # Export streams.
 
-def reads(told: Told, _: Sequence[bytes]) -> bytes:
-    return one(told.all().splitlines())
-
-
 def heard(told: Told) -> tuple[list[bytes], str]:
     """The texts of a source's entries, and how it ended: `ok LEFT`, `bad CODE PLACE` or `stop`. Where it ends otherwise
     if it is asked once more, another line comes before that."""
@@ -125,27 +119,6 @@ def file_end(count: int, end: str) -> bytes:
     if end.startswith("bad "):
         return end.replace("bad", f"bad {count}").encode()
     return b"ok %d" % count if end == "ok 0" else b"stopped"
-
-
-def read_file(told: Told) -> tuple[list[bytes], bytes, int]:
-    """The texts of a file's entries, how it ended, and the number of its arrays, read by pages and by ranges."""
-    texts, end = heard(told)
-    by_ranges, (arrays,), _ = told.line(), told.numbers("steps"), told.numbers("asked")
-    one([end.replace("ok", f"ok {len(texts)}"), by_ranges])
-    return texts, file_end(len(texts), end), arrays
-
-
-def file(told: Told, _: Sequence[bytes]) -> bytes:
-    return read_file(told)[1]
-
-
-def arrays(told: Told, _: Sequence[bytes]) -> bytes:
-    _, end, count = read_file(told)
-    return end + b" %d" % count
-
-
-def first(told: Told, _: Sequence[bytes]) -> bytes:
-    return (read_file(told)[0] or [b"none"])[0]
 
 
 def payload(told: Told, _: Sequence[bytes]) -> bytes:
@@ -282,13 +255,9 @@ def acks(told: Told, _: Sequence[bytes]) -> bytes:
 
 
 WORDS = {
-    "reads": Word(each("read", "scan", "scan-1", "scan-7"), reads),
     "cut": Word(cut_calls, cut),
     "fails": Word(each("entries"), fails, has_numbers=True),
     "fed": Word(together("scanner"), fed),
-    "file": Word(each("pages", "file"), file),
-    "arrays": Word(each("pages", "file"), arrays),
-    "first": Word(each("pages", "file"), first),
     "payload": Word(each("payload"), payload, has_numbers=True),
     "ends": Word(end_calls, ends, has_numbers=True),
     "asked": Word(each("long"), asked, has_numbers=True),

@@ -4,7 +4,7 @@ from pathlib import Path
 
 import pytest
 
-sys.path.insert(0, str(Path(__file__).resolve().parents[1] / "reading"))
+sys.path[:0] = [str(Path(__file__).resolve().parents[1] / "reading"), str(Path(__file__).resolve().parents[1])]
 sys.path.insert(0, str(Path(__file__).resolve().parent))
 from collecting import Collector  # noqa: E402
 

@@ -2,7 +2,6 @@
 import json
 import shutil
 import signal
-import socket
 import subprocess
 import time
 import urllib.error
@@ -10,6 +9,8 @@ import urllib.request
 from pathlib import Path
 from typing import Any
 from urllib.parse import urlencode
+
+from waiting import free_port
 
 CONFIG = """<?xml version="1.0"?>
 <yandex>
@@ -28,7 +29,7 @@ CONFIG = """<?xml version="1.0"?>
     <max_concurrent_queries>20</max_concurrent_queries>
     <keep_alive_timeout>3</keep_alive_timeout>
     <timezone>UTC</timezone>
-    <remote_servers><own>{shards}</own></remote_servers>
+    <remote_servers><journals>{shards}</journals></remote_servers>
     {more}
 </yandex>
 """
@@ -51,13 +52,6 @@ USERS = """<?xml version="1.0"?>
 
 def is_installed() -> bool:
     return shutil.which("clickhouse-server") is not None
-
-
-def free_port() -> int:
-    with socket.socket() as probe:
-        probe.bind(("127.0.0.1", 0))
-        port: int = probe.getsockname()[1]
-        return port
 
 
 class Refusal(Exception):
@@ -87,7 +81,7 @@ class ClickHouse:
         """Starts it, and waits until it answers."""
         self.process = subprocess.Popen(["clickhouse-server", f"--config-file={self.config}"], cwd=self.folder,
                                         stdout=subprocess.DEVNULL, stderr=subprocess.DEVNULL)
-        for _ in range(600):
+        for _ in range(3000):
             try:
                 if self.query("SELECT 1") == "1\n":
                     return

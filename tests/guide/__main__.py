@@ -5,28 +5,31 @@ usage: python3 tests/guide [--failures]
 Each block of docs/GUIDE.md whose fence says `sh collector` or `sh web` is run there, in the order of the page, as root.
 Then each event in a machine's and a collector's life is one command, after which journal-collect-status finds nothing;
 and each failure of a list is named by it, with what to do, on the side where it is mended. PROGRAM names the program.
-With --failures the events are left out.
+With --failures the events are left out. WEB_SYSTEM names a folder with another system for web, of debootstrap.
 """
 from __future__ import annotations
 
-import json
 import os
 import re
+import shutil
 import sys
 import tempfile
 import time
 from pathlib import Path
 
-from booted import Booted, Network, lacking
-from failures import FAILURES
-from life import EVENTS
+from booted import TESTS, Booted, Network, lacking, package
+from failures import FAILURES, SLOWS
+from life import EVENTS, purged
+
+sys.path.insert(1, str(TESTS))
+import preload  # noqa: E402
 
 GUIDE = Path(__file__).resolve().parents[2] / "docs/GUIDE.md"
 BLOCK = re.compile(r"^```sh (\w+)\n(.*?)^```$", re.MULTILINE | re.DOTALL)
 LOGS = "journalctl -n 30 -u 'journal-collect*' -u ssh -o short --no-pager"
 # what was told within the day: it says what happened, and nothing is to be done
-NEWS = ("told", "lost")
-FIRST_SECONDS, READING = 300.0, "journal-collect-search -M web -n 20"
+NEWS = ("told", "lost", "refused", "notes")
+FIRST_SECONDS, READING = 600.0, "journal-collect-search -M web -n 20"
 
 
 class Wrong(Exception):
@@ -65,30 +68,26 @@ def type_blocks(computers: dict[str, Booted]) -> None:
                 raise Wrong("the first entries took too long")
 
 
-def findings(computer: Booted) -> list[dict[str, object]]:
-    told = computer.call("journal-collect-status", "--json")
-    value = json.loads(told.stdout)
-    assert value["status"] == told.returncode, told
-    found: list[dict[str, object]] = value["findings"]
-    return found
-
-
 def is_well(computer: Booted) -> None:
     """Nothing wrong is said, at the latest after a while, but for what was told of the day."""
-    computer.wait_for(lambda: all(each["name"] in NEWS for each in findings(computer)),
-                      f"nothing to look at: {findings(computer)}")
+    computer.wait_for(lambda: all(each["name"] in NEWS for each in computer.findings()), "nothing to look at")
 
 
 def main() -> int:
     if why := lacking():
         print(f"skipped: the guide isn't typed: {why}")
         return 0
-    program = Path(os.environ["PROGRAM"]).resolve()
     folder = Path(tempfile.mkdtemp(prefix="guide-"))
-    wrong, events = 0, [] if "--failures" in sys.argv else EVENTS
-    with Network(), Booted(folder, "collector", program) as collector, Booted(folder, "web", program) as web:
+    wrong, events, system = 0, [] if "--failures" in sys.argv else EVENTS, os.environ.get("WEB_SYSTEM", "/")
+    first, later = package(folder / "first"), package(folder / "later", "0.1.0+later")
+    with Network(), Booted(folder, "collector", first) as collector, Booted(folder, "web", first, system) as web:
         prepare(collector, web)
         computers = {"collector": collector, "web": web}
+        for computer in computers.values():
+            shutil.copy(later, computer.root / "root/later.deb")
+        if shutil.which("rt"):
+            shutil.copy(preload.built(str(TESTS / "world/clock.c"), str(folder)), web.root / "usr/lib/clock.so")
+        failures = [each for each in FAILURES if each.begin != SLOWS or shutil.which("rt")]
         try:
             type_blocks(computers)
         except (Wrong, TimeoutError) as error:
@@ -103,18 +102,23 @@ def main() -> int:
             except (AssertionError, TimeoutError) as error:
                 wrong += 1
                 print(f"WRONG: {event.__name__}: {error}")
-        for failure in FAILURES:
+        for failure in failures:
+            print(f"failure: {failure.name}", flush=True)
             try:
                 with failure.happens(collector, web):
                     side = computers[failure.side]
-                    side.wait_for(lambda: failure.is_named(findings(side)),
-                                  f"{failure.name}: what is said is {findings(side)}")
+                    side.wait_for(lambda: failure.is_named(side.findings()), failure.finding)
                 is_well(collector)
                 is_well(web)
             except (AssertionError, TimeoutError) as error:
                 wrong += 1
                 print(f"WRONG: {failure.name}: {error}")
-    print(f"{len(events) + len(FAILURES) + 1 - wrong} passed, {wrong} failed")
+        try:
+            purged(collector, web)
+        except AssertionError as error:
+            wrong += 1
+            print(f"WRONG: purged: {error}")
+    print(f"{len(events) + len(failures) + 2 - wrong} passed, {wrong} failed")
     return 1 if wrong else 0
 
 

@@ -1,8 +1,10 @@
-"""Computers that systemd starts: each is a container with a copy of this computer's own system, in which nothing that
-is written stays, and all share a network of their own. They have what `make install` installs."""
+"""Computers that systemd starts: each is a container with a copy of this computer's own system, or of another folder's,
+in which nothing that is written stays, and all share a network of their own. The package is installed on each."""
 from __future__ import annotations
 
+import json
 import os
+import re
 import shutil
 import subprocess
 import time
@@ -10,18 +12,18 @@ from collections.abc import Callable
 from pathlib import Path
 
 HERE = Path(__file__).resolve().parent
-DEPLOY = HERE.parents[1] / "deploy"
-NETWORK = "journal-collect-guide"
+TESTS = HERE.parent
+NETWORK = f"journal-collect-guide-{os.getpid()}"
 # What of this computer isn't to be there: its own logs, and what earlier installations left; and units not to start.
 EMPTY = ("var/log/journal", "var/lib/journal-collect", "var/lib/journal-collect-send", "etc/journal-collect")
 MASKED = ("systemd-timesyncd.service", "systemd-networkd-wait-online.service", "getty.target", "console-getty.service",
           "systemd-resolved.service")
-SECONDS = 180.0
+SECONDS = 600.0
 
 
 def lacking() -> str:
     """Why none can be started here; nothing if they can."""
-    for program in ("systemd-nspawn", "sshd", "ip"):
+    for program in ("systemd-nspawn", "sshd", "ip", "dpkg-deb", "strip", "objdump"):
         if not shutil.which(program, path=f"{os.environ['PATH']}:/usr/sbin:/sbin"):
             return f"there is no {program}"
     return "only root can start containers" if os.geteuid() else ""
@@ -31,11 +33,23 @@ def run(*words: str | Path, given: bytes = b"") -> str:
     return subprocess.run(words, input=given, capture_output=True, check=True).stdout.decode(errors="replace")
 
 
+def package(folder: Path, version: str = "") -> Path:
+    """The package with the program that PROGRAM names; as a later version, if one is said."""
+    run(TESTS.parent / "deploy/build-deb.sh", folder)
+    made = next(folder.glob("*.deb"))
+    if not version:
+        return made
+    run("dpkg-deb", "--raw-extract", made, folder / "raw")
+    control = folder / "raw/DEBIAN/control"
+    control.write_text(re.sub("(?m)^Version: .*", f"Version: {version}", control.read_text()))
+    run("dpkg-deb", "-Zgzip", "--root-owner-group", "--build", folder / "raw", made)
+    return made
+
+
 class Network:
     """Loopback alone, which all computers share."""
 
     def __enter__(self) -> Network:
-        subprocess.run(["ip", "netns", "delete", NETWORK], capture_output=True, check=False)
         run("ip", "netns", "add", NETWORK)
         run("ip", "-n", NETWORK, "link", "set", "lo", "up")
         return self
@@ -47,7 +61,7 @@ class Network:
 class Booted:
     """One computer."""
 
-    def __init__(self, folder: Path, name: str, program: Path) -> None:
+    def __init__(self, folder: Path, name: str, package: Path, system: str = "/") -> None:
         self.folder, self.name = folder / name, name
         self.root = self.folder / "root"
         self.root.mkdir(parents=True)
@@ -55,17 +69,22 @@ class Booted:
         for each in ("upper", "work", "root"):
             (self.folder / each).mkdir()
         run("mount", "-t", "overlay", "overlay", "-o",
-            f"lowerdir=/,upperdir={self.folder / 'upper'},workdir={self.folder / 'work'}", self.root)
-        self.prepare(program)
+            f"lowerdir={system},upperdir={self.folder / 'upper'},workdir={self.folder / 'work'}", self.root)
+        self.prepare()
         command: list[str | Path] = ["systemd-nspawn", "--quiet", "--directory", self.root, "--boot",
                                     "--register=no", "--keep-unit", f"--machine={name}", f"--hostname={name}",
                                     f"--network-namespace-path=/run/netns/{NETWORK}", "--resolv-conf=off",
                                     "--console=pipe", "--private-users=no"]
         self.process = subprocess.Popen(command, stdin=subprocess.DEVNULL, stdout=subprocess.DEVNULL,
                                         stderr=subprocess.DEVNULL)
-        self.wait_for(lambda: self.call("systemctl", "is-system-running").stdout.strip() in (b"running", b"degraded"))
+        try:
+            self.wait_for(lambda: self.call("systemctl", "is-system-running").stdout in (b"running\n", b"degraded\n"))
+            self.install(package)
+        except BaseException:
+            self.__exit__()
+            raise
 
-    def prepare(self, program: Path) -> None:
+    def prepare(self) -> None:
         for each in EMPTY:
             shutil.rmtree(self.root / each, ignore_errors=True)
             (self.root / each).mkdir(parents=True)
@@ -83,8 +102,21 @@ class Booted:
         # what else is installed on this computer isn't started
         (self.root / "etc/systemd/system/default.target").unlink(missing_ok=True)
         (self.root / "etc/systemd/system/default.target").symlink_to("/usr/lib/systemd/system/basic.target")
-        subprocess.run([DEPLOY / "install.sh", self.root, "/usr"], check=True)
-        shutil.copy(program, self.root / "usr/bin/journal-collect")
+        for path in (self.root / "usr/bin").glob("journal-collect*"):
+            path.unlink()
+
+    def install(self, package: Path) -> None:
+        shutil.copy(package, self.root / "root/journal-collect.deb")
+        ended = self.shell("DEBIAN_FRONTEND=noninteractive dpkg --install /root/journal-collect.deb")
+        assert ended.returncode == 0, f"{self.name}: {(ended.stdout + ended.stderr).decode()}"
+
+    def findings(self) -> list[dict[str, object]]:
+        """What journal-collect-status finds."""
+        ended = self.call("journal-collect-status", "--json")
+        value = json.loads(ended.stdout)
+        assert value["status"] == ended.returncode, ended
+        found: list[dict[str, object]] = value["findings"]
+        return found
 
     def __enter__(self) -> Booted:
         return self
@@ -120,5 +152,5 @@ class Booted:
         end = time.monotonic() + SECONDS
         while not holds():
             if time.monotonic() > end or self.process.poll() is not None:
-                raise TimeoutError(f"{self.name}: waited in vain for {what}")
+                raise TimeoutError(f"{self.name}: waited in vain for {what}; {self.call('journal-collect-status')}")
             time.sleep(0.2)

@@ -29,6 +29,12 @@ def arrives(collector: Booted, web: Booted, machine: str = "web") -> None:
     collector.wait_for(lambda: word in does(collector, search), f"an entry of {machine}")
 
 
+def tells(computer: Booted, name: str, remedy: str) -> None:
+    """Status names it there, with what to do, or that nothing is to be done."""
+    computer.wait_for(lambda: any(each["name"] == name and remedy in str(each["remedy"])
+                                  for each in computer.findings()), f"{name}: {remedy}")
+
+
 @event
 def called_again(collector: Booted, web: Booted) -> None:
     """Set-up, called again, changes nothing and says so."""
@@ -87,6 +93,23 @@ def backed_up_and_restored(collector: Booted, web: Booted) -> None:
          "journal-collect-admin restore /var/backups/journal-collect && journal-collect-admin setup && "
          "systemctl start journal-collect")
     arrives(collector, web)
+    tells(collector, "lost", "web brings once more")
+    tells(web, "told", "it goes out by itself")
+
+
+@event
+def set_back(collector: Booted, web: Booted) -> None:
+    """A machine is set back to a snapshot, as a clone begins: its numbers come again with other entries."""
+    units = "systemd-journald.socket systemd-journald-dev-log.socket systemd-journald.service"
+    folders = "var/lib/journal-collect-send var/log/journal"
+    stop = f"systemctl stop journal-collect-send {units}"
+    start = f"systemctl start {units} && systemctl start journal-collect-send"
+    does(web, f"{stop}; tar -C / -cf /root/snapshot.tar {folders} && {start}")
+    arrives(collector, web)
+    does(web, f"{stop}; cd / && rm -rf {folders} run/systemd/journal/*seqnum && tar -xf /root/snapshot.tar && {start}")
+    arrives(collector, web)
+    tells(web, "told", "--new-key logs.example.org")
+    tells(collector, "refused", "on web: journal-collect-status")
 
 
 @event
@@ -118,3 +141,72 @@ def moved_away(collector: Booted, web: Booted) -> None:
     does(collector, f"journal-collect-admin moved {name} && mkdir -p /srv/old && mv {folder}/{name}.* /srv/old")
     does(collector, "systemctl restart journal-collect")
     arrives(collector, web)
+
+
+@event
+def read_by_a_group(collector: Booted, web: Booted) -> None:
+    """Who is in the group reads what was collected, and nobody else does."""
+    arrives(collector, web)
+    does(collector, "useradd alice && useradd bob && usermod -aG journal-collect-read alice")
+    search = "journal-collect-search -M web -n 1 -o cat -q --no-pager"
+    assert does(collector, f"runuser -u alice -- {search}")
+    assert collector.shell(f"runuser -u bob -- {search}").stdout == b""
+
+
+@event
+def mailed(collector: Booted, web: Booted) -> None:
+    """swatchdog mails what matches a rule, if it and something that takes mail are installed."""
+    if collector.shell("command -v swatchdog sendmail").returncode:
+        return
+    does(collector, "cp /usr/share/doc/journal-collect/examples/alarms.swatch /etc/journal-collect && "
+         "systemctl enable -q --now journal-collect-alarm")
+    collector.wait_for(lambda: collector.call("pgrep", "-f", "journalctl.*present").stdout, "an alarm that follows")
+    does(web, "logger -t guide segfault at 0")
+    # exim4 has another user take root's mails
+    mails = "cat /var/mail/*"
+    collector.wait_for(lambda: b"segfault at 0" in collector.call("sh", "-c", mails).stdout, "a mail")
+    does(collector, "systemctl disable -q --now journal-collect-alarm; rm /etc/journal-collect/alarms.swatch")
+
+
+@event
+def scraped(collector: Booted, web: Booted) -> None:
+    """node_exporter has the figures, if it is installed."""
+    if collector.shell("command -v prometheus-node-exporter").returncode:
+        return
+    does(collector, "systemctl start prometheus-node-exporter journal-collect-status.service")
+    read = "import urllib.request as r; print(r.urlopen('http://localhost:9100/metrics').read().decode())"
+    collector.wait_for(lambda: b'journal_collect_machine_entries_total{machine="web"}'
+                       in collector.call("python3", "-c", read).stdout, "figures")
+    does(collector, "systemctl stop prometheus-node-exporter")
+
+
+@event
+def updated(collector: Booted, web: Booted) -> None:
+    """A later package: what runs is started again."""
+    ids = "systemctl show --property MainPID --value"
+    for computer, unit in ((collector, "journal-collect"), (web, "journal-collect-send")):
+        before = does(computer, f"{ids} {unit}")
+        does(computer, "dpkg --install /root/later.deb")
+        assert does(computer, f"{ids} {unit}") not in (before, "0\n"), f"{unit} isn't started again"
+    arrives(collector, web)
+
+
+@event
+def removed_and_installed(collector: Booted, web: Booted) -> None:
+    """A removal stops what runs, and keeps what it had: installed again it goes on."""
+    for computer, unit in ((collector, "journal-collect"), (web, "journal-collect-send")):
+        does(computer, "dpkg --remove journal-collect")
+        assert does(computer, f"systemctl is-active {unit} || true") == "inactive\n"
+        does(computer, "dpkg --install /root/later.deb")
+    arrives(collector, web)
+
+
+def purged(collector: Booted, web: Booted) -> None:
+    """A purge takes away what set-up made, and keeps the logs."""
+    for computer, folder in ((web, "journal-collect-send"), (collector, "journal-collect")):
+        does(computer, "DEBIAN_FRONTEND=noninteractive dpkg --purge journal-collect")
+        left = does(computer, "ls -d /etc/journal-collect /etc/ssh/sshd_config.d/journal-collect.conf "
+                    "/etc/systemd/system/*.wants/journal-collect* /usr/bin/journal-collect* 2> /dev/null || true")
+        assert left == "", left
+        does(computer, f"test -d /var/lib/{folder}")
+    does(collector, "sshd -t")

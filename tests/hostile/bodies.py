@@ -18,16 +18,16 @@ import uploads
 import vectors
 from content_files import ContentFiles
 from export_streams import binary
-from model import ARRAY, ENTRY, HEADER, Bad, Journal, JournalFile, Limits, reading
+from limit_table import LEAST, USED, Limits
+from model import ARRAY, ENTRY, HEADER, Bad, Journal, JournalFile, reading
 from trial import Trial
 from vectors import M, Vector
 
 CALLS = os.path.abspath(os.environ["CALLS"])
-LEAST = Limits(64, 64, 8, 1024, 208)
 ONE_MORE = LEAST._replace(fields=9)
 FILES = LEAST._replace(file=4096)
 F4 = LEAST._replace(file=512)
-PROGRAM = Limits()
+PROGRAM = USED
 KINDS = {"export": 1, "file": 2}
 # How many lines a word prints.
 LINES = {"space": 2, "stream": 1, "read": 1, "entries": 1, "scan": 1, "scan-1": 1, "scan-7": 1, "file": 3, "pages": 1}
@@ -290,22 +290,6 @@ def fed(trial: Trial) -> int:
     return calls.run()
 
 
-def fronts(trial: Trial) -> int:
-    """Each front of five uploads, of which two are to be whole: the shorter ones store nothing."""
-    nested = vectors.M.replace(b"SEQNUM=1\n", b"SEQNUM=2\n") + binary(b"MESSAGE", samples.E1) + b"\n"
-    calls = Calls(trial)
-    file = samples.head(2) + samples.FILE
-    whole = vectors.whole(samples.stream(samples.E1, samples.E2), 2), vectors.whole(file, 1)
-    for upload in (samples.stream(samples.E1), samples.stream(nested), file, *whole):
-        for word in ("space", "stream"):
-            calls.begin(PROGRAM)
-            for length in range(len(upload) + 1):
-                line = calls.journal.take(upload[:length])
-                asked = [(length, length)] if word == "space" else []
-                calls.add(f"a front of {length}", word, upload[:length], line, *asked)
-    return calls.run()
-
-
 def damaged(trial: Trial) -> int:
     """A file with each of its bytes set to five values, and files with random edits."""
     made = [samples.edited(samples.FILE, {place: bytes([value])})
@@ -321,8 +305,8 @@ def damaged(trial: Trial) -> int:
 
 def main() -> None:
     with Trial("bodies") as trial:
-        trial.finish(f"{rows(trial) + steps(trial) + fed(trial)} lines of rows", f"{fronts(trial)} of fronts",
-                     f"{damaged(trial)} of damaged files")
+        lines = rows(trial) + steps(trial) + fed(trial)
+        trial.finish(f"{lines} lines of rows", f"{damaged(trial)} of damaged files")
 
 
 if __name__ == "__main__":

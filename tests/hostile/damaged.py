@@ -21,7 +21,7 @@ import samples
 from make import Machine
 from model import Bad, Entry, Journal, read_stream
 from stock import IS_HERE, stock
-from trial import ROWS, Trial, as_output, run, start, status_of
+from trial import ROWS, Trial, answers, as_output, run, start
 
 PAGE = 4096
 MASKS = (0xff, 0x01, 0x80)
@@ -101,8 +101,8 @@ def judge(trial: Trial, what: str, stored: Stored, part: str, place: int, new: b
 
 def goes_on(trial: Trial, what: str, stored: Stored, database: str, journal: Journal) -> None:
     """Uploads are collected as over a sound database with this journal."""
-    lines = [journal.take(upload) for upload in stored.uploads]
-    trial.expect(f"{what}: collect", run("collect", database, *stored.names), (as_output(lines), "", status_of(lines)))
+    wanted = answers(journal, stored.uploads)
+    trial.expect(f"{what}: collect", run("collect", database, *stored.names), wanted)
     trial.expect(f"{what}: export then", run("export", database), (journal.text(), "", 0))
 
 

@@ -18,7 +18,6 @@ from model import Journal, inspected, reading
 from trial import Trial, as_output, run, status_of
 
 BATCH = 200
-FILE_CODES = {11, 12, 14, 15, 25, 27, *range(30, 48)}
 STREAMS = 2000
 FILES = 3000
 KINDS = {"export": 1, "file": 2}
@@ -130,20 +129,10 @@ def fronts(trial: Trial) -> int:
     return tried
 
 
-def each_byte(trial: Trial, pool: Executor) -> int:
+def each_byte(trial: Trial) -> int:
     """A file with each of its bytes set to five values."""
     made = [samples.edited(samples.FILE, {place: bytes([value])})
             for place in range(400) for value in (0, 1, 127, 128, 255)]
-
-    def verified(number: int) -> None:
-        verdict = reading("file", made[number])
-        path, = trial.put([made[number]])
-        got = run("verify", "file", path)
-        word, code, _ = verdict.split(" ")
-        trial.expect(f"byte {number // 5}, value {number % 5}: code", word == "ok" or int(code) in FILE_CODES, True)
-        wanted = ((verdict + "\n").encode(), "", int(word == "bad"))
-        trial.expect(f"byte {number // 5}, value {number % 5}", got, wanted)
-    list(pool.map(verified, range(len(made))))
     return in_batches(trial, "each byte", [samples.head(2) + data for data in made])
 
 
@@ -152,8 +141,8 @@ def heads(trial: Trial) -> int:
     uploads = samples.stream(samples.E1), vectors.whole(samples.stream(samples.E1), 1)
     made = [samples.edited(upload, {place: bytes([value])}) for upload in uploads
             for place in range(48) for value in (0, 1, 2, 3, 0x31, 0x32, 0x4b, 255)]
-    for number, upload in enumerate(made):
-        inspects(trial, f"header {number}", upload)
+    for number, upload in enumerate(made[::7]):
+        inspects(trial, f"header {7 * number}", upload)
     return in_batches(trial, "headers", made)
 
 
@@ -222,7 +211,7 @@ def main() -> None:
         single = all_vectors(trial, pool)
         large_files(trial)
         front = fronts(trial)
-        byte = each_byte(trial, pool)
+        byte = each_byte(trial)
         head = heads(trial)
         harmed = random_damage(trial)
         trial.finish(f"{single} streams and files three ways", f"{front} fronts", f"{byte} with a byte changed",

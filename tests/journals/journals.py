@@ -31,24 +31,20 @@ class Step:
 
 @dataclass
 class Journal:
-    # what it is kept by, as crates/jc_test_calls/src/journals.rt names it; that of a world is kept in a map
+    # what it is kept by, as crates/jc_test_calls/src/journals.rt names it
     kind: str
     # the numbers of the limits, or none for the usual ones
     limits: str = ""
     # how it differs from others with the same steps
     how: str = ""
     steps: list[Step] = field(default_factory=list)
-    # the word of the program, and the files that come before those of the steps
-    word: str = "journal"
-    before: Sequence[bytes] = ()
 
     def called(self, files: ContentFiles, end: str) -> list[str]:
         """The words that have the program take the steps, and then print a line."""
         things = list(dict.fromkeys(thing for step in self.steps for thing in step.things))
         texts = (step.text.format(*map(things.index, step.things)) for step in self.steps if step.text)
-        script = "".join(f"{text}\n" for text in filter(None, (self.kind, *texts))).encode()
-        paths = ",".join(map(files.put, (script, *self.before, *things)))
-        return [self.word, paths, "line", end]
+        script = "".join(f"{text}\n" for text in (self.kind, *texts)).encode()
+        return ["journal", ",".join(map(files.put, (script, *things))), "line", end]
 
     def report(self, output: bytes) -> str:
         """How the first step is wrong that is, by what the program printed; empty if none is."""

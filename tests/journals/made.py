@@ -8,7 +8,6 @@ from failing import KINDS, Failing, Stopping
 from journals import NEVER, Journal, reports, running, storing, taking
 from steps import rows_of
 from told import report_of
-from worlds import worlds_of
 
 # How many bytes a device gives at most: uploads come as streams in pieces, and as spaces.
 WAYS = {1: ", byte by byte", 7: ", 7 bytes at most", 65_536: ", 65,536 bytes at most", 0: ", spaces"}
@@ -43,7 +42,6 @@ def steps(text: str) -> Iterator[Journal | str]:
 SCRIPTS: dict[str, Callable[[str], Iterator[Journal | str]]] = {
     "uploads": batches,
     "whole-uploads": batches,
-    "worlds": worlds_of,
 }
 
 

@@ -110,27 +110,6 @@ stops 46,0,45 ENTRY
 limits 1 2 3
     no limits and not 1 2 3
 """,
-    "worlds": r"""stores ""
-    no world is there and not
-world ENTRY
-append 0 ENTRY_2 => 1 0 2
-    1 0 1 and not 1 0 2 (a world)
-world ""
-hand 0 => 1 0 1
-    0 0 1 and not 1 0 1 (a world)
-world ""
-lengths 1
-    lengths \nstores  and not lengths 1\nstores  (a world)
-world ENTRY
-stores ""
-    lengths \nstores (the entry) and not lengths \nstores  (a world)
-world ""
-make 0 => 1 0 1
-    invalid literal
-world ""
-hands 0 => 1 0 1
-    no line begins with
-""",
 }
 E2_SHOWN = repr(E1.replace(b"SEQNUM=1", b"SEQNUM=2"))[2:-1]
 

@@ -1,6 +1,5 @@
-"""Worked uploads over journals that are kept in a map or in databases that take turns, and worlds over maps: the
-scripts NAME.rows beside this, and before them those of mistakes.py, which have to fail. Each journal that is made
-counts.
+"""Worked uploads over journals that are kept in a map or in databases that take turns: the scripts NAME.rows beside
+this, and before them those of mistakes.py, which have to fail. Each journal that is made counts.
 
 usage: python3 rows.py [NAME..]
 """

@@ -43,7 +43,8 @@ class Collector:
         self.server = socket.socket(socket.AF_UNIX)
         self.server.bind(str(self.socket))
         self.server.listen(8)
-        threading.Thread(target=self.serve, daemon=True).start()
+        self.serving = threading.Thread(target=self.serve, daemon=True)
+        self.serving.start()
 
     @property
     def database(self) -> Path:
@@ -67,6 +68,8 @@ class Collector:
                 self.databases += 1
 
     def close(self) -> None:
+        self.server.shutdown(socket.SHUT_RDWR)      # else it waits on, for whoever gets the closed socket's number
+        self.serving.join()
         self.server.close()
         self.finish()
 

@@ -11,9 +11,11 @@ import pytest
 
 ROOT = Path(__file__).resolve().parents[2]
 os.environ.setdefault("JOURNAL_COLLECT", str(ROOT / "crates/jc_cli/out/jc_cli"))
-sys.path.insert(0, str(Path(__file__).parent))
+sys.path[:0] = [str(Path(__file__).parent), str(Path(__file__).parents[1])]
 from collector import Collector  # noqa: E402
 from journals import MACHINE_ID  # noqa: E402
+from sshd import Sshd  # noqa: E402
+from waiting import PATIENCE  # noqa: E402
 
 SEND = ROOT / "deploy/programs/journal-collect-send"
 
@@ -47,7 +49,7 @@ class Machine:
     def send(self, *words: str, command: Command = SENDER) -> int:
         """One run; its status."""
         process = self.begin(*(words or ("--once",)), command=command)
-        self.said = process.communicate(timeout=120)[1]
+        self.said = process.communicate(timeout=PATIENCE)[1]
         assert "Traceback" not in self.said, self.said
         return process.returncode
 
@@ -68,3 +70,10 @@ def collector(tmp_path: Path) -> Iterator[Collector]:
 @pytest.fixture
 def machine(tmp_path: Path, collector: Collector) -> Machine:
     return Machine(tmp_path, f"nc.openbsd -NU {collector.socket}")
+
+
+@pytest.fixture
+def sshd(machine: Machine, collector: Collector) -> Iterator[Sshd]:
+    server = Sshd(machine, collector.socket)
+    yield server
+    server.end()

@@ -1,4 +1,4 @@
-"""A journald beside the machine's: in namespaces of its own, with settings, sockets and files of its own."""
+"""A journald beside the machine's: with files, settings and sockets of its own. It sees whose process logs."""
 from __future__ import annotations
 
 import os
@@ -9,7 +9,7 @@ import time
 from collections.abc import Iterable
 
 PROGRAM = "/lib/systemd/systemd-journald"
-ALONE = ("unshare", "--mount", "--pid", "--fork", "--kill-child", "--mount-proc")
+ALONE = ("unshare", "--mount")
 # It is to have no more to do with the kernel of this machine than its clocks, and the number of files alone is to bound
 # them.
 SETTINGS = """[Journal]
@@ -17,7 +17,7 @@ Storage=persistent
 Audit=no
 ReadKMsg=no
 ForwardToWall=no
-SystemMaxUse=1G
+SystemMaxUse=3G
 SystemKeepFree=1M
 """
 BEGIN = """set -e
@@ -26,7 +26,7 @@ mount --bind "$1/etc" /etc/systemd
 mount --bind "$1/log" /var/log
 exec "$2"
 """
-ROOM = 2 << 30
+ROOM = 3 << 30
 SECONDS = 300.0
 
 

@@ -1,4 +1,5 @@
-"""Machines that are cloned, set back or renamed: each entry that any of them logged is stored once."""
+"""Machines that are cloned under another name, set back in part, or reflashed: each entry that any of them logged is
+stored once. Clones with the same key, and whole machines that are set back, are in tests/world."""
 import shutil
 import sqlite3
 from pathlib import Path
@@ -18,26 +19,6 @@ def copied(machine: Machine, to: Path) -> Machine:
     return clone
 
 
-def test_a_clone_with_the_same_key(machine: Machine, collector: Collector) -> None:
-    """Both go on with the same sequence and numbers; one had uploads that wait."""
-    write(machine.journal / "system.journal", entries("before", 3))
-    assert machine.send() == 0, machine.said
-    write(machine.journal / "system.journal", entries("waits", 2, BEGIN + 10_000_000))
-    connect = machine.settings["CONNECT"]
-    machine.set(CONNECT="false")
-    assert machine.send() == 3
-    machine.set(CONNECT=connect)
-    clone = copied(machine, machine.base / "clone")
-    for round in range(3):
-        for each, name in ((machine, "one"), (clone, "two")):
-            write(each.journal / "system.journal", entries(f"{name} {round}", 2, BEGIN + 20_000_000 * (round + 1)))
-            settle(each)
-    wanted = [f"before {number}" for number in range(3)] + [f"waits {number}" for number in range(2)]
-    wanted += [f"{name} {round} {number}" for name in ("one", "two") for round in range(3) for number in range(2)]
-    assert collector.messages() == sorted(wanted)
-    assert len({sequence for sequence, _, _ in collector.stored()}) == 2
-
-
 def test_a_clone_with_a_name_of_its_own(machine: Machine, collector: Collector, tmp_path: Path) -> None:
     """What the other one's sequence has is refused with 71: the clone's goes on in one fork. It has a machine-id of its
     own, so it doesn't ask for what the other one sent, which the collector wouldn't tell it."""
@@ -55,23 +36,6 @@ def test_a_clone_with_a_name_of_its_own(machine: Machine, collector: Collector, 
     collector.name = "web"
     settle(machine)
     assert collector.messages() == ["before 0", "before 1", "before 2", "one 0", "one 1", "two 0", "two 1"]
-
-
-def test_set_back_twice(machine: Machine, collector: Collector) -> None:
-    """The whole machine is set back to one snapshot two times, and goes on otherwise each time."""
-    write(machine.journal / "system.journal", entries("before", 2))
-    assert machine.send() == 0, machine.said
-    snapshot = machine.base / "snapshot"
-    for path in (machine.folder, machine.journals):
-        shutil.copytree(path, snapshot / path.name)
-    for time in range(3):
-        write(machine.journal / "system.journal", entries(f"time {time}", 3, BEGIN + 100_000_000 * (time + 1)))
-        settle(machine)
-        for path in (machine.folder, machine.journals):
-            shutil.rmtree(path)
-            shutil.copytree(snapshot / path.name, path)
-    assert collector.messages() == sorted(["before 0", "before 1"] + [
-        f"time {time} {number}" for time in range(3) for number in range(3)])
 
 
 def test_folder_alone_is_set_back(machine: Machine, collector: Collector) -> None:

@@ -40,12 +40,12 @@ def use(machine: Machine, journalctl: str) -> None:
 
 
 def test_all_layouts(machine: Machine, collector: Collector) -> None:
-    """Regular, compact and compressed files of two releases, with the entries that systemd itself showed."""
-    for release in (252, 254):
+    """Regular, compact and compressed files of three releases, with the entries that systemd itself showed."""
+    for release in (252, 254, 257):
         for kind in ("regular", "compact", "compressed"):
             put(machine, f"{kind}-{release}", fixture(release, kind))
     assert machine.send() == 0, machine.said
-    assert numbers(collector) == sorted([1, 2, 3, 4, 5, 6] * 6)
+    assert numbers(collector) == sorted([1, 2, 3, 4, 5, 6] * 9)
     keys = set()
     for path in machine.journal.iterdir():
         shown = subprocess.run(["journalctl", "-q", "-o", "export", f"--file={path}"], capture_output=True,

@@ -7,6 +7,7 @@ from pathlib import Path
 
 import pytest
 from conftest import ROOT
+from limit_table import USED
 
 FIT = ("/usr/bin/python3", "-IB", ROOT / "deploy/programs/fit-stream")
 TIMES = b"__REALTIME_TIMESTAMP=1000000\n__MONOTONIC_TIMESTAMP=5\n"
@@ -40,7 +41,7 @@ def test_keys_from_cursors(tmp_path: Path) -> None:
 
 def test_over_a_limit(tmp_path: Path) -> None:
     _, new, _ = fit(OLD)
-    large = new + b"__SEQNUM=7\n__SEQNUM_ID=%s\n%sMESSAGE=%s\n\n" % (ID, TIMES, b"x" * 16_777_217)
+    large = new + b"__SEQNUM=7\n__SEQNUM_ID=%s\n%sMESSAGE=%s\n\n" % (ID, TIMES, b"x" * (USED.value + 1))
     assert verified(large, tmp_path).startswith("bad 12 ")
     assert fit(large, "--leave-out-large") == (0, new, f"left out: __SEQNUM=7 __SEQNUM_ID={ID.decode()}\n")
     assert fit(large) == (0, large, "")

@@ -1,6 +1,8 @@
 """What a journal has comes to the collector once, whatever becomes of its files meanwhile."""
 import os
 import shutil
+import sqlite3
+import time
 from pathlib import Path
 
 from collector import Collector
@@ -49,6 +51,20 @@ def test_one_namespace(machine: Machine, collector: Collector) -> None:
     machine.set(JOURNALS=machine.journals / f"{MACHINE_ID}.apart")
     assert machine.send() == 0, machine.said
     assert collector.messages() == ["apart of .apart 0"]
+
+
+def test_a_volatile_journal(machine: Machine, collector: Collector) -> None:
+    """It lies in a folder of its own. Of a file and a copy of it the one counts that went on."""
+    run = machine.base / "run" / MACHINE_ID
+    machine.set(JOURNALS=f"{machine.journals} {run.parent}")
+    write(run / "system.journal", entries("early", 3))
+    write(run / "user-1.journal", entries("user", 1))
+    shutil.copy(run / "system.journal", machine.journal)
+    write(machine.journal / "system.journal", entries("late", 2, BEGIN + 60_000_000))
+    assert machine.send() == 0, machine.said
+    (run / "system.journal").unlink()
+    assert machine.send() == 0 and machine.said == ""
+    assert collector.messages() == ["early 0", "early 1", "early 2", "late 0", "late 1", "user 0"]
 
 
 def test_many_files_go_in_few_uploads(machine: Machine, collector: Collector) -> None:
@@ -153,6 +169,15 @@ def test_since(machine: Machine, collector: Collector) -> None:
     assert collector.messages() == ["first 3", "first 4", "later 0", "later 1"]
 
 
+def test_since_is_looked_up_once(machine: Machine, collector: Collector) -> None:
+    machine.set(SINCE="now")
+    write(machine.journal / "system.journal", entries("old", 2))
+    assert machine.send() == 0, machine.said
+    write(machine.journal / "system.journal", [Entry("new", time.time_ns() // 1_000)])
+    assert machine.send() == 0, machine.said
+    assert collector.messages() == ["new"]
+
+
 def test_a_time_that_is_none(machine: Machine) -> None:
     machine.set(SINCE="soon")
     assert machine.send() == 2
@@ -197,4 +222,15 @@ def test_places_that_are_lost(machine: Machine, collector: Collector) -> None:
             (machine.folder / "places.sqlite").write_bytes(damage)
         assert machine.send() == (1 if damage else 0), machine.said
     assert len(collector.uploads) == 4
+    assert len(collector.messages()) == 5
+
+
+def test_places_of_a_later_version(machine: Machine, collector: Collector) -> None:
+    """An earlier program says why it puts them aside."""
+    write(machine.journal / "system.journal", entries("one", 5))
+    assert machine.send() == 0, machine.said
+    with sqlite3.connect(machine.folder / "places.sqlite") as rows:
+        rows.execute("PRAGMA user_version = 9")
+    rows.close()
+    assert machine.send() == 1 and "of version 9, and this program knows " in machine.said
     assert len(collector.messages()) == 5

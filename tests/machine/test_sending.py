@@ -1,11 +1,14 @@
 """Answers, refusals and links: what is logged comes in the end, and nothing waits behind what can't be sent."""
+import re
 import sqlite3
+import threading
 import time
 from pathlib import Path
 
 from collector import PROGRAM, Collector, Cut
 from conftest import Machine
 from journals import BEGIN, Entry, entries, write
+from waiting import PATIENCE, wait_until
 
 
 def rest(machine: Machine) -> None:
@@ -72,6 +75,25 @@ def test_the_newest_and_the_oldest_take_turns(machine: Machine, collector: Colle
     assert machine.send() == 0, machine.said
     assert collector.uploads[:4] == [waiting[-1], waiting[0], waiting[-2], waiting[1]]
     assert sorted(collector.uploads) == sorted(waiting)
+
+
+def test_a_backlog_that_is_gathered_later_buries_nothing(machine: Machine, collector: Collector) -> None:
+    """The times of entries say what is new: neither when they were gathered, nor when an upload was cut."""
+    machine.set(UPLOAD_BYTES=50_000)
+    connect = machine.settings["CONNECT"]
+    machine.set(CONNECT="false")
+    write(machine.journal / "system@01.journal", entries("one", 12, pad=200))
+    assert machine.send() == 3
+    machine.set(UPLOAD_BYTES=1500)
+    write(machine.journal / "system@02.journal", entries("two", 12, BEGIN + 1_000_000_000, pad=200))
+    write(machine.journal / "system.journal", entries("new", 9, BEGIN + 2_000_000_000, pad=200))
+    assert machine.send() == 3
+    machine.set(CONNECT=connect)
+    assert machine.send() == 0, machine.said
+    went = [re.findall(rb"^MESSAGE=(\w+ \d+)", data, re.MULTILINE) for data in collector.uploads]
+    by_time = went[1::2] + went[0::2][::-1]
+    assert sum(by_time, []) == [b"%s %d" % (word, number) for word, count in ((b"one", 12), (b"two", 12), (b"new", 9))
+                                for number in range(count)]
 
 
 def test_split_at_a_bound(machine: Machine, collector: Collector) -> None:
@@ -243,12 +265,13 @@ def test_a_stick(machine: Machine, collector: Collector) -> None:
 
 
 def test_two_at_once(machine: Machine, collector: Collector) -> None:
-    collector.before = lambda data: time.sleep(3)  # type: ignore[func-returns-value]
+    is_told = threading.Event()
+    collector.before = lambda data: None if is_told.wait(PATIENCE) else "later nobody else came"
     write(machine.journal / "system.journal", entries("one", 1))
     first = machine.begin("--once")
-    while not collector.uploads:
-        time.sleep(0.05)
+    wait_until(lambda: collector.uploads)
     assert machine.send() == 75
+    is_told.set()
     assert first.wait() == 0
 
 

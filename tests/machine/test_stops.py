@@ -1,7 +1,6 @@
 """Kills, failures of calls and losses of power at each step: all that was logged comes, and comes once."""
 import os
 import shutil
-import time
 from pathlib import Path
 
 import losing_power
@@ -10,6 +9,7 @@ from collector import Collector
 from conftest import SEND, Machine
 from journals import BEGIN, Entry, entries, write
 from test_sending import rest
+from waiting import wait_until
 
 # Each call is stopped if it is set; else some of them.
 STEP = 1 if os.environ.get("STOPS") == "all" else 11
@@ -105,7 +105,4 @@ def test_places_that_are_damaged_while_it_runs(machine: Machine, collector: Coll
 
 
 def wait_for(message: str, collector: Collector) -> None:
-    end = time.monotonic() + 90
-    while not any(f"MESSAGE={message}\n".encode() in data for data in collector.uploads):
-        assert time.monotonic() < end, f"{message} doesn't come"
-        time.sleep(0.05)
+    wait_until(lambda: any(f"MESSAGE={message}\n".encode() in data for data in collector.uploads), message)

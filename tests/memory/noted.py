@@ -7,7 +7,7 @@ from collections.abc import Sequence
 import refusal
 import samples
 from noted_run import NotedRun
-from owned import Brought
+from brought import Brought
 from sweep import REFUSED, Sweep
 from trial import PROGRAM, Trial, status_of
 

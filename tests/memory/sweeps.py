@@ -18,7 +18,7 @@ import samples
 from model import Journal
 from noted import noted_sweeps
 from sweep import REFUSED, Sweep, content, put
-from trial import Trial, as_output, run, status_of
+from trial import Trial, answers, as_output, run, status_of
 
 # What `migrate` says of tables that aren't of an earlier kind.
 IS_OVER = (b"bad 64 0\n", "", 1)
@@ -64,7 +64,7 @@ class Collect(Sweep):
             self.begun.take(upload)
         # what has to be printed where these lines are, and the journal then: most runs print one of a few outputs
         self.expected: dict[tuple[str, ...], tuple[list[str], Journal]] = {}
-        self.usual = self.answers(self.begun.copy())
+        self.usual = answers(self.begun.copy(), uploads)
 
     def prepare(self, folder: str) -> list[str]:
         return ["collect", copied(self.base, folder) if self.base else os.path.join(folder, "db"), *self.words]
@@ -91,11 +91,6 @@ class Collect(Sweep):
         self.left(what, os.path.join(folder, "db"), journal, bool(lines))
         return not self.is_usual(told)
 
-    def answers(self, journal: Journal) -> tuple[bytes, str, int]:
-        """What a run over a journal prints, which then has what is accepted."""
-        lines = [journal.take(upload) for upload in self.uploads]
-        return as_output(lines), "", status_of(lines)
-
     def left(self, what: str, database: str, journal: Journal, has_tables: bool) -> None:
         """The database holds this journal, and the same uploads complete it."""
         if content(database) == (content(self.base) if self.base else None):
@@ -114,7 +109,7 @@ class Collect(Sweep):
             self.trial.expect(f"{what}: export", told, (journal.text(), "", 0))
         else:
             self.trial.expect(f"{what}: no journal yet", told, (b"", f"cannot open {copy}\n", 3))
-        again = self.answers(journal)
+        again = answers(journal, self.uploads)
         self.trial.expect(f"{what}: again", run("collect", database, *self.words, stdin=self.stdin), again)
         self.trial.expect(f"{what}: export then", run("export", database), (journal.text(), "", 0))
         shutil.rmtree(os.path.dirname(copy))
@@ -251,7 +246,8 @@ def collecting(trial: Trial, base: str) -> Iterator[Sweep]:
     yield Collect(trial, "collect into a new database", [row])
     yield Collect(trial, "collect into a journal", [samples.stream(two, three)], base, [row])
     yield Collect(trial, "collect of a conflict", [conflict], base, [row])
-    yield Collect(trial, "collect of a conflict in tables by number", [conflict], begun(trial, "--tables", "3"), [row])
+    of_three = begun(trial, "--tables", "3")
+    yield Collect(trial, "collect of a conflict in tables of version 3", [conflict], of_three, [row])
     yield Collect(trial, "collect of a journal file", [file])
     yield Collect(trial, "collect of a journal file on standard input", [file], by_input=True)
     yield Collect(trial, "collect of several uploads", several)
@@ -278,7 +274,7 @@ def reading(trial: Trial, base: str) -> Iterator[Sweep]:
                 (b'{"result":"ok","entries":2,"left":0}\n', "", 0))
     yield Sweep(trial, "verify file", ["verify", "file", file], (b"ok 1 0\n", "", 0))
     upload, = trial.put([samples.stream(samples.E1, samples.E2)])
-    line = f"upload {samples.SOURCE.hex()} 0 2 0 {samples.SEQNUM_ID.hex()} 2\n"
+    line = f"upload {samples.SOURCE.hex()} 0 2 0 {samples.SEQNUM_ID.hex()} 2 1\n"
     yield Sweep(trial, "inspect", ["inspect", upload], (line.encode(), "", 0))
     yield Upload(trial, "export", samples.E1 + samples.E2, Ack.OLD, samples.stream(samples.E2, start=1))
     yield Upload(trial, "file", samples.FILE, b"resume 0 - -\n", samples.head(2) + samples.FILE)

@@ -1,11 +1,9 @@
 """A headless Chromium, asked by its DevTools protocol over a pipe."""
-import base64
 import json
 import os
 import shutil
 import subprocess
 import tempfile
-from pathlib import Path
 from typing import Any
 
 PROGRAM = shutil.which("chromium") or shutil.which("chromium-browser")
@@ -70,9 +68,6 @@ class Browser:
         return [json.dumps(each["params"]) for each in self.events
                 if each.get("method") == "Runtime.exceptionThrown"
                 or each.get("method") == "Log.entryAdded" and each["params"]["entry"]["level"] == "error"]
-
-    def screenshot(self, path: Path) -> None:
-        path.write_bytes(base64.b64decode(self.ask("Page.captureScreenshot", format="png")["data"]))
 
     def end(self) -> None:
         self.process.terminate()

@@ -6,7 +6,6 @@ import sqlite3
 import struct
 import subprocess
 import sys
-import time
 from dataclasses import dataclass, field
 from pathlib import Path
 
@@ -129,12 +128,4 @@ class Collector:
         return done.stdout.splitlines()
 
 
-def wait_until(is_so: object, seconds: float = 20.0) -> None:
-    assert callable(is_so)
-    end = time.monotonic() + seconds
-    while not is_so():
-        assert time.monotonic() < end, "it isn't so after a while"
-        time.sleep(0.05)
-
-
-__all__ = ["BEGIN", "Collector", "Entry", "Present", "REMOTE", "ROOT", "SEARCH", "digits", "plain", "wait_until"]
+__all__ = ["BEGIN", "Collector", "Entry", "Present", "REMOTE", "ROOT", "SEARCH", "digits", "plain"]

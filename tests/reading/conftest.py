@@ -6,7 +6,7 @@ from pathlib import Path
 
 import pytest
 
-sys.path.insert(0, str(Path(__file__).resolve().parent))
+sys.path[:0] = [str(Path(__file__).resolve().parent), str(Path(__file__).resolve().parents[1])]
 from collecting import REMOTE, Collector  # noqa: E402
 
 IS_MISSING = not REMOTE.exists() or not shutil.which("journalctl") or "JOURNAL_COLLECT" not in os.environ

@@ -6,7 +6,8 @@ import subprocess
 from itertools import count
 from pathlib import Path
 
-from collecting import BEGIN, REMOTE, Collector, Entry, Present, digits, wait_until
+from collecting import BEGIN, REMOTE, Collector, Entry, Present, digits
+from waiting import wait_until
 
 NAMES = ["web", "web2", "db"]
 BOOTS, ENTRIES = 3, 600

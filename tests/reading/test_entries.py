@@ -24,6 +24,12 @@ def test_a_message_is_never_taken_for_fields(message: str | bytes) -> None:
     assert data in found[0].fields and b"__SEQNUM" not in found[0].fields.replace(data, b"")
 
 
+def test_a_name_of_one_letter_is_no_part_of_the_line_before() -> None:
+    field = b"A\n" + struct.pack("<Q", 3) + b"\n" * 4
+    found = of(plain("web", 3, "m").text()[:-1] + field + b"\n" + plain("web", 4, "next").text())
+    assert [each.number for each in found] == [3, 4] and found[0].fields.endswith(field)
+
+
 def test_the_text_has_the_machine_and_not_what_a_machine_says_of_it() -> None:
     entry = of(plain("web", 1, "m", _COLLECTED_FROM="db", _COLLECTED_SEQNUM="9").text())[0]
     assert entry.text("web", False).count(b"_COLLECTED_") == 1

@@ -1,5 +1,6 @@
 """Journal files of finished databases, and of days."""
 import json
+import os
 import shutil
 import subprocess
 import sys
@@ -8,7 +9,7 @@ from pathlib import Path
 
 from collecting import BEGIN, Collector, digits, plain
 
-from journalcollect.reading.places import Places, made
+from journalcollect.reading.places import Places
 
 HOUR = 3_600_000_000
 # Days that the clock of who runs this hasn't come to, so none is over before a database of the next one is there.
@@ -58,7 +59,8 @@ def test_a_day_that_is_over_is_one_sequence_of_files(collector: Collector) -> No
     assert journals(collector) == [f"{DAYS[0]}/all.journal", f"today/{DAYS[1]}T00-00-00.journal"]
     assert shown(collector.path / "journals" / DAYS[0]) == ["w0", "d0", "w1", "d1", "w2", "d2", "w3", "d3"]
     assert collector.messages() == ["w0", "d0", "w1", "d1", "w2", "d2", "w3", "d3", "next"]
-    assert made(collector.path) == {f"{DAYS[0]}T1{number}-00-00" for number in range(4)} | {f"{DAYS[1]}T00-00-00"}
+    assert sorted(Places(collector.path).made()) == [
+        *(f"{DAYS[0]}T1{number}-00-00" for number in range(4)), f"{DAYS[1]}T00-00-00"]
 
 
 def test_a_database_that_comes_after_its_day_was_made_is_shown_once(collector: Collector) -> None:
@@ -123,6 +125,18 @@ def test_a_damaged_database_is_told_and_the_others_are_made(collector: Collector
     done = collector.make()
     assert done.returncode == 1 and f"{DAYS[0]}T10-00-00" in done.stderr
     assert collector.messages() == ["b"]
+
+
+def test_a_day_that_cannot_be_made_is_told_and_shown_by_its_databases(collector: Collector) -> None:
+    name = f"{DAYS[0]}T10-00-00"
+    database(collector, name, plain("web", 1, "a"))
+    assert collector.make().returncode == 0
+    os.truncate(collector.path / "journals" / "today" / f"{name}.gz", 20)
+    database(collector, f"{DAYS[1]}T10-00-00", plain("web", 2, "b"))
+    done = collector.make()
+    assert done.returncode == 1 and f"none are made of {DAYS[0]}: " in done.stderr and "Traceback" not in done.stderr
+    assert journals(collector) == [f"today/{name}.journal", f"today/{DAYS[1]}T10-00-00.journal"]
+    assert collector.messages() == ["a", "b"]
 
 
 def test_a_run_that_is_killed_leaves_nothing_that_counts(collector: Collector) -> None:

@@ -14,7 +14,8 @@ from urllib.parse import urlencode
 import browser
 import pytest
 from browser import Browser
-from collecting import ROOT, Collector, Entry, Present, plain, wait_until
+from collecting import ROOT, Collector, Entry, Present, plain
+from waiting import PATIENCE, listens, wait_until
 
 PAGE = ROOT / "deploy" / "programs" / "journal-collect-page"
 NAMES = ["2026-11-20T10-00-00", "2026-11-20T10-10-00", "2026-11-20T10-20-00"]
@@ -27,7 +28,7 @@ class Over(http.client.HTTPConnection):
     """By a Unix socket."""
 
     def __init__(self, path: Path) -> None:
-        super().__init__("localhost", timeout=30)
+        super().__init__("localhost", timeout=PATIENCE)
         self.path = path
 
     def connect(self) -> None:
@@ -43,7 +44,7 @@ class Served:
         words = [f"--setenv={name}={value}" for name, value in collector.environment.items()]
         self.process = subprocess.Popen(["systemd-socket-activate", f"--listen={self.path}", *words, PAGE, "--host",
                                          "logs.example.org"], stderr=subprocess.DEVNULL)
-        wait_until(self.path.exists)
+        wait_until(lambda: listens(self.path))
         self.listening = socket.create_server(("127.0.0.1", 0))
         self.url = f"http://localhost:{self.listening.getsockname()[1]}/"
         threading.Thread(target=self.carry, daemon=True).start()
@@ -77,7 +78,7 @@ class Served:
     def end(self) -> None:
         self.listening.close()
         self.process.terminate()
-        assert self.process.wait(10) == 0
+        assert self.process.wait(PATIENCE) == 0
 
 
 def pump(a: socket.socket, b: socket.socket) -> None:

@@ -1,7 +1,5 @@
 """The present: what is acknowledged is followed at once, each entry once, through turns, kills and restarts."""
-import os
 import random
-import signal
 import subprocess
 import time
 from collections import Counter
@@ -9,8 +7,10 @@ from collections.abc import Iterator
 from contextlib import contextmanager
 from pathlib import Path
 
+import processes
 import pytest
-from collecting import BEGIN, SEARCH, Collector, Present, plain, wait_until
+from collecting import BEGIN, SEARCH, Collector, Present, plain
+from waiting import wait_until
 
 NAMES = ["2026-11-30T10-00-00", "2026-11-30T10-10-00", "2026-11-30T10-20-00", "2026-11-30T10-30-00"]
 
@@ -25,7 +25,8 @@ class Followed:
 
     @property
     def lines(self) -> list[str]:
-        return self.path.read_text().splitlines()
+        """Those that are whole."""
+        return self.path.read_text().split("\n")[:-1]
 
     def end(self) -> None:
         self.process.terminate()
@@ -58,16 +59,10 @@ def present(collector: Collector, told: list[str] | None = None) -> Iterator[Pre
 
 def remotes(folder: Path) -> list[int]:
     """The processes of systemd-journal-remote that write in a folder."""
-    found = []
-    for each in Path("/proc").iterdir():
-        if each.name.isdigit():
-            try:
-                words = (each / "cmdline").read_bytes()
-            except OSError:
-                continue
-            if b"systemd-journal-remote" in words and str(folder).encode() in words:
-                found.append(int(each.name))
-    return found
+    there = {int(each.name): b" ".join(processes.words(int(each.name))) for each in Path("/proc").iterdir()
+             if each.name.isdigit()}
+    return [each for each, words in there.items()
+            if b"systemd-journal-remote" in words and str(folder).encode() in words]
 
 
 def test_an_entry_is_followed_at_once_and_in_the_order_in_which_it_came(
@@ -111,7 +106,7 @@ def test_each_entry_once_through_kills_turns_and_restarts(collector: Collector, 
         match choose.randrange(3):
             case 0:
                 for process in remotes(collector.path):
-                    os.kill(process, signal.SIGKILL)
+                    processes.kill(process)
             case 1:
                 running.events.put(None)
                 running.join()
@@ -120,7 +115,7 @@ def test_each_entry_once_through_kills_turns_and_restarts(collector: Collector, 
             case 2 if moment % 3 == 0:
                 running.turn(NAMES[0] + f"-{turn}")
                 turn += 1
-    wait_until(lambda: all(len(each.lines) >= len(expected) for each in followed), 60)
+    wait_until(lambda: all(len(each.lines) >= len(expected) for each in followed))
     running.stop()
     for each in followed:
         assert Counter(each.lines) == Counter(expected)
@@ -157,8 +152,8 @@ def test_a_finished_database_takes_the_place_of_its_present(collector: Collector
         collector.finish(NAMES[0])
         running.turn(NAMES[0])
         wait_until(lambda: (collector.path / "journals" / "today" / f"{NAMES[0]}.json").exists())
+        wait_until(lambda: not (collector.path / "recent" / NAMES[0]).exists())
         assert (collector.path / "journals" / "present" / f"{NAMES[0]}.journal").exists()
-        assert not (collector.path / "recent" / NAMES[0]).exists()
         assert collector.messages() == ["late", "five", "ten"]
         assert collector.messages("--until", f"@{BEGIN // 1_000_000}") == ["late"]
 

@@ -298,30 +298,14 @@ unfolding renamed
   seen
 shown = refl
 """
-OPENED = """\
--- Lemmas.
-module _ (a : ℕ) where
-  both : (b : ℕ) → Both
-      a b
-  both = at_its_word
-
-  seen : (b : ℕ) → a ≡ b
-  seen b = refl
-
-pub given : Bare _
-given = record { read = a }
-
-pub named : a ≡ b
-named = refl
-
-last : a ≡ b
-last = at_its_word
-
-abbrev shown : a ≡ b
-unfolding renamed
-  seen
-shown = refl
-"""
+OPENED = LEMMAS.replace("""\
+  -- by its parts
+  unfolding Both
+  both zero = record {
+    one = refl;
+  }
+  both (suc b) = both b
+""", "  both = at_its_word\n").replace("last = refl", "last = at_its_word")
 # In other files: one of them by another name, and one that isn't theirs.
 UNFOLDING = """\
 use Rattle.small.proofs.Lemmas.{named as renamed}

@@ -4,6 +4,7 @@ from __future__ import annotations
 import sqlite3
 import time
 
+import pytest
 from conftest import Computer
 
 KEY = "ssh-ed25519 AAAAC3NzaC1lZDI1NTE5AAAAIFxuY2jTBP9Yq5nP6jZc1x5Z8yXyqyPa9qJ7nF1j9s1c web\n"
@@ -53,6 +54,53 @@ def test_why_nothing_goes_out_and_what_mends_it(computer: Computer) -> None:
     assert "sshd doesn't run on logs.example.org" in finding["remedy"]
 
 
+@pytest.mark.parametrize("trouble, mends", [
+    ("no connection to the collector: Host key verification failed.", "compare them, then journal-collect-join"),
+    ("u@h: Permission denied (publickey).", "on logs.example.org: journal-collect-admin admit"),
+    ("ssh: Could not resolve hostname h: Name or service not known", "look at the DNS"),
+    ("ssh: connect to host h port 22: Connection timed out", "look at the network and its firewall"),
+    ("ssh: connect to host h port 22: Network is unreachable", "look at the network and its firewall"),
+    ("the collector takes nothing now: only 3 bytes are free, and FREE_BYTES is 9", "on logs.example.org: make room"),
+    ("sshd takes this machine's key, and its service doesn't run: nc.openbsd: /x/web: Connection refused",
+     "on logs.example.org: journal-collect-status; its service may not run"),
+    ("something new", "on logs.example.org: journal-collect-status")])
+def test_what_mends_each_trouble(computer: Computer, trouble: str, mends: str) -> None:
+    machine(computer, ("acknowledged", time.time()), ("trouble", trouble))
+    assert mends in computer.told()["findings"][0]["remedy"]
+
+
+@pytest.mark.parametrize("told, mends", [
+    ("forked: a goes on as b from entry 7 (code 60): this machine was set back or cloned", "--name NEW --new-key"),
+    ("the collector lost what it had acknowledged: what the journal still has goes out", "nothing: it goes out"),
+    ("the collector's clock is +259200 s from this machine's: set the one that is wrong", "timedatectl"),
+    ("a gap: journald removed a file that wasn't gathered to its end", "SystemMaxUse="),
+    ("failed, and is tried again: [Errno 28] No space left on device", "make room on this machine's disk")])
+def test_what_mends_what_a_machine_told(computer: Computer, told: str, mends: str) -> None:
+    machine(computer, ("acknowledged", time.time()))
+    with sqlite3.connect(computer.folder / "send/places.sqlite") as rows:
+        rows.execute("CREATE TABLE told(time, status, text)")
+        rows.execute("INSERT INTO told VALUES(?, 1, ?)", (time.time(), told))
+    finding = computer.told()["findings"][0]
+    assert (finding["name"], mends in finding["remedy"]) == ("told", True)
+
+
+def test_a_connection_that_was_lost_for_a_while_is_over(computer: Computer) -> None:
+    machine(computer, ("acknowledged", time.time() - 50))
+    with sqlite3.connect(computer.folder / "send/places.sqlite") as rows:
+        rows.execute("CREATE TABLE told(time, status, text)")
+        rows.execute("INSERT INTO told VALUES(?, 3, 'no connection to the collector: x')", (time.time() - 100,))
+    assert computer.found() == set()
+
+
+def test_a_machine_whose_outbox_is_full(computer: Computer) -> None:
+    machine(computer, ("acknowledged", time.time()))
+    computer.write("etc/machine.conf.d/90.conf", "FOLDER_BYTES=300000\n")
+    computer.write("send/outbox/1.upload", "x" * 50_000)
+    assert computer.found() == set()
+    computer.write("send/outbox/2.upload", "x")
+    assert computer.found() == {("full", "machine")}
+
+
 def test_a_machine_with_several_faults(computer: Computer) -> None:
     machine(computer, ("acknowledged", time.time()), ("skew", 500))
     computer.write("send/refused/1.export", "x")
@@ -93,8 +141,25 @@ def test_what_the_service_told_but_not_of_a_retired_machine(computer: Computer) 
         rows.execute("INSERT INTO machine VALUES('web', ?, ?, 7, 0, 0)", (now, now))
         rows.execute("INSERT INTO told VALUES('refused web', 'web: refused', ?, ?, 2)", (now, now))
         rows.execute("INSERT INTO told VALUES('refused old', 'old: refused', ?, ?, 2)", (now, now))
+        rows.execute("INSERT INTO told VALUES('notes /x/1', '/x/1: it is put aside', ?, ?, 1)", (now, now))
         rows.execute("INSERT INTO told VALUES('room', 'only 3 bytes are free', ?, ?, 2)", (now - 200000, now - 200000))
-    assert computer.found() == {("refused", "web")}
+    assert computer.found() == {("refused", "web"), ("notes", "/x/1")}
+    assert "on web: journal-collect-status" in computer.call().stdout
+
+
+def test_journal_files_that_arent_made(computer: Computer) -> None:
+    with collector(computer) as rows:
+        rows.execute("INSERT INTO machine VALUES('web', ?, ?, 7, 0, 0)", (time.time(), time.time()))
+        rows.execute("INSERT INTO database VALUES('a', 'finished', ?, 1, 1)", (time.time() - 7200,))
+    finding = computer.told()["findings"][0]
+    assert (finding["name"], "systemd-journal-remote" in finding["remedy"]) == ("behind", True)
+
+
+def test_a_disk_without_room(computer: Computer) -> None:
+    with collector(computer):
+        computer.write("etc/collector.conf.d/90.conf", "FREE_BYTES=900000000000000\n")
+    assert ("disk", "collector") in computer.found()
+    assert computer.call().returncode == 3
 
 
 def test_databases_that_are_missing_and_a_key_that_is_none(computer: Computer) -> None:
@@ -102,8 +167,9 @@ def test_databases_that_are_missing_and_a_key_that_is_none(computer: Computer) -
     with collector(computer) as rows:
         rows.execute("INSERT INTO machine VALUES('web', ?, ?, 7, 0, 0)", (now, now))
         rows.execute("INSERT INTO database VALUES('a', 'missing', ?, 1, 1)", (now,))
+        rows.execute("INSERT INTO told VALUES('damaged b', 'b isn''t as it was', ?, ?, 1)", (now, now - 100_000))
     computer.write("etc/keys/db.pub", "nothing\n")
-    assert computer.found() == {("missing", "a"), ("key", "db"), ("never", "db")}
+    assert computer.found() == {("missing", "a"), ("damaged", "b"), ("key", "db"), ("never", "db")}
 
 
 def test_figures_for_prometheus(computer: Computer) -> None:

@@ -8,7 +8,7 @@ from typing import Any
 
 import device
 from model import Journal
-from trial import PROGRAM, Trial, as_output, run, status_of
+from trial import PROGRAM, Trial, answers, run, status_of
 
 WORDS = ("collect",)
 
@@ -111,9 +111,3 @@ class Collecting:
             again = answers(journal, self.uploads)
             trial.expect(f"{what}: again", run(*self.words, database, *self.names), again)
             trial.expect(f"{what}: complete", run("export", database), (journal.text(), "", 0))
-
-
-def answers(journal: Journal, uploads: Sequence[bytes]) -> tuple[bytes, str, int]:
-    """What a run over a journal prints, which then has what is accepted."""
-    lines = [journal.take(upload) for upload in uploads]
-    return as_output(lines), "", status_of(lines)

@@ -1,7 +1,7 @@
 /* Preloaded into a program, this counts its calls that read and change files, and interferes with some of them: those
  * numbered from DEVICE_FIRST to DEVICE_LAST, counted from 1 as the program starts. DEVICE_MODE says how:
  *   k  the program is killed before the call
- *   h  half of what a call writes is written, and then the program is killed
+ *   h  half of what a call writes is written, and then the program is killed; what writes no two bytes isn't counted
  *   f  the call fails with EIO, and does nothing
  *   n  each that changes a file is noted, and the program is killed before the one that comes after DEVICE_LAST, if
  *      that isn't 0
@@ -106,6 +106,8 @@ static int is_meant(char operation, char kind, off_t offset, size_t size)
         return is_read && first - (unsigned long)offset < size;
     if ((is_read && !(mode == 'f' && reads)) || (may_fail && kind == '1'))
         return 0;
+    if (mode == 'h' && (operation != 'w' || size < 2))
+        return 0;
     made++;
     return mode == 'n' || (made >= first && made <= last);
 }
@@ -125,11 +127,11 @@ static int interferes(char operation, const char *path, off_t offset, size_t siz
     if (!is_one)
         return 0;
     tell(mode == 'e' ? 'x' : operation, kind, path, offset, 0, 0);
-    if (mode == 'h' && half && size > 1) {
+    if (mode == 'h') {
         *half = 1;
         return 0;
     }
-    if (mode == 'k' || mode == 'h')
+    if (mode == 'k')
         raise(KILL);
     *__errno_location() = IO_ERROR;
     return 1;

@@ -67,6 +67,6 @@ def migrations(trial: Trial) -> Iterator[Migrating]:
     from those."""
     for name in older.EARLIER:
         yield Migrating(trial, f"migrate, {name}", older.earlier(trial, name))
-    by_number = ("migrate", "--tables", "3")
+    of_version_3 = ("migrate", "--tables", "3")
     for name, base in (("made by key", older.by_key(trial)), ("by key, of version 1", older.migrated(trial))):
-        yield Migrating(trial, f"migrate to numbers, {name}", base, by_number)
+        yield Migrating(trial, f"migrate to version 3, {name}", base, of_version_3)

@@ -1,5 +1,5 @@
 """Power is lost between any two calls of `collect --sequences` that change a file or a folder, as the service runs it:
-machines are named, tables are by number, databases take turns over one folder of notes.
+machines are named, tables are of version 3, databases take turns over one folder of notes.
 
 What wasn't synced is gone, or there in part, as losses.py says; and names that were made or removed are as they were
 before, if their folder wasn't synced. Then all that was sent is sent again, over the database that was the present one.
@@ -23,9 +23,10 @@ from typing import NamedTuple
 import device
 import folders
 import samples
+from brought import Brought, as_lines, stranger, take, take_all
 from make import Machine
-from model import Entry, read_stream
-from owned import Brought, OwnedJournal, as_lines, notes_of, stranger
+from model import Entry, Journal, read_stream
+from note_files import noted, notes_of
 from trial import PROGRAM, Trial, as_output, run, status_of
 
 # How often power is lost at one place, and where a note or its file isn't synced.
@@ -76,16 +77,16 @@ class Course:
         self.runs = runs
         self.spared = spared
         # the journals after none of the uploads, after the first, and so on
-        self.journals = [OwnedJournal()]
+        self.journals = [Journal()]
         for brought in uploads:
             self.journals.append(self.journals[-1].copy())
-            self.journals[-1].take(brought)
+            take(self.journals[-1], brought)
         self.strangers = {sequence: stranger(sequence) for sequence in self.journals[-1].owners}
         put = trial.put([brought.upload for brought in self.strangers.values()])
         self.of_strangers = dict(zip(self.strangers, put))
         # by how many uploads were acknowledged
         self.again = [self.sent_again(acknowledged) for acknowledged in range(len(self.journals))]
-        self.complete = self.journals[-1].stored.in_order(), self.journals[-1].noted()
+        self.complete = self.journals[-1].in_order(), noted(self.journals[-1])
         self.databases = sorted({each.database for each in runs})
         self.finished = {}
         self.calls = []
@@ -98,7 +99,7 @@ class Course:
 
     def may_answer(self, acknowledged: int, uploads: Sequence[Brought]) -> list[list[str]]:
         """The lines that answer these uploads once others were acknowledged; the next one may be stored, too."""
-        return [journal.copy().take_all(uploads) for journal in self.journals[acknowledged:acknowledged + 2]]
+        return [take_all(journal.copy(), uploads) for journal in self.journals[acknowledged:acknowledged + 2]]
 
     def sent_again(self, acknowledged: int) -> Again:
         """All uploads, behind those of strangers whose sequences are known to be others', and before the rest."""

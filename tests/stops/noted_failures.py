@@ -14,7 +14,7 @@ import shutil
 import device
 import samples
 from noted_run import NotedRun
-from owned import Brought
+from brought import Brought
 from trial import PROGRAM, status_of
 from upwards import NEVER, upwards
 

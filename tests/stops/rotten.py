@@ -15,7 +15,7 @@ from concurrent.futures import Executor
 import device
 import samples
 from collecting import WORDS, Collecting
-from scenarios import BY_NUMBER
+from scenarios import OF_VERSION_3
 from trial import PROGRAM, Trial, run
 from upwards import NEVER
 
@@ -74,8 +74,8 @@ class Rotten(Collecting):
 
 def main() -> None:
     with device.trial_of("rotten") as (trial, pool):
-        databases = [Rotten(trial, name, words, is_closed)
-                     for name, words in (("by key", WORDS), ("by number", BY_NUMBER)) for is_closed in (True, False)]
+        kinds = (("by key", WORDS), ("of version 3", OF_VERSION_3))
+        databases = [Rotten(trial, name, words, is_closed) for name, words in kinds for is_closed in (True, False)]
         trial.finish(f"{sum(database.sweep(pool) for database in databases)} bytes that can't be read")
 
 

@@ -8,7 +8,7 @@ from migrating import Migrating, migrations
 from trial import Trial
 
 MANY = "many entries"
-BY_NUMBER = ("collect", "--tables", "3")
+OF_VERSION_3 = ("collect", "--tables", "3")
 
 
 def scenarios(trial: Trial) -> list[Collecting | Migrating]:
@@ -17,7 +17,7 @@ def scenarios(trial: Trial) -> list[Collecting | Migrating]:
     return [
         Collecting(trial, "an upload without entries", [samples.head(1)]),
         Collecting(trial, "two uploads", [row, rest]),
-        Collecting(trial, "two uploads into tables by number", [row, rest], words=BY_NUMBER),
+        Collecting(trial, "two uploads into tables of version 3", [row, rest], words=OF_VERSION_3),
         Collecting(trial, "two uploads into a journal", [rest, samples.head(2) + samples.FILE], [row]),
         Collecting(trial, MANY, [machine.stream(0, 40), machine.file(50), machine.stream(30, 60)]),
         *migrations(trial),

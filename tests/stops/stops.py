@@ -54,17 +54,13 @@ def sweep(trial: Trial, pool: Executor, scenario: Collecting | Migrating) -> int
     told, calls = scenario.run("n", 0, 0)[1:]
     trial.expect(f"{scenario.name}: undisturbed", told, scenario.usual)
     stops = sum(upwards(pool, lambda number: stopped(scenario, mode, number), step) for mode in "kh")
-    counts = []
-    for reads in (False, True):
-        alone = upwards(pool, lambda number: failing(scenario, number, number, reads), step)
-        later = upwards(pool, lambda number: failing(scenario, number, NEVER, reads), step)
-        counts.append(alone + later)
+    alone = upwards(pool, lambda number: failing(scenario, number, number, True), step)
+    later = [upwards(pool, lambda number: failing(scenario, number, NEVER, reads), step) for reads in (False, True)]
     fuses = {name: upwards(pool, lambda number: failing(scenario, number, NEVER, True, only), step)
              for name, only in device.FILES.items()}
-    alone = " and ".join(f"{count} of the {name} alone" for name, count in fuses.items())
-    print(f"stops: {scenario.name}: {len(calls)} calls that change a file; {stops} stops, {counts[0]} failures of "
-          f"these calls, {counts[1]} of reads too, {alone}")
-    return stops + sum(counts) + sum(fuses.values())
+    print(f"stops: {scenario.name}: {len(calls)} calls that change a file; {stops} stops, {alone} calls failed alone, "
+          f"{later[0]} with all later ones, {later[1]} with later reads too, and so on one file: {fuses}")
+    return stops + alone + sum(later) + sum(fuses.values())
 
 
 class Acks:

@@ -27,10 +27,10 @@ def upwards(pool: Executor, attempt: Callable[[int], bool], step: int = 1) -> in
 
 
 def stops_and_failures(name: str, pool: Executor, once: Once) -> int:
-    """Stops a run before and within each call, and has its device fail at each, alone and with all later ones."""
+    """Stops a run before and within each call, and has its device fail at each, alone and with all later ones, with or
+    without reads."""
     counts = [upwards(pool, lambda number: once(mode, number, NEVER)) for mode in "kh"]
-    for reads in (False, True):
-        counts.append(upwards(pool, lambda number: once("f", number, number, reads)))
-        counts.append(upwards(pool, lambda number: once("f", number, NEVER, reads)))
+    counts.append(upwards(pool, lambda number: once("f", number, number, True)))
+    counts += [upwards(pool, lambda number: once("f", number, NEVER, reads)) for reads in (False, True)]
     print(f"stops: {name}: {sum(counts[:2])} stops, {sum(counts[2:])} failures")
     return sum(counts)

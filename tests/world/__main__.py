@@ -20,13 +20,15 @@ import time
 from pathlib import Path
 
 sys.path.append(str(Path(__file__).resolve().parents[1]))
-from computers import Machine  # noqa: E402
+from computers import Collector, Machine  # noqa: E402
 from disks import can_mount  # noqa: E402
 from events import World  # noqa: E402
 from journals import REMOTE  # noqa: E402
 from judge import Entry, Judge, acknowledged  # noqa: E402
+from waiting import wait_until  # noqa: E402
 
-PATIENCE = 60.0
+# An upload rests for up to 300 s.
+PATIENCE = 400.0
 
 
 def calm(world: World) -> list[str]:
@@ -43,9 +45,15 @@ def calm(world: World) -> list[str]:
     for machine in world.machines:
         if tail := not_at_rest(world, machine):
             wrong.append(f"{machine.name} doesn't come to rest: {tail}")
+    wait_until(lambda: has_taken_up(world.collector), "all that the collector's last service left is taken up: that")
     if status := world.collector.stop():
         wrong.append(f"the service ended with {status}")
     return wrong
+
+
+def has_taken_up(collector: Collector) -> bool:
+    """A backup is made once nothing is left to be taken up, also where no machine had anything to send."""
+    return collector.call("journal-collect-admin", "backup", collector.folder / "last").returncode == 0
 
 
 def not_at_rest(world: World, machine: Machine) -> str:

@@ -5,9 +5,9 @@ import os
 import random
 import signal
 import subprocess
-from collections.abc import Iterator
 from pathlib import Path
 
+import processes
 from disks import Disk
 from journals import Journal
 
@@ -67,11 +67,8 @@ class Computer:
 
     def kill_a_child(self, dice: random.Random) -> None:
         """Any program that the service runs, however deep below it."""
-        if self.process and (found := list(children(self.process.pid))):
-            try:
-                os.kill(dice.choice(found), signal.SIGKILL)
-            except ProcessLookupError:
-                pass
+        if self.process and (found := processes.descendants(self.process.pid)):
+            processes.kill(dice.choice(found))
 
     def call(self, program: str, *words: str | Path, seconds: float = 300) -> subprocess.CompletedProcess[bytes]:
         """A command; what it says is among what the computer said."""
@@ -127,13 +124,3 @@ class Machine(Computer):
 
     def once(self) -> subprocess.CompletedProcess[bytes]:
         return self.call("journal-collect-send", "--once")
-
-
-def children(process: int) -> Iterator[int]:
-    for path in Path(f"/proc/{process}/task").glob("*/children"):
-        try:
-            for child in map(int, path.read_text().split()):
-                yield child
-                yield from children(child)
-        except OSError:
-            continue

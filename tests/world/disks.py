@@ -12,9 +12,13 @@ from collections.abc import Sequence
 from pathlib import Path
 from typing import Any
 
+from waiting import wait_until
+
 # What isn't synced stays in memory: it isn't on the disk when the power goes.
 OPTIONS = "loop,noatime,commit=600,noauto_da_alloc"
 SIZE, INODES = 64 << 20, 16_000
+# What machines send, one of which is hostile, is there as databases and as journal files.
+COLLECTOR_SIZE = 2 * SIZE
 
 
 def can_mount(folder: Path) -> bool:
@@ -43,7 +47,7 @@ class Disk:
     """An image and where it is mounted. Its computer's processes are in a control group, which ends with its power; in
     that each unit has one of its own, as systemd has it."""
 
-    def __init__(self, folder: Path, copied: Path | None = None) -> None:
+    def __init__(self, folder: Path, copied: Path | None = None, size: int = SIZE) -> None:
         folder.mkdir()
         self.group = groups() / f"world-{os.getpid()}-{folder.parent.name}-{time.monotonic_ns()}"
         self.group.mkdir()
@@ -54,7 +58,7 @@ class Disk:
             shutil.copy(copied, self.image)
         else:
             with self.image.open("wb") as file:
-                file.truncate(SIZE)
+                file.truncate(size)
             run("mkfs.ext4", "-q", "-F", "-m", "0", "-N", str(INODES), self.image)
         self.mount()
 
@@ -63,11 +67,9 @@ class Disk:
 
     def unmount(self) -> None:
         """What was killed has its files open for a moment still."""
-        for _ in range(200):
-            if subprocess.run(["umount", self.at], stderr=subprocess.DEVNULL, check=False).returncode == 0:
-                return
-            time.sleep(0.05)
-        raise OSError(f"{self.at} is used: {self.group}")
+        words = ["umount", str(self.at)]
+        wait_until(lambda: subprocess.run(words, stderr=subprocess.DEVNULL, check=False).returncode == 0,
+                   f"{self.at} isn't used by {self.group}: that")
 
     def begin(self, unit: str, words: Sequence[str | Path], **options: Any) -> subprocess.Popen[bytes]:
         """A process of a unit."""

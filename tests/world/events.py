@@ -14,7 +14,7 @@ from pathlib import Path
 
 import preload
 from computers import HERE, PROGRAM, Collector, Machine
-from disks import Disk
+from disks import COLLECTOR_SIZE, Disk
 from judge import Entry, acknowledged
 
 NAMES = ("web", "mail", "db-1")
@@ -40,7 +40,7 @@ class World:
         self.folder, self.dice = folder, random.Random(seed)
         self.library = clock_library(folder)
         home = self.at("collector")
-        self.collector = Collector(home, Disk(home / "disk"), self.clock_of(home))
+        self.collector = Collector(home, Disk(home / "disk", size=COLLECTOR_SIZE), self.clock_of(home))
         self.machines = [self.machine(name) for name in NAMES]
         self.collector.admit("evil")
         self.hostile: subprocess.Popen[bytes] | None = None
@@ -237,7 +237,7 @@ class World:
         databases = self.collector.data / "databases"
         for path in databases.glob("*.db"):
             if not path.with_name(path.name + ".sha256").exists():
-                path.write_bytes(b"x" * path.stat().st_size)
+                overwrite(path, b"x" * path.stat().st_size)
 
     def collector_hostile(self) -> None:
         self.end_hostile()
@@ -263,9 +263,9 @@ class World:
                 for each in folder.glob(f"{name}*"):
                     each.unlink()
             case "cut":
-                path.write_bytes(path.read_bytes()[:self.dice.randrange(path.stat().st_size + 1)])
+                os.truncate(path, self.dice.randrange(path.stat().st_size + 1))
             case _:
-                path.write_bytes(self.dice.randbytes(path.stat().st_size))
+                overwrite(path, self.dice.randbytes(path.stat().st_size))
 
     def set_clock(self, computer: Machine | Collector, seconds: int) -> None:
         """The program's clocks are wrong by so much from now on."""
@@ -281,3 +281,9 @@ class World:
     def risk(self) -> None:
         for machine in self.machines:
             self.at_risk |= acknowledged(machine)
+
+
+def overwrite(path: Path, data: bytes) -> None:
+    """In its place, for which a full disk has room."""
+    with path.open("r+b") as file:
+        file.write(data)

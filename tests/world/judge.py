@@ -2,12 +2,18 @@
 from __future__ import annotations
 
 import hashlib
+import io
 import subprocess
+import sys
 from collections import Counter
 from collections.abc import Iterator
+from pathlib import Path
 from typing import NamedTuple
 
 from computers import PROGRAM, Collector, Machine
+
+sys.path.append(str(Path(__file__).parents[1] / "shared"))
+from export_streams import pairs_of  # noqa: E402
 
 HEAD = 48
 
@@ -20,29 +26,9 @@ class Entry(NamedTuple):
     message: str
 
 
-def fields_of(text: bytes) -> Iterator[list[tuple[bytes, bytes]]]:
-    """The fields of each entry of an export stream."""
-    place = 0
-    fields: list[tuple[bytes, bytes]] = []
-    while place < len(text):
-        end = text.index(b"\n", place)
-        line, place = text[place:end], end + 1
-        if not line:
-            if fields:
-                yield fields
-            fields = []
-        elif b"=" in line:
-            name, _, value = line.partition(b"=")
-            fields.append((name, value))
-        else:
-            size = int.from_bytes(text[place:place + 8], "little")
-            fields.append((line, text[place + 8:place + 8 + size]))
-            place += 8 + size + 1
-
-
 def entries_of(text: bytes) -> Iterator[Entry]:
     """Keys are compared as numbers and ids, and fields in any order; a cursor says nothing that isn't in the key."""
-    for fields in fields_of(text):
+    for fields in pairs_of(io.BytesIO(text)):
         own = dict(fields)
         content = sorted(field for field in fields if field[0] not in (b"__CURSOR", b"__SEQNUM", b"__SEQNUM_ID"))
         yield Entry(own[b"__SEQNUM_ID"].decode().lower(), int(own[b"__SEQNUM"]),

@@ -1,0 +1,25 @@
+"""journal-collect-send under a clock that sleeping moves on, so an hour passes in seconds.
+
+What waits for other processes keeps the clock that it found when it was imported.
+"""
+import sys
+import time
+from pathlib import Path
+
+sys.path.insert(0, str(Path(__file__).resolve().parents[2] / "deploy"))
+from journalcollect.machine.run import main  # noqa: E402
+
+slept = 0.0
+monotonic, of_day, in_nanoseconds = time.monotonic, time.time, time.time_ns
+
+
+def sleep(seconds: float) -> None:
+    global slept
+    slept += seconds
+
+
+time.sleep = sleep
+time.monotonic = lambda: monotonic() + slept
+time.time = lambda: of_day() + slept
+time.time_ns = lambda: in_nanoseconds() + int(slept * 1e9)
+sys.exit(main())
