@@ -10,7 +10,7 @@ DOC := $(SHARE)/doc/journal-collect
 LIB := $(DESTDIR)$(PREFIX)/lib
 
 .DELETE_ON_ERROR:
-.PHONY: build help demo check files lint install uninstall deb test gate-times bench clean always
+.PHONY: build help demo check files contracts lint install uninstall deb test gate-times bench clean always
 
 build: $(PROGRAM) ## prove and build the program: the first goal, and make without one
 
@@ -25,6 +25,11 @@ check: ## prove the crates that changed, and what stands on them; with SINCE=REV
 
 files: ## what each file is about, by its own first sentence
 	@python3 -ESB tools/files.py
+
+contracts: ## what each contract promises, printed from the sources into build/CONTRACTS.md
+	@mkdir -p build
+	@python3 -ESB tools/contracts.py > build/CONTRACTS.md
+	@echo build/CONTRACTS.md
 
 lint: ## shell, Python and the layout of all texts; what isn't installed is told as skipped
 	@python3 -ESB tools/lint

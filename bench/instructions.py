@@ -2,10 +2,10 @@
 """Counts the instructions of programs: instructions.py ENTRIES PROGRAM.. or instructions.py --sequences PROGRAM..
 
 Each program collects one upload of entries with 24 fields into a new database, opens the database, collects the same
-upload again, and shows the first hundredth of the entries; with tables by key, and with tables by number. Valgrind
-counts the instructions, which are the same in each run, whatever else the machine does. The program `baseline` in
-bench/out, which `make bench` builds, may be one of them: it has tables by key alone, and no option for a part of the
-entries, so it shows all. With --sequences it counts what notes of sequences take, by the runs of notes.py.
+upload again, exports it, and shows the first hundredth of the entries; with tables of version 2, and of version 3.
+Valgrind counts the instructions, which are the same in each run, whatever else the machine does. The program `baseline`
+in bench/out, which `make bench` builds, may be one of them: it has tables of version 2 alone, and no option for a part
+of the entries, so it shows all. With --sequences it counts what notes of sequences take, by the runs of notes.py.
 """
 from __future__ import annotations
 
@@ -41,12 +41,14 @@ def count(program: str, entries: int, options: list[str]) -> None:
     size = os.path.getsize(database)
     opened = instructions([program, "collect", database, empty])
     again = instructions([program, "collect", database, upload])
+    exported = instructions([program, "export", database])
     shown = instructions([program, "show", database, *first])
     forget(database)
     print(f"{program} {' '.join(options)}, {entries:,} entries of 24 fields, in instructions")
     print(f"  collect into a new database    {collected:18,}")
     print(f"  opened, adopted and closed     {opened:18,}")
     print(f"  again, without the opening     {again - opened:18,}")
+    print(f"  export, with the opening       {exported:18,}")
     print(f"  show, without the opening      {shown - opened:18,}")
     print(f"  bytes of the database          {size:18,}", flush=True)
 

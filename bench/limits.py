@@ -14,6 +14,7 @@ import sys
 from measure import HERE, OUT, Run, forget, made, megabytes, output_of, say_machine
 
 sys.path.insert(0, os.path.join(HERE, "..", "tests"))
+from limit_table import USED  # noqa: E402
 from samples import HEAD, STREAM, head  # noqa: E402
 
 SOURCE = "a0a1a2a3a4a5a6a7a8a9aaabacadaeaf"
@@ -132,14 +133,14 @@ def measure_greatest(program: str) -> None:
         with open(path, "wb") as file:
             file.write(head(STREAM) + meta)
             for name in (b"A", b"B"):
-                file.write(name + b"=" + b"x" * ((1 << 24) - 1 + (over if name == b"A" else 0)) + b"\n")
+                file.write(name + b"=" + b"x" * (USED.entry // 2 - 1 + (over if name == b"A" else 0)) + b"\n")
             file.write(b"\n")
         forget(DATABASE)
-        say(f"collect an entry of 32 MiB and {over} bytes", Run([program, "collect", DATABASE, path], status=over))
+        say(f"collect an entry at its limit, and {over}", Run([program, "collect", DATABASE, path], status=over))
     forget(DATABASE)
     with open(path, "wb") as file:
-        file.truncate((1 << 30) + 1)
-    say("verify a file of 1 GiB and 1 byte", Run([program, "verify", "file", path], status=1))
+        file.truncate(USED.file + 1)
+    say("verify a file of a byte over its limit", Run([program, "verify", "file", path], status=1))
     os.remove(path)
 
 

@@ -15,7 +15,9 @@ typedef struct {
 } Draft;
 
 static const char *const known[KNOWN] = {"REALTIME_TIMESTAMP", "MONOTONIC_TIMESTAMP", "SEQNUM", "SEQNUM_ID"};
-static const uint64_t name_limit = 1024, value_limit = 16 << 20, fields_limit = 4096, entry_limit = 32 << 20;
+// run.py defines them, by the table of docs/FORMATS.md.
+static const uint64_t name_limit = NAME_LIMIT, value_limit = VALUE_LIMIT;
+static const uint64_t fields_limit = FIELDS_LIMIT, entry_limit = ENTRY_LIMIT;
 
 static void die(const char *what)
 {

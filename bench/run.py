@@ -6,7 +6,7 @@ journal file. Collecting: new databases of 1,000 to 100,000 entries with 20 fiel
 journal files, the same uploads again, and listings of what is stored; each in turn with the C baseline of baseline.c.
 What is in C is left out if it can't be built. An upload of 10,000 entries with 24 fields, in turn with the baseline and
 with systemd-journal-remote, if it is installed. `migrate` of databases of schema 1. Notes of sequences (notes.py). Each
-figure is the best of five runs. At the end the collector's service (service.py).
+figure is the best of five runs. What the collector's service takes is told by load.py.
 """
 from __future__ import annotations
 
@@ -17,6 +17,9 @@ from collections.abc import Sequence
 import notes
 from measure import HERE, OUT, Run, Runs, best, forget, interleaved, made, megabytes, output_of, say_machine
 
+sys.path.insert(0, os.path.join(HERE, "..", "tests"))
+from limit_table import USED  # noqa: E402
+
 STOCK = os.path.join(HERE, "..", "tests", "collect", "stock.py")
 ENTRIES = 100_000
 UPLOAD = 1_000
@@ -26,8 +29,9 @@ REMOTE = "/lib/systemd/systemd-journal-remote"
 def built(name: str, *libraries: str) -> str | None:
     """A program in C, or None if there is no C compiler or a library is missing."""
     path = os.path.join(OUT, name)
+    limits = [f"-D{limit.upper()}_LIMIT={most}" for limit, most in USED._asdict().items()]
     try:
-        Run(["cc", "-O2", "-o", path, os.path.join(HERE, f"{name}.c"), *libraries], errors="/dev/null")
+        Run(["cc", "-O2", *limits, "-o", path, os.path.join(HERE, f"{name}.c"), *libraries], errors="/dev/null")
     except OSError:
         needed = ", ".join(["stdio.h", *libraries])
         print(f"no {name}: cc or what it needs ({needed}) isn't here, so there are no ratios to it")
@@ -206,14 +210,6 @@ def measure_migrating(program: str) -> None:
     forget(database)
 
 
-def measure_service(program: str) -> None:
-    """What the collector's service takes beside the program. A process of its own measures it, which loads more."""
-    sys.stdout.flush()
-    words = [sys.executable, os.path.join(HERE, "service.py"), program, "--tables", "3"]
-    if os.spawnv(os.P_WAIT, sys.executable, words):
-        raise OSError("bench/service.py failed")
-
-
 def main() -> None:
     program = os.path.abspath(sys.argv[1])
     os.makedirs(OUT, exist_ok=True)
@@ -223,7 +219,6 @@ def main() -> None:
     measure_beside_remote(program)
     measure_migrating(program)
     notes.measure(program)
-    measure_service(program)
     print(f"load after: {' '.join(f'{load:.1f}' for load in os.getloadavg())}")
 
 

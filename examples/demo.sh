@@ -20,8 +20,9 @@ run() {
 
 run 'web=a0a1a2a3a4a5a6a7a8a9aaabacadaeaf'
 run 'journal-collect upload --source $web --resume resume export web.export > upload'
-run '(echo upload; sleep 5) | timeout --foreground -s KILL 3 journal-collect collect --files-from - logs.db || '\
-'echo killed'
+run 'journal-collect collect --files-from <(echo upload; sleep 60) logs.db > answers &'
+run 'until grep -s ack answers; do sleep 0.1; done; kill -KILL $!'
+wait $! 2> /dev/null || true    # bash says that it was killed
 run 'journal-collect collect logs.db upload | tee answers'
 run 'journal-collect ack --source $web --resume resume export web.export < answers'
 run 'journal-collect show logs.db'

@@ -1,32 +1,30 @@
-"""Prints docs/CONTRACTS.md: what each file of the crates is about, and what the contracts in it promise.
+"""Prints what each file of the crates is about, and what the contracts in it promise (`make contracts`).
 
-usage: python3 tools/contracts.py [--check]
+usage: python3 tools/contracts.py
 
 All of it stands in the sources: the first comment of each file, the comment of each function, the names of its clauses
-with the comments above them, and the comments of the definitions that a clause names. With --check nothing is written,
-and the status is 1 if the page isn't as it would be printed.
+with the comments above them, and the comments of the definitions that a clause names.
 """
 from __future__ import annotations
 
 import re
 import sys
 import textwrap
-from collections.abc import Iterator
+from collections.abc import Iterable, Iterator
 from dataclasses import dataclass, field
 from pathlib import Path
 
 ROOT = Path(__file__).resolve().parent.parent
 # Crates with contracts that need no definitions of their own.
 WITHOUT_SPECS = ("jc_cli", "jc_sequences")
-PAGE = "docs/CONTRACTS.md"
 WIDTH = 120
 HEAD = """\
 # The contracts
 
-`python3 tools/contracts.py` prints this page from the sources, and `tests/test-proofs-page.sh` compares the two: nobody
-writes it by hand. For each crate it has the files of `src/`, and for each function that others may call the clauses of
-its contract. Behind a clause stands its comment, and then the definitions that it names, each with its comment where it
-comes first in a crate. `docs/PROOFS.md` says how to read a claim, what its words mean, and what no contract says.
+Printed from the sources by `make contracts`. For each crate it has the files of `src/`, and for each function that
+others may call the clauses of its contract. Behind a clause stands its comment, and then the definitions that it names,
+each with its comment where it comes first in a crate. At the end stand the definitions that each theorem rests on.
+`docs/PROOFS.md` says how to read a claim, and which pages say what its words mean and what no contract says.
 
 `(unnamed)` is a contract with a single clause that has no name. *Here alone* says that a function is for its crate
 alone, and on the page since no public one says as much. *Asks* begins what a caller has to see to.
@@ -43,6 +41,8 @@ HERE_ALONE = {
     "jc_command": ("list_codes",),
     "jc_json": ("object_of_answer", "object_of_code", "object_of_entry"),
 }
+# Theorems, each with its crate and the files of definitions that its clauses name.
+THEOREMS = ("`run`", "jc_collect", ("Run",)), ("`World::run`", "jc_world", ("Kept", "Schedule", "World"))
 APOSTROPHE = "'s", "'"
 # Traits of the standard library that say nothing by themselves.
 SILENT = ("Model", "Drop")
@@ -50,6 +50,7 @@ BLOCK = re.compile(r"^(pub )?(impl|trait)\b(?:<(?:[^<>{]|<[^<>{]*>)*>)? ?(.*?)(?
 FUNCTION = re.compile(r"^\s*(pub(?:\(\w+\))? )?fn (\w+)")
 CLAUSE = re.compile(r"^\s*(ensures|requires)(?: (\w+))? \{|^\s*ghost (\w+) = ")
 IMPORT = re.compile(r"^\s*ghost use Rattle\.(jc_\w+)\.specs\.([\w.]+)\.\{([^}]*)\};", re.MULTILINE)
+USED = re.compile(r"^use Rattle\.(jc_\w+)\.specs\.([A-Z][\w.]*?)\.\{", re.MULTILINE)
 DEFINITION = re.compile(r"^(?:(?:abbrev|pub|record|data|opaque|instance) )*(\w+)\b.* :")
 
 
@@ -148,6 +149,11 @@ def read_module(path: Path) -> Module:
     return found
 
 
+def read_modules(folder: Path) -> list[Module]:
+    """What the files of a crate's `src/` have."""
+    return [read_module(path) for path in sorted(folder.glob("**/*.rt"))]
+
+
 def definitions_of(path: Path) -> dict[str, str]:
     """The definitions of a file of specs, each with its comment."""
     found, comment = {}, []
@@ -172,7 +178,7 @@ class Crate:
         self.name = name
         folder = ROOT / "crates" / name / "src"
         self.library = (folder / "lib.rt").read_text() if (folder / "lib.rt").exists() else ""
-        self.modules = [read_module(path) for path in sorted(folder.glob("**/*.rt"))]
+        self.modules = read_modules(folder)
         exports = " ".join(re.findall(r"^pub use ([^;]*);", self.library, re.MULTILINE))
         self.exported = set(re.findall(r"\w+", exports))
         self.open = set(re.findall(r"^pub mod (\w+);", self.library, re.MULTILINE))
@@ -291,25 +297,46 @@ def wrapped(text: str, indent: str) -> list[str]:
     return textwrap.wrap(text, WIDTH, subsequent_indent=indent, break_long_words=False, break_on_hyphens=False)
 
 
-def page() -> str:
-    """The page."""
+def definitions_below(crate: str, names: Iterable[str]) -> set[tuple[str, str]]:
+    """These files of definitions of a crate, and those that they use."""
+    found: set[tuple[str, str]] = set()
+    waiting = [(crate, name) for name in names]
+    while waiting:
+        crate, name = waiting.pop()
+        path = ROOT / "crates" / crate / "specs" / (name.replace(".", "/") + ".antt")
+        if (crate, name) not in found and path.exists():
+            found.add((crate, name))
+            waiting += USED.findall(path.read_text())
+    return found
+
+
+def rests_on() -> Iterator[str]:
+    """The files of definitions that each theorem rests on."""
+    yield from ("", "## What a theorem rests on", "")
+    for theorem, crate, names in THEOREMS:
+        below: dict[str, list[str]] = {}
+        for home, name in sorted(definitions_below(crate, names)):
+            below.setdefault(home, []).append(f"`{name}`")
+        told = "; ".join(f"{home}: {', '.join(files)}" for home, files in below.items())
+        yield from wrapped(f"- **{theorem} of {crate}**: {told}", "  ")
+
+
+def all_crates() -> list[Crate]:
+    """The crates whose contracts are printed, from the lowest up."""
     lines = (ROOT / "crates.txt").read_text().splitlines()
     listed = [line.split(":")[0] for line in lines if line[:1] not in ("", "#")]
-    crates = [Crate(name) for name in listed if (ROOT / "crates" / name / "specs").is_dir() or name in WITHOUT_SPECS]
-    printer = Printer(set().union(*(it.traits for it in crates)))
-    lines = [line for crate in crates for line in printer.crate(crate)]
-    return HEAD + "\n".join(lines) + "\n"
+    return [Crate(name) for name in listed if (ROOT / "crates" / name / "specs").is_dir() or name in WITHOUT_SPECS]
 
 
 def main(words: list[str]) -> int:
-    if words not in ([], ["--check"]):
+    if words:
         sys.exit(__doc__)
-    path, wanted = ROOT / PAGE, page()
-    if not words:
-        path.write_text(wanted)
-    elif not path.exists() or path.read_text() != wanted:
-        print(f"{PAGE} isn't as tools/contracts.py prints it: run python3 tools/contracts.py", file=sys.stderr)
-        return 1
+    crates = all_crates()
+    printer = Printer(set().union(*(it.traits for it in crates)))
+    print(HEAD, end="")
+    for crate in crates:
+        print("\n".join(printer.crate(crate)))
+    print("\n".join(rests_on()))
     return 0
 
 

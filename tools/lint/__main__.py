@@ -4,7 +4,7 @@ usage: python3 tools/lint [FOLDER]
 
 The checks are: `width`, lines of at most 120 characters; `blanks`, no tabs, no blanks at an end; `steps` of four blanks
 in shell; `types` at public functions of Python; `visible`, that an item of a library is `pub` if its `lib.rt` hands it
-on, and only then; `printed`, that docs/CONTRACTS.md is as tools/contracts.py prints it; `shell`, what shellcheck says;
+on, and only then; `shell`, what shellcheck says;
 `python`, what pyflakes says; `strict`, what mypy says of deploy/journalcollect and some tests; `layout`, what `rattle
 fmt` says, without which no crate is proved. What they pass over is in tools/lint/exceptions.txt of the folder. A line
 is printed for each mistake, and one that begins with `skipped:` for a program that isn't installed. The last line says
@@ -19,7 +19,6 @@ from collections.abc import Callable, Iterator
 from checked import mistakes_in_strict
 from exceptions import read_exceptions, without_exceptions
 from layout import mistakes_in_blanks, mistakes_in_steps, mistakes_in_width
-from printed import mistakes_in_printed
 from programs import PROGRAMS, mistakes_by
 from texts import Mistake, Text, texts_below
 from typed import mistakes_in_types
@@ -36,10 +35,9 @@ CHECKS: dict[str, Callable[[Text], Iterator[Mistake]]] = {
 def main(top: str) -> int:
     texts = list(texts_below(top))
     skipped: list[str] = []
-    made = {*CHECKS, "visible", "printed"}
+    made = {*CHECKS, "visible"}
     mistakes = [mistake for check in CHECKS.values() for text in texts for mistake in check(text)]
     mistakes += mistakes_in_visibility(texts)
-    mistakes += mistakes_in_printed(top)
     for program in PROGRAMS:
         before = len(skipped)
         mistakes += mistakes_by(program, top, texts, skipped.append)

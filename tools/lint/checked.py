@@ -11,7 +11,8 @@ from collections.abc import Callable
 from texts import Mistake
 
 # A folder, what mypy is given there, and where else it finds modules.
-STRICT = (("deploy", ("-p", "journalcollect"), "."), ("tests/world", (".",), ".."), ("tests/guide", (".",), "."))
+STRICT = (("deploy", ("-p", "journalcollect"), "."), ("tests/world", (".",), "..:../shared"),
+          ("tests/guide", (".",), ".."))
 LINE = re.compile(r"(?P<path>[^:]+):(?P<line>\d+): error: (?P<why>.*)")
 
 
