@@ -1,5 +1,6 @@
 """What a machine may not do: each bound is answered, told once, and holds up nobody else."""
 import contextlib
+import re
 import subprocess
 import time
 from pathlib import Path
@@ -186,7 +187,7 @@ def test_a_full_disk_loses_nothing_and_all_goes_on_when_it_has_room(collector: C
         while not answer.startswith("ack"):
             assert time.monotonic() < end + PATIENCE, answer
             answer = collector.send("web", upload(entries(A, range(first, first + 500), "x" * 300), 500))
-        assert answer == f"ack {ID} 0 500 500 0"
+        assert re.fullmatch(f"ack {ID} 0 500 (0|500) 0", answer), answer      # what was told later may be stored
         assert acknowledged >= 500
         assert collector.stop() == 0
         assert [number for _, number, _ in collector.stored()] == list(range(1, first + 500))
