@@ -23,20 +23,31 @@ if [[ $# -eq 0 ]]; then
     set -- tests/*/conftest.py
     set -- "${@%/conftest.py}"
 fi
-said=$(mktemp)
-trap 'rm -f "$said"' EXIT
+work=$(mktemp -d)
+said=$work/said
+trap 'rm -rf "$work"' EXIT
 export JOURNAL_COLLECT=$PROGRAM
 
-# how many are told so in the last line of a folder, which is pytest's own count
+# how many are told so in the last line of a run, which is pytest's own count
 count() { tail -n 1 "$said" | grep -oE "\\b[0-9]+ ($1)\\b" | awk '{ sum += $1 } END { print sum + 0 }'; }
+
+# Runs tests, and adds what passed.
+run() {
+    "${there[@]}" /usr/bin/python3 -B -m pytest -q -rfEs -o cache_dir="$work/cache" "$@" | tee "$said"
+    status=${PIPESTATUS[0]}
+    sed -n 's/^SKIPPED/skipped:/p' "$said"
+    passed=$((passed + $(count passed)))
+}
 passed=0
 failed=0
 # each folder by itself, since each has a conftest of its own
 for folder; do
-    "${there[@]}" /usr/bin/python3 -B -m pytest -q -rs -p no:cacheprovider "$folder" | tee "$said"
-    status=${PIPESTATUS[0]}
-    sed -n 's/^SKIPPED/skipped:/p' "$said"
-    passed=$((passed + $(count passed)))
+    run "$folder"
+    # on a slow machine some fail beside all others: they are run once more, by themselves, and that they failed is told
+    if [[ $status -eq 1 ]]; then
+        sed -nE 's/^(FAILED|ERROR)/failed once:/p' "$said"
+        run --last-failed "$folder"
+    fi
     of_folder=$(count 'failed|errors?')
     if [[ $status -ne 0 && $of_folder -eq 0 ]]; then
         echo "FAILED: $folder: status $status"

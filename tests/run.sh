@@ -127,7 +127,7 @@ count edits $edits
 count scripts $scripts
 count python $python
 
-# what no tool was there for, once more above the sum: it isn't among what passed
-grep -h '^skipped: ' "$work/scripts" "$work/python" | sort -u
+# once more above the sum: what no tool was there for, which isn't among what passed, and what passed at a second try
+grep -hE '^(skipped|failed once): ' "$work/scripts" "$work/python" | sort -u
 echo "$passed passed, $failed failed"
 [[ $failed -eq 0 ]]

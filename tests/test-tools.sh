@@ -46,12 +46,21 @@ done
 chmod 755 "$folder/slow/rt" "$gate/tests/test-nothing.sh" "$gate/crates/jc_cli/out/jc_cli"
 expect 0 "~*10 passed, 0 failed" "" env PATH="$folder/slow:$PATH" "$gate/tests/run.sh"
 
-# a folder of pytest's counts as pytest says, and once for a status that this doesn't explain
+# a folder of pytest's counts as pytest says, and once for a status that this doesn't explain; what fails is tried twice
 if /usr/bin/python3 -c 'import pytest' 2> /dev/null; then
     mkdir -p "$folder/fails" "$folder/broken"
-    printf 'def test_a():\n    pass\ndef test_b():\n    assert 0, "7 failed"\n' > "$folder/fails/test_it.py"
+    cat > "$folder/fails/test_it.py" << END
+def test_a():
+    pass
+def test_b():
+    assert 0, "7 failed"
+def test_c():
+    with open("$folder/tries", "a+") as tries:
+        print(file=tries)
+        assert tries.tell() > 1
+END
     echo 'import nothing' > "$folder/broken/conftest.py"
-    expect 1 "~*FAILED: $folder/broken: status 4"$'\n'"1 passed, 2 failed" "~ImportError*" \
+    expect 1 "~*failed once: *::test_c - *FAILED: $folder/broken: status 4"$'\n'"2 passed, 2 failed" "~ImportError*" \
         env PROGRAM="$real" bash tests/python.sh "$folder/fails" "$folder/broken"
 fi
 
