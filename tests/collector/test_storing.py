@@ -4,7 +4,16 @@ import os
 import signal
 import subprocess
 
+import pytest
 from conftest import Collector, entries, entry, sequence, upload
+from journalcollect.collector.recovery import Recovery
+from journalcollect.collector.settings import Folder, Settings
+from journalcollect.collector.state import State
+from journalcollect.collector.store import Store
+from journalcollect.collector.turns import Waiting
+from journalcollect.common import files
+from journalcollect.common.protocol import Answer
+from journalcollect.reading.present import Present
 from waiting import wait_until
 
 A, B = sequence("a"), sequence("b")
@@ -94,6 +103,25 @@ def test_many_that_wait_are_each_answered_with_their_own(collector: Collector) -
         assert machine.line() == f"ack {number:032x} 0 {number} {number} 0"
     assert collector.stop() == 0
     assert len(collector.stored()) == sum(range(1, 13))
+
+
+def test_an_answer_comes_last_and_whatever_else_fails(collector: Collector, monkeypatch: pytest.MonkeyPatch) -> None:
+    """With it the next upload may come, which has bounds, and the file of this one is closed."""
+    folder, settings, told = Folder(collector.folder), Settings(str(collector.folder)), list[bool]()
+    folder.make()
+    store = Store(settings, Recovery(settings, State(folder), -1, Present(collector.folder, print)))
+    with files.unnamed(folder.recent) as handle:
+        one = Waiting("web", handle, 5, path=folder.recent / "1.web")
+
+        def tell(*_: str) -> None:
+            told.append(one.reply.done())
+            raise OSError
+
+        monkeypatch.setattr(store.state, "tell", tell)
+        with pytest.raises(OSError):
+            store.answered(one, Answer(f"no {ID} 0 71 0"))
+    assert told == [False] and store.state.machine("web").bytes == 5
+    assert one.reply.result(0) == Answer(f"no {ID} 0 71 0")
 
 
 def test_a_machine_comes_by_nc_alone_and_one_without_a_key_doesn_t(collector: Collector) -> None:

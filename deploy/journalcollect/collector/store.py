@@ -234,22 +234,28 @@ class Store(threading.Thread):
         return True
 
     def answered(self, upload: Waiting, answer: Answer) -> None:
-        """What was answered is on the disk: whatever else fails costs no answer."""
+        """What was answered is on the disk: whatever else fails costs no answer. It comes last: who has it may send the
+        next upload, and closes this one's file."""
+        try:
+            self.account(upload, answer)
+        finally:
+            if answer.code == Code.READ_FAILED:
+                upload.put(Verdict.LATER, UNREADABLE)
+            else:
+                upload.reply.set_result(answer)
+
+    def account(self, upload: Waiting, answer: Answer) -> None:
+        """What an answer means to the present, to the bounds of a machine, and to people."""
         assert upload.path
-        if answer.new:
-            self.recovery.present.feed(upload.path)
-        else:
-            upload.path.unlink(missing_ok=True)
-            self.recent_bytes -= upload.size
-        if answer.code == Code.READ_FAILED:
-            upload.put(Verdict.LATER, UNREADABLE)
-        else:
-            upload.reply.set_result(answer)
         machine = self.state.saw(upload.machine)
         machine.bytes += upload.size
         machine.entries += answer.new
         if answer.new:
             machine.stored = time.time()
+            self.recovery.present.feed(upload.path)
+        else:
+            upload.path.unlink(missing_ok=True)
+            self.recent_bytes -= upload.size
         if not answer.is_ack:
             machine.refused += 1
             whose = self.whose(upload) if answer.code == Code.NOT_THE_OWNER else ""
