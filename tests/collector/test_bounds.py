@@ -125,11 +125,14 @@ def test_a_message_that_looks_like_many_entries_counts_for_none(collector: Colle
     assert collector.rows("SELECT id FROM sequence") == [(A,)]
 
 
-def test_what_ends_the_program_is_to_come_smaller_and_others_are_stored(collector: Collector, tmp_path: Path) -> None:
-    """A program that is ended by a signal of its own when an upload has a word."""
+@pytest.mark.parametrize("by", ["SIGSEGV", "SIGXCPU"])
+def test_what_ends_the_program_is_to_come_smaller_and_others_are_stored(
+        collector: Collector, tmp_path: Path, by: str) -> None:
+    """A program that is ended by a signal of its own, or for its time, when an upload has a word. It takes a while to
+    end, as where the disk is slow."""
     odd = tmp_path / "odd"
     odd.write_text(f"""#!/usr/bin/python3
-import os, signal, subprocess, sys
+import os, signal, subprocess, sys, time
 if sys.argv[1] != "collect" or sys.argv[-2] != "-":
     os.execv("{PROGRAM}", ["{PROGRAM}", *sys.argv[1:]])
 real = subprocess.Popen(["{PROGRAM}", *sys.argv[1:]], stdin=subprocess.PIPE)
@@ -137,8 +140,10 @@ for line in sys.stdin:
     if b"KILLER" in open(line.rstrip("\\n").partition("\\t")[2], "rb").read():
         real.kill()
         real.wait()
-        signal.signal(signal.SIGSEGV, signal.SIG_DFL)
-        os.kill(os.getpid(), signal.SIGSEGV)
+        os.close(1)
+        time.sleep(1)
+        signal.signal(signal.{by}, signal.SIG_DFL)
+        os.kill(os.getpid(), signal.{by})
     real.stdin.write(line.encode())
     real.stdin.flush()
 real.stdin.close()

@@ -64,7 +64,7 @@ class Process:
             while data:
                 data = data[self.process.stdin.write(data):]
         except OSError as error:
-            raise self.ended(str(error)) from error
+            raise self.ended(str(error), PATIENCE) from error
         for _ in uploads:
             yield self.answer()
 
@@ -88,15 +88,15 @@ class Process:
                 raise Ended(f"{self.path.name}: no answer for {PATIENCE:.0f} s")
             piece = os.read(self.process.stdout.fileno(), 1 << 16)
             if not piece:
-                raise self.ended("no answer")
+                raise self.ended("no answer", PATIENCE)
             self.output += piece
         line, _, self.output = self.output.partition(b"\n")
         return line.decode("ascii", "replace")
 
-    def ended(self, why: str) -> Ended:
-        """What is to be said of a process that failed; it is ended, if it isn't yet."""
+    def ended(self, why: str, seconds: float = 0.3) -> Ended:
+        """What is to be said of a process that failed, which has so long to end: how it does says what is to be done."""
         with contextlib.suppress(subprocess.TimeoutExpired):
-            self.process.wait(0.3)
+            self.process.wait(seconds)
         status = self.process.returncode
         return Ended(f"{self.path.name}: {why}: {self.said() or f'status {status}'}", max(0, -(status or 0)))
 
