@@ -70,8 +70,10 @@ def go(collector: Collector) -> None:
 
 
 def sent(collector: Collector, numbers: range) -> Machine:
+    """A machine whose upload waits for its turn."""
     machine = collector.connect("web")
     machine.put(upload(entries(A, numbers), len(numbers)))
+    wait_until(lambda: collector.ask("status")[0]["say"]["waiting"] == 1)   # type: ignore[index]
     return machine
 
 
@@ -97,7 +99,7 @@ def once_killed(collector: Collector) -> Path:
 @pytest.mark.parametrize("call", range(1, DATABASES + 1))
 def test_the_service_is_stopped_while_notes_are_made(emptied: Collector, call: int) -> None:
     wait = wait_for(emptied)
-    between(emptied, "/dev/null", {1: wait, call: f"{wait}; kill -TERM $PPID; sleep 1"})
+    between(emptied, "/dev/null", {1: wait, call: f"{wait}; kill -TERM $PPID; exec sleep 1000"})
     emptied.start()
     machine = sent(emptied, range(1, 10))
     go(emptied)
