@@ -4,6 +4,7 @@ import json
 import shutil
 import socket
 import subprocess
+import sys
 import threading
 import time
 from collections.abc import Iterator
@@ -18,10 +19,15 @@ from collecting import ROOT, Collector, Entry, Present, plain
 from waiting import PATIENCE, listens, wait_until
 
 PAGE = ROOT / "deploy" / "programs" / "journal-collect-page"
+# The page with another deadline of requests: on a computer that does much else one takes longer than people wait.
+PATIENT = f"""import runpy
+from journalcollect.reading import page
+page.SECONDS = {PATIENCE}
+runpy.run_path("{PAGE}", run_name="__main__")
+"""
 NAMES = ["2026-11-20T10-00-00", "2026-11-20T10-10-00", "2026-11-20T10-20-00"]
 HOSTILE = ["<script>window.broken = 1</script>", "<img src=x onerror='window.broken = 1'>", "\u202eright to left",
            "'\"><b id=bold>bold</b>", "javascript:alert(1)", "\x1b[2J\x07 moved", "</table></script><h1>head</h1>"]
-NOW = int(time.time()) * 1_000_000
 
 
 class Over(http.client.HTTPConnection):
@@ -39,11 +45,11 @@ class Over(http.client.HTTPConnection):
 class Served:
     """A page over a collector, which is also reached by a port."""
 
-    def __init__(self, collector: Collector, present: Present, folder: Path) -> None:
-        self.collector, self.present, self.path = collector, present, folder / "socket"
+    def __init__(self, collector: Collector, present: Present, folder: Path, now: int) -> None:
+        self.collector, self.present, self.path, self.now = collector, present, folder / "socket", now
         words = [f"--setenv={name}={value}" for name, value in collector.environment.items()]
-        self.process = subprocess.Popen(["systemd-socket-activate", f"--listen={self.path}", *words, PAGE, "--host",
-                                         "logs.example.org"], stderr=subprocess.DEVNULL)
+        self.process = subprocess.Popen(["systemd-socket-activate", f"--listen={self.path}", *words, sys.executable, "-B",
+                                         "-c", PATIENT, "--host", "logs.example.org"], stderr=subprocess.DEVNULL)
         wait_until(lambda: listens(self.path))
         self.listening = socket.create_server(("127.0.0.1", 0))
         self.url = f"http://localhost:{self.listening.getsockname()[1]}/"
@@ -93,21 +99,22 @@ def pump(a: socket.socket, b: socket.socket) -> None:
 @pytest.fixture
 def served(collector: Collector, tmp_path: Path) -> Iterator[Served]:
     """Sixty entries of two machines within the last hour, and hostile ones, in finished databases and the present."""
+    now = int(time.time()) * 1_000_000
     for place, name in enumerate(NAMES[:2]):
         for machine in ("web", "db"):
             collector.recent(name, [plain(machine, place * 15 + number, f"{machine} {place * 15 + number}",
-                                          NOW - (40 - place * 15 - number) * 60_000_000, PRIORITY=str(2 + number % 6),
+                                          now - (40 - place * 15 - number) * 60_000_000, PRIORITY=str(2 + number % 6),
                                           _SYSTEMD_UNIT=f"{'nginx' if number % 2 else 'cron'}.service")
                                     for number in range(1, 16)])
         collector.finish(name)
         shutil.rmtree(collector.path / "recent" / name)
     assert collector.make().returncode == 0
-    collector.recent(NAMES[2], [plain("web", 100 + number, message, NOW - 60_000_000 + number)
+    collector.recent(NAMES[2], [plain("web", 100 + number, message, now - 60_000_000 + number)
                                 for number, message in enumerate(HOSTILE)])
     present = Present(collector.path, print)
     present.start()
     wait_until(lambda: len(collector.messages("_COLLECTED_FROM=web")) >= 37)
-    one = Served(collector, present, tmp_path)
+    one = Served(collector, present, tmp_path, now)
     yield one
     one.end()
     present.stop()
@@ -124,15 +131,16 @@ def test_entries_come_newest_first_and_by_what_is_asked(served: Served) -> None:
     assert len(messages(served.json("entries", words="web 1"))) == 11
     critical = served.json("entries", match="_HOSTNAME=db.lan", priority=2, lines=9)
     assert messages(critical) == ["db 27", "db 21", "db 12", "db 6"]
-    found = served.json("entries", machine="db", since=NOW - 20 * 60_000_000, until=NOW - 15 * 60_000_000)
+    found = served.json("entries", machine="db", since=served.now - 20 * 60_000_000,
+                        until=served.now - 15 * 60_000_000)
     assert messages(found) == [f"db {number}" for number in range(25, 19, -1)]
     assert served.json("entries", lines=2)["has_more"] and not served.json("entries", lines=200)["has_more"]
 
 
 def test_the_histogram_counts_each_entry_once(served: Served) -> None:
-    told = served.json("histogram", since=NOW - 3_600_000_000, until=NOW)
+    told = served.json("histogram", since=served.now - 3_600_000_000, until=served.now)
     assert sum(map(sum, told["bars"])) == 60 + len(HOSTILE)
-    assert told["counted_from"] == told["since"] == NOW - 3_600_000_000
+    assert told["counted_from"] == told["since"] == served.now - 3_600_000_000
     assert sum(bar[2] for bar in told["bars"]) == 2 * (5 + 5)
 
 
@@ -247,7 +255,7 @@ def test_it_is_followed_live(opened: Browser, served: Served) -> None:
     opened.run("$('live').click()")
     wait_until(lambda: opened.run("$('live').getAttribute('aria-pressed')") == "true" and shown(opened) == before)
     for number in range(5):
-        served.feed(plain("db", 300 + number, f"live {number}", NOW))
+        served.feed(plain("db", 300 + number, f"live {number}", served.now))
         time.sleep(0.3)
     wait_until(lambda: len(shown(opened)) >= len(before) + 5)
     assert shown(opened) == [f"live {number}" for number in range(4, -1, -1)] + before
