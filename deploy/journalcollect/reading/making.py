@@ -177,7 +177,7 @@ class Maker:
     def clean(self) -> None:
         """What a run left that was stopped, and what has its place in a day."""
         shutil.rmtree(self.places.making, ignore_errors=True)
-        self.places.making.mkdir()
+        self.places.making.mkdir(exist_ok=True)        # what a run began that was killed may end later than it
         stands = {name for name, path in self.places.made().items() if path.parent == self.places.today}
         for path in self.places.today.iterdir():
             if (remote.stem(path) if path.suffix == ".journal" else path.stem) not in stands:
