@@ -129,7 +129,7 @@ def test_a_request_has_a_deadline_as_a_whole(forwarding: Forwarding, engine: Sta
     forwarding.database(NAMES[0], plain("web", 1, "m"))
     engine.drip = 0.2
     process = forwarding.start("--timeout", "1")
-    wait_until(lambda: engine.held == 2)
+    wait_until(lambda: engine.held >= 2)
     assert "no answer within 1 s" in forwarding.call("--status").stdout
     process.terminate()
     process.communicate(timeout=PATIENCE)

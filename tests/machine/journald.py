@@ -96,9 +96,9 @@ class Journald:
         return told.stdout.splitlines()
 
     def wait_for_message(self, text: str) -> None:
-        """Waits until it is the last one that journalctl shows."""
+        """Waits until journalctl shows it among the last ones: journald may have something to say itself."""
         end = time.monotonic() + SECONDS
-        while self.shown("--lines=1") != [text]:
+        while text not in self.shown("--lines=20"):
             self.look(end, text)
 
     def look(self, end: float, wanted: str) -> None:

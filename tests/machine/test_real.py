@@ -3,6 +3,7 @@ import os
 import subprocess
 import time
 from collections.abc import Iterator
+from contextlib import suppress
 from pathlib import Path
 
 import journald
@@ -32,8 +33,10 @@ def memory(process: int) -> int:
     """Bytes that a process has for itself, and its part of what it shares (Pss), with all that it began."""
     lines = Path(f"/proc/{process}/smaps_rollup").read_text().splitlines()
     own = int(next(line.split()[1] for line in lines if line.startswith("Pss:"))) << 10
-    children = Path(f"/proc/{process}/task/{process}/children").read_text().split()
-    return own + sum(memory(int(child)) for child in children)
+    for child in processes.children(process):
+        with suppress(OSError):                         # it may end meanwhile
+            own += memory(child)
+    return own
 
 
 def wait_for(what: str, collector: Collector) -> None:

@@ -10,6 +10,7 @@ from pathlib import Path
 import processes
 from disks import Disk
 from journals import Journal
+from waiting import PATIENCE
 
 HERE = Path(__file__).resolve().parent
 PROGRAMS = Path(os.environ.get("PROGRAMS", HERE.parents[1] / "deploy" / "programs"))
@@ -61,7 +62,7 @@ class Computer:
         status = None
         if self.process and self.is_running():
             self.process.send_signal(number)
-            status = self.process.wait(timeout=120)
+            status = self.process.wait(PATIENCE)
         self.disk.kill("service")
         return status
 
