@@ -125,6 +125,17 @@ def test_a_message_that_looks_like_many_entries_counts_for_none(collector: Colle
     assert collector.rows("SELECT id FROM sequence") == [(A,)]
 
 
+def test_the_program_has_bounds_of_memory_and_time(collector: Collector) -> None:
+    collector.admit("web")
+    collector.start()
+    assert collector.send("web", upload(entries(A, [1]), 1)) == f"ack {ID} 0 1 1 0"
+    [program] = collector.programs()
+    bounds = dict(re.findall(r"^(Max [a-z ]+?)  +(\w+)", Path(f"/proc/{program}/limits").read_text(), re.MULTILINE))
+    assert bounds["Max address space"] == str(1 << 30)
+    assert 60 < int(bounds["Max cpu time"]) < 70
+    assert collector.stop() == 0
+
+
 @pytest.mark.parametrize("by", ["SIGSEGV", "SIGXCPU"])
 def test_what_ends_the_program_is_to_come_smaller_and_others_are_stored(
         collector: Collector, tmp_path: Path, by: str) -> None:

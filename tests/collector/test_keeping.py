@@ -56,6 +56,22 @@ def test_the_clock_of_the_day_deletes_nothing(collector: Collector) -> None:
     assert collector.stop() == 0
 
 
+def test_each_day_all_databases_are_looked_at(collector: Collector) -> None:
+    """Nobody asks for it."""
+    collector.admit("web")
+    stored_by_a_run(collector, range(1, 4))
+    [path] = collector.databases()
+    path.write_bytes(path.read_bytes().replace(b"m2", b"M2"))
+    collector.start()
+    wait_until(collector.is_begun)
+    assert collector.stop() == 0
+    assert "isn't as it was finished" not in collector.said()
+    grow_older(collector, 1.5)
+    collector.start()
+    wait_until(lambda: f"{path} isn't as it was finished: restore it" in collector.said())
+    assert collector.stop() == 0
+
+
 def test_the_oldest_go_if_all_have_too_many_bytes(collector: Collector) -> None:
     collector.admit("web")
     for number in range(1, 4):

@@ -3,6 +3,7 @@ import hashlib
 import os
 import signal
 import subprocess
+import time
 
 import pytest
 from conftest import Collector, entries, entry, sequence, upload
@@ -151,6 +152,33 @@ def test_a_database_is_finished_by_age_and_a_digest_is_beside_it(collector: Coll
     assert collector.stop() == 0
     assert [len(path.name) > 0 for path in collector.databases()] == [True, True]
     assert collector.stored() == [(A, 1, b"m1"), (A, 2, b"m2")]
+
+
+def test_a_database_is_finished_by_size(collector: Collector) -> None:
+    collector.values["DATABASE_BYTES"] = "1"
+    collector.admit("web")
+    collector.start()
+    for number in (1, 2, 3):
+        assert collector.send("web", upload(entries(A, [number]), 1)) == f"ack {ID} 0 1 1 0"
+    assert collector.stop() == 0
+    assert len(collector.databases()) == 3
+    assert collector.stored() == [(A, number, b"m%d" % number) for number in (1, 2, 3)]
+
+
+def test_a_name_of_a_database_is_never_given_twice(collector: Collector) -> None:
+    """Databases of the next minutes were there and went, as where the clock is set back."""
+    collector.admit("web")
+    collector.start()
+    collector.ask("status")
+    assert collector.stop() == 0
+    gone = [time.strftime("%Y-%m-%dT%H-%M-%S", time.gmtime(time.time() + each)) for each in range(900)]
+    for name in gone:
+        collector.rows("INSERT INTO database(name, standing) VALUES(?, 'deleted')", name)
+    collector.start()
+    assert collector.send("web", upload(entries(A, [1]), 1)) == f"ack {ID} 0 1 1 0"
+    assert collector.stop() == 0
+    assert [path.stem[-2:] for path in collector.databases()] == ["-2"]
+    assert collector.stored() == [(A, 1, b"m1")]
 
 
 def test_who_waits_for_long_comes_again(collector: Collector) -> None:
