@@ -10,6 +10,7 @@ from pathlib import Path
 
 # What takes a moment may take as long as this on a computer that does much else.
 PATIENCE = 300.0
+GIVEN = set[int]()
 
 
 def wait_until(is_so: Callable[[], object], what: str = "it", seconds: float = PATIENCE) -> None:
@@ -26,9 +27,11 @@ def listens(at: Path | int) -> bool:
 
 
 def free_port() -> int:
-    """A port that is free, and below those that systems give to who asks for none."""
+    """A port that is free, that nobody here got before, and below those that systems give to who asks for none."""
     while True:
         port = random.randrange(10_000, 32_768)
         with socket.socket() as probe, suppress(OSError):
             probe.bind(("127.0.0.1", port))
-            return port
+            if port not in GIVEN:
+                GIVEN.add(port)
+                return port

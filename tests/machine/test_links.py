@@ -120,6 +120,6 @@ def test_a_collector_that_takes_nothing_for_an_hour(machine: Machine, collector:
     print(f"{held} uploads were told later in the hour; the first was taken {asked[held] - HOUR:.0f} s after it, the "
           f"new one {new - HOUR:.0f} s and the last {asked[-1] - HOUR:.0f} s after it")
     assert held < 80
-    assert asked[held] < HOUR + 60 and asked[-1] < HOUR + 600
+    assert asked[held] < HOUR + 120 and asked[-1] < HOUR + 600      # a pause is a minute at most, and then it looks
     assert new < HOUR + 120
     assert len(collector.messages()) == 41
