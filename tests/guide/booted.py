@@ -72,7 +72,8 @@ class Booted:
             f"lowerdir={system},upperdir={self.folder / 'upper'},workdir={self.folder / 'work'}", self.root)
         self.prepare()
         command: list[str | Path] = ["systemd-nspawn", "--quiet", "--directory", self.root, "--boot",
-                                    "--register=no", "--keep-unit", f"--machine={name}-{os.getpid()}", f"--hostname={name}",
+                                    "--register=no", "--keep-unit", f"--machine={name}-{os.getpid()}",
+                                    f"--hostname={name}",
                                     f"--network-namespace-path=/run/netns/{NETWORK}", "--resolv-conf=off",
                                     "--console=pipe", "--private-users=no"]
         self.process = subprocess.Popen(command, stdin=subprocess.DEVNULL, stdout=subprocess.DEVNULL,

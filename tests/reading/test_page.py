@@ -48,8 +48,9 @@ class Served:
     def __init__(self, collector: Collector, present: Present, folder: Path, now: int) -> None:
         self.collector, self.present, self.path, self.now = collector, present, folder / "socket", now
         words = [f"--setenv={name}={value}" for name, value in collector.environment.items()]
-        self.process = subprocess.Popen(["systemd-socket-activate", f"--listen={self.path}", *words, sys.executable, "-B",
-                                         "-c", PATIENT, "--host", "logs.example.org"], stderr=subprocess.DEVNULL)
+        words += [sys.executable, "-B", "-c", PATIENT, "--host", "logs.example.org"]
+        self.process = subprocess.Popen(["systemd-socket-activate", f"--listen={self.path}", *words],
+                                        stderr=subprocess.DEVNULL)
         wait_until(lambda: listens(self.path))
         self.listening = socket.create_server(("127.0.0.1", 0))
         self.url = f"http://localhost:{self.listening.getsockname()[1]}/"

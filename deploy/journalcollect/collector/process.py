@@ -94,7 +94,7 @@ class Process:
         return line.decode("ascii", "replace")
 
     def ended(self, why: str, seconds: float = 0.3) -> Ended:
-        """What is to be said of a process that failed, which has so long to end: how it does says what is to be done."""
+        """What is to be said of a process that failed. It has so long to end: how it does says what is to be done."""
         with contextlib.suppress(subprocess.TimeoutExpired):
             self.process.wait(seconds)
         status = self.process.returncode
