@@ -1,12 +1,13 @@
 """Machines, a collector and one hostile machine, in rounds of random events, and a judge of what came of it.
 
-usage: python3 tests/world [--rounds ROUNDS] [--seed SEED] [--only EVENT,..] [--keep]
+usage: python3 tests/world [--rounds ROUNDS] [--seed SEED] [--pace PACE] [--only EVENT,..] [--keep]
 
 Everything runs as it is installed, by its public commands: journal-collect-send with its service, the collector's
 service, and journal-collect-admin; PROGRAM names the proved program. Journals are real journal files. Each computer has
 a disk of its own, so power is lost by what had reached the disk. In the end faults cease, machines send what they have,
 and: what was acknowledged is in one database, with its key and content; nothing is stored twice; what a journal has is
-stored. It takes root, loop devices and systemd-journal-remote.
+stored. It takes root, loop devices and systemd-journal-remote. Up to a second passes before each event, and so many
+times as long as PACE says. What went wrong can be kept.
 """
 from __future__ import annotations
 
@@ -97,6 +98,7 @@ def main() -> int:
     parser = argparse.ArgumentParser(description=__doc__, formatter_class=argparse.RawDescriptionHelpFormatter)
     parser.add_argument("--rounds", type=int, default=60)
     parser.add_argument("--seed", type=int, default=random.randrange(1 << 32))
+    parser.add_argument("--pace", type=float, default=1.0)
     parser.add_argument("--only", default="")
     parser.add_argument("--keep", action="store_true")
     asked = parser.parse_args()
@@ -105,7 +107,7 @@ def main() -> int:
         print("skipped: the world takes root, loop devices and systemd-journal-remote")
         return 0
     print(f"world: --seed {asked.seed}", flush=True)
-    world = World(folder, asked.seed)
+    world = World(folder, asked.seed, asked.pace)
     if not world.library:
         print("skipped: clocks that are wrong, since the program can't be run with a library that sets them")
     if asked.only:
@@ -119,7 +121,7 @@ def main() -> int:
             computer.disk.kill()
         for each in wrong:
             print(f"WRONG: {each}")
-        if asked.keep:
+        if asked.keep and wrong:
             print(f"it is kept in {folder}")
         else:
             for computer in world.computers():

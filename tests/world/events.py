@@ -36,8 +36,8 @@ def clock_library(folder: Path) -> str:
 class World:
     """Machines, the collector, a hostile machine, and what was taken away from them."""
 
-    def __init__(self, folder: Path, seed: int) -> None:
-        self.folder, self.dice = folder, random.Random(seed)
+    def __init__(self, folder: Path, seed: int, pace: float) -> None:
+        self.folder, self.dice, self.pace = folder, random.Random(seed), pace
         self.library = clock_library(folder)
         home = self.at("collector")
         self.collector = Collector(home, Disk(home / "disk", size=COLLECTOR_SIZE), self.clock_of(home))
@@ -84,7 +84,7 @@ class World:
 
     def round(self) -> None:
         self.go_on()
-        time.sleep(self.dice.choice((0.05, 0.2, 0.5, 1.0)))
+        time.sleep(self.pace * self.dice.choice((0.05, 0.2, 0.5, 1.0)))
         event = self.dice.choice(self.events)
         self.counts[event.__name__] += 1
         with (self.folder / "events").open("a") as file:
