@@ -16,9 +16,10 @@ from waiting import wait_until
 
 # What isn't synced stays in memory: it isn't on the disk when the power goes.
 OPTIONS = "loop,noatime,commit=600,noauto_da_alloc"
-SIZE, INODES = 64 << 20, 16_000
-# What machines send, one of which is hostile, is there as databases and as journal files.
-COLLECTOR_SIZE = 2 * SIZE
+SIZE, INODES = 64 << 20, 2_000
+# What machines send, one of which is hostile, is there as databases and as journal files; and the service wants room
+# for 10,000 files more.
+COLLECTOR_SIZE, COLLECTOR_INODES = 2 * SIZE, 16_000
 
 
 def can_mount(folder: Path) -> bool:
@@ -47,7 +48,7 @@ class Disk:
     """An image and where it is mounted. Its computer's processes are in a control group, which ends with its power; in
     that each unit has one of its own, as systemd has it."""
 
-    def __init__(self, folder: Path, copied: Path | None = None, size: int = SIZE) -> None:
+    def __init__(self, folder: Path, copied: Path | None = None, size: int = SIZE, inodes: int = INODES) -> None:
         folder.mkdir()
         self.group = groups() / f"world-{os.getpid()}-{folder.parent.name}-{time.monotonic_ns()}"
         self.group.mkdir()
@@ -59,7 +60,7 @@ class Disk:
         else:
             with self.image.open("wb") as file:
                 file.truncate(size)
-            run("mkfs.ext4", "-q", "-F", "-m", "0", "-N", str(INODES), self.image)
+            run("mkfs.ext4", "-q", "-F", "-m", "0", "-N", str(inodes), self.image)
         self.mount()
 
     def mount(self) -> None:
@@ -140,12 +141,11 @@ class Disk:
 
     def take_inodes(self, left: int) -> None:
         """Another program makes all files that there can be but some."""
-        try:
-            (self.at / "files").mkdir(exist_ok=True)
+        name = self.at / "files" / str(time.monotonic_ns())
+        with contextlib.suppress(OSError):
+            name.parent.mkdir(exist_ok=True)
             for number in range(os.statvfs(self.at).f_favail - left):
-                (self.at / "files" / str(number)).touch()
-        except OSError:
-            pass
+                os.mknod(f"{name}-{number}")
 
     def free(self) -> None:
         (self.at / "filled").unlink(missing_ok=True)

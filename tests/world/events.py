@@ -14,7 +14,7 @@ from pathlib import Path
 
 import preload
 from computers import HERE, PROGRAM, Collector, Machine
-from disks import COLLECTOR_SIZE, Disk
+from disks import COLLECTOR_INODES, COLLECTOR_SIZE, Disk
 from judge import Entry, acknowledged
 
 NAMES = ("web", "mail", "db-1")
@@ -40,7 +40,8 @@ class World:
         self.folder, self.dice, self.pace = folder, random.Random(seed), pace
         self.library = clock_library(folder)
         home = self.at("collector")
-        self.collector = Collector(home, Disk(home / "disk", size=COLLECTOR_SIZE), self.clock_of(home))
+        self.collector = Collector(home, Disk(home / "disk", size=COLLECTOR_SIZE, inodes=COLLECTOR_INODES),
+                                   self.clock_of(home))
         self.machines = [self.machine(name) for name in NAMES]
         self.collector.admit("evil")
         self.hostile: subprocess.Popen[bytes] | None = None
