@@ -1,5 +1,6 @@
 """What people do on the collector."""
 import shutil
+import signal
 import subprocess
 from pathlib import Path
 
@@ -72,6 +73,28 @@ def test_a_renamed_machine_has_its_sequences(collector: Collector) -> None:
     assert collector.rows("SELECT id, machine FROM sequence") == [(A, "www")]
     assert [name for name, in collector.rows("SELECT name FROM machine")] == ["www"]
     assert "web" not in (collector.settings / "authorized_keys").read_text()
+
+
+def test_a_rename_that_is_killed_is_done_again(collector: Collector, tmp_path: Path) -> None:
+    """Notes have the new name already, and the key has the old one."""
+    odd = tmp_path / "odd"
+    odd.write_text(f'#!/bin/bash\n{PROGRAM} "$@" || exit\n[[ "$*" != *" --rename "* ]] || kill -KILL $PPID\n')
+    odd.chmod(0o755)
+    said(collector, "admit", "web", given=key("A"))
+    stored_by_a_run(collector, "web", range(1, 3))
+    collector.program = odd
+    collector.start()
+    wait_until(collector.is_begun)
+    assert collector.admin("rename", "web", "www").returncode
+    assert collector.ended() == -signal.SIGKILL
+    assert (collector.keys / "web.pub").exists()
+    collector.program = PROGRAM
+    collector.start()
+    wait_until(collector.is_begun)
+    said(collector, "rename", "web", "www")
+    assert collector.send("www", upload(entries(A, range(1, 4)), 3)) == f"ack {ID} 0 3 1 0"
+    assert collector.stop() == 0
+    assert collector.rows("SELECT id, machine FROM sequence") == [(A, "www")]
 
 
 def test_a_released_sequence_is_the_next_machine_s(collector: Collector) -> None:
