@@ -92,7 +92,7 @@ class Journald:
     def shown(self, *options: str) -> list[str]:
         """The messages that journalctl shows."""
         told = subprocess.run(["journalctl", "--quiet", "--output=cat", f"--directory={self.journal}", *options],
-                              capture_output=True, text=True, check=False)
+                              capture_output=True, text=True, errors="replace", check=False)
         return told.stdout.splitlines()
 
     def wait_for_message(self, text: str) -> None:
