@@ -28,8 +28,8 @@ from journals import REMOTE  # noqa: E402
 from judge import Entry, Judge, acknowledged  # noqa: E402
 from waiting import wait_until  # noqa: E402
 
-# An upload rests for up to 300 s.
-PATIENCE = 400.0
+# An upload rests for up to so many seconds; so long nothing may be acknowledged in the end.
+REST, PATIENCE = 300, 400.0
 
 
 def calm(world: World) -> list[str]:
@@ -58,12 +58,14 @@ def has_taken_up(collector: Collector) -> bool:
 
 
 def not_at_rest(world: World, machine: Machine) -> str:
-    """Nothing of it, if it sends all; what it says, if for a while nothing more was acknowledged."""
-    count, end = 0, 0.0
+    """Nothing of it, if it sends all; what it says, if for a while nothing more was acknowledged. Its clock goes on, so
+    nothing rests for long."""
+    count, end, clock = 0, 0.0, 0
     while True:
         if (now := len(list(machine.ledger.iterdir()))) > count:
             count, end = now, time.monotonic() + PATIENCE
         world.collector.start()
+        world.set_clock(machine, clock := clock + REST)
         told = machine.once()
         if told.returncode == 0:
             return ""
