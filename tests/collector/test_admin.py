@@ -34,7 +34,7 @@ def test_a_machine_is_admitted_under_one_name_and_retired(collector: Collector) 
     line = (collector.settings / "authorized_keys").read_text()
     assert line == (f'command="/usr/bin/nc.openbsd -NU {collector.folder}/sockets/web",restrict '
                     f'ssh-ed25519 AAAAC3NzaC1lZDI1NTE5AAAAI{"A" * 10}= web\n')
-    assert "key of web" in said(collector, "admit", "www", given=key("A", "another"), status=1)
+    assert "that of web" in said(collector, "admit", "www", given=key("A", "another"), status=1)
     said(collector, "admit", "-web", given=key("B"), status=2)
     said(collector, "admit", "../web", given=key("B"), status=1)
     said(collector, "admit", "web2", given='command="/bin/sh" ' + key("B"), status=1)
@@ -44,7 +44,6 @@ def test_a_machine_is_admitted_under_one_name_and_retired(collector: Collector) 
     said(collector, "retire", "web")
     assert standing.line() == ""
     assert (collector.settings / "authorized_keys").read_text() == ""
-    said(collector, "retire", "web", status=1)
     assert collector.stop() == 0
 
 
@@ -52,13 +51,82 @@ def test_a_folder_of_keys_is_admitted_and_again_changes_nothing(collector: Colle
     said(collector, "admit", f"{tmp_path}", status=1)
     for name, letter in (("db", "B"), ("web", "A")):
         (tmp_path / f"{name}.pub").write_text(f"{key(letter, 'root@somewhere')}\n")
-    assert said(collector, "admit", f"{tmp_path}") == "db may send\nweb may send\n"
+    assert said(collector, "admit", f"{tmp_path}") == "lets db in\nlets web in\n"
     admitted = (collector.settings / "authorized_keys").read_text()
     assert [line.split()[-1] for line in admitted.splitlines()] == ["db", "web"]
-    said(collector, "admit", f"{tmp_path}")
+    assert said(collector, "admit", f"{tmp_path}") == "nothing was to do: db, web may send\n"
     assert (collector.settings / "authorized_keys").read_text() == admitted
-    (tmp_path / "mail.pub").write_text("nothing\n")
+    for name, text in (("app", key("C")), ("mail", "nothing")):
+        (tmp_path / f"{name}.pub").write_text(f"{text}\n")
     assert "for mail" in said(collector, "admit", f"{tmp_path}", status=1)
+    (tmp_path / "mail.pub").write_text(key("C", "another"))
+    assert "that of app" in said(collector, "admit", f"{tmp_path}", status=1)
+    assert (collector.settings / "authorized_keys").read_text() == admitted
+
+
+def files_of(collector: Collector) -> dict[str, tuple[int, bytes]]:
+    """All that root keeps of machines: when each file was written, and what it has."""
+    paths = (path for path in collector.settings.rglob("*") if path.is_file() and path.suffix != ".conf")
+    return {str(path): (path.stat().st_mtime_ns, path.read_bytes()) for path in paths}
+
+
+def test_each_command_on_a_machine_says_what_it_would_do_and_called_again_changes_nothing(collector: Collector) -> None:
+    collector.admit("db")
+    stored_by_a_run(collector, "db", range(1, 3), B)
+    collector.start()
+    wait_until(collector.is_begun)
+    for words, given, does, again in (
+            (("admit", "web"), key("A"), "lets web in", "web may send"),
+            (("admit", "web"), key("B"), "replaces the key of web", "web may send"),
+            (("rename", "web", "www"), "", "renames web to www, with all that it sent", "www has a key, and web has"),
+            (("release", B), "", f"leaves {B} to the machine that brings", f"{B} is no machine's"),
+            (("retire", "www"), "", "lets www in no more", "www has no key")):
+        before = files_of(collector)
+        assert said(collector, *words, "--dry-run", given=given).startswith(f"would: {does}")
+        assert files_of(collector) == before
+        assert said(collector, *words, given=given).startswith(does)
+        before = files_of(collector)
+        for dry in ((), ("--dry-run",)):
+            assert said(collector, *words, *dry, given=given).startswith(f"nothing was to do: {again}")
+        assert files_of(collector) == before
+    assert collector.stop() == 0
+
+
+def test_what_sshd_reads_is_mended_by_the_next_call(collector: Collector) -> None:
+    said(collector, "admit", "web", given=key("A"))
+    path = collector.settings / "authorized_keys"
+    admitted = path.read_text()
+    path.write_text("")
+    assert said(collector, "admit", "web", given=key("A")) == f"writes {path}\n"
+    assert path.read_text() == admitted
+
+
+def test_no_machine_gets_the_name_of_another_one(collector: Collector) -> None:
+    for name, letter in (("web", "A"), ("mail", "B")):
+        said(collector, "admit", name, given=key(letter))
+    before = files_of(collector)
+    assert "mail has a key" in said(collector, "rename", "web", "mail", status=1)
+    assert "no key" in said(collector, "rename", "db", "www", status=1)
+    assert "can't be" in said(collector, "rename", "web", "../x", status=1)
+    stored_by_a_run(collector, "web", range(1, 3))
+    stored_by_a_run(collector, "mail", range(1, 3), B)
+    said(collector, "retire", "mail")
+    before = files_of(collector)
+    assert "mail is known" in said(collector, "rename", "web", "mail", status=1)
+    assert files_of(collector) == before
+
+
+def test_a_rename_that_was_killed_is_ended_by_the_next_one(collector: Collector) -> None:
+    said(collector, "admit", "web", given=key("A"))
+    stored_by_a_run(collector, "web", range(1, 3))
+    (collector.keys / "web.pub").rename(collector.keys / "web.renamed")
+    said(collector, "rename", "web", "www")
+    assert collector.rows("SELECT name FROM machine") == [("www",)]
+    # and one that had the service do it already
+    (collector.keys / "www.pub").rename(collector.keys / "web.renamed")
+    said(collector, "rename", "web", "www")
+    assert [path.name for path in collector.keys.iterdir()] == ["www.pub"]
+    assert collector.rows("SELECT name, entries FROM machine") == [("www", 2)]
 
 
 def test_a_renamed_machine_has_its_sequences(collector: Collector) -> None:
@@ -103,7 +171,7 @@ def test_a_released_sequence_is_the_next_machine_s(collector: Collector) -> None
     collector.start()
     assert collector.send("mail", upload(entries(A, [3]), 1)) == f"no {ID} 0 71 0"
     said(collector, "release", A)
-    said(collector, "release", B, status=1)
+    said(collector, "release", "b", status=1)
     assert collector.send("mail", upload(entries(A, [3]), 1)) == f"ack {ID} 0 1 1 0"
     assert collector.send("web", upload(entries(A, [4]), 1)) == f"no {ID} 0 71 0"
     assert collector.stop() == 0

@@ -12,10 +12,11 @@ from typing import Any
 
 from ..collector.settings import Folder, Settings
 from ..collector.settings import read as read_settings
-from ..common import files, names, program, settings
+from ..common import program, settings
 from ..reading import making
-from ..setup import keys
+from ..setup.deeds import Deeds
 from . import backup
+from .machines import Machines
 from .operations import No
 
 JOURNAL_FILE, FILE_ID = b"LPKSHHRH", slice(24, 40)
@@ -35,6 +36,7 @@ COMMANDS = {
     "passed": ("DAYS", "says that days went by while the collector was off"),
     "rebuild": ("", "makes anew what is known, and notes, of the databases"),
 }
+OF_MACHINES = ("admit", "retire", "rename", "release")
 
 
 def main(words: list[str] | None = None) -> int:
@@ -46,6 +48,10 @@ def main(words: list[str] | None = None) -> int:
     asked = parser().parse_args(words)
     try:
         chosen = read_settings()
+        if asked.do in OF_MACHINES:
+            Machines(settings.FOLDER, Folder(Path(chosen.folder)), Deeds(asked.dry_run),
+                     lambda do, words: list(asked_of(chosen, do, words))).do(asked.do, *asked.words)
+            return 0
         for line in done(chosen, asked.do, asked.words):
             print(line, flush=True)
     except settings.Wrong as error:
@@ -67,11 +73,14 @@ def parser() -> argparse.ArgumentParser:
     commands = made.add_subparsers(dest="do", required=True, metavar="COMMAND")
     commands.add_parser("setup", help="makes this computer a collector", add_help=False)
     for name, (of, does) in COMMANDS.items():
-        command = commands.add_parser(name, help=does, description=does)
+        command = commands.add_parser(name, help=f"{of}: {does}" if of else does, description=does)
         command.set_defaults(words=[])
         if of:
             count: int | str = "+" if ".." in of else len(of.split())
             command.add_argument("words", nargs=count, metavar=of.split()[-1].rstrip("."))
+    for name in OF_MACHINES:
+        commands.choices[name].add_argument("--dry-run", action="store_true",
+                                            help="say what would be done, and do nothing")
     commands.choices["rebuild"].add_argument("--journals", dest="words", nargs="?", action="append", const="",
                                              metavar="FOLDER", help="journal files, of another folder with databases")
     return made
@@ -79,18 +88,8 @@ def parser() -> argparse.ArgumentParser:
 
 def done(chosen: Settings, do: str, words: list[str]) -> Iterator[Any]:
     """What a command says."""
-    folder, etc = Folder(Path(chosen.folder)), settings.FOLDER
+    folder = Folder(Path(chosen.folder))
     match do, words:
-        case "admit", [name]:
-            for machine, key in brought(name):
-                yield admit(folder, etc, machine, key)
-        case "retire", [name]:
-            key_of(etc, name).unlink()
-            keys.write(etc, folder.sockets)
-            yield f"{name} is let in no more"
-        case "rename", [old, new]:
-            yield from renamed(chosen, etc, old, new)
-            keys.write(etc, folder.sockets)
         case "take", [name, *paths]:
             for path in map(Path, paths):
                 with upload_of(path) as handle:
@@ -110,53 +109,6 @@ def done(chosen: Settings, do: str, words: list[str]) -> Iterator[Any]:
                 raise No(f"not all journal files of {of} are made")
         case _:
             yield from asked_of(chosen, do, words)
-
-
-def key_of(etc: Path, name: str) -> Path:
-    """The key of a machine that has one."""
-    path = etc / "keys" / f"{name}.pub"
-    if not names.is_machine(name) or not path.exists():
-        raise No(f"{name} has no key in {path.parent}")
-    return path
-
-
-def brought(name: str) -> Iterator[tuple[str, str]]:
-    """A machine and its key, or those of a folder. No machine's name has a /."""
-    if "/" not in name:
-        yield name, sys.stdin.read().strip()
-        return
-    paths = sorted(Path(name).glob("*.pub"))
-    if not paths:
-        raise No(f"there is no NAME.pub in {name}")
-    for path in paths:
-        yield path.stem, path.read_text(errors="replace").strip()
-
-
-def admit(folder: Folder, etc: Path, name: str, key: str) -> str:
-    """Lets a machine in. No key is that of two machines."""
-    if not names.is_machine(name):
-        raise No(f"{name} can't be a machine's name: letters, digits, `.`, `_` and `-`, at most 64")
-    if not keys.KEY.fullmatch(key):
-        raise No(f"what is given for {name} isn't a public key")
-    for path in (etc / "keys").glob("*.pub"):
-        if path.stem != name and path.read_text().split()[:2] == key.split()[:2]:
-            raise No(f"this is the key of {path.stem}: each machine has a key of its own")
-    files.replace(etc / "keys" / f"{name}.pub", f"{key}\n".encode(), 0o644)
-    keys.write(etc, folder.sockets)
-    return f"{name} may send"
-
-
-def renamed(chosen: Settings, etc: Path, old: str, new: str) -> Iterator[Any]:
-    """A machine gets another name. Its key is taken away meanwhile, so that nothing comes under a wrong one."""
-    key = key_of(etc, old)
-    meanwhile = key.with_suffix(".renamed")
-    files.move(key, meanwhile)
-    try:
-        yield from asked_of(chosen, "rename", [old, new])
-    except BaseException:
-        files.move(meanwhile, key)
-        raise
-    files.move(meanwhile, etc / "keys" / f"{new}.pub")
 
 
 def upload_of(path: Path) -> Any:

@@ -15,7 +15,6 @@ from ..collector.keeping import Keeping
 from ..collector.store import Store
 from ..collector.turns import Waiting
 from ..common import files, names, program
-from ..common.protocol import HEX_ID
 
 PIECE = 1 << 20
 LIBRARY = Path(__file__).resolve().parents[2]
@@ -57,11 +56,6 @@ class Operations:
 
     def rename(self, old: str, new: str) -> Iterator[str]:
         """A machine has another name from now on. It has no key meanwhile, so its connections end."""
-        if not names.is_machine(new):
-            raise No(f"{new} can't be a machine's name")
-        if self.state.machine(new).seen:
-            raise No(f"{new} is known already")
-
         end = time.monotonic() + GONE_SECONDS
         while old in self.gate.count():
             if time.monotonic() > end:
@@ -73,15 +67,13 @@ class Operations:
             self.state.rename(old, new)
 
         self.store.alone(do)
-        yield f"{old} is {new} from now on"
+        return iter(())
 
     def release(self, sequence: str) -> Iterator[str]:
         """A sequence is nobody's, until a machine brings a new entry of it."""
-        if not HEX_ID.fullmatch(sequence) or sequence not in program.owners(self.folder.sequences):
-            raise No(f"{sequence} is no machine's")
         self.store.alone(lambda: program.release(self.folder.sequences, sequence))
         self.state.released(sequence)
-        yield f"{sequence} is the machine's that brings a new entry of it next"
+        return iter(())
 
     def take(self, machine: str, handle: int) -> Iterator[str]:
         """An upload that came by other means is stored, whatever its size and kind; the answer."""

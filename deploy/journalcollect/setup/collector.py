@@ -63,10 +63,7 @@ def folders(deeds: Deeds, etc: Path) -> None:
     deeds.folder(state, 0o751, "journal-collect", "journal-collect-read")
     deeds.folder(state / "sockets", 0o710, "journal-collect", LOGIN)
     deeds.folder(state / "journals", 0o750, "journal-collect", "journal-collect-read")
-    if not (etc / "authorized_keys").exists():
-        deeds.say(f"writes {etc / 'authorized_keys'}")
-        if not deeds.is_rehearsal:
-            keys.write(etc, state / "sockets")
+    deeds.write(etc / "authorized_keys", keys.text(etc, state / "sockets"))
 
 
 def bound_logins(deeds: Deeds) -> None:

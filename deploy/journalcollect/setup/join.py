@@ -1,7 +1,7 @@
 """`journal-collect-join HOST`: this machine sends its journal to the collector HOST. Called again it changes nothing.
 
 It makes a key, learns the collector's host keys, writes the settings, has the key admitted, and starts the service. The
-host keys are vouched for by the administrator's own ssh (--via), by a file (--host-keys), or by you, who compares them.
+host keys are vouched for by the administrator's own ssh (--via), by a file (--host-keys), or by you, who compare them.
 """
 import argparse
 import pwd
@@ -176,6 +176,6 @@ def told_by_login(via: str) -> str:
 def key_of(line: str) -> str:
     """The kind and the bytes of a public key, whether ssh-keygen wrote the line or ssh-keyscan."""
     for text in (line.strip(), line.strip().partition(" ")[2]):
-        if found := keys.KEY.fullmatch(text):
-            return found[1]
+        if key := keys.of_text(text):
+            return key
     return ""

@@ -14,14 +14,24 @@ def machines(etc: Path) -> list[str]:
     return sorted(path.stem for path in (etc / "keys").glob("*.pub") if names.is_machine(path.stem))
 
 
+def of_text(text: str) -> str:
+    """The kind and the bytes of a key; nothing of a text that is none."""
+    found = KEY.fullmatch(text.strip())
+    return found[1] if found else ""
+
+
+def of(path: Path) -> str:
+    """The key that a file has; nothing of one that isn't there, or has something else in it."""
+    return of_text(path.read_text(encoding="utf-8", errors="replace")) if path.exists() else ""
+
+
+def text(etc: Path, sockets: Path) -> str:
+    """What sshd reads. A machine's key opens the machine's own socket, and can do nothing else."""
+    whose = {name: of(etc / "keys" / f"{name}.pub") for name in machines(etc)}
+    return "".join(f'command="{NETCAT} -NU {sockets / name}",restrict {key} {name}\n'
+                   for name, key in whose.items() if key)
+
+
 def write(etc: Path, sockets: Path) -> None:
-    """Makes the file that sshd reads. A machine's key opens the machine's own socket, and can do nothing else."""
-    lines = [line(etc / "keys" / f"{name}.pub", sockets / name) for name in machines(etc)]
-    files.replace(etc / "authorized_keys", "".join(lines).encode(), mode=0o644)
-
-
-def line(path: Path, socket: Path) -> str:
-    """A line for one key; none for a file that has something else in it."""
-    text = path.read_text(encoding="utf-8", errors="replace").strip()
-    found = KEY.fullmatch(text)
-    return f'command="{NETCAT} -NU {socket}",restrict {found[1]} {path.stem}\n' if found else ""
+    """Makes the file that sshd reads."""
+    files.replace(etc / "authorized_keys", text(etc, sockets).encode(), mode=0o644)
