@@ -23,9 +23,9 @@ from .words import BEHIND, Call, Wrong
 HELP = """\
 Usage: journal-collect-search [OPTIONS..] [MATCHES..]
 
-What was collected, by journalctl: all its options for showing entries, and
+Shows what was collected, by journalctl. It takes journalctl's options for showing entries, its matches, and these:
 
-  -M --machine=NAME         of this machine, by the collector's name; `we*` is all that begin so; may be repeated
+  -M --machine=NAME         entries of this machine, by the collector's name; `we*`: all that begin so; may be repeated
      --list-machines        the machines, the first and last entry of each, and how far its clock is ahead
      --list-boots           the boots of each machine; -b counts the boots of each machine by itself
      --count-by=FIELD       how many entries have each value of a field (machine, unit, boot, priority: short names)
