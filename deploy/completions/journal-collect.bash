@@ -19,6 +19,9 @@ _journal_collect() {
     fi
     help=$("${asked[@]}" --help 2> /dev/null)
     COMPREPLY=()
+    # --machine=NAME is three words
+    [[ $word != = ]] || word=
+    [[ $before != = ]] || before=${COMP_WORDS[COMP_CWORD - 2]}
     if [[ $before == -M || $before == --machine ]]; then
         mapfile -t COMPREPLY < <(compgen -W "$("$program" --list-machines --no-pager 2> /dev/null |
             awk 'NR > 1 { print $1 }')" -- "$word")
@@ -28,7 +31,7 @@ _journal_collect() {
         help="${own[*]} $help"
         mapfile -t COMPREPLY < <(compgen -W "$(grep -oE -- '--[a-z][a-z-]*' <<< "$help" | sort -u)" -- "$word")
     elif [[ $first -gt 0 && $COMP_CWORD -eq $first ]]; then
-        commands=$(awk '/^(Commands:|  COMMAND$)/ { on = 1; next } /^$/ { on = 0 } on && /^ +[a-z]/ { print $1 }' \
+        commands=$(awk '/^(Commands:|  COMMAND$)/ { on = 1; next } /^$/ { on = 0 } on && /^  ? ? ?[a-z]/ { print $1 }' \
             <<< "$help")
         mapfile -t COMPREPLY < <(compgen -W "$commands" -- "$word")
     else

@@ -10,7 +10,7 @@ from typing import Any
 
 import machines
 import pytest
-from collecting import BEGIN, SEARCH, Collector, Entry, digits
+from collecting import BEGIN, ROOT, SEARCH, Collector, Entry, digits
 
 DAY = 86_400
 AT = BEGIN // 1_000_000
@@ -133,6 +133,28 @@ def test_machines(both: Both) -> None:
     assert (missing.returncode, missing.stdout) == (2, "") and "nobody" in missing.stderr
     table = collector.search("--list-machines", "--utc").stdout.splitlines()
     assert [line.split()[0] for line in table[1:]] == sorted(machines.NAMES)
+
+
+COMPLETION = """source "$1"; shift; COMP_WORDS=("$@"); COMP_CWORD=$(($# - 1)); word=${COMP_WORDS[COMP_CWORD]}
+_journal_collect "$1" "$word" "${COMP_WORDS[COMP_CWORD - 1]}"; printf '%s\\n' "${COMPREPLY[@]}" """
+
+
+@pytest.mark.parametrize("words, wanted", [
+    (["-M", "we"], ["web", "web2"]), (["-o", "json", "--machine", ""], machines.NAMES),
+    (["--machine", "="], machines.NAMES), (["--machine", "=", "d"], ["db"]), (["--list-m"], ["--list-machines"])])
+def test_machines_are_completed(both: Both, words: list[str], wanted: list[str]) -> None:
+    script = ROOT / "deploy/completions/journal-collect.bash"
+    done = subprocess.run(["bash", "-c", COMPLETION, "bash", script, SEARCH, *words], env=both[1].environment,
+                          capture_output=True, text=True, check=True)
+    assert sorted(done.stdout.split()) == sorted(wanted)
+
+
+def test_the_commands_of_people_are_completed() -> None:
+    script, admin = ROOT / "deploy/completions/journal-collect.bash", SEARCH.with_name("journal-collect-admin")
+    done = subprocess.run(["bash", "-c", COMPLETION, "bash", script, admin, ""], capture_output=True, text=True,
+                          check=True)
+    assert sorted(done.stdout.split()) == sorted(
+        "setup admit retire rename release take backup restore check head moved passed rebuild".split())
 
 
 def test_counts(both: Both) -> None:
