@@ -2,38 +2,36 @@
 
 usage: python3 tests/guide [--failures]
 
-Each block of docs/GUIDE.md whose fence says `sh collector` or `sh web` is run there, in the order of the page, as root.
-Then each event in a machine's and a collector's life is one command, after which journal-collect-status finds nothing;
-and each failure of a list is named by it, with what to do, on the side where it is mended. PROGRAM names the program.
-With --failures the events are left out. WEB_SYSTEM names a folder with another system for web, of debootstrap.
+Each block of docs/GUIDE.md, and each of docs/FORMATS.md whose fence names computers, is run there, in the order of the
+pages, as root. Then each event in a machine's and a collector's life is one command, after which journal-collect-status
+finds nothing; and each failure of a list is named by it, with what to do, on the side where it is mended. PROGRAM names
+the program. With --failures the events are left out. What lacks a program is told as skipped; `apt-get install
+clickhouse-client clickhouse-server exim4-daemon-light prometheus prometheus-node-exporter swatch` brings all of them.
+
+WEB_SYSTEM names a folder with another system for web. For Debian 13 it is made by `debootstrap --variant=minbase
+--include=dbus,netcat-openbsd,openssh-server,procps,python3,systemd-journal-remote,systemd-sysv,zstd trixie FOLDER`.
 """
 from __future__ import annotations
 
 import os
-import re
 import shutil
 import sys
 import tempfile
-import time
+from collections import Counter
+from collections.abc import Callable
 from pathlib import Path
 
 from booted import TESTS, Booted, Network, lacking, package
-from failures import FAILURES, SLOWS
-from life import EVENTS, purged
+from failures import FAILURES, SLOWS, Failure
+from life import EVENTS, Skipped, purged
+from pages import Wrong, type_all
 
 sys.path.insert(1, str(TESTS))
 import preload  # noqa: E402
 
-GUIDE = Path(__file__).resolve().parents[2] / "docs/GUIDE.md"
-BLOCK = re.compile(r"^```sh (\w+)\n(.*?)^```$", re.MULTILINE | re.DOTALL)
 LOGS = "journalctl -n 30 -u 'journal-collect*' -u ssh -o short --no-pager"
 # what was told within the day: it says what happened, and nothing is to be done
 NEWS = ("told", "lost", "refused", "notes")
-FIRST_SECONDS, READING = 600.0, "journal-collect-search -M web -n 20"
-
-
-class Wrong(Exception):
-    """What isn't as the guide says."""
 
 
 def prepare(collector: Booted, web: Booted) -> None:
@@ -47,30 +45,44 @@ def prepare(collector: Booted, web: Booted) -> None:
     web.shell("".join(f"echo 'logs.example.org {line}' >> /root/.ssh/known_hosts\n" for line in hosts.splitlines()))
 
 
-def type_blocks(computers: dict[str, Booted]) -> None:
-    """Each block of the guide, at the computer that it names."""
-    began = time.monotonic()
-    for name, block in BLOCK.findall(GUIDE.read_text()):
-        told = computers[name].shell(block)
-        while READING in block and told.returncode and time.monotonic() - began < FIRST_SECONDS:
-            time.sleep(1.0)                     # what was acknowledged can be read within seconds
-            told = computers[name].shell(block)
-        said = (told.stdout + told.stderr).decode(errors="replace")
-        print(f"{name}$ {block}{said}", flush=True)
-        if told.returncode:
-            raise Wrong(f"{name}: status {told.returncode}: {block}{said}")
-        if "journal-collect-join" in block and not said.rstrip().endswith("web sends to logs.example.org"):
-            raise Wrong(f"join: {said}")
-        if READING in block:
-            if not said.strip():
-                raise Wrong("nothing of web can be read")
-            if time.monotonic() - began > FIRST_SECONDS:
-                raise Wrong("the first entries took too long")
-
-
 def is_well(computer: Booted) -> None:
     """Nothing wrong is said, at the latest after a while, but for what was told of the day."""
     computer.wait_for(lambda: all(each["name"] in NEWS for each in computer.findings()), "nothing to look at")
+
+
+def tried(counts: Counter[str], name: str, deed: Callable[[], object]) -> None:
+    """One part, which counts as passed, failed or skipped."""
+    print(name, flush=True)
+    try:
+        deed()
+        counts["passed"] += 1
+    except Skipped as why:
+        print(f"skipped: {name}: {why}")
+    except (AssertionError, Wrong, TimeoutError) as error:
+        counts["failed"] += 1
+        print(f"WRONG: {name}: {error}")
+
+
+def tried_all(collector: Booted, web: Booted, events: list[Callable[[Booted, Booted], None]],
+              failures: list[Failure]) -> Counter[str]:
+    """The guide, events, failures, and the end."""
+    counts: Counter[str] = Counter()
+
+    def well_after(event: Callable[[Booted, Booted], None]) -> None:
+        event(collector, web)
+        is_well(collector)
+        is_well(web)
+
+    tried(counts, "the guide", lambda: type_all({"collector": collector, "web": web}))
+    if counts["failed"]:
+        print(f"{collector.shell(LOGS).stdout.decode()}{web.shell(LOGS).stdout.decode()}")
+        return counts
+    for event in events:
+        tried(counts, f"event: {event.__doc__}", lambda: well_after(event))
+    for failure in failures:
+        tried(counts, f"failure: {failure.name}", lambda: well_after(failure.is_found))
+    tried(counts, "a purge", lambda: purged(collector, web))
+    return counts
 
 
 def main() -> int:
@@ -78,48 +90,21 @@ def main() -> int:
         print(f"skipped: the guide isn't typed: {why}")
         return 0
     folder = Path(tempfile.mkdtemp(prefix="guide-"))
-    wrong, events, system = 0, [] if "--failures" in sys.argv else EVENTS, os.environ.get("WEB_SYSTEM", "/")
+    events, failures = [] if "--failures" in sys.argv else EVENTS, FAILURES
     first, later = package(folder / "first"), package(folder / "later", "0.1.0+later")
-    with Network(), Booted(folder, "collector", first) as collector, Booted(folder, "web", first, system) as web:
+    with Network(), Booted(folder, "collector", first) as collector, \
+            Booted(folder, "web", first, os.environ.get("WEB_SYSTEM", "/")) as web:
         prepare(collector, web)
-        computers = {"collector": collector, "web": web}
-        for computer in computers.values():
+        for computer in (collector, web):
             shutil.copy(later, computer.root / "root/later.deb")
         if shutil.which("rt"):
             shutil.copy(preload.built(str(TESTS / "world/clock.c"), str(folder)), web.root / "usr/lib/clock.so")
-        failures = [each for each in FAILURES if each.begin != SLOWS or shutil.which("rt")]
-        try:
-            type_blocks(computers)
-        except (Wrong, TimeoutError) as error:
-            print(f"WRONG: {error}\n{collector.shell(LOGS).stdout.decode()}{web.shell(LOGS).stdout.decode()}")
-            return 1
-        for event in events:
-            print(f"event: {event.__doc__}", flush=True)
-            try:
-                event(collector, web)
-                is_well(collector)
-                is_well(web)
-            except (AssertionError, TimeoutError) as error:
-                wrong += 1
-                print(f"WRONG: {event.__name__}: {error}")
-        for failure in failures:
-            print(f"failure: {failure.name}", flush=True)
-            try:
-                with failure.happens(collector, web):
-                    side = computers[failure.side]
-                    side.wait_for(lambda: failure.is_named(side.findings()), failure.finding)
-                is_well(collector)
-                is_well(web)
-            except (AssertionError, TimeoutError) as error:
-                wrong += 1
-                print(f"WRONG: {failure.name}: {error}")
-        try:
-            purged(collector, web)
-        except AssertionError as error:
-            wrong += 1
-            print(f"WRONG: purged: {error}")
-    print(f"{len(events) + len(failures) + 2 - wrong} passed, {wrong} failed")
-    return 1 if wrong else 0
+        else:
+            print("skipped: no clock of the guide's computers is set behind: there is no rt, which builds what does it")
+            failures = [each for each in FAILURES if each.begin != SLOWS]
+        counts = tried_all(collector, web, events, failures)
+    print(f"{counts['passed']} passed, {counts['failed']} failed")
+    return 1 if counts["failed"] else 0
 
 
 if __name__ == "__main__":

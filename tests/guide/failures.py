@@ -32,6 +32,12 @@ class Failure:
             does(computer, self.end)
             does(web, "logger -t guide something new")
 
+    def is_found(self, collector: Booted, web: Booted) -> None:
+        """Status names it while it lasts."""
+        side = collector if self.side == "collector" else web
+        with self.happens(collector, web):
+            side.wait_for(lambda: self.is_named(side.findings()), self.finding)
+
     def is_named(self, found: list[dict[str, object]]) -> bool:
         return any(each["name"] == self.finding and self.remedy in str(each["remedy"]) for each in found)
 

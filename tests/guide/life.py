@@ -13,6 +13,20 @@ def event(function: Callable[[Booted, Booted], None]) -> Callable[[Booted, Boote
     return function
 
 
+class Skipped(Exception):
+    """Why an event can't happen here."""
+
+
+def lacks(computer: Booted, program: str) -> bool:
+    return computer.shell(f"command -v {program}").returncode != 0
+
+
+def needs(computer: Booted, *programs: str) -> None:
+    for program in programs:
+        if lacks(computer, program):
+            raise Skipped(f"There is no {program}.")
+
+
 def does(computer: Booted, command: str) -> str:
     """A command that ends well; what it says."""
     told = computer.shell(command)
@@ -46,10 +60,16 @@ def called_again(collector: Booted, web: Booted) -> None:
 
 @event
 def rehearsed(collector: Booted, web: Booted) -> None:
-    """With --dry-run nothing is done."""
-    before = does(web, "sha256sum /etc/journal-collect/key")
+    """With --dry-run nothing is done, and what would be is said."""
+    keys = "find /etc/journal-collect -type f | xargs sha256sum"
+    before = does(web, keys), does(collector, keys)
+    sequence = does(collector, "ls /var/lib/journal-collect/sequences | grep -xE '[0-9a-f]{32}' | head -n 1").strip()
     assert "would: " in does(web, "journal-collect-join --dry-run --new-key logs.example.org")
-    assert before == does(web, "sha256sum /etc/journal-collect/key")
+    for command in ("admit web < /root/.ssh/authorized_keys", "rename web www", f"release {sequence}", "retire web"):
+        said = does(collector, f"journal-collect-admin {command.replace(' ', ' --dry-run ', 1)}")
+        assert said.startswith("would: "), said
+    assert before == (does(web, keys), does(collector, keys))
+    arrives(collector, web)
 
 
 @event
@@ -155,11 +175,10 @@ def read_by_a_group(collector: Booted, web: Booted) -> None:
 
 @event
 def mailed(collector: Booted, web: Booted) -> None:
-    """swatchdog mails what matches a rule, if it and something that takes mail are installed."""
-    if collector.shell("command -v swatchdog sendmail").returncode:
-        return
+    """swatchdog mails what matches a rule."""
+    needs(collector, "swatchdog", "sendmail")
     does(collector, "cp /usr/share/doc/journal-collect/examples/alarms.swatch /etc/journal-collect && "
-         "systemctl enable -q --now journal-collect-alarm")
+         "systemctl restart journal-collect-alarm")
     collector.wait_for(lambda: collector.call("pgrep", "-f", "journalctl.*present").stdout, "an alarm that follows")
     does(web, "logger -t guide segfault at 0")
     # exim4 has another user take root's mails
@@ -168,16 +187,34 @@ def mailed(collector: Booted, web: Booted) -> None:
     does(collector, "systemctl disable -q --now journal-collect-alarm; rm /etc/journal-collect/alarms.swatch")
 
 
+def fetched(computer: Booted, url: str) -> str:
+    """What a server there answers; nothing as long as it doesn't."""
+    read = "import sys, urllib.request as r; print(r.urlopen(sys.argv[1]).read().decode())"
+    return computer.call("python3", "-c", read, url).stdout.decode(errors="replace")
+
+
 @event
 def scraped(collector: Booted, web: Booted) -> None:
-    """node_exporter has the figures, if it is installed."""
-    if collector.shell("command -v prometheus-node-exporter").returncode:
-        return
-    does(collector, "systemctl start prometheus-node-exporter journal-collect-status.service")
-    read = "import urllib.request as r; print(r.urlopen('http://localhost:9100/metrics').read().decode())"
-    collector.wait_for(lambda: b'journal_collect_machine_entries_total{machine="web"}'
-                       in collector.call("python3", "-c", read).stdout, "figures")
-    does(collector, "systemctl stop prometheus-node-exporter")
+    """node_exporter has the figures, Prometheus reads them, and its rules find what status finds."""
+    needs(collector, "prometheus-node-exporter", "prometheus")
+    does(collector, "systemctl enable -q --now journal-collect-status.timer; systemctl start prometheus-node-exporter")
+    collector.wait_for(lambda: 'journal_collect_machine_entries_total{machine="web"}'
+                       in fetched(collector, "http://localhost:9100/metrics"), "figures")
+    (collector.root / "root/prometheus.yml").write_text(
+        "global: {scrape_interval: 1s, evaluation_interval: 1s}\n"
+        "rule_files: [/usr/share/doc/journal-collect/examples/alerts.yml]\n"
+        "scrape_configs: [{job_name: node, static_configs: [{targets: ['localhost:9100']}]}]\n")
+    does(collector, "systemd-run -q --unit=watching prometheus --config.file=/root/prometheus.yml "
+         "--storage.tsdb.path=/root/prometheus; systemctl stop journal-collect")
+    alerts = "http://localhost:9090/api/v1/alerts"
+    collector.wait_for(lambda: '"alertname":"JournalCollectFailed"' in (told := fetched(collector, alerts))
+                       and '"name":"service"' in told, "an alert")
+    rules = fetched(collector, "http://localhost:9090/api/v1/rules")
+    assert rules.count('"health":"ok"') >= 4 and '"health":"err"' not in rules, rules
+    assert "JournalCollectStatusStale" not in fetched(collector, alerts)
+    does(collector, "systemctl start journal-collect; systemctl stop watching prometheus-node-exporter; "
+         "systemctl disable -q --now journal-collect-status.timer")
+    arrives(collector, web)
 
 
 @event
