@@ -92,6 +92,13 @@ def test_each_command_on_a_machine_says_what_it_would_do_and_called_again_change
     assert collector.stop() == 0
 
 
+def test_a_computer_that_is_no_collector_stays_as_it_is(collector: Collector) -> None:
+    collector.keys.rmdir()
+    for name in ("admit", "retire"):
+        assert "setup makes it one" in said(collector, name, "web", given=key("A"), status=1)
+    assert files_of(collector) == {}
+
+
 def test_what_sshd_reads_is_mended_by_the_next_call(collector: Collector) -> None:
     said(collector, "admit", "web", given=key("A"))
     path = collector.settings / "authorized_keys"

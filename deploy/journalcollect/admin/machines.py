@@ -22,6 +22,8 @@ class Machines:
 
     def do(self, name: str, *words: str) -> None:
         """Does what has this name. Each says how it stands where nothing was to do."""
+        if not (self.etc / "keys").is_dir():
+            raise No("this is no collector: journal-collect-admin setup makes it one")
         known: dict[str, Callable[..., str]] = {
             "admit": self.admit, "retire": self.retire, "rename": self.rename, "release": self.release}
         stands = known[name](*words)

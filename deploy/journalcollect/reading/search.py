@@ -23,7 +23,7 @@ from .words import BEHIND, Call, Wrong
 HELP = """\
 Usage: journal-collect-search [OPTIONS..] [MATCHES..]
 
-Shows what was collected, by journalctl. It takes journalctl's options for showing entries, its matches, and these:
+Shows what was collected, by journalctl. It takes journalctl's matches and options for showing entries, and those below.
 
   -M --machine=NAME         entries of this machine, by the collector's name; `we*`: all that begin so; may be repeated
      --list-machines        the machines, the first and last entry of each, and how far its clock is ahead
