@@ -85,12 +85,8 @@ def tried_all(collector: Booted, web: Booted, events: list[Callable[[Booted, Boo
     return counts
 
 
-def main() -> int:
-    if why := lacking():
-        print(f"skipped: the guide isn't typed: {why}")
-        return 0
-    folder = Path(tempfile.mkdtemp(prefix="guide-"))
-    events, failures = [] if "--failures" in sys.argv else EVENTS, FAILURES
+def tried_in(folder: Path, events: list[Callable[[Booted, Booted], None]]) -> Counter[str]:
+    """All of it, over computers whose disks are in a folder."""
     first, later = package(folder / "first"), package(folder / "later", "0.1.0+later")
     with Network(), Booted(folder, "collector", first) as collector, \
             Booted(folder, "web", first, os.environ.get("WEB_SYSTEM", "/")) as web:
@@ -99,10 +95,17 @@ def main() -> int:
             shutil.copy(later, computer.root / "root/later.deb")
         if shutil.which("rt"):
             shutil.copy(preload.built(str(TESTS / "world/clock.c"), str(folder)), web.root / "usr/lib/clock.so")
-        else:
-            print("skipped: no clock of the guide's computers is set behind: there is no rt, which builds what does it")
-            failures = [each for each in FAILURES if each.begin != SLOWS]
-        counts = tried_all(collector, web, events, failures)
+            return tried_all(collector, web, events, FAILURES)
+        print("skipped: no clock of the guide's computers is set behind: there is no rt, which builds what does it")
+        return tried_all(collector, web, events, [each for each in FAILURES if each.begin != SLOWS])
+
+
+def main() -> int:
+    if why := lacking():
+        print(f"skipped: the guide isn't typed: {why}")
+        return 0
+    with tempfile.TemporaryDirectory(prefix="guide-") as folder:
+        counts = tried_in(Path(folder), [] if "--failures" in sys.argv else EVENTS)
     print(f"{counts['passed']} passed, {counts['failed']} failed")
     return 1 if counts["failed"] else 0
 
