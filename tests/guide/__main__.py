@@ -57,7 +57,7 @@ def tried(counts: Counter[str], name: str, deed: Callable[[], object]) -> None:
         deed()
         counts["passed"] += 1
     except Skipped as why:
-        print(f"skipped: {name}: {why}")
+        print(f"skipped: {name} {why}")
     except (AssertionError, Wrong, TimeoutError) as error:
         counts["failed"] += 1
         print(f"WRONG: {name}: {error}")

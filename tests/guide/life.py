@@ -1,6 +1,7 @@
 """Events in a machine's and a collector's life, each by one command, as the guide has them."""
 from __future__ import annotations
 
+import re
 from collections.abc import Callable
 
 from booted import Booted
@@ -85,6 +86,20 @@ def reinstalled(collector: Booted, web: Booted) -> None:
     """A machine lost its folder, its key and its settings, and joins again."""
     does(web, "systemctl stop journal-collect-send; rm -rf /var/lib/journal-collect-send /etc/journal-collect")
     does(web, "journal-collect-join --via root@logs.example.org logs.example.org")
+    arrives(collector, web)
+
+
+@event
+def joined_by_hand(collector: Booted, web: Booted) -> None:
+    """A machine that has no login at the collector joins: host keys are compared, and what it prints admits its key."""
+    does(web, "systemctl stop journal-collect-send; rm -r /etc/journal-collect")
+    told = web.shell("echo yes | journal-collect-join logs.example.org")
+    said = told.stdout.decode()
+    assert told.returncode == 1, told
+    keys = does(collector, "journal-collect-admin setup").partition("to compare:\n")[2].splitlines()
+    assert keys and all(key.split()[1] in said for key in keys), f"{keys}: {said}"
+    [line] = re.findall(r"^on logs.example.org, as root:\n  (.*)$", said, re.MULTILINE)
+    does(collector, line)
     arrives(collector, web)
 
 
