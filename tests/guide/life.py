@@ -193,7 +193,7 @@ def mailed(collector: Booted, web: Booted) -> None:
     """swatchdog mails what matches a rule."""
     needs(collector, "swatchdog", "sendmail")
     does(collector, "cp /usr/share/doc/journal-collect/examples/alarms.swatch /etc/journal-collect && "
-         "systemctl restart journal-collect-alarm")
+         "systemctl enable -q --now journal-collect-alarm")
     collector.wait_for(lambda: collector.call("pgrep", "-f", "journalctl.*present").stdout, "an alarm that follows")
     does(web, "logger -t guide segfault at 0")
     # exim4 has another user take root's mails

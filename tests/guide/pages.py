@@ -103,3 +103,5 @@ def after(computer: Booted, block: str) -> None:
         computer.wait_for(lambda: computer.call(*count).stdout.strip() not in (b"", b"0"), "rows in ClickHouse")
         does(computer, "systemctl disable -q --now journal-collect-forward; systemctl stop clickhouse-server; "
              "rm /etc/journal-collect/forward.conf.d/10-clickhouse.conf")
+    if ALARM in block:
+        does(computer, f"systemctl disable -q --now {ALARM}; rm /etc/journal-collect/alarms.swatch")

@@ -22,7 +22,7 @@ from journalcollect.status.findings import Findings
 USER = "journal-collect-send"
 SERVICE = "journal-collect-send.service"
 SEND = Path(__file__).resolve().parents[2] / "programs" / "journal-collect-send"
-PATIENCE = 60.0
+PATIENCE, REFUSED = 60.0, "Permission denied"
 
 
 def main(words: Sequence[str] | None = None) -> int:
@@ -61,7 +61,7 @@ class Joining:
         self.make_key()
         is_new = self.learn_host_keys()
         is_new |= self.write_settings()
-        if self.via and (is_new or not self.reaches()):
+        if self.via and (is_new or self.refusal()):
             self.be_admitted(self.via)
         if is_new and is_true("systemctl", "is-active", "systemd-journald.service"):
             # it keeps as many files as the package has it keep
@@ -136,16 +136,18 @@ class Joining:
         self.deeds.call(f"has its key admitted by {via}", "ssh", "-o", "StrictHostKeyChecking=yes", via,
                         f"journal-collect-admin admit {self.name}", given=self.public_key().encode() + b"\n")
 
-    def reaches(self) -> bool:
-        """Whether the collector takes this machine's key and greets."""
-        return self.known.exists() and is_true("runuser", "-u", USER, "--", SEND, "--check")
+    def refusal(self) -> str:
+        """Why the collector doesn't greet this machine; nothing if it does."""
+        told = subprocess.run(["runuser", "-u", USER, "--", SEND, "--check"], capture_output=True, check=False)
+        return (told.stderr.decode(errors="replace").strip() or "no answer") if told.returncode else ""
 
     def tell(self) -> int:
-        """The last line: something was acknowledged, or what is to be done."""
+        """The last line: something was acknowledged, or what is to be done. A key that isn't admitted needs somebody;
+        what else there is may be over in a moment."""
         end = time.monotonic() + PATIENCE
-        while not self.reaches():
-            if not self.via or time.monotonic() > end:
-                return self.tell_what_to_do()
+        while why := self.refusal():
+            if REFUSED in why and not self.via or time.monotonic() > end:
+                return self.tell_what_to_do(why)
             time.sleep(1.0)
         while not machine.look(time.time(), Findings()).acknowledged and time.monotonic() < end:
             time.sleep(0.5)
@@ -154,11 +156,9 @@ class Joining:
         print(f"{self.name} sends to {self.host}")
         return 0
 
-    def tell_what_to_do(self) -> int:
-        told = subprocess.run(["runuser", "-u", USER, "--", SEND, "--check"], capture_output=True, check=False)
-        said = told.stderr.decode(errors="replace").strip()
-        if "Permission denied" not in said:
-            print(f"{self.host} isn't reached yet: {said}", file=sys.stderr)
+    def tell_what_to_do(self, why: str) -> int:
+        if REFUSED not in why:
+            print(f"{self.host} isn't reached yet: {why}", file=sys.stderr)
         print(f"on {self.host}, as root:\n  echo '{self.public_key()}' | journal-collect-admin admit {self.name}")
         print(f"then {self.name} sends by itself, within a minute; journal-collect-status says how it stands")
         return 1
