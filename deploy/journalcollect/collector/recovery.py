@@ -98,8 +98,7 @@ class Recovery:
         for path in list(self.notes.files()):
             path.unlink()
         self.state.forget()
-        for path in sorted(self.folder.databases.glob("*.db.sha256")):
-            name = path.name.removesuffix(".db.sha256")
+        for name in sorted(databases.finished(self.folder)):
             self.notes.note(name)
             self.adopt(name, databases.told_digest(databases.path_of(self.folder, name)) or "")
 

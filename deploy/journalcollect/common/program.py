@@ -92,6 +92,13 @@ def differs(sequences: Path, database: Path) -> str | None:
     return f"{told} {ended.stderr.decode(errors='replace')}".strip()
 
 
+def export(database: Path, out: int) -> None:
+    """Writes all entries of a database to an open file."""
+    ended = subprocess.run([path(), "export", database], stdout=out, stderr=subprocess.PIPE, check=False)
+    if ended.returncode:
+        raise Failed(ended.stderr.decode(errors="replace").strip())
+
+
 def touched(upload: int) -> int:
     """How many files of notes an upload touches, which is in an open file; 0 if it has a fault."""
     ended = subprocess.run([path(), "inspect", "/dev/stdin"], stdin=upload, capture_output=True, check=False)

@@ -1,14 +1,12 @@
 """journal-collect-forward: brings what was collected to ClickHouse, database by database."""
 import argparse
 import fcntl
-import mmap
+import itertools
 import os
 import signal
-import subprocess
 import sys
 import time
 from collections.abc import Iterator
-from datetime import date
 from pathlib import Path
 from typing import Any
 
@@ -56,8 +54,8 @@ class Forwarder:
 
     def finished(self) -> dict[str, str]:
         """The finished databases and their digests."""
-        return {path.name.removesuffix(".db.sha256"): path.read_text(errors="replace").partition(" ")[0]
-                for path in self.folder.databases.glob("*.db.sha256")}
+        return {name: databases.told_digest(databases.path_of(self.folder, name)) or ""
+                for name in databases.finished(self.folder)}
 
     def run(self, place: Place) -> int:
         self.place, engine = place, ClickHouse(self.chosen, self.seconds)
@@ -92,23 +90,10 @@ class Forwarder:
 
     def rows(self, name: str, skipped: int) -> Iterator[Row]:
         """The entries of a database but for the first ones, in the order of their keys."""
-        with databases.unpacked(self.folder, name) as database, files.unnamed(self.state) as handle:
-            ended = subprocess.run([program.path(), "export", database], stdout=handle, stderr=subprocess.PIPE)
-            if ended.returncode:
-                raise program.Failed(ended.stderr.decode(errors="replace").strip())
-            begun = self.begun(name)
-            if os.fstat(handle).st_size:
-                with mmap.mmap(handle, 0, access=mmap.ACCESS_READ) as data:
-                    for number, span in enumerate(spans(data)):
-                        if number >= skipped:
-                            yield row(data[span.begin:span.end], begun)
-
-    def begun(self, name: str) -> date:
-        """The day on which a database was begun, by its name; by its file, if that says none."""
-        try:
-            return date.fromisoformat(name[:10])
-        except ValueError:
-            return date.fromtimestamp((self.folder.databases / f"{name}.db.sha256").stat().st_mtime)
+        day = databases.day_of(self.folder, name)
+        with databases.exported(self.folder, name) as data:
+            for span in itertools.islice(spans(data), skipped, None):
+                yield row(data[span.begin:span.end], day)
 
     def bring(self, batch: list[Row], engine: ClickHouse) -> None:
         """Brings rows there, however long that takes. What isn't taken is found by halves, and put aside; so is what

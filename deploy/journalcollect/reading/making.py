@@ -6,10 +6,8 @@ import argparse
 import fcntl
 import gzip
 import heapq
-import mmap
 import os
 import shutil
-import subprocess
 import sys
 import time
 from collections.abc import Iterable, Iterator
@@ -20,9 +18,9 @@ from ..collector import databases
 from ..collector import settings as collector_settings
 from ..collector.settings import Folder
 from ..common import entries, files, program
-from ..common.entries import Malformed, Untaken
+from ..common.entries import Data, Malformed, Untaken
 from . import places, remote
-from .places import ABOUT, ALL, DAY, About, Places
+from .places import ABOUT, ALL, About, Places
 from .remote import Remote
 
 UNKNOWN = "systemd-journal-remote didn't write them"
@@ -110,52 +108,40 @@ class Maker:
         self.forget()
         return status
 
-    def finished(self) -> set[str]:
-        return {path.name.removesuffix(".db.sha256") for path in self.folder.databases.glob("*.db.sha256")}
-
     def wanted(self) -> set[str]:
         """The finished databases of the days that are kept."""
-        days = sorted(set(map(self.day_of, self.finished())), reverse=True)[:self.chosen.read_days]
-        return {name for name in self.finished() if self.day_of(name) in days}
+        finished = {name: self.day_of(name) for name in databases.finished(self.folder)}
+        days = sorted(set(finished.values()), reverse=True)[:self.chosen.read_days]
+        return {name for name, day in finished.items() if day in days}
 
     def make(self, name: str) -> None:
         """Journal files of one database, and its text for the day's."""
         making, about, packed = self.places.making, About([name]), self.places.making / f"{name}.gz"
-        with databases.unpacked(self.folder, name) as database, files.unnamed(self.folder.scratch) as handle:
-            ended = subprocess.run([program.path(), "export", database], stdout=handle, stderr=subprocess.PIPE)
-            if ended.returncode:
-                raise program.Failed(ended.stderr.decode(errors="replace").strip())
-            with gzip.open(packed, "wb", compresslevel=1) as spool:
-                write(self.by_time(handle, about), making, name, about, spool)
+        with databases.exported(self.folder, name) as data, gzip.open(packed, "wb", compresslevel=1) as spool:
+            write(self.by_time(data, about), making, name, about, spool)
         for path in [*remote.parts(making, name), packed]:
             path.rename(self.places.today / path.name)
         about.write(self.places.today / f"{name}.json")
 
-    def by_time(self, handle: int, about: About) -> Iterator[Said]:
+    def by_time(self, data: Data, about: About) -> Iterator[Said]:
         """The entries of an export in the order of their times. What can't be in a journal file is told."""
-        if not os.fstat(handle).st_size:
-            return
-        with mmap.mmap(handle, 0, access=mmap.ACCESS_READ) as data:
-            found = sorted((int(data[span.begin + len("__REALTIME_TIMESTAMP="):data.find(b"\n", span.begin)]), span)
-                           for span in entries.spans(data))
-            for realtime, span in found:
-                try:
-                    entry = entries.entry(data, span)
-                except Untaken as reason:
-                    about.leave_out(str(reason))
-                    continue
-                machine = self.owners.get(entry.sequence, "")
-                yield Said(realtime, machine.encode(), entry.boot.encode(), entry.text(machine, self.chosen.read_keys))
+        found = sorted((int(data[span.begin + len("__REALTIME_TIMESTAMP="):data.find(b"\n", span.begin)]), span)
+                       for span in entries.spans(data))
+        for realtime, span in found:
+            try:
+                entry = entries.entry(data, span)
+            except Untaken as reason:
+                about.leave_out(str(reason))
+                continue
+            machine = self.owners.get(entry.sequence, "")
+            yield Said(realtime, machine.encode(), entry.boot.encode(), entry.text(machine, self.chosen.read_keys))
 
     def day_of(self, name: str) -> str:
-        """The day on which a database began, by its name; by its file, if that says none."""
-        if DAY.fullmatch(name[:10]):
-            return name[:10]
-        return time.strftime("%F", time.gmtime((self.folder.databases / f"{name}.db.sha256").stat().st_mtime))
+        return str(databases.day_of(self.folder, name))
 
     def is_over(self, day: str) -> bool:
         """Nothing more comes of a day: a database began after it, or a day has gone by."""
-        newest = max(map(self.day_of, self.finished()))
+        newest = max(map(self.day_of, databases.finished(self.folder)))
         return newest > day or day < time.strftime("%F", time.gmtime(time.time() - 86_400))
 
     def make_day(self, day: str) -> None:
