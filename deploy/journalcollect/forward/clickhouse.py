@@ -11,7 +11,7 @@ from . import settings
 from .rows import COLUMNS, OWN, Row
 from .settings import Settings
 
-MOST_BYTES, LONGEST_REASON, LONGEST_WAIT = 1 << 20, 400, 600.0
+MOST_BYTES, LONGEST_REASON = 1 << 20, 400
 # A row that isn't taken is an error that is told: none may be left out without a word. What a Distributed table answers
 # is what the servers behind it have.
 STRICT = {"input_format_allow_errors_num": "0", "input_format_allow_errors_ratio": "0",
@@ -26,9 +26,9 @@ OF_TABLE = "Unknown field"
 class Unavailable(Exception):
     """It takes nothing now. Sent again later, the same may be taken. The connection may have been cut."""
 
-    def __init__(self, reason: str, is_cut: bool = False, wait: float | None = None) -> None:
+    def __init__(self, reason: str, is_cut: bool = False) -> None:
         super().__init__(reason)
-        self.is_cut, self.wait = is_cut, wait
+        self.is_cut = is_cut
 
 
 class Refused(Exception):
@@ -39,7 +39,6 @@ class Refused(Exception):
 class Answer:
     status: int
     body: bytes
-    wait: float | None
 
     @property
     def text(self) -> str:
@@ -66,7 +65,7 @@ class ClickHouse:
         answer = self.post("/", f"SELECT name FROM system.columns WHERE database = {where} AND table = '{table}' "
                                 "FORMAT TabSeparated".encode())
         if answer.status != 200:
-            raise Unavailable(answer.text, wait=answer.wait)
+            raise Unavailable(answer.text)
         has = set(answer.body.decode(errors="replace").split())
         if missing := sorted({*OWN, *COLUMNS.values()} - has):
             lacks = f"lacks {', '.join(missing)}" if has else "isn't there"
@@ -81,7 +80,7 @@ class ClickHouse:
         code = CODE.search(said)
         if answer.status == 413 or code and int(code[1]) in OF_ROWS and OF_TABLE not in said:
             raise Refused(answer.text)
-        raise Unavailable(answer.text, wait=answer.wait)
+        raise Unavailable(answer.text)
 
     def post(self, target: str, body: bytes) -> Answer:
         """A request, and its answer. All of it has a deadline, however slowly something comes."""
@@ -111,6 +110,4 @@ class ClickHouse:
             if self.connection.sock is None:
                 raise
         response = self.connection.getresponse()
-        said = response.read(MOST_BYTES)
-        wait = response.getheader("Retry-After", "")
-        return Answer(response.status, said, min(float(wait), LONGEST_WAIT) if wait.isdigit() else None)
+        return Answer(response.status, response.read(MOST_BYTES))

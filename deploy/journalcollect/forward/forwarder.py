@@ -1,14 +1,12 @@
 """journal-collect-forward: brings what was collected to ClickHouse, database by database."""
 import argparse
 import fcntl
-import itertools
 import os
 import signal
 import sys
 import time
-from collections.abc import Iterator
+from collections.abc import Callable, Iterator
 from pathlib import Path
-from typing import Any
 
 from ..collector import databases
 from ..collector import settings as collector_settings
@@ -31,14 +29,6 @@ LONGEST_WAIT, PATIENCE, MOST_CUTS = 60.0, 8.0, 3
 ALL = "all"
 
 
-class Stopping(BaseException):
-    """The run is told to stop. What the engine has and the place doesn't say goes out once more, and counts once."""
-
-
-class GaveUp(Exception):
-    """The engine takes nothing, and this run isn't to wait for it."""
-
-
 class Forwarder:
     """One run."""
 
@@ -46,7 +36,7 @@ class Forwarder:
         self.chosen, self.once, self.seconds = chosen, once, seconds
         self.folder, self.state = Folder(folder), folder / "forward"
         self.folder.scratch, self.kept = self.state, Kept(self.state)
-        self.place, self.status, self.waits_for = Place(), 0, ""
+        self.place, self.database, self.status, self.waits_for = Place(), "", 0, ""
 
     def tell(self, text: str, status: int = 0) -> None:
         print(f"forward: {text}", file=sys.stderr, flush=True)
@@ -73,13 +63,11 @@ class Forwarder:
             time.sleep(0.0 if self.once else POLL_SECONDS)
 
     def forward(self, name: str, digest: str, engine: ClickHouse) -> None:
-        """Brings a database there, from where the last run came to."""
-        skipped = self.place.begin(name, digest)
+        """Brings a database there. If a stop comes between, all of it goes out once more, and counts once."""
+        self.database = name
         try:
-            for batch in batches(self.rows(name, skipped)):
+            for batch in batches(self.rows(name)):
                 self.bring(batch, engine)
-                self.place.entries += len(batch)
-                self.kept.write(self.place)
             self.place.done[name] = digest
         except (program.Failed, databases.Damaged, Malformed, ValueError) as error:
             self.place.bad[name] = digest
@@ -88,11 +76,11 @@ class Forwarder:
             self.tell(f"{name} went while it was forwarded", LOOK)
         self.kept.write(self.place)
 
-    def rows(self, name: str, skipped: int) -> Iterator[Row]:
-        """The entries of a database but for the first ones, in the order of their keys."""
+    def rows(self, name: str) -> Iterator[Row]:
+        """The entries of a database, in the order of their keys."""
         day = databases.day_of(self.folder, name)
         with databases.exported(self.folder, name) as data:
-            for span in itertools.islice(spans(data), skipped, None):
+            for span in spans(data):
                 yield row(data[span.begin:span.end], day)
 
     def bring(self, batch: list[Row], engine: ClickHouse) -> None:
@@ -102,7 +90,7 @@ class Forwarder:
             self.insist(lambda: engine.put(batch), MOST_CUTS if len(batch) > 1 else None)
         except (Refused, Unavailable) as fault:
             if len(batch) == 1:
-                self.kept.put_aside(self.place, [(batch[0], str(fault))])
+                self.kept.put_aside(self.place, self.database, batch[0], str(fault))
                 self.tell(f"{batch[0].sequence} {batch[0].number} isn't taken, and is put aside in {self.kept.aside}: "
                           f"{fault}", LOOK)
                 return
@@ -110,43 +98,38 @@ class Forwarder:
             self.bring(batch[:half], engine)
             self.bring(batch[half:], engine)
 
-    def insist(self, step: Any, most_cuts: int | None = None) -> None:
+    def insist(self, step: Callable[[], None], most_cuts: int | None = None) -> None:
         """Takes a step again and again until the engine lets it be taken, or has cut the connection too often."""
-        wait, cuts = 1.0, 0
+        seconds, cuts = 1.0, 0
         while True:
             try:
                 step()
+                break
             except Unavailable as unavailable:
                 cuts = cuts + 1 if unavailable.is_cut else 0
                 if cuts == most_cuts:
                     raise
-                wait = self.wait(unavailable, wait)
-            else:
-                if self.waits_for:
-                    self.tell("it goes on")
-                    self.waits_for = ""
-                    self.kept.problem.unlink(missing_ok=True)
-                return
+                self.wait(unavailable, seconds)
+                seconds = min(2 * seconds, LONGEST_WAIT)
+        if self.waits_for:
+            self.tell("it goes on")
+            self.waits_for = ""
+            self.kept.problem.unlink(missing_ok=True)
 
-    def wait(self, why: Unavailable, seconds: float) -> float:
-        """Waits so long, or as long as the engine asks for; how long it waits the next time."""
-        seconds = seconds if why.wait is None else why.wait
+    def wait(self, why: Unavailable, seconds: float) -> None:
         if str(why) != self.waits_for:
             self.waits_for = str(why)
             self.tell(f"{why}; it is tried again in {seconds:.0f} s, and later at least each minute")
             files.replace(self.kept.problem, f"{int(time.time())} {why}\n".encode(errors="replace"))
         if self.once and seconds > PATIENCE:
-            raise GaveUp(f"nothing is taken: {why}") from why
+            raise TimeoutError(f"nothing is taken: {why}") from why
         time.sleep(seconds)
-        return min(max(seconds, 0.5) * 2, LONGEST_WAIT)
 
     def say_status(self) -> int:
         """How far behind it is; whether something is to be looked at."""
         place, finished = self.kept.read(), self.finished()
         print(f"engine {self.chosen.target}\nforwarded {len(place.done)} newest {max(place.done, default='none')}\n"
               f"waiting {len(place.waiting(finished))}")
-        if place.database and place.database not in place.done:
-            print(f"within {place.database} entries {place.entries}")
         wrong = [f"damaged {name}" for name in place.bad] + [f"missed {name}" for name in place.missed]
         if place.aside:
             wrong.append(f"aside {place.aside} in {self.kept.aside}")
@@ -182,8 +165,6 @@ def place_for(chosen: Settings, kept: Kept, again: list[str], keeps: bool) -> Pl
     for name in again:
         if name != ALL and not (place.done.pop(name, None) or place.bad.pop(name, None)):
             raise Wrong(f"{name} wasn't forwarded")
-        if name == place.database:
-            place.database = ""
     place.target = chosen.target
     return place
 
@@ -202,10 +183,6 @@ def arguments() -> argparse.Namespace:
     return parser.parse_args()
 
 
-def stop(*_: object) -> None:
-    raise Stopping
-
-
 def main() -> int:
     asked = arguments()
     os.umask(0o077)
@@ -221,15 +198,13 @@ def main() -> int:
         if asked.status:
             return run.say_status()
         run.state.mkdir(exist_ok=True)
-        signal.signal(signal.SIGTERM, stop)
+        signal.signal(signal.SIGTERM, lambda *_: sys.exit(0))
         with open(run.state / "lock", "wb") as lock:
             fcntl.flock(lock, fcntl.LOCK_EX | fcntl.LOCK_NB)
             return run.run(place_for(chosen, run.kept, asked.again, asked.keep_place))
     except BlockingIOError:
         print("forward: another run is under way", file=sys.stderr)
         return UNDER_WAY
-    except Stopping:
-        return 0
-    except (Wrong, GaveUp, OSError) as fault:
+    except (Wrong, OSError) as fault:
         print(f"forward: {fault}", file=sys.stderr)
         return WRONG if isinstance(fault, Wrong) else FAILED

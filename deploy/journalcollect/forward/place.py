@@ -11,15 +11,11 @@ from .rows import Row
 
 @dataclass
 class Place:
-    """The target; the databases that are forwarded, or can't be, by their digests; the one that is under way, and how
-    many of its entries are there; those that waited, and those that went before their turn; and how much of the file of
-    what isn't taken counts."""
+    """The target; the databases that are forwarded, or can't be, by their digests; those that waited, and those that
+    went before their turn; and how much of the file of what isn't taken counts."""
     target: str = ""
     done: dict[str, str] = field(default_factory=dict)
     bad: dict[str, str] = field(default_factory=dict)
-    database: str = ""
-    digest: str = ""
-    entries: int = 0
     waited: list[str] = field(default_factory=list)
     missed: list[str] = field(default_factory=list)
     aside: int = 0
@@ -39,12 +35,6 @@ class Place:
         self.waited = self.waiting(finished)
         return gone
 
-    def begin(self, name: str, digest: str) -> int:
-        """How many entries of a database are there already."""
-        if (self.database, self.digest) != (name, digest):
-            self.database, self.digest, self.entries = name, digest, 0
-        return self.entries
-
 
 class Kept:
     """The files in a folder."""
@@ -62,17 +52,16 @@ class Kept:
     def write(self, place: Place) -> None:
         files.replace(self.path, json.dumps(asdict(place), indent=1).encode())
 
-    def put_aside(self, place: Place, rows: list[tuple[Row, str]]) -> None:
-        """Rows and why they aren't taken. They are on the disk when this returns, and count with the place: what a stop
+    def put_aside(self, place: Place, database: str, row: Row, why: str) -> None:
+        """A row, and why it isn't taken. It is on the disk when this returns, and counts with the place: what a stop
         left behind that is written again."""
         with open(os.open(self.aside, os.O_RDWR | os.O_CREAT | os.O_CLOEXEC, 0o600), "r+b") as file:
             begin = min(file.seek(0, os.SEEK_END), place.aside_bytes)
             file.truncate(begin)
             file.seek(begin)
-            for row, why in rows:
-                said = {"database": place.database, "why": why, "row": json.loads(row.data)}
-                file.write(json.dumps(said).encode() + b"\n")
+            said = {"database": database, "why": why, "row": json.loads(row.data)}
+            file.write(json.dumps(said).encode() + b"\n")
             file.flush()
             os.fsync(file.fileno())
             place.aside_bytes = file.tell()
-        place.aside = len(rows) + (place.aside if begin else 0)
+        place.aside = 1 + (place.aside if begin else 0)

@@ -5,7 +5,6 @@ import ssl
 import stat
 from dataclasses import dataclass
 from ipaddress import ip_address
-from pathlib import Path
 from urllib.parse import SplitResult, urlsplit
 
 from ..common import settings
@@ -13,7 +12,6 @@ from ..common.settings import Wrong
 
 TABLE = re.compile(r"[A-Za-z_][A-Za-z0-9_]*(\.[A-Za-z_][A-Za-z0-9_]*)?")
 PATH = re.compile(r"(/[A-Za-z0-9._~-]+)*/?")
-LONGEST_SECRET = 16_384
 
 
 @dataclass(frozen=True)
@@ -35,9 +33,9 @@ class Settings:
         return urlsplit(self.url)
 
 
-def read(folder: Path | None = None) -> Settings:
-    """The settings of a folder; a Wrong if they can't be."""
-    chosen = settings.read(folder or settings.FOLDER / "forward.conf.d", Settings)
+def read() -> Settings:
+    """The settings as they are; a Wrong if they can't be."""
+    chosen = settings.read(settings.FOLDER / "forward.conf.d", Settings)
     if not TABLE.fullmatch(chosen.table):
         raise Wrong(f"TABLE can't be {chosen.table}: it is NAME or DATABASE.NAME")
     if chosen.url:
@@ -68,15 +66,13 @@ def is_here(host: str) -> bool:
 def secret(path: str) -> str:
     """What a file of mode 0600 or 0400 has that belongs to who runs this, or to root."""
     try:
-        with open(path, "rb") as file:
-            status, content = os.fstat(file.fileno()), file.read(LONGEST_SECRET + 1)
+        with open(path, encoding="latin-1") as file:
+            status, content = os.fstat(file.fileno()), file.read()
     except OSError as error:
         raise Wrong(f"{path} can't be read: {error.strerror}") from error
     if not stat.S_ISREG(status.st_mode) or status.st_mode & 0o177 or status.st_uid not in (0, os.geteuid()):
         raise Wrong(f"{path} has to be a file of mode 0600 that is this user's, or root's: others could read it")
-    if len(content) > LONGEST_SECRET:
-        raise Wrong(f"{path} has over {LONGEST_SECRET} bytes")
-    return content.decode("latin-1").strip()
+    return content.strip()
 
 
 def headers(chosen: Settings) -> dict[str, str]:
@@ -96,7 +92,6 @@ def encryption(chosen: Settings) -> ssl.SSLContext | None:
         return None
     try:
         context = ssl.create_default_context(cafile=chosen.ca_file or None)
-        context.minimum_version = ssl.TLSVersion.TLSv1_2
         if chosen.certificate_file:
             secret(chosen.certificate_file)
             context.load_cert_chain(chosen.certificate_file, password=lambda: "")
