@@ -102,7 +102,7 @@ class Gate:
         return few, sum(not (self.folder.sequences / each / str(number)).exists() for each in ids for number in numbers)
 
     def refuse(self, machine: str, verdict: Verdict, why: str) -> Put:
-        self.state.tell(f"{verdict.value} {machine}", f"{machine}: {why}")
+        self.state.tell(f"{verdict} {machine}", f"{machine}: {why}")
         return Put(verdict, why)
 
 

@@ -73,16 +73,13 @@ def request(line: str) -> Had | Upload:
     raise NotALine(line)
 
 
-class Known(enum.Enum):
+class Known(enum.StrEnum):
     """What `had` is answered."""
     HAD = "had"
     LOST = "lost"
 
-    def __str__(self) -> str:
-        return self.value
 
-
-class Verdict(enum.Enum):
+class Verdict(enum.StrEnum):
     """What becomes of an upload that the program wasn't asked about, or that ended it."""
     LATER = "later"
     SMALLER = "smaller"
@@ -95,7 +92,7 @@ class Put(NamedTuple):
     why: str
 
     def __str__(self) -> str:
-        return f"{self.verdict.value} {plain(self.why)}"
+        return f"{self.verdict} {plain(self.why)}"
 
 
 class Answer(NamedTuple):

@@ -5,6 +5,7 @@ The settings of a program are a frozen dataclass, which has each under its name 
 """
 import dataclasses
 import os
+import re
 from collections.abc import Iterator
 from pathlib import Path
 from typing import Any, TypeVar
@@ -12,6 +13,9 @@ from typing import Any, TypeVar
 FOLDER = Path(os.environ.get("JOURNAL_COLLECT_SETTINGS", "/etc/journal-collect"))
 
 S = TypeVar("S")
+# What a value of each type is, and which it may be.
+FORMS = {bool: ("yes or no", r"yes|no"), int: ("a whole number", r"[0-9]{1,18}"),
+         float: ("a number", r"[0-9]{1,9}(\.[0-9]{0,9})?"), str: ("a text", r".*")}
 
 
 class Wrong(ValueError):
@@ -26,10 +30,11 @@ def read(folder: Path, kind: type[S]) -> S:
         for number, name, value in assignments(path):
             if name != name.upper() or name.lower() not in types:
                 raise Wrong(f"{path}: line {number}: {name} is no setting")
-            try:
-                values[name.lower()] = converted(value, types[name.lower()])
-            except ValueError as fault:
-                raise Wrong(f"{path}: line {number}: {name} {fault}: {value}") from None
+            of_type = types[name.lower()]
+            what, form = FORMS[of_type]
+            if not re.fullmatch(form, value):
+                raise Wrong(f"{path}: line {number}: {name} isn't {what}: {value}")
+            values[name.lower()] = value == "yes" if of_type is bool else of_type(value)
     return kind(**values)
 
 
@@ -47,21 +52,3 @@ def assignments(path: Path) -> Iterator[tuple[int, str, str]]:
         if not equals or name != name.strip():
             raise Wrong(f"{path}: line {number} isn't NAME=VALUE: {text}")
         yield number, name, value.strip()
-
-
-def converted(value: str, kind: object) -> str | bool | int | float:
-    """The value of a setting of this type; a ValueError that says what it isn't."""
-    if kind is bool:
-        if value not in ("yes", "no"):
-            raise ValueError("isn't yes or no")
-        return value == "yes"
-    if kind is int:
-        if not value.isascii() or not value.isdigit() or len(value) > 18:
-            raise ValueError("isn't a whole number")
-        return int(value)
-    if kind is float:
-        whole, _, part = value.partition(".")
-        if not (whole + part).isascii() or not whole.isdigit() or not (part or "0").isdigit() or len(value) > 18:
-            raise ValueError("isn't a number")
-        return float(value)
-    return value

@@ -12,6 +12,7 @@ from journalcollect.common import program
 from journalcollect.common.export_stream import Unfit
 from journalcollect.common.protocol import LONGEST_LINE, Answer, Greeting, Had, Known, Put, Reply, Upload, Verdict
 from journalcollect.common.report import FAILED, LOOK, Report
+from journalcollect.common.uploads import SOURCE
 from journalcollect.machine.link import Link, Lost
 from journalcollect.machine.outbox import Outbox, pieces_in
 from journalcollect.machine.places import LONGEST_REST, NEVER, Places
@@ -113,7 +114,7 @@ class Sending:
             self.outbox.replace(number, [self.outbox.pieces(number)])    # damaged: what can be followed of it goes on
             raise
         if status == program.OK:
-            acks = [line.split(" ") for line in lines.splitlines() if line.startswith(f"ack {data[16:32].hex()} ")]
+            acks = [line.split(" ") for line in lines.splitlines() if line.startswith(f"ack {data[SOURCE].hex()} ")]
             self.acknowledge(number, data, any(words[4:5] not in ([], ["0"]) for words in acks))
         elif status == program.REFUSED:
             answer = Answer(line)

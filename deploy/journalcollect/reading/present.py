@@ -16,12 +16,11 @@ from pathlib import Path
 
 from ..common import entries
 from ..common.entries import Malformed, Untaken
+from ..common.uploads import HEADER, KIND, STREAM
 from . import remote
 from .places import About, Places
 from .remote import Failed, Remote
 
-# The upload's header, and the kind of those that are export streams.
-HEADER, STREAM = 48, b"\1"
 # So long the present of a finished database stays, for who follows it; nothing waits for what fails so often in a row.
 SECONDS_STANDING = 3600.0
 SECONDS_WAITING = 60.0
@@ -54,7 +53,7 @@ class Live:
         """The entries of an upload that weren't there before."""
         data, machine, texts = upload.read_bytes(), upload.name.partition(".")[2], list[bytes]()
         try:
-            for span in entries.spans(data, HEADER) if data[8:9] == STREAM else ():
+            for span in entries.spans(data, HEADER) if data[KIND] == STREAM else ():
                 try:
                     entry = entries.entry(data, span)
                 except Untaken as reason:
