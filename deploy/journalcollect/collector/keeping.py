@@ -59,16 +59,11 @@ class Keeping(threading.Thread):
         for name, since in self.state.ask("SELECT name, age FROM database WHERE standing = 'finished' AND age < ? "
                                           "ORDER BY id", age - self.settings.keep_days):
             self.delete(name, f"{age - since:.1f} days after it was finished")
-        if not self.settings.keep_bytes:
-            return
-        total, = self.state.ask("SELECT sum(coalesce(packed, bytes)) FROM database WHERE standing = 'finished'")[0]
-        if total and total > self.settings.keep_bytes:
-            for name, size in self.state.ask("SELECT name, coalesce(packed, bytes) FROM database WHERE "
-                                             "standing = 'finished' ORDER BY id"):
-                if total <= self.settings.keep_bytes:
-                    break
+        if self.settings.keep_bytes:
+            for name, in self.state.ask(
+                    "SELECT name FROM (SELECT id, name, sum(coalesce(packed, bytes)) OVER (ORDER BY id DESC) AS total "
+                    "FROM database WHERE standing = 'finished') WHERE total > ? ORDER BY id", self.settings.keep_bytes):
                 self.delete(name, "as all have over KEEP_BYTES")
-                total -= size
 
     def delete(self, name: str, why: str) -> None:
         with self.store.notes:

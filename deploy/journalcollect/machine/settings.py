@@ -1,9 +1,7 @@
 """The settings of a machine, and the times that they name."""
-import re
-import subprocess
 from dataclasses import dataclass
 
-from journalcollect.common import settings
+from journalcollect.common import settings, times
 from journalcollect.common.settings import Wrong
 
 
@@ -37,15 +35,7 @@ def read() -> Settings:
 def seconds(since: str) -> str:
     """A time that SINCE or --again says, as seconds; a Wrong if it is none. It is looked up once: what `today` or `-2h`
     is moves on, and what was gathered so far mustn't."""
-    fixed = r"@[0-9]+(\.[0-9]{1,6})?"
-    if re.fullmatch(fixed, since, re.ASCII):
-        return since
-    try:
-        told = subprocess.run(["systemd-analyze", "timestamp", "--", since], capture_output=True, text=True,
-                              errors="replace", check=False)
-    except FileNotFoundError:
-        raise Wrong(f"there is no systemd-analyze to look a time up; write it as @SECONDS: {since}") from None
-    found = re.search(rf"^ *UNIX seconds: ({fixed})$", told.stdout, re.MULTILINE | re.ASCII)
-    if not found:
-        raise Wrong(f"this isn't a time: {since}: {told.stderr.strip()}")
-    return found[1]
+    found = times.read(since)
+    if found is None:
+        raise Wrong(f"this isn't a time: {since}")
+    return times.spelled(found)

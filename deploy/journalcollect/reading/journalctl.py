@@ -11,6 +11,7 @@ from collections.abc import Iterator
 from itertools import product
 from typing import IO, Any, NamedTuple
 
+from ..common import times
 from .choosing import FOREVER, File, Standing
 from .words import Call
 
@@ -27,36 +28,15 @@ class Window(NamedTuple):
     def words(self, call: Call) -> list[str]:
         """The words for this span."""
         if self.since:
-            call = call.without("since").plus(("since", moment(self.since)))
+            call = call.without("since").plus(("since", times.spelled(self.since)))
         if self.until < FOREVER:
-            call = call.without("until").plus(("until", moment(self.until)))
+            call = call.without("until").plus(("until", times.spelled(self.until)))
         files = [f"--file=/proc/self/fd/{handle}" for handle in self.handles]
         return [PROGRAM, *files, "--merge", "--no-pager", *call.words()]
 
     @property
     def handles(self) -> list[int]:
         return [file.handle for file in self.files]
-
-
-def moment(microseconds: int) -> str:
-    return f"@{microseconds // 1_000_000}.{microseconds % 1_000_000:06}"
-
-
-def times(words: list[str]) -> dict[str, int]:
-    """The times that words of journalctl name, in microseconds, as systemd reads them; without those that it can't."""
-    if not words:
-        return {}
-    said = subprocess.run(["systemd-analyze", "timestamp", "--", *words], capture_output=True, text=True, check=False,
-                          env={**os.environ, "LC_ALL": "C"})
-    found, word = dict[str, int](), ""
-    for line in said.stdout.splitlines():
-        name, _, value = line.strip().partition(": ")
-        if name == "Original form":
-            word = value
-        elif name == "UNIX seconds" and value.startswith("@"):
-            seconds, _, part = value[1:].partition(".")
-            found[word] = int(seconds) * 1_000_000 + int((part + "000000")[:6])
-    return found
 
 
 def windows(standing: Standing, since: int, until: int, many: int) -> list[Window]:
@@ -134,16 +114,16 @@ def newest(found: list[Window], call: Call, lines: int) -> int:
     """The time of the oldest of so many newest entries; 0 if there are fewer."""
     from concurrent.futures import ThreadPoolExecutor
     call = call.without("lines", "reverse", "no-tail", "pager-end").plus(("lines", str(lines)))
-    times: list[int] = []
+    latest: list[int] = []
     at_once = os.cpu_count() or 1
     with ThreadPoolExecutor(at_once) as pool:
         for place in range(len(found), 0, -at_once):
             for part in pool.map(lambda window: [int(each["__REALTIME_TIMESTAMP"]) for each in
                                                  entries(window, call, "_BOOT_ID")],
                                  found[max(place - at_once, 0):place]):
-                times += part
-            if len(times) >= lines:
-                return sorted(times)[-lines]
+                latest += part
+            if len(latest) >= lines:
+                return sorted(latest)[-lines]
     return 0
 
 

@@ -13,6 +13,7 @@ from operator import itemgetter
 from pathlib import Path
 
 from ..collector import settings
+from ..common import times
 from ..common.settings import Wrong as WrongSettings
 from . import choosing, journalctl, places, words
 from .choosing import FOREVER, Standing
@@ -57,15 +58,18 @@ class Search:
         if call.has("utc"):
             os.environ["TZ"] = "UTC"
             time.tzset()
-        since, until = call.value("since") or "", call.value("until") or ""
-        times = journalctl.times(list(filter(None, (since, until))))
-        self.since, self.until = times.get(since, 0), times.get(until, FOREVER)
+        self.since, self.until = self.time_of("since", 0), self.time_of("until", FOREVER)
         self.call = call.of([f"_COLLECTED_FROM={name}" for name in self.machines()])
         if (call.has("boot") or call.has("dmesg")) and call.value("boot") != "all" and not call.has("list-boots"):
             self.call = self.of_boots()
         if call.has("dmesg"):
             self.call = self.call.of(["_TRANSPORT=kernel"])
         self.call = self.call.without("boot", "dmesg", "merge", "list-boots")
+
+    def time_of(self, name: str, otherwise: int) -> int:
+        """What an option says, in microseconds; what it can't say is left to journalctl."""
+        found = times.read(said) if (said := self.asked.value(name)) else None
+        return otherwise if found is None else found
 
     def machines(self) -> list[str]:
         """The machines asked for; none if all are."""
