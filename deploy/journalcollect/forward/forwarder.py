@@ -90,7 +90,7 @@ class Forwarder:
             self.insist(lambda: engine.put(batch), MOST_CUTS if len(batch) > 1 else None)
         except (Refused, Unavailable) as fault:
             if len(batch) == 1:
-                self.kept.put_aside(self.place, self.database, batch[0], str(fault))
+                self.kept.put_aside(self.database, batch[0], str(fault))
                 self.tell(f"{batch[0].sequence} {batch[0].number} isn't taken, and is put aside in {self.kept.aside}: "
                           f"{fault}", LOOK)
                 return
@@ -131,8 +131,8 @@ class Forwarder:
         print(f"engine {self.chosen.target}\nforwarded {len(place.done)} newest {max(place.done, default='none')}\n"
               f"waiting {len(place.waiting(finished))}")
         wrong = [f"damaged {name}" for name in place.bad] + [f"missed {name}" for name in place.missed]
-        if place.aside:
-            wrong.append(f"aside {place.aside} in {self.kept.aside}")
+        if aside := self.kept.count_aside():
+            wrong.append(f"aside {aside} in {self.kept.aside}")
         if self.kept.problem.exists():
             since, _, why = self.kept.problem.read_text(errors="replace").strip().partition(" ")
             wrong.append(f"waits since {int(time.time()) - int(since)} seconds: {why}")
@@ -158,7 +158,7 @@ def place_for(chosen: Settings, kept: Kept, again: list[str], keeps: bool) -> Pl
     """How far it has come. What another target has says nothing of this one."""
     place = kept.read()
     if ALL in again:
-        place = Place(aside=place.aside, aside_bytes=place.aside_bytes)
+        place = Place()
     elif place.target not in ("", chosen.target) and not keeps:
         raise Wrong(f"`{place.target}` has what was forwarded, and the settings name `{chosen.target}`: call "
                     f"--again {ALL} to forward all to it, or --keep-place if it has the same")

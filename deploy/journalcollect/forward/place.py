@@ -12,14 +12,12 @@ from .rows import Row
 @dataclass
 class Place:
     """The target; the databases that are forwarded, or can't be, by their digests; those that waited, and those that
-    went before their turn; and how much of the file of what isn't taken counts."""
+    went before their turn."""
     target: str = ""
     done: dict[str, str] = field(default_factory=dict)
     bad: dict[str, str] = field(default_factory=dict)
     waited: list[str] = field(default_factory=list)
     missed: list[str] = field(default_factory=list)
-    aside: int = 0
-    aside_bytes: int = 0
 
     def waiting(self, finished: dict[str, str]) -> list[str]:
         """The databases that wait, the oldest first."""
@@ -52,16 +50,14 @@ class Kept:
     def write(self, place: Place) -> None:
         files.replace(self.path, json.dumps(asdict(place), indent=1).encode())
 
-    def put_aside(self, place: Place, database: str, row: Row, why: str) -> None:
-        """A row, and why it isn't taken. It is on the disk when this returns, and counts with the place: what a stop
-        left behind that is written again."""
-        with open(os.open(self.aside, os.O_RDWR | os.O_CREAT | os.O_CLOEXEC, 0o600), "r+b") as file:
-            begin = min(file.seek(0, os.SEEK_END), place.aside_bytes)
-            file.truncate(begin)
-            file.seek(begin)
-            said = {"database": database, "why": why, "row": json.loads(row.data)}
+    def put_aside(self, database: str, row: Row, why: str) -> None:
+        """A row, and why it isn't taken. It is on the disk when this returns, and after a stop perhaps once more."""
+        said = {"database": database, "why": why, "row": json.loads(row.data)}
+        with open(self.aside, "ab") as file:
             file.write(json.dumps(said).encode() + b"\n")
             file.flush()
             os.fsync(file.fileno())
-            place.aside_bytes = file.tell()
-        place.aside = 1 + (place.aside if begin else 0)
+
+    def count_aside(self) -> int:
+        """How many rows are put aside."""
+        return self.aside.read_bytes().count(b"\n") if self.aside.exists() else 0
