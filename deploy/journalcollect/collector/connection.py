@@ -1,6 +1,5 @@
 """One connection of a machine: what it asks is answered, one after the other."""
 import hashlib
-import os
 import socket
 import threading
 import time
@@ -92,14 +91,9 @@ class Connection(threading.Thread):
             size -= len(piece)
             digest.update(piece)
             lines += piece.count(b"\n")
-            refusal = refusal or written(handle, piece)
+            try:
+                if not refusal:
+                    files.write_all(handle, piece)
+            except OSError as error:
+                refusal = Put(Verdict.LATER, f"the disk of the collector: {error.strerror}")
         return digest.hexdigest(), lines, refusal
-
-
-def written(handle: int, piece: bytes) -> Put | None:
-    """Writes a part of an upload; if the disk has no room, it comes again."""
-    try:
-        files.write_all(handle, piece)
-    except OSError as error:
-        return Put(Verdict.LATER, f"the disk of the collector: {os.strerror(error.errno or 0)}")
-    return None

@@ -6,19 +6,15 @@
 """
 import contextlib
 import hashlib
-import mmap
-import os
 import shutil
 import sqlite3
 import subprocess
 import uuid
 from collections.abc import Iterator
 from dataclasses import dataclass
-from datetime import UTC, date, datetime
 from pathlib import Path
 
-from ..common import files, program
-from ..common.entries import Data
+from ..common import files
 from ..common.uploads import WINDOW
 from .settings import Folder
 
@@ -86,14 +82,6 @@ def told_digest(path: Path) -> str | None:
 def finished(folder: Folder) -> list[str]:
     """The databases that have their digests."""
     return [path.name.removesuffix(".db.sha256") for path in folder.databases.glob("*.db.sha256")]
-
-
-def day_of(folder: Folder, name: str) -> date:
-    """The day on which a database was begun, by its name; by its file, if that says none."""
-    try:
-        return date.fromisoformat(name[:10])
-    except ValueError:
-        return datetime.fromtimestamp(beside(path_of(folder, name), ".sha256").stat().st_mtime, UTC).date()
 
 
 def own(path: Path) -> None:
@@ -187,15 +175,3 @@ def unpacked(folder: Folder, name: str) -> Iterator[Path]:
     finally:
         copy.unlink(missing_ok=True)
         log_of(copy).unlink(missing_ok=True)
-
-
-@contextlib.contextmanager
-def exported(folder: Folder, name: str) -> Iterator[Data]:
-    """The entries of a finished database, as a canonical stream."""
-    with unpacked(folder, name) as copy, files.unnamed(folder.scratch) as stream:
-        program.export(copy, stream)
-        if not os.fstat(stream).st_size:
-            yield b""
-            return
-        with mmap.mmap(stream, 0, access=mmap.ACCESS_READ) as data:
-            yield data

@@ -7,7 +7,8 @@ import time
 from collections.abc import Iterator
 from pathlib import Path
 
-from ..common import names
+from ..common.settings import FOLDER
+from ..setup import keys
 from .gate import Gate
 from .settings import KEYS, Folder
 
@@ -44,7 +45,7 @@ class Doors:
         if changed == self.seen and now - self.looked < LOOK_SECONDS:
             return
         self.seen, self.looked = changed, now
-        wanted = {path.stem for path in KEYS.glob("*.pub") if names.is_machine(path.stem)}
+        wanted = set(keys.machines(FOLDER))
         for machine in self.open.keys() - wanted:
             self.shut(machine)
         for machine in sorted(wanted - self.open.keys()):

@@ -7,13 +7,15 @@ import threading
 import time
 from pathlib import Path
 
-from ..common import files, names, program
+from ..common import files, program
+from ..common.settings import FOLDER
 from ..reading.present import Present
+from ..setup import keys
 from . import databases
 from .databases import Damaged, Unrecovered
 from .notes import Notes
 from .process import WINDOW, Process
-from .settings import KEYS, Settings
+from .settings import Settings
 from .state import State, log
 
 TRIES, REFUSED = 5, 1
@@ -59,7 +61,7 @@ class Recovery:
 
     def owners(self) -> dict[str, str]:
         """Whose each sequence is, by name, as far as the machine is known."""
-        known = {path.stem for path in KEYS.glob("*.pub") if names.is_machine(path.stem)} | self.state.machines.keys()
+        known = {*keys.machines(FOLDER), *self.state.machines}
         digests = {hashlib.sha256(name.encode("ascii")).hexdigest(): name for name in known}
         found = program.owners(self.folder.sequences)
         return {sequence: digests[digest] for sequence, digest in found.items() if digest in digests}

@@ -1,11 +1,12 @@
 """The store: one thread that has the present database, and stores what waits, in turns."""
 import collections
 import contextlib
+import itertools
 import os
 import shutil
 import threading
 import time
-from collections.abc import Callable, Iterator
+from collections.abc import Callable
 from concurrent.futures import Future
 from pathlib import Path
 
@@ -40,7 +41,7 @@ class Store(threading.Thread):
         self.folder, self.state, self.stops = recovery.folder, recovery.state, recovery.stops
         self.turns, self.tasks = Turns(), collections.deque[tuple[Callable[[], None], Future[None]]]()
         self.present: Process | None = None
-        self.numbers: Iterator[int] = iter(())
+        self.numbers = itertools.count(1)
         self.recent_bytes, self.is_taken_up, self.over = 0, False, set[str]()
         self.is_asked_to_finish, self.is_begun = threading.Event(), threading.Event()
         # Whoever reads notes has this, and whoever changes what isn't only added.
@@ -211,7 +212,7 @@ class Store(threading.Thread):
             number += 1
             name = f"{now}-{number}"
         (self.folder.recent / name).mkdir()
-        self.numbers, self.recent_bytes = iter(range(1, 1 << 62)), 0
+        self.numbers, self.recent_bytes = itertools.count(1), 0
         return Process(self.folder, databases.path_of(self.folder, name), self.recovery.lock)
 
     def is_taken(self, name: str) -> bool:

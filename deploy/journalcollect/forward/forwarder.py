@@ -14,6 +14,7 @@ from ..collector.settings import Folder
 from ..common import files, program
 from ..common.settings import Wrong
 from ..common.entries import Malformed, spans
+from ..reading import exports
 from . import settings
 from .clickhouse import ClickHouse, Refused, Unavailable
 from .place import Kept, Place
@@ -78,8 +79,8 @@ class Forwarder:
 
     def rows(self, name: str) -> Iterator[Row]:
         """The entries of a database, in the order of their keys."""
-        day = databases.day_of(self.folder, name)
-        with databases.exported(self.folder, name) as data:
+        day = exports.day_of(self.folder, name)
+        with exports.exported(self.folder, name) as data:
             for span in spans(data):
                 yield row(data[span.begin:span.end], day)
 

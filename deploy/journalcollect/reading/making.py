@@ -19,7 +19,7 @@ from ..collector import settings as collector_settings
 from ..collector.settings import Folder
 from ..common import entries, files, program
 from ..common.entries import Data, Malformed, Untaken
-from . import places, remote
+from . import exports, places, remote
 from .places import ABOUT, ALL, About, Places
 from .remote import Remote
 
@@ -117,7 +117,7 @@ class Maker:
     def make(self, name: str) -> None:
         """Journal files of one database, and its text for the day's."""
         making, about, packed = self.places.making, About([name]), self.places.making / f"{name}.gz"
-        with databases.exported(self.folder, name) as data, gzip.open(packed, "wb", compresslevel=1) as spool:
+        with exports.exported(self.folder, name) as data, gzip.open(packed, "wb", compresslevel=1) as spool:
             write(self.by_time(data, about), making, name, about, spool)
         for path in [*remote.parts(making, name), packed]:
             path.rename(self.places.today / path.name)
@@ -137,7 +137,7 @@ class Maker:
             yield Said(realtime, machine.encode(), entry.boot.encode(), entry.text(machine, self.chosen.read_keys))
 
     def day_of(self, name: str) -> str:
-        return str(databases.day_of(self.folder, name))
+        return str(exports.day_of(self.folder, name))
 
     def is_over(self, day: str) -> bool:
         """Nothing more comes of a day: a database began after it, or a day has gone by."""

@@ -52,15 +52,8 @@ class About:
             for boot, (first, last) in boots.items():
                 self.add(machine, boot, first, last)
 
-    def write(self, path: Path, is_synced: bool = True) -> None:
-        data = json.dumps(asdict(self), separators=(",", ":")).encode()
-        if is_synced:
-            files.replace(path, data, MODE)
-        else:
-            new = path.with_name(f".{path.name}")
-            new.write_bytes(data)
-            new.chmod(MODE)
-            new.rename(path)
+    def write(self, path: Path) -> None:
+        files.replace(path, json.dumps(asdict(self), separators=(",", ":")).encode(), MODE)
 
 
 def about(path: Path) -> About:

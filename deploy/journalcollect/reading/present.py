@@ -71,7 +71,7 @@ class Live:
     def say(self) -> None:
         """What the files have now, beside them."""
         if not self.is_told:
-            self.about.write(self.path_of_about, is_synced=False)
+            self.about.write(self.path_of_about)
             self.is_told = True
 
 
