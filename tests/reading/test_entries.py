@@ -5,7 +5,8 @@ import pytest
 from collecting import digits, plain
 
 from journalcollect.common import entries
-from journalcollect.common.entries import Malformed, Untaken
+from journalcollect.common.entries import Untaken
+from journalcollect.common.export_stream import Unfit
 
 BOOT = digits("boot", "web")
 
@@ -57,17 +58,17 @@ def test_what_a_journal_file_cant_have_is_told() -> None:
 @pytest.mark.parametrize("cut", [5, 60, 200])
 def test_a_stream_that_is_cut_is_none(cut: int) -> None:
     text = plain("web", 1, "m" * 100 + "\n").text()
-    with pytest.raises(Malformed):
+    with pytest.raises(Unfit):
         of(text + text[:cut])
 
 
 def test_a_length_that_goes_too_far_is_found() -> None:
-    with pytest.raises(Malformed):
+    with pytest.raises(Unfit):
         list(entries.spans(b"MESSAGE\n" + struct.pack("<Q", 1 << 40) + b"abc\n\n"))
 
 
 @pytest.mark.parametrize("name", ["__SEQNUM", "__SEQNUM_ID", "__REALTIME_TIMESTAMP", "__MONOTONIC_TIMESTAMP"])
 def test_an_entry_without_its_key_or_its_times_is_none(name: str) -> None:
     lines = plain("web", 1, "m").text().splitlines(keepends=True)
-    with pytest.raises(Malformed):
+    with pytest.raises(Unfit):
         of(b"".join(line for line in lines if not line.startswith(f"{name}=".encode())))

@@ -8,7 +8,7 @@ from collections.abc import Iterator
 from mmap import mmap
 from typing import NamedTuple
 
-from .export_stream import PLAIN
+from .export_stream import PLAIN, Unfit
 
 Data = bytes | mmap
 
@@ -21,10 +21,6 @@ BOOT, BOOT_ID, NO_BOOT = re.compile(rb"\n_BOOT_ID=([^\n]*)"), re.compile(rb"[0-9
 # What systemd-journal-remote takes: at a time that isn't below it ends, without a word and with status 0.
 TIMES = range(1, 1 << 55)
 MOST_FIELDS = 1_000
-
-
-class Malformed(Exception):
-    """It is no stream of whole entries."""
 
 
 class Untaken(Exception):
@@ -83,7 +79,7 @@ def entry(data: Data, span: Span) -> Entry:
         realtime, monotonic = int(about[b"__REALTIME_TIMESTAMP"]), int(about[b"__MONOTONIC_TIMESTAMP"])
         sequence, number = about[b"__SEQNUM_ID"].decode("ascii").lower(), int(about[b"__SEQNUM"])
     except (KeyError, ValueError) as error:
-        raise Malformed(f"an entry without its key or its times: {error}") from error
+        raise Unfit(f"an entry without its key or its times: {error}") from error
     if realtime not in TIMES or monotonic and monotonic not in TIMES:
         raise Untaken("their time is none that a journal file can have")
     if len(boots) != 1 or not BOOT_ID.fullmatch(boots[0]) or boots[0] == NO_BOOT:
@@ -97,14 +93,14 @@ def fields(data: Data, at: int = 0) -> Iterator[tuple[bytes, bytes, bytes]]:
     """The fields of the entry that begins here, in either spelling: name, value, and how it is spelled."""
     while (end := data.find(b"\n", at)) != at:
         if end < 0:
-            raise Malformed("the stream ends within an entry")
+            raise Unfit("the stream ends within an entry")
         name, equals, value = data[at:end].partition(b"=")
         if not equals:
             begin = end + 9
             end = begin + int.from_bytes(data[end + 1:begin], "little")
             value = data[begin:end]
             if data[end:end + 1] != b"\n":
-                raise Malformed("no newline after a value")
+                raise Unfit("no newline after a value")
         yield name, value, data[at:end + 1]
         at = end + 1
 

@@ -13,7 +13,8 @@ from ..collector import settings as collector_settings
 from ..collector.settings import Folder
 from ..common import files, program
 from ..common.settings import Wrong
-from ..common.entries import Malformed, spans
+from ..common.entries import spans
+from ..common.export_stream import Unfit
 from ..reading import exports
 from . import settings
 from .clickhouse import ClickHouse, Refused, Unavailable
@@ -70,7 +71,7 @@ class Forwarder:
             for batch in batches(self.rows(name)):
                 self.bring(batch, engine)
             self.place.done[name] = digest
-        except (program.Failed, databases.Damaged, Malformed, ValueError) as error:
+        except (program.Failed, databases.Damaged, Unfit, ValueError) as error:
             self.place.bad[name] = digest
             self.tell(f"{name} is damaged, and not all of it is forwarded: {error}", LOOK)
         except FileNotFoundError:

@@ -18,7 +18,8 @@ from ..collector import databases
 from ..collector import settings as collector_settings
 from ..collector.settings import Folder
 from ..common import entries, files, program
-from ..common.entries import Data, Malformed, Untaken
+from ..common.entries import Data, Untaken
+from ..common.export_stream import Unfit
 from . import exports, places, remote
 from .places import ABOUT, ALL, About, Places
 from .remote import Remote
@@ -26,7 +27,7 @@ from .remote import Remote
 UNKNOWN = "systemd-journal-remote didn't write them"
 TOGETHER = 256
 # One of them costs the files of a database or of a day, until the next run.
-FAILURES = (OSError, EOFError, ValueError, program.Failed, databases.Damaged, remote.Failed, Malformed)
+FAILURES = (OSError, EOFError, ValueError, program.Failed, databases.Damaged, remote.Failed, Unfit)
 
 
 class Said(NamedTuple):

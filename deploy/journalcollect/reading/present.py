@@ -15,7 +15,8 @@ from collections.abc import Callable
 from pathlib import Path
 
 from ..common import entries
-from ..common.entries import Malformed, Untaken
+from ..common.entries import Untaken
+from ..common.export_stream import Unfit
 from ..common.uploads import HEADER, KIND, STREAM
 from . import remote
 from .places import About, Places
@@ -63,7 +64,7 @@ class Live:
                     self.keys.add((entry.sequence, entry.number))
                     self.about.add(machine, entry.boot, entry.realtime, entry.realtime)
                     texts.append(entry.text(machine, self.with_keys))
-        except Malformed as fault:
+        except Unfit as fault:
             self.about.leave_out(f"their upload can't be read: {fault}")
         self.remote.write(b"".join(texts))
         self.is_told = False
