@@ -53,6 +53,14 @@ class Machine:
         assert "Traceback" not in self.said, self.said
         return process.returncode
 
+    def gather(self) -> list[Path]:
+        """One run without a connection; the uploads that wait then."""
+        connect = self.settings["CONNECT"]
+        self.set(CONNECT="false")
+        assert self.send() == 3, self.said
+        self.set(CONNECT=connect)
+        return self.outbox()
+
     def outbox(self) -> list[Path]:
         return sorted((self.folder / "outbox").glob("*.upload"), key=lambda path: int(path.stem))
 

@@ -66,12 +66,8 @@ def test_an_answer_that_is_lost(machine: Machine, collector: Collector) -> None:
 def test_the_newest_and_the_oldest_take_turns(machine: Machine, collector: Collector) -> None:
     machine.set(UPLOAD_BYTES=1500)
     write(machine.journal / "system.journal", entries("one", 12, pad=200))
-    connect = machine.settings["CONNECT"]
-    machine.set(CONNECT="false")
-    assert machine.send() == 3
-    waiting = [path.read_bytes() for path in machine.outbox()]
+    waiting = [path.read_bytes() for path in machine.gather()]
     assert len(waiting) > 3
-    machine.set(CONNECT=connect)
     assert machine.send() == 0, machine.said
     assert collector.uploads[:4] == [waiting[-1], waiting[0], waiting[-2], waiting[1]]
     assert sorted(collector.uploads) == sorted(waiting)
@@ -80,15 +76,12 @@ def test_the_newest_and_the_oldest_take_turns(machine: Machine, collector: Colle
 def test_a_backlog_that_is_gathered_later_buries_nothing(machine: Machine, collector: Collector) -> None:
     """The times of entries say what is new: neither when they were gathered, nor when an upload was cut."""
     machine.set(UPLOAD_BYTES=50_000)
-    connect = machine.settings["CONNECT"]
-    machine.set(CONNECT="false")
     write(machine.journal / "system@01.journal", entries("one", 12, pad=200))
-    assert machine.send() == 3
+    machine.gather()
     machine.set(UPLOAD_BYTES=1500)
     write(machine.journal / "system@02.journal", entries("two", 12, BEGIN + 1_000_000_000, pad=200))
     write(machine.journal / "system.journal", entries("new", 9, BEGIN + 2_000_000_000, pad=200))
-    assert machine.send() == 3
-    machine.set(CONNECT=connect)
+    machine.gather()
     assert machine.send() == 0, machine.said
     went = [re.findall(rb"^MESSAGE=(\w+ \d+)", data, re.MULTILINE) for data in collector.uploads]
     by_time = went[1::2] + went[0::2][::-1]
@@ -128,13 +121,9 @@ def test_too_large_for_the_collector(machine: Machine, collector: Collector) -> 
 def test_a_key_that_is_taken(machine: Machine, collector: Collector) -> None:
     """The place is that of the entry: what is before it keeps its sequence, and the rest goes on in a fork."""
     write(machine.journal / "system.journal", entries("one", 5))
-    connect = machine.settings["CONNECT"]
-    machine.set(CONNECT="false")
-    assert machine.send() == 3
-    upload = machine.outbox()[0].read_bytes()
+    upload = machine.gather()[0].read_bytes()
     strange = upload.replace(b"one 3", b"six 3")
     assert collector.store(strange, "web").startswith("ack")
-    machine.set(CONNECT=connect)
     assert machine.send() == 1 and "forked: " in machine.said
     assert machine.send() == 0, machine.said
     stored = collector.stored()
@@ -148,13 +137,10 @@ def test_a_key_that_is_taken(machine: Machine, collector: Collector) -> None:
 def test_a_sequence_of_another_machine(machine: Machine, collector: Collector) -> None:
     """A clone under a name of its own: all of the sequence goes on in one fork, also what was gathered before."""
     write(machine.journal / "system.journal", entries("one", 4))
-    connect = machine.settings["CONNECT"]
-    machine.set(UPLOAD_BYTES=250, CONNECT="false")
-    assert machine.send() == 3
-    uploads = [path.read_bytes() for path in machine.outbox()]
+    machine.set(UPLOAD_BYTES=250)
+    uploads = [path.read_bytes() for path in machine.gather()]
     assert len(uploads) == 4
     assert collector.store(uploads[0], "other").startswith("ack")
-    machine.set(CONNECT=connect)
     assert machine.send() == 1
     write(machine.journal / "system.journal", entries("two", 1, begin=BEGIN + 1_000_000_000))
     assert machine.send() == 0, machine.said
@@ -181,12 +167,8 @@ def test_an_entry_at_fault(machine: Machine, collector: Collector) -> None:
 def test_an_upload_that_is_damaged_here(machine: Machine, collector: Collector) -> None:
     """What can be followed of it goes on, and the rest is kept."""
     write(machine.journal / "system.journal", entries("one", 5))
-    connect = machine.settings["CONNECT"]
-    machine.set(CONNECT="false")
-    assert machine.send() == 3
-    path = machine.outbox()[0]
+    path = machine.gather()[0]
     data = path.read_bytes()
-    machine.set(CONNECT=connect)
     for at, damaged in ((0, b"X"), (data.rfind(b"MESSAGE=one 3") + 7, b"\n")):
         path.write_bytes(data[:at] + damaged + data[at + 1:])
         machine.send()

@@ -1,7 +1,6 @@
 """Export streams in tests: the fields of each entry of one, and a field in the spelling that takes any bytes."""
 from __future__ import annotations
 
-import io
 from collections.abc import Iterator
 from typing import IO
 
@@ -26,11 +25,6 @@ def pairs_of(stream: IO[bytes]) -> Iterator[Pairs]:
         pairs.append((name, value))
     if pairs:
         raise ValueError(f"an entry isn't whole: {pairs[0]!r}")
-
-
-def fields_of(text: bytes) -> Iterator[dict[bytes, bytes]]:
-    """The fields of each entry of a text."""
-    return map(dict, pairs_of(io.BytesIO(text)))
 
 
 def binary(name: bytes, value: bytes) -> bytes:
