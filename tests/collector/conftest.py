@@ -103,7 +103,9 @@ class Collector:
         return {**os.environ, "JOURNAL_COLLECT": str(self.program),
                 "JOURNAL_COLLECT_SETTINGS": str(self.settings)}
 
-    def start(self) -> None:
+    def start(self, *admitted: str) -> None:
+        """Starts the service; these machines have keys from now on."""
+        self.admit(*admitted)
         with open(self.log, "ab") as log:
             self.process = subprocess.Popen([*self.under, ROOT / "deploy/programs/journal-collect-service"], stderr=log,
                                             env=self.environment())

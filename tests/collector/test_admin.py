@@ -224,8 +224,7 @@ def test_a_backup_is_put_back_and_its_notes_are_those_of_its_databases(collector
 
 
 def test_a_backup_of_a_collector_that_stored_nothing_is_put_back(collector: Collector, tmp_path: Path) -> None:
-    collector.admit("web")
-    collector.start()
+    collector.start("web")
     wait_until(collector.is_begun)
     said(collector, "backup", tmp_path / "backup")
     assert collector.stop() == 0

@@ -19,8 +19,7 @@ def causes(collector: Collector) -> dict[str, int]:
 
 
 def test_only_whole_export_uploads_of_some_size_come(collector: Collector) -> None:
-    collector.admit("web")
-    collector.start()
+    collector.start("web")
     web = collector.connect("web")
     assert web.send(b"JCUPLD02\1\0" + upload(entries(A, [1]), 1)[10:]).startswith("never it is no upload of a stream")
     assert web.send(b"JCUPLD02\2\0" + bytes(300)).startswith("never it is no upload of a stream")
@@ -39,8 +38,7 @@ def test_only_whole_export_uploads_of_some_size_come(collector: Collector) -> No
 def test_a_day_has_a_share_of_bytes(collector: Collector) -> None:
     data = upload(entries(A, [1]), 1)
     collector.values["DAY_BYTES"] = str(len(data))
-    collector.admit("web", "mail")
-    collector.start()
+    collector.start("web", "mail")
     web = collector.connect("web")
     assert web.send(data).startswith("ack")
     assert web.send(data) == f"later it has sent DAY_BYTES, {len(data)}, today"
@@ -51,8 +49,7 @@ def test_a_day_has_a_share_of_bytes(collector: Collector) -> None:
 
 
 def test_the_newest_connection_ends_the_oldest(collector: Collector) -> None:
-    collector.admit("web")
-    collector.start()
+    collector.start("web")
     there = [collector.connect("web") for _ in range(5)]
     assert there[0].line() == ""
     for each in there[1:]:
@@ -63,8 +60,7 @@ def test_the_newest_connection_ends_the_oldest(collector: Collector) -> None:
 
 
 def test_thousands_of_sequences_and_windows_are_refused_at_once_beside_others(collector: Collector) -> None:
-    collector.admit("hostile", *(f"m{number}" for number in range(4)))
-    collector.start()
+    collector.start("hostile", *(f"m{number}" for number in range(4)))
     sequences = b"".join(entry(f"{number:032x}", 1) for number in range(1, 3901))
     windows = b"".join(entry(A, 1 + 4096 * number) for number in range(3900))
     others = [collector.connect(f"m{number}") for number in range(4)]
@@ -87,8 +83,7 @@ def test_an_upload_whose_files_of_notes_cannot_be_counted_comes_again(collector:
     odd.write_text(f'#!/bin/bash\n[[ $1 != inspect ]] || kill -KILL $$\nexec {PROGRAM} "$@"\n')
     odd.chmod(0o755)
     collector.program = odd
-    collector.admit("web")
-    collector.start()
+    collector.start("web")
     data = upload(b"".join(entry(A, 1 + 4096 * number) for number in range(3)), 3)
     assert collector.send("web", data) == ""
     wait_until(lambda: "web: Failed: journal-collect inspect: status -9" in collector.said())
@@ -97,8 +92,7 @@ def test_an_upload_whose_files_of_notes_cannot_be_counted_comes_again(collector:
 
 
 def test_new_files_of_notes_have_a_share_of_the_day(collector: Collector) -> None:
-    collector.admit("web")
-    collector.start()
+    collector.start("web")
     web = collector.connect("web")
     assert web.send(upload(b"".join(entry(A, 1 + 4096 * number) for number in range(16)), 16)).startswith("ack")
     assert web.send(upload(entries(A, [2, 3]), 2)).startswith("ack")
@@ -114,8 +108,7 @@ def test_new_files_of_notes_have_a_share_of_the_day(collector: Collector) -> Non
 
 def test_a_message_that_looks_like_many_entries_counts_for_none(collector: Collector) -> None:
     """A user of a machine logs lines that look like numbers of entries."""
-    collector.admit("web")
-    collector.start()
+    collector.start("web")
     text = b"".join(b"\n__SEQNUM=%d\n__SEQNUM_ID=%032x" % (4096 * number, number) for number in range(1000))
     odd = entry(A, 1)[:-1] + b"MESSAGE\n" + len(text).to_bytes(8, "little") + text + b"\n\n"
     assert collector.send("web", upload(odd, 1)) == f"ack {ID} 0 1 1 0"
@@ -162,8 +155,7 @@ sys.exit(real.wait())
 """)
     odd.chmod(0o755)
     collector.program = odd
-    collector.admit("web", "mail")
-    collector.start()
+    collector.start("web", "mail")
     mail, web = collector.connect("mail"), collector.connect("web")
     assert mail.send(upload(entries(B, [1]), 1)) == f"ack {ID} 0 1 1 0"
     web.put(upload(entries(A, [1], "KILLER"), 1))
@@ -179,8 +171,7 @@ sys.exit(real.wait())
 def test_a_disk_without_files_left_is_told_later(collector: Collector, tmp_path: Path) -> None:
     """A file system of its own, with few inodes."""
     with collector.on_disk(tmp_path / "disk", "nr_inodes=9000"):
-        collector.admit("web")
-        collector.start()
+        collector.start("web")
         assert collector.send("web", upload(entries(A, [1]), 1)).startswith("later only ")
         assert "more files can be made" in collector.said()
         assert collector.stop() == 0
@@ -190,8 +181,7 @@ def test_a_full_disk_loses_nothing_and_all_goes_on_when_it_has_room(collector: C
     """A file system of 6 MiB, filled to its last byte, as no FREE_BYTES keeps anything free."""
     with collector.on_disk(tmp_path / "disk", "size=6m"):
         collector.values["DATABASE_BYTES"] = "1000000"
-        collector.admit("web")
-        collector.start()
+        collector.start("web")
         acknowledged, first, end = 0, 1, time.monotonic() + PATIENCE
         while time.monotonic() < end:
             answer = collector.send("web", upload(entries(A, range(first, first + 500), "x" * 300), 500))
@@ -215,8 +205,7 @@ def test_a_service_that_begins_on_a_full_disk_is_begun_again(
         collector: Collector, tmp_path: Path, damage: str) -> None:
     """It can't make a table. That is no damage: what was damaged is set aside once, and what is new never."""
     with collector.on_disk(tmp_path / "disk", "size=6m"):
-        collector.admit("web")
-        collector.start()
+        collector.start("web")
         assert collector.send("web", upload(entries(A, [1]), 1)) == f"ack {ID} 0 1 1 0"
         assert collector.stop() == 0
         (collector.folder / "state.sqlite").unlink()

@@ -115,8 +115,7 @@ def test_what_was_acknowledged_is_stored(collector: Collector, round: int) -> No
     dice = random.Random(SEED * 1000 + round)
     collector.values["DATABASE_SECONDS"] = dice.choice(("2", "600"))
     senders = [Sender(collector, number, random.Random(dice.random())) for number in range(MACHINES)]
-    collector.admit(*(sender.machine for sender in senders))
-    collector.start()
+    collector.start(*(sender.machine for sender in senders))
     for sender in senders:
         sender.start()
     done = []

@@ -88,8 +88,7 @@ def nothing_comes_twice(collector: Collector) -> None:
 
 def once_killed(collector: Collector) -> Path:
     """The database that has three entries, once the service is killed."""
-    collector.admit("web")
-    collector.start()
+    collector.start("web")
     assert collector.send("web", upload(entries(A, range(1, 4)), 3)) == f"ack {ID} 0 3 3 0"
     collector.kill()
     [database] = collector.databases()
@@ -156,8 +155,7 @@ def test_the_process_that_notes_is_killed(emptied: Collector) -> None:
 
 def test_a_window_that_is_emptied_while_the_program_has_it(collector: Collector) -> None:
     """What the program adds stands where it was to stand, so the file is as long as it ought to be."""
-    collector.admit("web")
-    collector.start()
+    collector.start("web")
     assert collector.send("web", upload(entries(A, range(1, 4)), 3)) == f"ack {ID} 0 3 3 0"
     os.truncate(window(collector), 0)
     assert collector.send("web", upload(entries(A, range(4, 7)), 3)).startswith(f"ack {ID} 0 3 3 ")

@@ -12,8 +12,7 @@ ID = "cd" * 16
 
 def begun(collector: Collector, numbers: range = range(1, 4)) -> None:
     """A collector that has acknowledged some entries of a sequence, in a database that isn't finished."""
-    collector.admit("web")
-    collector.start()
+    collector.start("web")
     count = len(numbers)
     assert collector.send("web", upload(entries(A, numbers), count)) == f"ack {ID} 0 {count} {count} 0"
 

@@ -22,8 +22,7 @@ ID = "cd" * 16
 
 
 def test_an_upload_is_stored_once_and_acknowledged_each_time(collector: Collector) -> None:
-    collector.admit("web")
-    collector.start()
+    collector.start("web")
     web = collector.connect("web")
     assert web.greeting.startswith("journal-collect 1 ") and web.greeting.endswith(" -")
     data = upload(entries(A, range(1, 6)), 5)
@@ -36,8 +35,7 @@ def test_an_upload_is_stored_once_and_acknowledged_each_time(collector: Collecto
 
 
 def test_a_cut_upload_leaves_nothing(collector: Collector) -> None:
-    collector.admit("web")
-    collector.start()
+    collector.start("web")
     data = upload(entries(A, range(1, 6)), 5)
     cut = collector.connect("web")
     cut.say(f"upload {len(data)} {hashlib.sha256(data).hexdigest()} 1")
@@ -55,8 +53,7 @@ def test_a_cut_upload_leaves_nothing(collector: Collector) -> None:
 
 
 def test_a_sequence_is_its_first_machine_s_and_an_entry_stays_what_it_was(collector: Collector) -> None:
-    collector.admit("web", "mail")
-    collector.start()
+    collector.start("web", "mail")
     assert collector.send("web", upload(entries(A, [1]), 1)) == f"ack {ID} 0 1 1 0"
     assert collector.send("mail", upload(entries(B, [1]) + entries(A, [2]), 2)) == f"no {ID} 0 71 1"
     assert collector.send("web", upload(entries(A, [2, 1], "other"), 2)) == f"no {ID} 0 60 1"
@@ -67,8 +64,7 @@ def test_a_sequence_is_its_first_machine_s_and_an_entry_stays_what_it_was(collec
 
 
 def test_whose_a_sequence_is_is_told_to_people_and_not_to_another_machine(collector: Collector) -> None:
-    collector.admit("web", "mail")
-    collector.start()
+    collector.start("web", "mail")
     assert collector.send("web", upload(entries(A, [1]), 1)).startswith("ack")
     assert collector.stop() == 0
     collector.start()
@@ -86,8 +82,7 @@ def test_whose_a_sequence_is_is_told_to_people_and_not_to_another_machine(collec
 
 def test_all_sequences_of_an_upload_are_its_machine_s(collector: Collector) -> None:
     """As of a machine whose two users' journals came in one upload."""
-    collector.admit("web")
-    collector.start()
+    collector.start("web")
     collector.send("web", upload(entries(A, [1]) + entries(B, [7]), 2))
     assert collector.stop() == 0
     assert collector.rows("SELECT id, machine FROM sequence ORDER BY id") == [(A, "web"), (B, "web")]
@@ -95,8 +90,7 @@ def test_all_sequences_of_an_upload_are_its_machine_s(collector: Collector) -> N
 
 def test_many_that_wait_are_each_answered_with_their_own(collector: Collector) -> None:
     names = [f"m{number:02}" for number in range(12)]
-    collector.admit(*names)
-    collector.start()
+    collector.start(*names)
     machines = {name: collector.connect(name) for name in names}
     for number, (name, machine) in enumerate(machines.items(), 1):
         machine.put(upload(entries(f"{number:032x}", range(1, number + 1)), number, f"{number:032x}"))
@@ -126,8 +120,7 @@ def test_an_answer_comes_last_and_whatever_else_fails(collector: Collector, monk
 
 
 def test_a_machine_comes_by_nc_alone_and_one_without_a_key_doesn_t(collector: Collector) -> None:
-    collector.admit("web")
-    collector.start()
+    collector.start("web")
     collector.connect("web").close()
     data = upload(entry(A, 1, MESSAGE="by nc"), 1)
     line = f"upload {len(data)} {hashlib.sha256(data).hexdigest()} 1\n".encode()
@@ -142,8 +135,7 @@ def test_a_machine_comes_by_nc_alone_and_one_without_a_key_doesn_t(collector: Co
 
 def test_a_database_is_finished_by_age_and_a_digest_is_beside_it(collector: Collector) -> None:
     collector.values["DATABASE_SECONDS"] = "1"
-    collector.admit("web")
-    collector.start()
+    collector.start("web")
     collector.send("web", upload(entries(A, [1]), 1))
     wait_until(lambda: list((collector.folder / "databases").glob("*.sha256")))
     subprocess.run("sha256sum --check --quiet *.sha256", shell=True, cwd=collector.folder / "databases", check=True)
@@ -183,8 +175,7 @@ def test_a_name_of_a_database_is_never_given_twice(collector: Collector) -> None
 
 def test_who_waits_for_long_comes_again(collector: Collector) -> None:
     """The program stands still: what wasn't handed to it is told `later`, and what was is answered in the end."""
-    collector.admit("web", "other")
-    collector.start()
+    collector.start("web", "other")
     assert collector.send("web", upload(entries(A, [1]), 1)) == f"ack {ID} 0 1 1 0"
     [program] = collector.programs()
     os.kill(program, signal.SIGSTOP)
