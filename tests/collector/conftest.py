@@ -42,6 +42,10 @@ def sequence(letter: str) -> str:
     return letter * 32
 
 
+# Two sequences, and the source of uploads.
+A, B, ID = sequence("a"), sequence("b"), "cd" * 16
+
+
 class Machine:
     """A machine's connection."""
 
@@ -229,3 +233,24 @@ def collector(tmp_path: Path) -> Iterator[Collector]:
     yield made
     if made.runs():
         made.kill()
+
+
+def texts(numbers: range) -> list[tuple[str, int, bytes]]:
+    return [(A, number, b"m%d" % number) for number in numbers]
+
+
+def store_and_stop(collector: Collector, numbers: range, of: str = A) -> None:
+    """A run that stores entries in a database of its own, which is finished."""
+    collector.start()
+    assert collector.send("web", upload(entries(of, numbers), len(numbers))).startswith("ack ")
+    assert collector.stop() == 0
+
+
+def comes_again(collector: Collector, numbers: range, new: int) -> None:
+    """These entries come, perhaps again, so many of them new: then they and no others are stored, each once."""
+    if not collector.runs():
+        collector.start()
+    count = len(numbers)
+    assert collector.send("web", upload(entries(A, numbers), count)) == f"ack {ID} 0 {count} {new} 0"
+    assert collector.stop() == 0
+    assert collector.stored() == texts(numbers)

@@ -5,11 +5,9 @@ import subprocess
 from pathlib import Path
 
 import pytest
-from conftest import PROGRAM, Collector, Machine, entries, sequence, upload
+from conftest import A, B, ID, PROGRAM, Collector, Machine, entries, store_and_stop, upload
 from waiting import wait_until
 
-A, B = sequence("a"), sequence("b")
-ID = "cd" * 16
 KEY = "ssh-ed25519 AAAAC3NzaC1lZDI1NTE5AAAAI%s= %s"
 
 
@@ -21,12 +19,6 @@ def said(collector: Collector, *words: str | Path, given: str = "", status: int 
     ended = collector.admin(*words, given=given)
     assert ended.returncode == status, ended
     return ended.stdout + ended.stderr
-
-
-def stored_by_a_run(collector: Collector, name: str, numbers: range, of: str = A) -> None:
-    collector.start()
-    collector.send(name, upload(entries(of, numbers), len(numbers)))
-    assert collector.stop() == 0
 
 
 def test_a_machine_is_admitted_under_one_name_and_retired(collector: Collector) -> None:
@@ -138,7 +130,7 @@ def test_a_rename_that_was_killed_is_ended_by_the_next_one(collector: Collector)
 
 def test_a_renamed_machine_has_its_sequences(collector: Collector) -> None:
     said(collector, "admit", "web", given=key("A"))
-    stored_by_a_run(collector, "web", range(1, 3))
+    store_and_stop(collector, range(1, 3))
     collector.start()
     standing = collector.connect("web")
     said(collector, "rename", "web", "www")
@@ -174,7 +166,7 @@ def test_a_rename_that_is_killed_is_done_again(collector: Collector, tmp_path: P
 
 def test_a_released_sequence_is_the_next_machine_s(collector: Collector) -> None:
     collector.admit("web", "mail")
-    stored_by_a_run(collector, "web", range(1, 3))
+    store_and_stop(collector, range(1, 3))
     collector.start()
     assert collector.send("mail", upload(entries(A, [3]), 1)) == f"no {ID} 0 71 0"
     said(collector, "release", A)
@@ -201,7 +193,7 @@ def test_uploads_that_came_by_other_means_are_taken(collector: Collector, tmp_pa
 
 def test_a_backup_is_put_back_and_its_notes_are_those_of_its_databases(collector: Collector, tmp_path: Path) -> None:
     collector.admit("web")
-    stored_by_a_run(collector, "web", range(1, 4))
+    store_and_stop(collector, range(1, 4))
     collector.start()
     collector.send("web", upload(entries(A, range(4, 6)), 2))
     to = tmp_path / "backup"
@@ -237,8 +229,8 @@ def test_a_backup_of_a_collector_that_stored_nothing_is_put_back(collector: Coll
 
 def test_a_backup_mends_a_single_database(collector: Collector, tmp_path: Path) -> None:
     collector.admit("web")
-    stored_by_a_run(collector, "web", range(1, 4))
-    stored_by_a_run(collector, "web", range(4, 7))
+    store_and_stop(collector, range(1, 4))
+    store_and_stop(collector, range(4, 7))
     to = tmp_path / "backup"
     said(collector, "backup", to)
     first, second = collector.databases()
@@ -255,7 +247,7 @@ def test_a_backup_mends_a_single_database(collector: Collector, tmp_path: Path) 
 
 def test_the_check_finds_a_row_that_was_edited_with_its_digest_and_with_what_is_known(collector: Collector) -> None:
     collector.admit("web")
-    stored_by_a_run(collector, "web", range(1, 4))
+    store_and_stop(collector, range(1, 4))
     assert "agree" in said(collector, "check")
     [path] = collector.databases()
     data = path.read_bytes()
@@ -271,7 +263,7 @@ def test_the_check_finds_a_row_that_was_edited_with_its_digest_and_with_what_is_
 
 def test_the_head_that_a_machine_was_told_shows_what_was_changed_since(collector: Collector) -> None:
     collector.admit("web")
-    stored_by_a_run(collector, "web", range(1, 4))
+    store_and_stop(collector, range(1, 4))
     [path] = collector.databases()
     text = path.with_name(path.name + ".sha256").read_bytes()
     head = subprocess.run(["sha256sum"], input=text, capture_output=True, check=True).stdout.decode()[:64]
@@ -282,7 +274,7 @@ def test_the_head_that_a_machine_was_told_shows_what_was_changed_since(collector
 
 def test_a_moved_database_stays_acknowledged(collector: Collector, tmp_path: Path) -> None:
     collector.admit("web")
-    stored_by_a_run(collector, "web", range(1, 4))
+    store_and_stop(collector, range(1, 4))
     [path] = collector.databases()
     said(collector, "moved", "nothing", status=1)
     said(collector, "moved", path.name)
@@ -296,8 +288,8 @@ def test_a_moved_database_stays_acknowledged(collector: Collector, tmp_path: Pat
 
 def test_all_is_made_anew_of_databases(collector: Collector) -> None:
     collector.admit("web")
-    stored_by_a_run(collector, "web", range(1, 4))
-    stored_by_a_run(collector, "web", range(4, 7))
+    store_and_stop(collector, range(1, 4))
+    store_and_stop(collector, range(4, 7))
     window = collector.folder / "sequences" / A / "0"
     before, known = window.read_bytes(), collector.rows("SELECT name, digest, entries FROM database")
     (collector.folder / "state.sqlite").unlink()

@@ -6,11 +6,8 @@ import time
 from pathlib import Path
 
 import pytest
-from conftest import PROGRAM, Collector, entries, entry, sequence, upload
+from conftest import A, B, ID, PROGRAM, Collector, entries, entry, upload
 from waiting import PATIENCE, wait_until
-
-A, B = sequence("a"), sequence("b")
-ID = "cd" * 16
 
 
 def causes(collector: Collector) -> dict[str, int]:

@@ -4,17 +4,8 @@ import subprocess
 from pathlib import Path
 
 import pytest
-from conftest import Collector, entries, sequence, upload
+from conftest import A, B, ID, Collector, entries, store_and_stop, upload
 from waiting import wait_until
-
-A, B = sequence("a"), sequence("b")
-ID = "cd" * 16
-
-
-def stored_by_a_run(collector: Collector, numbers: range, of: str = A) -> None:
-    collector.start()
-    collector.send("web", upload(entries(of, numbers), len(numbers)))
-    assert collector.stop() == 0
 
 
 def grow_older(collector: Collector, days: float) -> None:
@@ -24,8 +15,8 @@ def grow_older(collector: Collector, days: float) -> None:
 
 def test_databases_and_notes_go_after_their_days(collector: Collector) -> None:
     collector.admit("web")
-    stored_by_a_run(collector, range(1, 4))
-    stored_by_a_run(collector, range(1, 3), B)
+    store_and_stop(collector, range(1, 4))
+    store_and_stop(collector, range(1, 3), B)
     first, second = collector.databases()
     collector.rows("UPDATE database SET age = age + 20 WHERE name = ?", second.stem)
     collector.rows("UPDATE noted SET age = age + 20 WHERE sequence = ?", B)
@@ -37,13 +28,13 @@ def test_databases_and_notes_go_after_their_days(collector: Collector) -> None:
     assert collector.stop() == 0
     assert not (collector.folder / "sequences" / A).exists()
     assert collector.rows("SELECT sequence, notes FROM noted") == [(B, 3)]
-    stored_by_a_run(collector, range(1, 4))
+    store_and_stop(collector, range(1, 4))
     assert "missing" not in collector.said()
 
 
 def test_the_clock_of_the_day_deletes_nothing(collector: Collector) -> None:
     collector.admit("web")
-    stored_by_a_run(collector, range(1, 4))
+    store_and_stop(collector, range(1, 4))
     collector.rows("UPDATE clock SET wall = wall - 40 * 86400, boot = 'another'")
     collector.start()
     wait_until(lambda: "40 days more went by" in collector.said())
@@ -75,7 +66,7 @@ def test_each_day_all_databases_are_looked_at(collector: Collector) -> None:
 def test_the_oldest_go_if_all_have_too_many_bytes(collector: Collector) -> None:
     collector.admit("web")
     for number in range(1, 4):
-        stored_by_a_run(collector, range(number, number + 1))
+        store_and_stop(collector, range(number, number + 1))
     size = sum(path.stat().st_size for path in collector.databases()[1:])
     names = [path.name for path in collector.databases()]
     collector.values["KEEP_BYTES"] = str(size)
@@ -90,7 +81,7 @@ def test_a_finished_database_is_packed_once_journal_files_are_made(
     if not Path("/lib/systemd/systemd-journal-remote").exists():
         pytest.skip("there is no systemd-journal-remote")
     collector.admit("web")
-    stored_by_a_run(collector, range(1, 400))
+    store_and_stop(collector, range(1, 400))
     [path] = collector.databases()
     collector.values["PACK_DAYS"] = "0"
     packed = path.with_name(path.name + ".zst")

@@ -5,20 +5,14 @@ import time
 from pathlib import Path
 
 import pytest
-from conftest import PROGRAM, Collector, Machine, entries, sequence, upload
+from conftest import A, ID, PROGRAM, Collector, Machine, comes_again, entries, store_and_stop, texts, upload
 from journalcollect.collector.recovery import Recovery
 from journalcollect.collector.settings import Folder, Settings
 from journalcollect.collector.state import State
 from journalcollect.reading.present import Present
 from waiting import wait_until
 
-A = sequence("a")
-ID = "cd" * 16
 DATABASES, NOTE = 3, 41
-
-
-def texts(numbers: range) -> list[tuple[str, int, bytes]]:
-    return [(A, number, b"m%d" % number) for number in numbers]
 
 
 def window(collector: Collector) -> Path:
@@ -30,10 +24,7 @@ def emptied(collector: Collector) -> Collector:
     """A collector with three entries in each of three databases, whose window of notes was emptied."""
     collector.admit("web")
     for first in range(1, 1 + 3 * DATABASES, 3):
-        collector.start()
-        numbers = range(first, first + 3)
-        assert collector.send("web", upload(entries(A, numbers), 3)) == f"ack {ID} 0 3 3 0"
-        assert collector.stop() == 0
+        store_and_stop(collector, range(first, first + 3))
     os.truncate(window(collector), 0)
     return collector
 
@@ -80,10 +71,7 @@ def sent(collector: Collector, numbers: range) -> Machine:
 def nothing_comes_twice(collector: Collector) -> None:
     """The next service, with the program as it is."""
     collector.program = PROGRAM
-    collector.start()
-    assert collector.send("web", upload(entries(A, range(1, 10)), 9)) == f"ack {ID} 0 9 0 0"
-    assert collector.stop() == 0
-    assert collector.stored() == texts(range(1, 10))
+    comes_again(collector, range(1, 10), 0)
 
 
 def once_killed(collector: Collector) -> Path:
@@ -137,9 +125,7 @@ def test_the_next_service_waits_for_a_process_that_notes(emptied: Collector) -> 
     time.sleep(1.0)
     assert not window(emptied).exists() or window(emptied).stat().st_size < 9 * NOTE
     go(emptied)
-    assert emptied.send("web", upload(entries(A, range(1, 10)), 9)) == f"ack {ID} 0 9 0 0"
-    assert emptied.stop() == 0
-    assert emptied.stored() == texts(range(1, 10))
+    comes_again(emptied, range(1, 10), 0)
 
 
 def test_the_process_that_notes_is_killed(emptied: Collector) -> None:
@@ -160,10 +146,7 @@ def test_a_window_that_is_emptied_while_the_program_has_it(collector: Collector)
     os.truncate(window(collector), 0)
     assert collector.send("web", upload(entries(A, range(4, 7)), 3)).startswith(f"ack {ID} 0 3 3 ")
     assert collector.stop() == 0
-    collector.start()
-    assert collector.send("web", upload(entries(A, range(1, 7)), 6)) == f"ack {ID} 0 6 0 0"
-    assert collector.stop() == 0
-    assert collector.stored() == texts(range(1, 7))
+    comes_again(collector, range(1, 7), 0)
     assert f"{window(collector)}: " in collector.said()
 
 
@@ -177,10 +160,7 @@ def test_uploads_of_a_damaged_database_are_stored_again_though_nothing_is_known(
     assert collector.ended() == -signal.SIGKILL
     (collector.folder / "state.sqlite").unlink()
     collector.program = PROGRAM
-    collector.start()
-    assert collector.send("web", upload(entries(A, range(1, 4)), 3)) == f"ack {ID} 0 3 0 0"
-    assert collector.stop() == 0
-    assert collector.stored() == texts(range(1, 4))
+    comes_again(collector, range(1, 4), 0)
 
 
 def test_uploads_that_cannot_be_stored_again_yet_stay(collector: Collector) -> None:
@@ -202,9 +182,7 @@ def test_the_service_is_killed_once_a_database_is_known_to_be_missing(
     """What it had is noted no more, though its notes weren't touched yet."""
     collector.admit("web")
     for first in (1, 4):
-        collector.start()
-        assert collector.send("web", upload(entries(A, range(first, first + 3)), 3)) == f"ack {ID} 0 3 3 0"
-        assert collector.stop() == 0
+        store_and_stop(collector, range(first, first + 3))
     missing = collector.databases()[0]
     missing.unlink()
     missing.with_name(missing.name + ".sha256").unlink()
@@ -218,7 +196,4 @@ def test_the_service_is_killed_once_a_database_is_known_to_be_missing(
     with pytest.raises(InterruptedError):
         recovery.start()
     recovery.state.rows.close()
-    collector.start()
-    assert collector.send("web", upload(entries(A, range(1, 7)), 6)) == f"ack {ID} 0 6 3 0"
-    assert collector.stop() == 0
-    assert collector.stored() == texts(range(1, 7))
+    comes_again(collector, range(1, 7), 3)

@@ -3,11 +3,8 @@ import os
 from pathlib import Path
 
 import processes
-from conftest import Collector, entries, sequence, upload
+from conftest import A, B, ID, Collector, comes_again, entries, store_and_stop, texts, upload
 from waiting import wait_until
-
-A, B = sequence("a"), sequence("b")
-ID = "cd" * 16
 
 
 def begun(collector: Collector, numbers: range = range(1, 4)) -> None:
@@ -17,25 +14,11 @@ def begun(collector: Collector, numbers: range = range(1, 4)) -> None:
     assert collector.send("web", upload(entries(A, numbers), count)) == f"ack {ID} 0 {count} {count} 0"
 
 
-def store_and_stop(collector: Collector, numbers: range) -> None:
-    """A run that stores entries in a database of its own, which is finished."""
-    collector.start()
-    collector.send("web", upload(entries(A, numbers), len(numbers)))
-    assert collector.stop() == 0
-
-
-def texts(numbers: range) -> list[tuple[str, int, bytes]]:
-    return [(A, number, b"m%d" % number) for number in numbers]
-
-
 def test_what_was_acknowledged_is_there_after_a_kill(collector: Collector) -> None:
     begun(collector)
     collector.kill()
     (collector.folder / "state.sqlite").unlink()
-    collector.start()
-    assert collector.send("web", upload(entries(A, range(1, 5)), 4)) == f"ack {ID} 0 4 1 0"
-    assert collector.stop() == 0
-    assert collector.stored() == texts(range(1, 5))
+    comes_again(collector, range(1, 5), 1)
     assert len(collector.databases()) == 2
 
 
@@ -44,9 +27,7 @@ def test_the_program_is_killed_and_nothing_is_lost(collector: Collector) -> None
     assert collector.process
     for child in processes.children(collector.process.pid):
         processes.kill(child)
-    assert collector.send("web", upload(entries(A, range(1, 5)), 4)) == f"ack {ID} 0 4 1 0"
-    assert collector.stop() == 0
-    assert collector.stored() == texts(range(1, 5))
+    comes_again(collector, range(1, 5), 1)
 
 
 def test_an_unfinished_database_that_is_damaged_is_stored_again_from_its_uploads(collector: Collector) -> None:

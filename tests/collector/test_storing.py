@@ -6,7 +6,7 @@ import subprocess
 import time
 
 import pytest
-from conftest import Collector, entries, entry, sequence, upload
+from conftest import A, B, ID, Collector, entries, entry, upload
 from journalcollect.collector.recovery import Recovery
 from journalcollect.collector.settings import Folder, Settings
 from journalcollect.collector.state import State
@@ -16,9 +16,6 @@ from journalcollect.common import files
 from journalcollect.common.protocol import Answer
 from journalcollect.reading.present import Present
 from waiting import wait_until
-
-A, B = sequence("a"), sequence("b")
-ID = "cd" * 16
 
 
 def test_an_upload_is_stored_once_and_acknowledged_each_time(collector: Collector) -> None:
