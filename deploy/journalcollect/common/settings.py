@@ -19,7 +19,7 @@ FORMS = {bool: ("yes or no", r"yes|no"), int: ("a whole number", r"[0-9]{1,18}")
 
 
 class Wrong(ValueError):
-    """The settings can't be taken, and why."""
+    """The settings, or the words of a call, can't be taken, and why."""
 
 
 def read(folder: Path, kind: type[S]) -> S:

@@ -12,6 +12,7 @@ from ..collector import databases
 from ..collector import settings as collector_settings
 from ..collector.settings import Folder
 from ..common import files, program
+from ..common.report import BUSY, FAILED, LOOK, WRONG
 from ..common.settings import Wrong
 from ..common.entries import spans
 from ..common.export_stream import Unfit
@@ -25,7 +26,6 @@ from .settings import Settings
 STATUSES = """\
 Status: 0 all went well; 1 something to look at: entries that were put aside, databases that are damaged or went before
 they were forwarded; 2 the call or the settings are wrong; 3 something failed; 75 another run is under way."""
-LOOK, WRONG, FAILED, UNDER_WAY = 1, 2, 3, 75
 BATCH_ENTRIES, BATCH_BYTES, POLL_SECONDS = 5_000, 8 << 20, 5.0
 LONGEST_WAIT, PATIENCE, MOST_CUTS = 60.0, 8.0, 3
 ALL = "all"
@@ -206,7 +206,7 @@ def main() -> int:
             return run.run(place_for(chosen, run.kept, asked.again, asked.keep_place))
     except BlockingIOError:
         print("forward: another run is under way", file=sys.stderr)
-        return UNDER_WAY
+        return BUSY
     except (Wrong, OSError) as fault:
         print(f"forward: {fault}", file=sys.stderr)
         return WRONG if isinstance(fault, Wrong) else FAILED

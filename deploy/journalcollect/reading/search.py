@@ -14,12 +14,12 @@ from pathlib import Path
 
 from ..collector import settings
 from ..common import times
-from ..common.settings import Wrong as WrongSettings
+from ..common.settings import Wrong
 from . import choosing, journalctl, places, words
 from .choosing import FOREVER, Standing
 from .journalctl import Window
 from .places import Places
-from .words import BEHIND, Call, Wrong
+from .words import BEHIND, Call
 
 HELP = """\
 Usage: journal-collect-search [OPTIONS..] [MATCHES..]
@@ -246,7 +246,7 @@ def main() -> int:
             sys.stdout.write(HELP)
             return 0
         return Search(call, Places(Path(call.value("folder") or settings.read().folder))).run()
-    except (Wrong, WrongSettings) as wrong:
+    except Wrong as wrong:
         print(f"journal-collect-search: {wrong}", file=sys.stderr)
         return 2
     except BrokenPipeError:

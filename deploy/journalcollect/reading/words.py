@@ -2,6 +2,8 @@
 import re
 from dataclasses import dataclass, field, replace
 
+from ..common.settings import Wrong
+
 # What journalctl has, and this front's own: options without a value, with one, and with one that may be left out.
 # Behind a name stands its letter.
 NONE = ("help h, version, pager-end e, follow f, all a, full l, no-full, quiet q, merge m, list-boots, dmesg k, "
@@ -16,10 +18,6 @@ KINDS = {words[0]: (kind, words[1] if len(words) > 1 else "") for kind in (NONE,
 LETTERS = {letter: name for name, (_, letter) in KINDS.items() if letter}
 # What may be the value of an option that can stand without one.
 BEHIND = {"lines": re.compile(r"\d+|all"), "boot": re.compile(r"all|(?=.)([0-9a-fA-F]{32})?([+-]?\d+)?")}
-
-
-class Wrong(Exception):
-    """The words can't be read so."""
 
 
 @dataclass(frozen=True)
