@@ -102,6 +102,7 @@ def test_it_goes_on_where_it_was_killed(forwarding: Forwarding, engine: StandIn)
         process.communicate()
     assert forwarding.call("--once").returncode == 0
     assert numbers(engine.rows) == list(range(1, 12_001))
+    assert not list((forwarding.collector.path / "forward").rglob("*.db"))
 
 
 def test_what_isnt_taken_is_put_aside_and_the_rest_comes(forwarding: Forwarding, engine: StandIn) -> None:

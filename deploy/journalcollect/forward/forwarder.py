@@ -2,6 +2,7 @@
 import argparse
 import fcntl
 import os
+import shutil
 import signal
 import sys
 import time
@@ -37,7 +38,7 @@ class Forwarder:
     def __init__(self, chosen: Settings, folder: Path, once: bool, seconds: float) -> None:
         self.chosen, self.once, self.seconds = chosen, once, seconds
         self.folder, self.state = Folder(folder), folder / "forward"
-        self.folder.scratch, self.kept = self.state, Kept(self.state)
+        self.folder.scratch, self.kept = self.state / "scratch", Kept(self.state)
         self.place, self.database, self.status, self.waits_for = Place(), "", 0, ""
 
     def tell(self, text: str, status: int = 0) -> None:
@@ -52,6 +53,8 @@ class Forwarder:
     def run(self, place: Place) -> int:
         self.place, engine = place, ClickHouse(self.chosen, self.seconds)
         self.kept.problem.unlink(missing_ok=True)
+        shutil.rmtree(self.folder.scratch, ignore_errors=True)          # what a run left that was killed
+        self.folder.scratch.mkdir()
         self.insist(engine.look)
         while True:
             finished = self.finished()
