@@ -17,7 +17,6 @@ import time
 from collections.abc import Iterable, Sequence
 from dataclasses import astuple, dataclass
 from pathlib import Path
-from typing import Any
 
 from journalcollect.common.damage import is_damage
 from journalcollect.common.report import LOOK, Report
@@ -26,14 +25,14 @@ from journalcollect.machine.journal import JournalFile, cursor_of, cursor_parts
 VERSION = 1
 TABLES = f"""
 BEGIN IMMEDIATE;
-CREATE TABLE place(file TEXT PRIMARY KEY, sequence TEXT, kind TEXT, number INT, cursor TEXT, count INT, tail INT,
-    is_archived INT, since TEXT);
-CREATE TABLE fork(sequence TEXT, number INT, new TEXT, time INT);
-CREATE TABLE try(upload INTEGER PRIMARY KEY, count INT, until REAL);
-CREATE TABLE machine(id TEXT PRIMARY KEY);
-CREATE TABLE head(time INT, head TEXT);
-CREATE TABLE told(time INT, status INT, text TEXT);
-CREATE TABLE value(name TEXT PRIMARY KEY, value TEXT);
+CREATE TABLE place(file TEXT PRIMARY KEY NOT NULL, sequence TEXT NOT NULL, kind TEXT NOT NULL, number INT NOT NULL,
+    cursor TEXT NOT NULL, count INT NOT NULL, tail INT NOT NULL, is_archived INT NOT NULL, since TEXT NOT NULL) STRICT;
+CREATE TABLE fork(sequence TEXT NOT NULL, number INT NOT NULL, new TEXT NOT NULL, time INT NOT NULL) STRICT;
+CREATE TABLE try(upload INTEGER PRIMARY KEY, count INT NOT NULL, until REAL NOT NULL) STRICT;
+CREATE TABLE machine(id TEXT PRIMARY KEY NOT NULL) STRICT;
+CREATE TABLE head(time INT NOT NULL, head TEXT NOT NULL) STRICT;
+CREATE TABLE told(time INT NOT NULL, status INT NOT NULL, text TEXT NOT NULL) STRICT;
+CREATE TABLE value(name TEXT PRIMARY KEY NOT NULL, value TEXT NOT NULL) STRICT;
 PRAGMA user_version={VERSION};
 COMMIT;
 """
@@ -97,8 +96,8 @@ class Places:
             raise sqlite3.DatabaseError(f"its tables are of version {version}, and this program knows {VERSION}")
         if (checked := self.database.execute("PRAGMA quick_check(1)").fetchone()[0]) != "ok":
             raise sqlite3.DatabaseError(checked)
-        self.forks: list[tuple[str, int, str]] = self.rows(
-            [str, int, str], "SELECT sequence, number, new FROM fork ORDER BY number, rowid")
+        self.forks: list[tuple[str, int, str]] = self.database.execute(
+            "SELECT sequence, number, new FROM fork ORDER BY number, rowid").fetchall()
 
     def mend(self, error: sqlite3.DatabaseError) -> bool:
         """Puts aside a file that isn't what was made here, and begins another; whether the error says that."""
@@ -115,17 +114,12 @@ class Places:
                         "goes out once more, and is stored once")
         return True
 
-    def rows(self, types: list[type], query: str) -> list[Any]:
-        """The rows whose values are of these types: the file has no sums."""
-        return [row for row in self.database.execute(query) if list(map(type, row)) == types]
-
     def do(self, statement: str, rows: Iterable[Sequence[object]] = ((),)) -> None:
         with self.database:
             self.database.executemany(statement, rows)
 
     def all(self) -> dict[str, Place]:
-        return {row[0]: Place(*row) for row in
-                self.rows([str, str, str, int, str, int, int, int, str], "SELECT * FROM place")}
+        return {row[0]: Place(*row) for row in self.database.execute("SELECT * FROM place")}
 
     def move(self, places: Iterable[Place]) -> None:
         self.do("INSERT OR REPLACE INTO place VALUES(?, ?, ?, ?, ?, ?, ?, ?, ?)", map(astuple, places))
@@ -164,7 +158,7 @@ class Places:
         return new
 
     def tries(self) -> dict[int, tuple[int, float]]:
-        return {upload: (count, until) for upload, count, until in self.rows([int, int, float], "SELECT * FROM try")}
+        return {upload: (count, until) for upload, count, until in self.database.execute("SELECT * FROM try")}
 
     def tried(self, upload: int, seconds: float) -> None:
         """An upload went out in vain, and rests, each time for twice as long."""
@@ -197,14 +191,14 @@ class Places:
 
     def machines(self, now: str) -> list[str]:
         """The ids that this machine had. With a new one it may be a clone: it doesn't ask for what the other sent."""
-        known = [row[0] for row in self.rows([str], "SELECT id FROM machine")]
+        known = [row[0] for row in self.database.execute("SELECT id FROM machine")]
         if now not in known:
             self.do("INSERT INTO machine VALUES(?)", [[now]])
             self.set(had="")
         return [*known, now]
 
     def see_head(self, head: str) -> None:
-        if head and self.rows([str], "SELECT head FROM head ORDER BY rowid DESC LIMIT 1") != [(head,)]:
+        if head and self.database.execute("SELECT head FROM head ORDER BY rowid DESC").fetchone() != (head,):
             self.do("INSERT INTO head VALUES(?, ?)", [[int(time.time()), head]])
             self.do("DELETE FROM head WHERE rowid <= (SELECT max(rowid) FROM head) - 400")
 
