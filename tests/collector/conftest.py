@@ -97,8 +97,10 @@ class Collector:
         self.under: list[str] = []
 
     def admit(self, *names: str) -> None:
-        for name in names:
-            (self.keys / f"{name}.pub").write_text(f"ssh-ed25519 {name} {name}\n")
+        """These machines have keys from now on, if they have none."""
+        for path in (self.keys / f"{name}.pub" for name in names):
+            if not path.exists():
+                path.write_text(f"ssh-ed25519 {path.stem} {path.stem}\n")
 
     def environment(self) -> dict[str, str]:
         (self.settings / "collector.conf.d").mkdir(exist_ok=True)
@@ -239,10 +241,10 @@ def texts(numbers: range) -> list[tuple[str, int, bytes]]:
     return [(A, number, b"m%d" % number) for number in numbers]
 
 
-def store_and_stop(collector: Collector, numbers: range, of: str = A) -> None:
+def store_and_stop(collector: Collector, numbers: range, of: str = A, machine: str = "web") -> None:
     """A run that stores entries in a database of its own, which is finished."""
-    collector.start()
-    assert collector.send("web", upload(entries(of, numbers), len(numbers))).startswith("ack ")
+    collector.start(machine)
+    assert collector.send(machine, upload(entries(of, numbers), len(numbers))).startswith("ack ")
     assert collector.stop() == 0
 
 

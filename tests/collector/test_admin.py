@@ -64,7 +64,7 @@ def files_of(collector: Collector) -> dict[str, tuple[int, bytes]]:
 
 def test_each_command_on_a_machine_says_what_it_would_do_and_called_again_changes_nothing(collector: Collector) -> None:
     collector.admit("db")
-    stored_by_a_run(collector, "db", range(1, 3), B)
+    store_and_stop(collector, range(1, 3), B, "db")
     collector.start()
     wait_until(collector.is_begun)
     for words, given, does, again in (
@@ -107,8 +107,8 @@ def test_no_machine_gets_the_name_of_another_one(collector: Collector) -> None:
     assert "mail has a key" in said(collector, "rename", "web", "mail", status=1)
     assert "no key" in said(collector, "rename", "db", "www", status=1)
     assert "can't be" in said(collector, "rename", "web", "../x", status=1)
-    stored_by_a_run(collector, "web", range(1, 3))
-    stored_by_a_run(collector, "mail", range(1, 3), B)
+    store_and_stop(collector, range(1, 3))
+    store_and_stop(collector, range(1, 3), B, "mail")
     said(collector, "retire", "mail")
     before = files_of(collector)
     assert "mail is known" in said(collector, "rename", "web", "mail", status=1)
@@ -117,7 +117,7 @@ def test_no_machine_gets_the_name_of_another_one(collector: Collector) -> None:
 
 def test_a_rename_that_was_killed_is_ended_by_the_next_one(collector: Collector) -> None:
     said(collector, "admit", "web", given=key("A"))
-    stored_by_a_run(collector, "web", range(1, 3))
+    store_and_stop(collector, range(1, 3))
     (collector.keys / "web.pub").rename(collector.keys / "web.renamed")
     said(collector, "rename", "web", "www")
     assert collector.rows("SELECT name FROM machine") == [("www",)]
@@ -148,7 +148,7 @@ def test_a_rename_that_is_killed_is_done_again(collector: Collector, tmp_path: P
     odd.write_text(f'#!/bin/bash\n{PROGRAM} "$@" || exit\n[[ "$*" != *" --rename "* ]] || kill -KILL $PPID\n')
     odd.chmod(0o755)
     said(collector, "admit", "web", given=key("A"))
-    stored_by_a_run(collector, "web", range(1, 3))
+    store_and_stop(collector, range(1, 3))
     collector.program = odd
     collector.start()
     wait_until(collector.is_begun)
@@ -192,7 +192,6 @@ def test_uploads_that_came_by_other_means_are_taken(collector: Collector, tmp_pa
 
 
 def test_a_backup_is_put_back_and_its_notes_are_those_of_its_databases(collector: Collector, tmp_path: Path) -> None:
-    collector.admit("web")
     store_and_stop(collector, range(1, 4))
     collector.start()
     collector.send("web", upload(entries(A, range(4, 6)), 2))
@@ -228,7 +227,6 @@ def test_a_backup_of_a_collector_that_stored_nothing_is_put_back(collector: Coll
 
 
 def test_a_backup_mends_a_single_database(collector: Collector, tmp_path: Path) -> None:
-    collector.admit("web")
     store_and_stop(collector, range(1, 4))
     store_and_stop(collector, range(4, 7))
     to = tmp_path / "backup"
@@ -246,7 +244,6 @@ def test_a_backup_mends_a_single_database(collector: Collector, tmp_path: Path) 
 
 
 def test_the_check_finds_a_row_that_was_edited_with_its_digest_and_with_what_is_known(collector: Collector) -> None:
-    collector.admit("web")
     store_and_stop(collector, range(1, 4))
     assert "agree" in said(collector, "check")
     [path] = collector.databases()
@@ -262,7 +259,6 @@ def test_the_check_finds_a_row_that_was_edited_with_its_digest_and_with_what_is_
 
 
 def test_the_head_that_a_machine_was_told_shows_what_was_changed_since(collector: Collector) -> None:
-    collector.admit("web")
     store_and_stop(collector, range(1, 4))
     [path] = collector.databases()
     text = path.with_name(path.name + ".sha256").read_bytes()
@@ -273,7 +269,6 @@ def test_the_head_that_a_machine_was_told_shows_what_was_changed_since(collector
 
 
 def test_a_moved_database_stays_acknowledged(collector: Collector, tmp_path: Path) -> None:
-    collector.admit("web")
     store_and_stop(collector, range(1, 4))
     [path] = collector.databases()
     said(collector, "moved", "nothing", status=1)
@@ -287,7 +282,6 @@ def test_a_moved_database_stays_acknowledged(collector: Collector, tmp_path: Pat
 
 
 def test_all_is_made_anew_of_databases(collector: Collector) -> None:
-    collector.admit("web")
     store_and_stop(collector, range(1, 4))
     store_and_stop(collector, range(4, 7))
     window = collector.folder / "sequences" / A / "0"

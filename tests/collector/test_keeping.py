@@ -14,7 +14,6 @@ def grow_older(collector: Collector, days: float) -> None:
 
 
 def test_databases_and_notes_go_after_their_days(collector: Collector) -> None:
-    collector.admit("web")
     store_and_stop(collector, range(1, 4))
     store_and_stop(collector, range(1, 3), B)
     first, second = collector.databases()
@@ -33,7 +32,6 @@ def test_databases_and_notes_go_after_their_days(collector: Collector) -> None:
 
 
 def test_the_clock_of_the_day_deletes_nothing(collector: Collector) -> None:
-    collector.admit("web")
     store_and_stop(collector, range(1, 4))
     collector.rows("UPDATE clock SET wall = wall - 40 * 86400, boot = 'another'")
     collector.start()
@@ -50,7 +48,7 @@ def test_the_clock_of_the_day_deletes_nothing(collector: Collector) -> None:
 def test_each_day_all_databases_are_looked_at(collector: Collector) -> None:
     """Nobody asks for it."""
     collector.admit("web")
-    stored_by_a_run(collector, range(1, 4))
+    store_and_stop(collector, range(1, 4))
     [path] = collector.databases()
     path.write_bytes(path.read_bytes().replace(b"m2", b"M2"))
     collector.start()
@@ -80,7 +78,6 @@ def test_a_finished_database_is_packed_once_journal_files_are_made(
         collector: Collector, tmp_path: Path) -> None:
     if not Path("/lib/systemd/systemd-journal-remote").exists():
         pytest.skip("there is no systemd-journal-remote")
-    collector.admit("web")
     store_and_stop(collector, range(1, 400))
     [path] = collector.databases()
     collector.values["PACK_DAYS"] = "0"

@@ -22,7 +22,6 @@ def window(collector: Collector) -> Path:
 @pytest.fixture
 def emptied(collector: Collector) -> Collector:
     """A collector with three entries in each of three databases, whose window of notes was emptied."""
-    collector.admit("web")
     for first in range(1, 1 + 3 * DATABASES, 3):
         store_and_stop(collector, range(first, first + 3))
     os.truncate(window(collector), 0)
@@ -180,7 +179,6 @@ def test_uploads_that_cannot_be_stored_again_yet_stay(collector: Collector) -> N
 def test_the_service_is_killed_once_a_database_is_known_to_be_missing(
         collector: Collector, monkeypatch: pytest.MonkeyPatch) -> None:
     """What it had is noted no more, though its notes weren't touched yet."""
-    collector.admit("web")
     for first in (1, 4):
         store_and_stop(collector, range(first, first + 3))
     missing = collector.databases()[0]

@@ -46,7 +46,6 @@ def test_an_unfinished_database_that_is_damaged_is_stored_again_from_its_uploads
 
 
 def test_the_notes_of_a_window_are_made_anew_whatever_became_of_it(collector: Collector) -> None:
-    collector.admit("web")
     store_and_stop(collector, range(1, 4))
     store_and_stop(collector, range(4, 7))
     window = collector.folder / "sequences" / A / "0"
@@ -73,7 +72,6 @@ def test_the_notes_of_a_window_are_made_anew_whatever_became_of_it(collector: Co
 
 
 def test_a_window_that_is_damaged_while_the_service_runs_sets_no_database_aside(collector: Collector) -> None:
-    collector.admit("web")
     store_and_stop(collector, range(1, 4))
     collector.start()
     assert collector.send("web", upload(entries(B, [1]), 1)) == f"ack {ID} 0 1 1 0"
@@ -94,7 +92,6 @@ def test_a_window_that_is_damaged_while_the_service_runs_sets_no_database_aside(
 
 
 def test_a_changed_byte_of_a_note_is_found_by_the_check(collector: Collector) -> None:
-    collector.admit("web")
     store_and_stop(collector, range(1, 4))
     window = collector.folder / "sequences" / A / "0"
     before = window.read_bytes()
@@ -109,7 +106,6 @@ def test_a_changed_byte_of_a_note_is_found_by_the_check(collector: Collector) ->
 
 
 def test_what_a_missing_database_had_is_stored_if_it_comes_again(collector: Collector) -> None:
-    collector.admit("web")
     store_and_stop(collector, range(1, 4))
     store_and_stop(collector, range(4, 7))
     first = collector.databases()[0]
@@ -123,7 +119,6 @@ def test_what_a_missing_database_had_is_stored_if_it_comes_again(collector: Coll
 
 
 def test_state_that_is_damaged_or_gone_is_made_anew(collector: Collector) -> None:
-    collector.admit("web")
     store_and_stop(collector, range(1, 4))
     store_and_stop(collector, range(4, 7))
     databases = "SELECT name, standing, first, last, entries, bytes, digest FROM database"
