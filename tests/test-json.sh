@@ -57,7 +57,7 @@ wanted = [{"code": int(code), "name": name, "meaning": meaning, "advice": advice
 sys.exit(not wanted or told != wanted)
 COMPARED
 
-# entries, with values of each kind: text as it is, and what people aren't shown as its size
+# entries, with values of each kind: text as it is, and what is no text as its size
 cat > "$folder/compare.py" << 'COMPARED'
 import json
 import struct
@@ -68,7 +68,7 @@ program, folder = sys.argv[1:]
 VALUES = [
     (None, "-"), (b"-", "-"), (b"[5 bytes]", "[5 bytes]"), (b'a "quoted" \\ tab\tulator', 'a "quoted" \\ tab\tulator'),
     ("\u00e4\u20ac\U0001d11e".encode(), "\u00e4\u20ac\U0001d11e"), (b"", ""), (b" two  blanks ", " two  blanks "),
-    (b"\xff\xfe", "[2 bytes]"), (b"line\nline", "[9 bytes]"), ("\u202e".encode(), "[3 bytes]"),
+    (b"\xff\xfe", "[2 bytes]"), (b"line\nline", "[9 bytes]"), ("\x7f\x85\u202e".encode(), "\x7f\x85\u202e"),
     (b"x" * 100_000, "x" * 100_000),
 ]
 
@@ -82,7 +82,7 @@ def entry(number: int, value: bytes | None) -> bytes:
 def told(*words: str) -> list[dict[str, object]]:
     done = subprocess.run([program, "show", f"{folder}/values.db", "--json", *words], stdout=subprocess.PIPE,
                           check=True)
-    return [json.loads(line) for line in done.stdout.decode().splitlines()]
+    return [json.loads(line) for line in done.stdout.splitlines()]
 
 
 with open(f"{folder}/values", "wb") as file:

@@ -1,7 +1,8 @@
 #!/usr/bin/env bash
 # What a command tells on a terminal of how far it is: on standard error, a second after it began, once a second at
 # most, and of a large file at once; the line is cleared before any other and at the end. Where standard error is no
-# terminal there is none of it, and never in the output.
+# terminal there is none of it, and never in the output. And what a terminal gets of output with characters that it
+# obeys, or that turn a line.
 set -uo pipefail
 . "$(dirname "$0")/expect.sh"
 . "$(dirname "$0")/shared/read_files.sh"
@@ -94,6 +95,39 @@ for words in "check $folder/logs.db" "collect $folder/logs.db $folder/up"; do
     # shellcheck disable=SC2086 # these are words
     seen=$(on_terminal "$folder/told" "$PROGRAM" $words) || differs "$words"
     [[ -z $seen || $((${EPOCHREALTIME/./} - begun)) -ge 1000000 ]] || differs "$words says $seen"
+done
+
+# a terminal gets other characters for those that Unicode calls controls, and for separators and marks of direction
+python3 -B - "$folder" << 'MADE'
+import sys
+from samples import entry_text, stream
+text = "".join(map(chr, (*range(32, 0x3000), 0xfeff, 0x1f600, *range(0xe0000, 0xe0080)))) + "\t" * 600
+with open(f"{sys.argv[1]}/texts", "wb") as file:
+    file.write(stream(*(entry_text(number, text[number:].encode()) for number in range(1, 6))))
+MADE
+"$PROGRAM" collect "$folder/texts.db" "$folder/texts" > "$folder/told" || differs "no database of texts"
+for words in "show $folder/texts.db" "show --json $folder/texts.db" "export $folder/texts.db"; do
+    # shellcheck disable=SC2086 # these are words
+    "$PROGRAM" $words > "$folder/wanted" || differs "$words"
+    for character in $'\x7f' $'\u85' $'\u202e'; do
+        grep -qF "$character" "$folder/wanted" || differs "$words takes a character away where no terminal is"
+    done
+    # shellcheck disable=SC2016,SC2086 # the words are those of another shell
+    on_terminal - bash -c '"$@" 2> /dev/null' bash "$PROGRAM" $words > "$folder/seen" || differs "$words on a terminal"
+    python3 -B - "$folder/wanted" "$folder/seen" << 'COMPARED' || differs "$words: what the terminal got"
+import sys
+from pathlib import Path
+from unicodedata import bidirectional, category
+TURNING = "LRE", "RLE", "LRO", "RLO", "PDF", "LRI", "RLI", "FSI", "PDI"
+def is_obeyed(character):
+    if category(character) in ("Cc", "Zl", "Zp"):
+        return character not in "\t\n"
+    return bidirectional(character) in TURNING or character in "\u061c\u200e\u200f"
+wanted = Path(sys.argv[1]).read_text("utf-8")
+seen = Path(sys.argv[2]).read_bytes().decode().replace("\r\n", "\n")
+others = {before for before, after in zip(wanted, seen) if before != after}
+sys.exit(len(wanted) != len(seen) or others != set(filter(is_obeyed, wanted)) or any(map(is_obeyed, seen)))
+COMPARED
 done
 
 # each line on standard error begins where one was cleared

@@ -8,7 +8,7 @@ use jc_command_shared::{Failure, Host, Status};
 use jc_database::{OpenFromFiles, OverFiles, over_files};
 use jc_explain::{EXPLAIN, Watched, explained, take_option};
 use jc_json::{JSON, Lines, Objects, lines_of};
-use jc_progress::{Counted, Wiping, board_for};
+use jc_progress::{Counted, Masked, Wiping, board_for};
 use jc_sequences::Folders;
 use sqlite::Unknown;
 use std::io::{IsTerminal, Stderr, Write};
@@ -29,8 +29,10 @@ fn run(rt: &HostRuntime, mut words: Vec<String>) -> u8 {
     let lines = take_lines(&mut words);
     let board = board_for(rt, &words);
     let mut errors = Wiping::new(rt.stderr(), board.is_some());
-    let objects = Objects::new(rt.alloc(), lines, rt.stdout());
-    let mut output = Counted::new(objects, board, rt.stdout().is_terminal());
+    let is_terminal = rt.stdout().is_terminal();
+    let masked = Masked::new(rt.stdout(), is_terminal);
+    let objects = Objects::new(rt.alloc(), lines, masked);
+    let mut output = Counted::new(objects, board, is_terminal);
     let asked = Asked {
         rt,
         words,

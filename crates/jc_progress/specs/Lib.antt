@@ -1,2 +1,3 @@
+pub mod Obeyed
 pub mod Tasks
 pub mod Texts

@@ -1,0 +1,91 @@
+//! Output of which a terminal obeys nothing.
+
+ghost use Rattle.std.specs.Prelude.{◌≡◌, ◌≤◌, None, if◌then◌else◌, false, length};
+ghost use Rattle.jc_progress.specs.Obeyed.{is_obeyed};
+
+use std::io;
+use std::io::Write;
+
+/// The most bytes that a terminal gets at once.
+const PIECE: usize = 512;
+
+/// A writer that passes on what it takes; on a terminal with another character, as long, for each that a terminal obeys or
+/// that turns a line. What isn't UTF-8 is passed on.
+#[derive(Drop)]
+pub struct Masked<O: Write + Drop> {
+    inner: O,
+    is_terminal: bool,
+    ahead: Ahead,
+}
+
+impl<O: Write + Drop> Masked<O> {
+    pub fn new(inner: O, is_terminal: bool) -> Masked<O>
+        ensures inner { result.inner ≡ inner }
+        ensures is_terminal { result.is_terminal ≡ is_terminal }
+    {
+        Masked {
+            inner,
+            is_terminal,
+            ahead: Ahead { first: 0, last: 0 },
+        }
+    }
+}
+
+impl<O: Write + Drop> Write for Masked<O> {
+    ghost contents = { λ s. (if s.is_terminal then None else O.contents s.inner) };
+
+    fn write(&mut self, buf: &[u8]) -> io::Result<usize> {
+        if !self.is_terminal {
+            return self.inner.write(buf);
+        }
+        let mut piece = [0; PIECE];
+        let count = self.ahead.mask(buf, &mut piece);
+        self.inner.write_all(&piece[..count])?;
+        Ok(count)
+    }
+
+    fn flush(&mut self) -> io::Result<()> {
+        self.inner.flush()
+    }
+}
+
+/// The last two bytes of what a terminal got.
+#[derive(Clone, Copy)]
+struct Ahead {
+    first: u8,
+    last: u8,
+}
+
+impl Ahead {
+    /// What a terminal gets of as many bytes as there is room for, and how many these are.
+    fn mask(&mut self, bytes: &[u8], piece: &mut [u8; PIECE]) -> usize
+        ensures room { result ≤ PIECE }
+        ensures within { result ≤ length bytes.now }
+    {
+        let count = bytes.len().min(PIECE);
+        for (to, byte) in piece.iter_mut().zip(bytes) {
+            *to = self.masked(*byte);
+            *self = Ahead {
+                first: self.last,
+                last: *to,
+            };
+        }
+        count
+    }
+
+    /// What a terminal gets of a byte: another one if it would be the end of a character that isn't shown.
+    fn masked(self, byte: u8) -> u8
+        ensures obeyed { is_obeyed self.first self.last result ≡ false }
+        ensures same { is_obeyed self.first self.last byte ≡ false → result ≡ byte }
+    {
+        match (self.first, self.last, byte) {
+            (_, _, 0..=8 | 11..=31 | 127) => b'?',
+            // U+00BF, U+060C, U+203D, U+2047
+            (_, 0xc2, 0x80..=0x9f) => 0xbf,
+            (_, 0xd8, 0x9c) => 0x8c,
+            (0xe2, 0x80, 0x8e..=0x8f | 0xa8..=0xae) => 0xbd,
+            (0xe2, 0x81, 0xa6..=0xa9) => 0x87,
+            _ => byte,
+        }
+    }
+}
