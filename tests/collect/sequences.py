@@ -6,9 +6,11 @@ the files are read and written as docs/FORMATS.md has them.
 from __future__ import annotations
 
 import os
+import resource
 import stat
 import subprocess
 from collections.abc import Sequence
+from typing import Any
 
 from brought import Brought, as_lines
 from listed import next_line
@@ -18,6 +20,8 @@ from note_files import CLOSED, NOTE, OPEN, OWNER, WINDOW, file_of, note, noted, 
 from trial import Trial, as_output, run, start, status_of
 
 WEB, MAIL = "web", "mail"
+# So many windows are used where so many files may be open, some more than are kept open.
+WINDOWS, FILES = 100, 84
 
 
 class Union:
@@ -31,15 +35,15 @@ class Union:
     def words(self, database: str) -> list[str]:
         return ["collect", "--sequences", self.folder, "--files-from", "-", database]
 
-    def run(self, *uploads: Brought) -> tuple[bytes, str, int]:
+    def run(self, *uploads: Brought, **options: Any) -> tuple[bytes, str, int]:
         """A run over a database that isn't there yet."""
         names = self.trial.put([brought.upload for brought in uploads])
-        return run(*self.words(self.trial.database()), stdin=as_lines(names, uploads))
+        return run(*self.words(self.trial.database()), stdin=as_lines(names, uploads), **options)
 
-    def take(self, what: str, *uploads: bytes, machine: str | None = None) -> None:
+    def take(self, what: str, *uploads: bytes, machine: str | None = None, **options: Any) -> None:
         """Such a run answers as the model does, and all is noted then."""
         lines = [self.journal.take(upload, machine) for upload in uploads]
-        told = self.run(*(Brought(machine, upload) for upload in uploads))
+        told = self.run(*(Brought(machine, upload) for upload in uploads), **options)
         self.trial.expect(what, told, (as_output(lines), "", status_of(lines)))
         self.trial.expect(f"{what}: notes", notes_of(self.folder), noted(self.journal))
 
@@ -92,6 +96,19 @@ def many_windows(trial: Trial) -> None:
         union.take(f"window {number}", machine.stream(number, number + 1))
     for time in range(2):
         union.take(f"all windows, {time}", machine.stream(0, 6), machine.stream(0, 6))
+
+
+def few_files() -> None:
+    resource.setrlimit(resource.RLIMIT_NOFILE, (FILES, FILES))
+
+
+def more_than_are_open(trial: Trial) -> None:
+    """More windows than files may be open, twice in one run: what wasn't used for longest is closed, and opened again."""
+    union = Union(trial)
+    machine = Machine(trial.dice, WINDOWS)
+    machine.entries = at_numbers(machine, range(7, WINDOWS * WINDOW, WINDOW))
+    uploads = [machine.stream(number, number + 1) for number in range(WINDOWS)]
+    union.take("more than are open", *uploads, *uploads, preexec_fn=few_files)
 
 
 def behind_notes(trial: Trial) -> None:
@@ -192,7 +209,8 @@ def at_once(trial: Trial) -> None:
 
 def main() -> None:
     with Trial("sequences") as trial:
-        rows = (folder_is_made, many_windows, behind_notes, owners_that_are_none, owners_that_hold, no_file, at_once)
+        rows = (folder_is_made, many_windows, more_than_are_open, behind_notes, owners_that_are_none, owners_that_hold,
+                no_file, at_once)
         for row in rows:
             row(trial)
         trial.finish(f"{len(rows)} kinds of rows over the files of notes")
