@@ -44,10 +44,10 @@ module _ {S C R N : Type 0} (o : InFiles S C R) (n : ledgers.Ghosts N) (made : T
         })
         runs.stored
 
-    pub runs_printed : Runs → IfOk result (λ run. PrintsFromList list given run.status old new)
+    pub runs_printed : Runs → IfOk result (λ run. PrintsFromList told list given run.status old new)
     runs_printed (inl early) = early_ok _ early
     runs_printed (inr (text, listed, runs)) =
-        IfOk-weaker result _ _ (λ run it. record { text = text; input = listed.input; printed = it }) runs.printed
+        IfOk-weaker result _ _ (λ run it. record { text = text; listed = listed; printed = it }) runs.printed
 
     pub runs_quiet : Runs → IfOk result (λ run. run.status ≡ Success → Keeps errors errors_now)
     runs_quiet (inl early) = early_ok _ early

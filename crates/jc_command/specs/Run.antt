@@ -124,7 +124,7 @@ module _ {S C L N : Type 0} (begun : Begins) (g : Devices S C L N) (left : Leave
   -- An answer to each upload that a list names was printed, line by line, and what they acknowledge is in the files, and was
   -- exported if a path is given.
   pub record CollectsFromList (database : List ℕ) (at : Option (List ℕ)) (made : Tables) (list : List ℕ) (given old new : Option (List ℕ)) (status : Status) : Type 0 where
-    pub printed : PrintsFromList list given status old new
+    pub printed : PrintsFromList begun.told list given status old new
     pub kept : Leads made (KeepsAndExports database at begun.deeds left.deeds)
     pub stores : Leads made (StoresFromList begun.told list given status old new)
 
@@ -147,7 +147,7 @@ module _ {S C L N : Type 0} (begun : Begins) (g : Devices S C L N) (left : Leave
   -- databases and the present one, or was noted of one that was set aside. What is noted then is what these have. No sequence
   -- was taken from its owner.
   pub record CollectsIntoUnion (made : Tables) (list : List ℕ) (most_windows : Option ℕ) (given old new : Option (List ℕ)) (status : Status) : Type 0 where
-    pub printed : PrintsFromList list given status old new
+    pub printed : PrintsFromList begun.told list given status old new
     pub stores : LeadsNoted made (λ known came. StoresNotedFromList begun.told most_windows (stored_before begun) known came list given status old new)
     pub owners : IsSomeAnd left.ledger KeepOwners
 
