@@ -1,5 +1,5 @@
 -- Why commands over notes fail.
-use Rattle.std.proofs.Common.{◌≡◌, ◌⊎◌, ℕ, List, Option, Result, Ok, Err, inl, inr, subst, sym}
+use Rattle.std.proofs.Common.{ℕ, List, Option, Result, Ok, Err, inl, inr, subst, sym}
 use Rattle.std.specs.Prelude.{◌≢◌, IfErr}
 use Rattle.std.specs.Io.KnownBytes.{Keeps}
 use Rattle.jc_command_shared.specs.Failure.{status_of}

@@ -1,6 +1,6 @@
 -- How a run ends, from what its parts promise.
-use Rattle.std.proofs.Common.{◌≡◌, ◌≢◌, ◌⊎◌, ◌∙◌, ap, arith, length, refl, sym, subst, inl, inr, Bool, true, false, List, [], ◌∷◌, ℕ, Option, Some, None}
-use Rattle.std.specs.Prelude.{IfOk, IfErr, IfSome, IsErrAnd, IsOkAnd, Result, Ok, Err, if◌then◌else◌}
+use Rattle.std.proofs.Common.{◌≡◌, ◌≢◌, ◌⊎◌, ◌∙◌, ap, refl, sym, subst, inl, inr, Bool, true, false, List, ℕ, Option}
+use Rattle.std.specs.Prelude.{IfOk, IfErr, IsErrAnd, IsOkAnd, Result, Ok, Err, if◌then◌else◌}
 use Rattle.std.specs.List.{list_any}
 use Rattle.std.specs.Borrow.{Bor}
 use Rattle.std.specs.Io.KnownBytes.{Keeps}
@@ -151,10 +151,11 @@ err_of (Ok u) r Q is p = tt
 err_of (Err run) r Q is p = at_err r run.failure Q is p
 
 -- ... and the request fails by it
-pub fails_of : {T U L N : Type 0} (made : Result U (FailedRun L N)) (r : Result T Failure) (request asked : Request) (given : Option (List ℕ))
-    → asked ≡ request → IfErr made (λ run. r ≡ Err run.failure) → IfErr r (FailsBy request given) → IfErr made (λ run. FailsBy asked given run.failure)
-fails_of made r request asked given same is p =
-    subst (λ (q : Request). IfErr made (λ run. FailsBy q given run.failure)) (sym same) (err_of made r (FailsBy request given) is p)
+pub fails_of : {T U L N : Type 0} (made : Result U (FailedRun L N)) (r : Result T Failure) (told : List ℕ → Option (List ℕ))
+    (request asked : Request) (given : Option (List ℕ)) → asked ≡ request → IfErr made (λ run. r ≡ Err run.failure)
+    → IfErr r (FailsBy told request given) → IfErr made (λ run. FailsBy told asked given run.failure)
+fails_of made r told request asked given same is p =
+    subst (λ (q : Request). IfErr made (λ run. FailsBy told q given run.failure)) (sym same) (err_of made r (FailsBy told request given) is p)
 
 -- what a request leaves that fails
 pub leaves_as : {S C L N U : Type 0} (begun : Begins) (g : Devices S C L N) (made : Result U (FailedRun L N)) (request asked : Request)
@@ -199,10 +200,10 @@ pub does_as : (request asked : Request) (old new : Option (List Deed)) → asked
 does_as request asked old new same does = subst (λ (q : Request). DoesFor q old new) (sym same) does
 
 -- what was asked for fails
-pub failed : (words : List Text) (request : Request) (given output output' : Option (List ℕ)) (failure : Failure)
-    → AskFor words request → FailsBy request given failure → (status_of failure ≢ Failed → Keeps output output')
-    → Stops words given output output' failure
-failed words request given output output' failure asks why keeps = elim (device_or_not (status_of failure)) [
+pub failed : (told : List ℕ → Option (List ℕ)) (words : List Text) (request : Request) (given output output' : Option (List ℕ)) (failure : Failure)
+    → AskFor words request → FailsBy told request given failure → (status_of failure ≢ Failed → Keeps output output')
+    → Stops told words given output output' failure
+failed told words request given output output' failure asks why keeps = elim (device_or_not (status_of failure)) [
   | inl device ↦ inl device
   | inr other ↦ inr (record {
     request = request;
@@ -333,36 +334,36 @@ answered failures.WordsAreNoText same = cc
 
 -- a run that stops short gives no files back, and ends with the failure's status
 stops : {S C L N : Type 0} (begun : Begins) (g : Devices S C L N) (left : Leaves C N) (words : List Text) (given output output' errors errors' : Option (List ℕ)) (failure : Failure) (wanted : Status)
-    → status_of failure ≡ wanted → wanted ≢ Failed → Stops words given output output' failure
+    → status_of failure ≡ wanted → wanted ≢ Failed → Stops begun.told words given output output' failure
     → Ends begun g left words given output output' errors errors' wanted
 stops begun g left words given output output' errors errors' failure Success same other stopped = absurd (fails failure same)
 stops begun g left words given output output' errors errors' failure Failed same other stopped = absurd (other refl)
 stops begun g left words given output output' errors errors' failure Unanswered same other stopped = absurd (answered failure same)
 stops begun g left words given output output' errors errors' failure Refused same other stopped = elim stopped [
   | inl failed ↦ let both : Failed ≡ Refused = sym failed ∙ same in cc
-  | inr asked ↦ inr (subst (StopsAsked words given output output') same asked)
+  | inr asked ↦ inr (subst (StopsAsked begun.told words given output output') same asked)
 ]
 stops begun g left words given output output' errors errors' failure Misused same other stopped = elim stopped [
   | inl failed ↦ let both : Failed ≡ Misused = sym failed ∙ same in cc
-  | inr asked ↦ inr (subst (StopsAsked words given output output') same asked)
+  | inr asked ↦ inr (subst (StopsAsked begun.told words given output output') same asked)
 ]
 
 pub stops_by_number : {S C L N : Type 0} (begun : Begins) (g : Devices S C L N) (left : Leaves C N) (words texts : List Text) (given output output' errors errors' : Option (List ℕ)) (n : ℕ)
     (failure : Failure) (wanted : Status) → texts ≡ words → n ≡ number_of (status_of failure) → n ≡ number_of wanted
-    → wanted ≢ Failed → Stops texts given output output' failure
+    → wanted ≢ Failed → Stops begun.told texts given output output' failure
     → Ends begun g left words given output output' errors errors' wanted
 stops_by_number begun g left words texts given output output' errors errors' n failure wanted same is wants other stopped =
     stops begun g left words given output output' errors errors' failure wanted (same_status (status_of failure) wanted (sym is ∙ wants)) other
-    (subst (λ (t : List Text). Stops t given output output' failure) same stopped)
+    (subst (λ (t : List Text). Stops begun.told t given output output' failure) same stopped)
 
 -- ... and an answer in place of a request fails only where a device or memory does
-pub stops_answered : (words : List Text) (k : ErrorKind) (r : Result Status Failure) (given output output' errors errors' : Option (List ℕ))
+pub stops_answered : (told : List ℕ → Option (List ℕ)) (words : List Text) (k : ErrorKind) (r : Result Status Failure) (given output output' errors errors' : Option (List ℕ))
     → (IsAskedFor k → IfOk r (λ status. status ≡ Success) × IfErr r (λ why. why ≡ failures.WriteFailed) × Keeps errors errors')
     → (¬ IsAskedFor k → k ≢ kind.OutOfMemory → (r ≡ Ok Misused) × Keeps output output')
     → (k ≡ kind.OutOfMemory → (r ≡ Err failures.OutOfMemory) × Keeps output output')
-    → IfErr r (Stops words given output output')
-stops_answered words k r given output output' errors errors' asked mistaken memory =
-    let Goal : Result Status Failure → Type 0 = λ r. IfErr r (Stops words given output output') in
+    → IfErr r (Stops told words given output output')
+stops_answered told words k r given output output' errors errors' asked mistaken memory =
+    let Goal : Result Status Failure → Type 0 = λ r. IfErr r (Stops told words given output output') in
     elim (sorted k) [
       | inl h ↦ by_write r (asked h).1
       | inr rest ↦ elim rest [
@@ -371,7 +372,7 @@ stops_answered words k r given output output' errors errors' asked mistaken memo
       ]
     ]
   where
-    by_write : (r : Result Status Failure) → IfErr r (λ why. why ≡ failures.WriteFailed) → IfErr r (Stops words given output output')
+    by_write : (r : Result Status Failure) → IfErr r (λ why. why ≡ failures.WriteFailed) → IfErr r (Stops told words given output output')
     by_write (Ok status) fact = tt
     by_write (Err why) fact = inl (ap status_of fact)
 

@@ -230,28 +230,29 @@ abbrev pub UploadFileFailsBy : (file : List ℕ) → Failure → Type 0
 UploadFileFailsBy file BadUpload = ⊤
 UploadFileFailsBy file failure = FileFailsBy file failure
 
--- Why a request fails: its own file can't be opened, what it names is refused, or a device or memory fails.
-abbrev pub FailsBy : Request → (given : Option (List ℕ)) → Failure → Type 0
-FailsBy (Verify kind file) given failure = FileFailsBy file.now failure
-FailsBy (Inspect file most_entries most_fields most_bytes most_windows) given failure = FileFailsBy file.now failure
-FailsBy (Upload source limit most_bytes whole) given failure = UploadFailsBy source failure
-FailsBy (Ack source) given failure = AckFailsBy source given failure
-FailsBy (Acknowledged upload) given failure = UploadFileFailsBy upload.now failure
-FailsBy (Collect database tables uploads then_export) given failure = CollectFailsBy database.now (map (λ path. path.now) uploads.items) failure
-FailsBy (CollectListed database tables list then_export) given failure = CollectFailsBy database.now (list.now ∷ []) failure
-FailsBy (CollectIntoUnion database tables list sequences most_windows then_export) given failure =
+-- Why a request fails, by what is told of files: its own file can't be opened, what it names is refused, or a device or memory
+-- fails.
+abbrev pub FailsBy : (told : List ℕ → Option (List ℕ)) → Request → (given : Option (List ℕ)) → Failure → Type 0
+FailsBy told (Verify kind file) given failure = FileFailsBy file.now failure
+FailsBy told (Inspect file most_entries most_fields most_bytes most_windows) given failure = FileFailsBy file.now failure
+FailsBy told (Upload source limit most_bytes whole) given failure = UploadFailsBy told source failure
+FailsBy told (Ack source) given failure = AckFailsBy told source given failure
+FailsBy told (Acknowledged upload) given failure = UploadFileFailsBy upload.now failure
+FailsBy told (Collect database tables uploads then_export) given failure = CollectFailsBy database.now (map (λ path. path.now) uploads.items) failure
+FailsBy told (CollectListed database tables list then_export) given failure = CollectFailsBy database.now (list.now ∷ []) failure
+FailsBy told (CollectIntoUnion database tables list sequences most_windows then_export) given failure =
     (failure ≡ CannotOpen sequences) ⊎ UnionFailsBy database.now (list.now ∷ []) failure
-FailsBy (request.Export database) given failure = DatabaseFailsBy database.now failure
-FailsBy (Show database field id first last) given failure =
+FailsBy told (request.Export database) given failure = DatabaseFailsBy database.now failure
+FailsBy told (Show database field id first last) given failure =
     ShowFailsBy database.now (option_map (λ name. name.now) field) (option_map (λ digits. digits.now) id) failure
-FailsBy (Check database) given failure = CheckFailsBy database.now failure
-FailsBy (CheckNoted database sequences) given failure = (failure ≡ ReadFailed) ⊎ CheckFailsBy database.now failure
-FailsBy (Notes sequences task) given failure = NotesFailBy sequences.now failure
-FailsBy (ListOwners sequences) given failure = NotesFailBy sequences.now failure
-FailsBy (RenameOwner sequences old new) given failure = NotesFailBy sequences.now failure
-FailsBy (ReleaseSequence sequences sequence) given failure = NotesFailBy sequences.now failure
-FailsBy (Migrate database tables) given failure = CheckFailsBy database.now failure
-FailsBy ListCodes given failure = failure ≡ WriteFailed
+FailsBy told (Check database) given failure = CheckFailsBy database.now failure
+FailsBy told (CheckNoted database sequences) given failure = (failure ≡ ReadFailed) ⊎ CheckFailsBy database.now failure
+FailsBy told (Notes sequences task) given failure = NotesFailBy sequences.now failure
+FailsBy told (ListOwners sequences) given failure = NotesFailBy sequences.now failure
+FailsBy told (RenameOwner sequences old new) given failure = NotesFailBy sequences.now failure
+FailsBy told (ReleaseSequence sequences sequence) given failure = NotesFailBy sequences.now failure
+FailsBy told (Migrate database tables) given failure = CheckFailsBy database.now failure
+FailsBy told ListCodes given failure = failure ≡ WriteFailed
 
 -- ---- what is done to files
 
@@ -294,11 +295,11 @@ PerformsAsked begun g left words given old new status =
     (request : Request) × AskFor words request × Performs begun g left request given old new status
 
 -- The arguments ask for something that fails with this status, before anything is printed.
-pub record StopsAsked (words : List Text) (given old new : Option (List ℕ)) (status : Status) : Type 0 where
+pub record StopsAsked (told : List ℕ → Option (List ℕ)) (words : List Text) (given old new : Option (List ℕ)) (status : Status) : Type 0 where
   pub request : Request
   pub asked : AskFor words request
   pub failure : Failure
-  pub why : FailsBy request given failure
+  pub why : FailsBy told request given failure
   pub judged : status ≡ status_of failure
   pub kept : Keeps old new
 
@@ -309,9 +310,9 @@ abbrev pub Ends : {S C L N : Type 0} → Begins → Devices S C L N → Leaves C
 Ends begun g left words given output output' errors errors' Success =
     Keeps errors errors' × (AskForHelp words ⊎ PerformsAsked begun g left words given output output' Success)
 Ends begun g left words given output output' errors errors' Refused =
-    PerformsAsked begun g left words given output output' Refused ⊎ StopsAsked words given output output' Refused
+    PerformsAsked begun g left words given output output' Refused ⊎ StopsAsked begun.told words given output output' Refused
 Ends begun g left words given output output' errors errors' Misused =
-    (AreWrong words × Keeps output output') ⊎ StopsAsked words given output output' Misused
+    (AreWrong words × Keeps output output') ⊎ StopsAsked begun.told words given output output' Misused
 Ends begun g left words given output output' errors errors' Failed = PerformsAsked begun g left words given output output' Failed
 Ends begun g left words given output output' errors errors' Unanswered = PerformsAsked begun g left words given output output' Unanswered
 
@@ -321,6 +322,6 @@ EndsWithin {S} {C} {L} {N} begun g deeds words given output output' errors error
     (files : Option C) × (ledger : Option N) × Ends begun g (leaves files ledger deeds) words given output output' errors errors' status
 
 -- If a run stops short, a device or memory failed, or something was asked for that is refused.
-abbrev pub Stops : List Text → (given output output' : Option (List ℕ)) → Failure → Type 0
-Stops words given output output' failure =
-    (status_of failure ≡ Failed) ⊎ StopsAsked words given output output' (status_of failure)
+abbrev pub Stops : (told : List ℕ → Option (List ℕ)) → List Text → (given output output' : Option (List ℕ)) → Failure → Type 0
+Stops told words given output output' failure =
+    (status_of failure ≡ Failed) ⊎ StopsAsked told words given output output' (status_of failure)

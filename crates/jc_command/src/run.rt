@@ -260,7 +260,7 @@ fn answered<
     ensures ended { IfOk result (λ done. Ends (begins_with F.first S.windows S.finished S.aside S.came Y.told (Y.deeds rt.old))
         (devices F.in_files ⟦<N::Notes as Ledger>⟧) (leaves done.files done.ledger (Y.deeds rt.new)) (map string_bytes words.entry.now) (I.remaining input.old)
         (O.contents output.old) (O.contents output.new) (E.contents errors.old) (E.contents errors.new) done.status) }
-    ensures stopped { IfErr result (λ run. Stops (map string_bytes words.entry.now) (I.remaining input.old) (O.contents output.old)
+    ensures stopped { IfErr result (λ run. Stops Y.told (map string_bytes words.entry.now) (I.remaining input.old) (O.contents output.old)
         (O.contents output.new) run.failure) }
     ensures left { IfErr result (λ run. FailsAsked (begins_with F.first S.windows S.finished S.aside S.came Y.told (Y.deeds rt.old))
         (devices F.in_files ⟦<N::Notes as Ledger>⟧) (map string_bytes words.entry.now) (I.remaining input.old)
@@ -298,7 +298,7 @@ fn perform<
         (devices F.in_files ⟦<N::Notes as Ledger>⟧) (leaves done.files done.ledger (Y.deeds rt.new)) request.entry (I.remaining input.old)
         (O.contents output.old) (O.contents output.new) done.status) }
     ensures quiet { IfOk result (λ done. done.status ≡ Status.Success → Keeps (E.contents errors.old) (E.contents errors.new)) }
-    ensures failed { IfErr result (λ run. FailsBy request.entry (I.remaining input.old) run.failure) }
+    ensures failed { IfErr result (λ run. FailsBy Y.told request.entry (I.remaining input.old) run.failure) }
     ensures left { IfErr result (λ run. FailsLeaving (begins_with F.first S.windows S.finished S.aside S.came Y.told (Y.deeds rt.old))
         (devices F.in_files ⟦<N::Notes as Ledger>⟧) request.entry (I.remaining input.old)
         (O.contents output.old) (O.contents output.new) run.left) }

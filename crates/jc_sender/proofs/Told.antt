@@ -1,17 +1,20 @@
 -- What is so of the bytes of a source, or of some where they aren't known.
 use Rattle.std.proofs.Common.{◌≡◌, ◌+◌, ℕ, List, Option, Some, None, Result, Ok, Err, option_map, refl, subst, take}
-use Rattle.std.specs.Prelude.{IfOk, IfSome}
+use Rattle.std.specs.Prelude.{IfErr, IfOk, IfSome}
+use Rattle.jc_base.specs.declared.fault.Fault.{Fault}
 use Rattle.jc_command_args.specs.declared.request.InputKind.{InputKind}
+use Rattle.jc_command_args.specs.declared.request.InputKind.TheVariants.{File}
+use Rattle.jc_command_shared.specs.declared.failure.Failure.{Failure}
+use Rattle.jc_command_shared.specs.declared.failure.Failure.TheVariants as failures
 use Rattle.jc_command_shared.specs.declared.status.Status.{Status}
-use Rattle.jc_sender.specs.Source.{AreReadOf, OfBytes, most_file_bytes}
+use Rattle.jc_sender.specs.Source.{AreReadOf, HasFault, OfBytes, WhyNoEntries, most_file_bytes}
 use Rattle.jc_sender.specs.Verdict.{PrintsReadingIn, PrintsReadingOf}
 
 -- all that a stream gives
-pub of_stream : {T E : Type 0} (r : Result T E) (Says : T → List ℕ → Type 0) (known : Option (List ℕ)) → IfOk r (λ x. (bytes : List ℕ) × Says x bytes)
-    → ((bytes : List ℕ) → known ≡ Some bytes → IfOk r (λ x. Says x bytes)) → IfOk r (λ x. OfBytes known (Says x))
-of_stream (Ok x) Says None some each = some
-of_stream (Ok x) Says (Some bytes) some each = each bytes refl
-of_stream (Err e) Says known some each = tt
+pub of_stream : (known : Option (List ℕ)) (Says : List ℕ → Type 0) → (bytes : List ℕ) × Says bytes
+    → ((bytes : List ℕ) → known ≡ Some bytes → Says bytes) → OfBytes known Says
+of_stream None Says some each = some
+of_stream (Some bytes) Says some each = each bytes refl
 
 -- what was read of a journal file
 pub of_front : {T E : Type 0} (r : Result T E) (Says : T → List ℕ → Type 0) (held : Option (List ℕ)) (front : List ℕ)
@@ -20,6 +23,24 @@ pub of_front : {T E : Type 0} (r : Result T E) (Says : T → List ℕ → Type 0
 of_front (Ok x) Says None front is said = (front, said)
 of_front (Ok x) Says (Some bytes) front is said = subst (Says x) is said
 of_front (Err e) Says held front is said = tt
+
+-- ... and why nothing was
+pub front_fails : {T : Type 0} (r : Result T Failure) (Says : Failure → Type 0) (held : Option (List ℕ)) (front : List ℕ)
+    → IfSome held (λ bytes. front ≡ take (most_file_bytes + 1) bytes)
+    → ((fault : Fault) → OfBytes (option_map (λ bytes. take (most_file_bytes + 1) bytes) held) (λ bytes. HasFault File bytes fault) → Says (failures.Bad fault))
+    → Says failures.OutOfMemory → IfErr r (WhyNoEntries File front) → IfErr r Says
+front_fails (Ok x) Says held front is bad memory why = tt
+front_fails (Err failure) Says held front is bad memory why = by failure why
+  where
+    fault_in : (held : Option (List ℕ)) (fault : Fault) → IfSome held (λ bytes. front ≡ take (most_file_bytes + 1) bytes) → HasFault File front fault
+        → OfBytes (option_map (λ bytes. take (most_file_bytes + 1) bytes) held) (λ bytes. HasFault File bytes fault)
+    fault_in None fault is has = (front, has)
+    fault_in (Some bytes) fault is has = subst (λ (b : List ℕ). HasFault File b fault) is has
+
+    by : (failure : Failure) → WhyNoEntries File front failure → Says failure
+    by (failures.Bad fault) why = bad fault (fault_in held fault is why)
+    by failures.OutOfMemory why = memory
+    by _ why = absurd why
 
 pub of_other : (known : Option (List ℕ)) (First Other : List ℕ → Type 0) → ((bytes : List ℕ) → First bytes → Other bytes) → OfBytes known First → OfBytes known Other
 of_other None First Other each (bytes, is) = (bytes, each bytes is)

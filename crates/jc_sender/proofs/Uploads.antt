@@ -1,6 +1,6 @@
 -- The upload of the entries that a source gave.
-use Rattle.std.proofs.Common.{◌≡◌, ◌∙◌, ◌++◌, ℕ, Bool, true, false, List, Option, ap, length, refl, subst, sym}
-use Rattle.std.specs.Prelude.{◌≢◌, flat_map, IfErr, IsErrAnd, Result, Ok, Err}
+use Rattle.std.proofs.Common.{◌≡◌, ◌∙◌, ◌++◌, ℕ, Bool, true, false, List, Option, None, Some, ap, length, refl, subst, sym}
+use Rattle.std.specs.Prelude.{flat_map, IfErr, IsErrAnd, Result, Ok, Err}
 use Rattle.jc_base.specs.LogEntry.{LogEntry}
 use Rattle.jc_base.specs.Number.{IsId}
 use Rattle.jc_export.specs.Canonical.{canon}
@@ -15,7 +15,6 @@ use Rattle.jc_upload.specs.declared.uploader.UploadFault.{UploadFault}
 use Rattle.jc_upload.specs.declared.uploader.UploadFault.TheVariants.{OutOfMemory, SourceChanged}
 use Rattle.jc_command_shared.specs.Failure.{upload_failure}
 use Rattle.jc_command_shared.specs.declared.failure.Failure.{Failure}
-use Rattle.jc_command_shared.specs.declared.failure.Failure.TheVariants as failures
 use Rattle.jc_sender.specs.Source.{HasEntriesOf}
 use Rattle.jc_command_args.specs.declared.request.InputKind.TheVariants.{Export}
 
@@ -51,20 +50,21 @@ module _ (bytes : List ℕ) (entries : List LogEntry) (sender : Sender) (has : H
         made = made_text whole sender those.0 entries upload next.text ∙ ap (stream_upload_of sender those.0 whole) has.2;
       }
 
-  -- why there is no next upload of the entries
-  pub upload_refused : {T : Type 0} (fault : UploadFault) (r : Result T Failure)
-      → (fault ≡ SourceChanged → ¬ Agrees sender.point entries) → IsErrAnd r (λ failure. failure ≡ upload_failure fault)
-      → IfErr r (λ failure. failure ≢ failures.ReadFailed → WhyNoUpload Export sender bytes failure)
-  upload_refused fault (Ok x) changed gives = absurd gives
-  upload_refused fault (Err failure) changed gives =
-      λ other. subst (WhyNoUpload Export sender bytes) (sym gives) (why fault changed)
-    where
-      why : (fault : UploadFault) → (fault ≡ SourceChanged → ¬ Agrees sender.point entries) → WhyNoUpload Export sender bytes (upload_failure fault)
-      why SourceChanged changed = (
-        refl,
-        record { reading = has.0; well = has.1; differs = λ agrees. changed refl (subst (Agrees sender.point) (sym has.2) agrees) },
-      )
-      why OutOfMemory changed = tt
+-- why there is no next upload of the entries that a device gave, whose bytes are known or not
+pub upload_refused : {T : Type 0} (known : Option (List ℕ)) (entries : List LogEntry) (sender : Sender)
+    → ((bytes : List ℕ) → known ≡ Some bytes → HasEntriesOf Export bytes entries) → (fault : UploadFault) (r : Result T Failure)
+    → (fault ≡ SourceChanged → ¬ Agrees sender.point entries) → IsErrAnd r (λ failure. failure ≡ upload_failure fault)
+    → IfErr r (WhyNoUpload Export sender known)
+upload_refused known entries sender has fault (Ok x) changed gives = absurd gives
+upload_refused known entries sender has fault (Err failure) changed gives = subst (WhyNoUpload Export sender known) (sym gives) (why known has fault changed)
+  where
+    why : (known : Option (List ℕ)) → ((bytes : List ℕ) → known ≡ Some bytes → HasEntriesOf Export bytes entries)
+        → (fault : UploadFault) → (fault ≡ SourceChanged → ¬ Agrees sender.point entries) → WhyNoUpload Export sender known (upload_failure fault)
+    why None has SourceChanged changed = (refl, tt)
+    why (Some bytes) has SourceChanged changed =
+        let it = has bytes refl in
+        (refl, record { reading = it.0; well = it.1; differs = λ agrees. changed refl (subst (Agrees sender.point) (sym it.2) agrees) })
+    why known has OutOfMemory changed = tt
 
 -- what holds anyway holds where it failed
 pub on_failure : {T E : Type 0} (r : Result T E) (P : E → Type 0) → ((e : E) → P e) → IfErr r P

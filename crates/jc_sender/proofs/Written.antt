@@ -1,6 +1,6 @@
 -- A resume point that is kept is printed, or that fails.
-use Rattle.std.proofs.Common.{◌≡◌, ◌⊎◌, ◌∷◌, ◌++◌, [], ℕ, List, Option, Result, Ok, Err, inl, inr}
-use Rattle.std.specs.Prelude.{IfErr, OnErr, OnOk}
+use Rattle.std.proofs.Common.{◌≡◌, ◌⊎◌, ◌∷◌, ◌++◌, [], ℕ, List, Option, Result, Ok, Err, inr}
+use Rattle.std.specs.Prelude.{IfErr, OnOk}
 use Rattle.std.specs.Io.KnownBytes.{Appends}
 use Rattle.jc_command_shared.specs.Deeds.{Deed, LeavesOld}
 use Rattle.jc_command_shared.specs.declared.failure.Failure.{Failure}
@@ -8,8 +8,10 @@ use Rattle.jc_command_shared.specs.declared.failure.Failure.TheVariants.{WriteFa
 use Rattle.jc_command_args.specs.declared.request.Source.{Source}
 use Rattle.jc_sender.specs.Taken.{KeepsSomePoint, PrintsSomePoint, point_line}
 
-module _ (told : List ℕ → Option (List ℕ)) (source : Source) (given : Option (List ℕ)) (deeds deeds' : Option (List Deed)) where
-  module _ (keeps : KeepsSomePoint told source given deeds deeds') where
+module _
+    (told : List ℕ → Option (List ℕ)) (source : Source) (given : Option (List ℕ)) (deeds deeds' : Option (List Deed))
+    (keeps : KeepsSomePoint told source given deeds deeds')
+  where
     pub kept_printed : {T : Type 0} (r : Result T Failure) (old new : Option (List ℕ)) → OnOk r (Appends old new (point_line keeps.moved ++ 10 ∷ []))
         → OnOk r (PrintsSomePoint told source given old new deeds deeds')
     kept_printed (Ok x) old new printed = record { keeps = keeps; printed = printed }
@@ -19,8 +21,3 @@ module _ (told : List ℕ → Option (List ℕ)) (source : Source) (given : Opti
         → IfErr r (λ failure. LeavesOld source.resume.now deeds deeds' ⊎ ((failure ≡ WriteFailed) × KeepsSomePoint told source given deeds deeds'))
     kept_unprinted (Ok x) is = tt
     kept_unprinted (Err failure) is = inr (is, keeps)
-
-  pub unkept : {T : Type 0} (r : Result T Failure) → OnErr r (LeavesOld source.resume.now deeds deeds')
-      → IfErr r (λ failure. LeavesOld source.resume.now deeds deeds' ⊎ ((failure ≡ WriteFailed) × KeepsSomePoint told source given deeds deeds'))
-  unkept (Ok x) stays = tt
-  unkept (Err failure) stays = inl stays

@@ -1,5 +1,5 @@
 -- What `upload` prints. (own)
-use Rattle.std.specs.Prelude.{◌≡◌, ℕ, Bool, true, false, List, length, take, Option, Some, None, IfSome, ⊤}
+use Rattle.std.specs.Prelude.{◌≡◌, ◌≢◌, ℕ, Bool, true, false, List, length, take, Option, Some, None, IfSome}
 use Rattle.std.specs.Io.KnownBytes.{Appends}
 use Rattle.jc_base.specs.LogEntry.{LogEntry}
 use Rattle.jc_base.specs.Reading.{Reading}
@@ -7,11 +7,11 @@ use Rattle.jc_base.specs.declared.id.Id128.{Id128}
 use Rattle.jc_command_shared.specs.Ids.{IsIdOf}
 use Rattle.jc_upload.specs.Resume.{IsPoint, Point, resume_text}
 use Rattle.jc_upload.specs.Upload.{Agrees, Sender, file_upload_of, next_upload2_of, next_upload_of, sent_of}
-use Rattle.jc_sender.specs.Source.{HasFault, OfBytes, ReadsWell, WhyNoSomeEntries, read_of}
+use Rattle.jc_sender.specs.Source.{OfBytes, ReadsWell, WhyNoSomeEntries, read_of}
 use Rattle.jc_sender.specs.declared.resume_file.TheConstants.{TEXT}
 use Rattle.jc_sender.specs.Within.{IsGreatest}
 use Rattle.jc_command_shared.specs.declared.failure.Failure.{Failure}
-use Rattle.jc_command_shared.specs.declared.failure.Failure.TheVariants.{Bad, OutOfMemory, SourceChanged}
+use Rattle.jc_command_shared.specs.declared.failure.Failure.TheVariants.{SourceChanged}
 use Rattle.jc_command_args.specs.declared.request.InputKind.{InputKind}
 use Rattle.jc_command_args.specs.declared.request.InputKind.TheVariants.{Export, File}
 use Rattle.jc_command_args.specs.declared.request.Source.{Source}
@@ -59,22 +59,18 @@ pub record HasChanged (sender : Sender) (bytes : List ℕ) : Type 0 where
   pub well : ReadsWell Export bytes reading
   pub differs : ¬ Agrees sender.point reading.entries
 
--- Why there is no next upload of a source with these bytes: they have a fault, or they have changed, or memory was
--- refused.
-abbrev pub WhyNoUpload : InputKind → Sender → (bytes : List ℕ) → Failure → Type 0
-WhyNoUpload kind sender bytes (Bad fault) = HasFault kind bytes fault
-WhyNoUpload kind sender bytes SourceChanged = (kind ≡ Export) × HasChanged sender bytes
-WhyNoUpload kind sender bytes OutOfMemory = ⊤
-WhyNoUpload kind sender bytes _ = ⊥
-
--- Why there is no next upload of a source whose bytes aren't known, as far as it can be said without them.
-abbrev pub WhyNoSomeUpload : InputKind → Failure → Type 0
-WhyNoSomeUpload kind SourceChanged = kind ≡ Export
-WhyNoSomeUpload kind failure = WhyNoSomeEntries kind failure
+-- Why there is no next upload of a source: nothing is read of it, or its bytes, if they are known, have changed.
+abbrev pub WhyNoUpload : InputKind → Sender → (known : Option (List ℕ)) → Failure → Type 0
+WhyNoUpload kind sender known SourceChanged = (kind ≡ Export) × IfSome known (HasChanged sender)
+WhyNoUpload kind sender known failure = WhyNoSomeEntries kind known failure
 
 -- This is the point that a resume file keeps, by what is told of it. Of a file that isn't there nothing is told.
 abbrev pub IsKept : (told : Option (List ℕ)) → Point → Type 0
 IsKept told point = IfSome told (λ text. take TEXT text ≡ resume_text point)
+
+-- It keeps none, by what is told of it.
+abbrev pub KeepsNone : (told : Option (List ℕ)) → Type 0
+KeepsNone told = IfSome told (λ text. (point : Point) → IsPoint point → take TEXT text ≢ resume_text point)
 
 -- The output gained the upload of the source that the command line names, by what is told of its files, or for some bytes
 -- of them.

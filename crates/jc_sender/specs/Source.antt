@@ -62,9 +62,9 @@ WhyNoEntries kind bytes (failure.Bad fault) = HasFault kind bytes fault
 WhyNoEntries kind bytes failure.OutOfMemory = ⊤
 WhyNoEntries kind bytes _ = ⊥
 
--- Why nothing is read of bytes that aren't known: some have the fault, or they can't be read.
-abbrev pub WhyNoSomeEntries : InputKind → Failure → Type 0
-WhyNoSomeEntries kind (failure.Bad fault) = (bytes : List ℕ) × HasFault kind bytes fault
-WhyNoSomeEntries kind failure.ReadFailed = ⊤
-WhyNoSomeEntries kind failure.OutOfMemory = ⊤
-WhyNoSomeEntries kind _ = ⊥
+-- Why nothing is read of a device: its bytes have the fault, or some where they aren't known, or they can't be read.
+abbrev pub WhyNoSomeEntries : InputKind → (known : Option (List ℕ)) → Failure → Type 0
+WhyNoSomeEntries kind known (failure.Bad fault) = OfBytes known (λ bytes. HasFault kind bytes fault)
+WhyNoSomeEntries kind known failure.ReadFailed = ⊤
+WhyNoSomeEntries kind known failure.OutOfMemory = ⊤
+WhyNoSomeEntries kind known _ = ⊥

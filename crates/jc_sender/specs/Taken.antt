@@ -56,9 +56,9 @@ pub record MovesBy (kind : InputKind) (id : Id128) (point : Point) (bytes text :
   pub moves : MovesSender kind (sender_of id point) bytes answers moved
 
 -- Why no resume point comes of a source's bytes and of what standard input gives.
-abbrev pub WhyNoPoint : InputKind → (given : Option (List ℕ)) → Failure → Type 0
-WhyNoPoint kind given (BadAnswer line) = IfSome given (HasBadLine line)
-WhyNoPoint kind given failure = WhyNoSomeEntries kind failure
+abbrev pub WhyNoPoint : InputKind → (known given : Option (List ℕ)) → Failure → Type 0
+WhyNoPoint kind known given (BadAnswer line) = IfSome given (HasBadLine line)
+WhyNoPoint kind known given failure = WhyNoSomeEntries kind known failure
 
 -- the line of a resume point, without its newline
 abbrev pub point_line : Point → List ℕ

@@ -1,6 +1,6 @@
 //! `ack`: how far answers move a source on.
 
-ghost use Rattle.std.specs.Prelude.{◌≡◌, ◌≢◌, ◌⊎◌, ◌++◌, ◌∷◌, [], ℕ, List, Some, IfOk, IfErr, IfSome, OnOk};
+ghost use Rattle.std.specs.Prelude.{◌≡◌, ◌≢◌, ◌⊎◌, ◌++◌, ◌∷◌, [], ℕ, List, IfOk, IfErr, IfSome, OnOk};
 ghost use Rattle.std.specs.Io.KnownBytes.{Appends, Keeps};
 ghost use Rattle.jc_command_shared.specs.Deeds.{LeavesOld};
 ghost use Rattle.jc_sender.specs.Failing.{AckFailsBy};
@@ -30,7 +30,7 @@ pub fn ack<'a, R: System, I: Read, O: Write>(
     // The text of the point that was printed is what took the resume file's place.
     ensures printed { OnOk result (PrintsSomePoint R.told source.entry (I.remaining input.old) (O.contents output.old)
         (O.contents output.new) (R.deeds rt.old) (R.deeds rt.new)) }
-    ensures failed { IfErr result (AckFailsBy source.entry (I.remaining input.old)) }
+    ensures failed { IfErr result (AckFailsBy R.told source.entry (I.remaining input.old)) }
     ensures untouched { IfErr result (λ failure. failure ≢ Failure.WriteFailed
         → Keeps (O.contents output.old) (O.contents output.new)) }
     // Without it the old resume file stays, unless the new one has the text of a point that couldn't be printed.
@@ -59,7 +59,7 @@ fn moved_by<'a, F: Read + Drop, I: Read>(
 ) -> Result<Resume, Failure<'a>>
     ensures moved { IfOk result (λ moved. (text : List ℕ) × IfSome (I.remaining input.old) (λ held. text ≡ held)
         × OfBytes (read_of kind (F.remaining file)) (λ bytes. MovesBy kind uploader.source uploader.point bytes text moved)) }
-    ensures failed { IfErr result (WhyNoPoint kind (I.remaining input.old)) }
+    ensures failed { IfErr result (WhyNoPoint kind (read_of kind (F.remaining file)) (I.remaining input.old)) }
 {
     match answers_on(alloc, input) {
         Ok(answers) => point_by(alloc, uploader, kind, file, &answers),
@@ -80,7 +80,7 @@ fn point_by<'a, F: Read + Drop>(
 ) -> Result<Resume, Failure<'a>>
     ensures moved { IfOk result (λ moved. OfBytes (read_of kind (F.remaining file))
         (λ bytes. MovesSender kind uploader bytes answers.now moved)) }
-    ensures failed { IfErr result (WhyNoSomeEntries kind) }
+    ensures failed { IfErr result (WhyNoSomeEntries kind (read_of kind (F.remaining file))) }
 {
     match kind {
         InputKind::Export => export_point(alloc, uploader, FromRead::new(file), answers),
@@ -99,14 +99,10 @@ fn export_point<'a, R: ByteStream + Drop>(
     device: R,
     answers: &[Answer],
 ) -> Result<Resume, Failure<'a>>
-    ensures moved { IfOk result (λ moved. (bytes : List ℕ)
-        × MovesSender InputKind.Export uploader bytes answers.now moved) }
-    ensures failed { IfErr result (WhyNoSomeEntries InputKind.Export) }
-    // If the device's bytes are known, the point is theirs.
-    ensures bytes { (bytes : List ℕ) → R.remaining device ≡ Some bytes → IfOk result (λ moved.
-        MovesSender InputKind.Export uploader bytes answers.now moved) }
-    ensures why { (bytes : List ℕ) → R.remaining device ≡ Some bytes → IfErr result (λ failure.
-        failure ≢ Failure.ReadFailed → WhyNoEntries InputKind.Export bytes failure) }
+    // If the device's bytes are known, the point is theirs, and so is a fault.
+    ensures moved { IfOk result (λ moved. OfBytes (R.remaining device)
+        (λ bytes. MovesSender InputKind.Export uploader bytes answers.now moved)) }
+    ensures failed { IfErr result (WhyNoSomeEntries InputKind.Export (R.remaining device)) }
 {
     // Do nothing: the proof has from them that the bytes have no other reading, and that entries which a stream may have
     // are read back from their canonical texts.

@@ -1,7 +1,7 @@
 //! Lines of answers.
 
 ghost use Rattle.std.specs.Prelude.{◌≡◌, ℕ, List, IfOk, IfErr, IfSome};
-ghost use Rattle.jc_upload.specs.Upload.{Sender, TakesAnswer, TakesAnswers};
+ghost use Rattle.jc_upload.specs.Upload.{TakesAnswer, TakesAnswers};
 ghost use Rattle.jc_command_shared.specs.Lines.{AreAnswers};
 ghost use Rattle.jc_sender.specs.Taken.{WhyNoAnswers, WhyNoneCame};
 

@@ -1,6 +1,6 @@
 //! `acknowledged`: whether answers acknowledge all of an upload.
 
-ghost use Rattle.std.specs.Prelude.{◌≡◌, ◌≢◌, ◌⊎◌, ◌∷◌, [], ℕ, List, Some, IfOk, IfErr, IfSome, MatchOption};
+ghost use Rattle.std.specs.Prelude.{◌≡◌, ◌≢◌, ◌⊎◌, ◌∷◌, [], ℕ, List, Some, IfOk, IfErr, MatchOption};
 ghost use Rattle.std.specs.Io.KnownBytes.{Keeps};
 ghost use Rattle.jc_command_shared.specs.Lines.{lines_of};
 ghost use Rattle.jc_sender.specs.declared.decided.Sent.{Sent as SentValue};

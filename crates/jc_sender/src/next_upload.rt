@@ -1,10 +1,10 @@
 //! `upload`: the next upload of a source.
 
-ghost use Rattle.std.specs.Prelude.{◌≡◌, ◌≢◌, Bool, ℕ, List, Option, Some, IfOk, IfErr, OnOk};
+ghost use Rattle.std.specs.Prelude.{◌≡◌, ◌≢◌, Bool, ℕ, Option, IfOk, IfErr, OnOk};
 ghost use Rattle.std.specs.Io.KnownBytes.{Appends, Keeps};
 ghost use Rattle.jc_sender.specs.Failing.{UploadFailsBy};
-ghost use Rattle.jc_sender.specs.Source.{OfBytes, read_of};
-ghost use Rattle.jc_sender.specs.Sent.{MakesUpload, PrintsSomeUpload, WhyNoSomeUpload, WhyNoUpload};
+ghost use Rattle.jc_sender.specs.Source.{OfBytes, WhyNoEntries, read_of};
+ghost use Rattle.jc_sender.specs.Sent.{MakesUpload, PrintsSomeUpload, WhyNoUpload};
 
 use crate::resume_file::read_resume;
 use crate::source::{check_file, file_bytes, open_source};
@@ -30,7 +30,8 @@ pub fn upload<'a, R: System, O: Write>(
     output: &mut O,
 ) -> Result<(), Failure<'a>>
     ensures printed { OnOk result (PrintsSomeUpload R.told source.entry limit most_bytes whole (O.contents output.old) (O.contents output.new)) }
-    ensures failed { IfErr result (UploadFailsBy source.entry) }
+    // By what is told of the source's files.
+    ensures failed { IfErr result (UploadFailsBy R.told source.entry) }
     ensures untouched { IfErr result (λ failure. failure ≢ Failure.WriteFailed
         → Keeps (O.contents output.old) (O.contents output.new)) }
 {
@@ -62,7 +63,7 @@ fn made_upload<'a, F: Read + Drop>(
 ) -> Result<Vec<u8>, Failure<'a>>
     ensures made { IfOk result (λ upload. OfBytes (read_of kind (F.remaining file))
         (λ bytes. MakesUpload kind uploader.now limit most_bytes whole bytes upload.items)) }
-    ensures failed { IfErr result (WhyNoSomeUpload kind) }
+    ensures failed { IfErr result (WhyNoUpload kind uploader.now (read_of kind (F.remaining file))) }
 {
     match kind {
         InputKind::Export => export_upload(
@@ -90,14 +91,10 @@ fn export_upload<'a, R: ByteStream + Drop>(
     whole: bool,
     device: R,
 ) -> Result<Vec<u8>, Failure<'a>>
-    ensures made { IfOk result (λ upload. (bytes : List ℕ)
-        × MakesUpload InputKind.Export uploader.now limit most_bytes whole bytes upload.items) }
-    ensures failed { IfErr result (WhyNoSomeUpload InputKind.Export) }
-    // If the device's bytes are known, the upload is theirs.
-    ensures bytes { (bytes : List ℕ) → R.remaining device ≡ Some bytes → IfOk result (λ upload.
-        MakesUpload InputKind.Export uploader.now limit most_bytes whole bytes upload.items) }
-    ensures why { (bytes : List ℕ) → R.remaining device ≡ Some bytes → IfErr result (λ failure.
-        failure ≢ Failure.ReadFailed → WhyNoUpload InputKind.Export uploader.now bytes failure) }
+    // If the device's bytes are known, the upload is theirs, and so is what is wrong.
+    ensures made { IfOk result (λ upload. OfBytes (R.remaining device)
+        (λ bytes. MakesUpload InputKind.Export uploader.now limit most_bytes whole bytes upload.items)) }
+    ensures failed { IfErr result (WhyNoUpload InputKind.Export uploader.now (R.remaining device)) }
 {
     // Do nothing: the proof has from them that the bytes have no other reading, and that entries which a stream may have
     // are read back from their canonical texts.
@@ -122,7 +119,7 @@ fn journal_upload<'a>(
 ) -> Result<Vec<u8>, Failure<'a>>
     ensures made { IfOk result (λ upload. (limit : ℕ) (most : Option ℕ) (whole : Bool)
         → MakesUpload InputKind.File uploader.now limit most whole bytes.now upload.items) }
-    ensures failed { IfErr result (WhyNoUpload InputKind.File uploader.now bytes.now) }
+    ensures failed { IfErr result (WhyNoEntries InputKind.File bytes.now) }
 {
     check_file(alloc, bytes)?;
     Ok(file_upload(alloc, uploader.source(), bytes)?)

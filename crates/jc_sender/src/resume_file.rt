@@ -1,10 +1,10 @@
 //! Resume files: how many of a source's entries are acknowledged.
 
-ghost use Rattle.std.specs.Prelude.{◌≡◌, ◌≢◌, ◌⊎◌, IfOk, IfErr, IfSome, OnErr, OnOk, take};
+ghost use Rattle.std.specs.Prelude.{◌≡◌, ◌⊎◌, Err, IfOk, IfErr, OnErr, OnOk};
 ghost use Rattle.std.specs.Io.KnownBytes.{Appends};
 ghost use Rattle.jc_command_shared.specs.Deeds.{LeavesOld, Replaces};
-ghost use Rattle.jc_sender.specs.Sent.{IsKept};
-ghost use Rattle.jc_upload.specs.Resume.{IsPoint, Point, resume_text};
+ghost use Rattle.jc_sender.specs.Sent.{IsKept, KeepsNone};
+ghost use Rattle.jc_upload.specs.Resume.{IsPoint, resume_text};
 
 use jc_command_shared::{
     Failure, System, create_file, name_beside, printed, put_in_place, read_front,
@@ -21,6 +21,7 @@ const TEXT: u64 = 129;
 pub(crate) fn read_resume<'a, R: System>(rt: &R, path: &'a str) -> Result<Resume, Failure<'a>>
     ensures lawful { IfOk result IsPoint }
     ensures kept { IfOk result (λ point. IsKept (R.told path.now) point) }
+    ensures none { result ≡ Err Failure.BadResume → KeepsNone (R.told path.now) }
     ensures failed { IfErr result (λ failure. (failure ≡ Failure.CannotOpen path.entry) ⊎ (failure ≡ Failure.ReadFailed)
         ⊎ (failure ≡ Failure.OutOfMemory) ⊎ (failure ≡ Failure.BadResume)) }
 {
@@ -34,9 +35,8 @@ pub(crate) fn read_resume<'a, R: System>(rt: &R, path: &'a str) -> Result<Resume
 /// The resume point whose text a reader gives.
 fn resume_in<'a, F: Read + Drop>(alloc: Global, file: F) -> Result<Resume, Failure<'a>>
     ensures lawful { IfOk result IsPoint }
-    ensures point { IfOk result (λ point. IfSome (F.remaining file) (λ text. take TEXT text ≡ resume_text point)) }
-    ensures none { result ≡ Err Failure.BadResume → IfSome (F.remaining file) (λ text. (point : Point) → IsPoint point
-        → take TEXT text ≢ resume_text point) }
+    ensures point { IfOk result (λ point. IsKept (F.remaining file) point) }
+    ensures none { result ≡ Err Failure.BadResume → KeepsNone (F.remaining file) }
     ensures failed { IfErr result (λ failure. (failure ≡ Failure.ReadFailed) ⊎ (failure ≡ Failure.OutOfMemory)
         ⊎ (failure ≡ Failure.BadResume)) }
 {

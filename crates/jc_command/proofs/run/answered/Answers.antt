@@ -16,7 +16,7 @@ returns-in-Ok-clause-ended g c =
 pub returns-in-Ok-clause-stopped : goal.returns-in-Ok-clause-stopped
 returns-in-Ok-clause-stopped g c =
     IfErr-both c.perform.result _ _ _
-    (λ run why keeps. failed (map string_bytes c.args.words.now) c.in-Ok.request (g.I.Read.remaining c.args.input.now)
+    (λ run why keeps. failed g.Y.System.told (map string_bytes c.args.words.now) c.in-Ok.request (g.I.Read.remaining c.args.input.now)
     (g.O.Write.contents c.args.output.now) (g.O.Write.contents c.perform.new.output) run.failure c.in-Ok.ensures.request why keeps)
     c.perform.ensures.failed c.perform.ensures.untouched
 
@@ -45,7 +45,7 @@ returns-in-Err-clause-stopped g c =
     let errors' = g.E.Write.contents c.answer_words.new.errors in
     let prints = c.answer_words.ensures in
     err_of c.without.result c.answer_words.result _ c.without.ensures.failed
-    (stops_answered words (kind_of c.in-Err.answer) c.answer_words.result given output output' errors errors'
+    (stops_answered g.Y.System.told words (kind_of c.in-Err.answer) c.answer_words.result given output output' errors errors'
     prints.asked prints.mistaken prints.memory)
 
 pub returns-in-Ok-clause-touched : goal.returns-in-Ok-clause-touched

@@ -1,5 +1,5 @@
 -- What each request comes to, from what its command does, and what is made of that.
-use Rattle.std.proofs.Common.{None, ◌∙◌, sym, refl, rules}
+use Rattle.std.proofs.Common.{None, ◌∙◌, sym, refl}
 use Rattle.std.proofs.KnownBytes.{Keeps-refl}
 use Rattle.jc_collector.specs.UnionRunLaws.{runs_left, runs_printed, runs_quiet, runs_stored, runs_untouched}
 use Rattle.jc_command.proofs.NotesFailing.{by_name}
@@ -162,40 +162,40 @@ returns-in-ListCodes-clause-quiet g c = stays_quiet c.succeeded-in-ListCodes.res
 
 pub returns-in-Upload-clause-failed : goal.returns-in-Upload-clause-failed
 returns-in-Upload-clause-failed g c =
-    fails_of c.succeeded.result c.upload.result _ _ _ c.in-Upload.is c.succeeded.ensures.failed c.upload.ensures.failed
+    fails_of c.succeeded.result c.upload.result g.Y.System.told _ _ _ c.in-Upload.is c.succeeded.ensures.failed c.upload.ensures.failed
 
 pub returns-in-Ack-clause-failed : goal.returns-in-Ack-clause-failed
 returns-in-Ack-clause-failed g c =
-    fails_of c.succeeded-in-Ack.result c.ack.result _ _ _ c.in-Ack.is c.succeeded-in-Ack.ensures.failed c.ack.ensures.failed
+    fails_of c.succeeded-in-Ack.result c.ack.result g.Y.System.told _ _ _ c.in-Ack.is c.succeeded-in-Ack.ensures.failed c.ack.ensures.failed
 
 pub returns-in-Collect-clause-failed : goal.returns-in-Collect-clause-failed
 returns-in-Collect-clause-failed g c =
     let failed = rw c.as_slice-uploads.ensures.value at c.collect-closed.ensures.failed in
-    fails_of c.closed.result c.collect-closed.result _ _ _ c.in-Collect.is c.closed.ensures.failed failed
+    fails_of c.closed.result c.collect-closed.result g.Y.System.told _ _ _ c.in-Collect.is c.closed.ensures.failed failed
 
 pub returns-in-CollectListed-clause-failed : goal.returns-in-CollectListed-clause-failed
 returns-in-CollectListed-clause-failed g c =
-    fails_of c.closed-in-CollectListed.result c.collect_from_list-closed.result _ _ _ c.in-CollectListed.is c.closed-in-CollectListed.ensures.failed c.collect_from_list-closed.ensures.failed
+    fails_of c.closed-in-CollectListed.result c.collect_from_list-closed.result g.Y.System.told _ _ _ c.in-CollectListed.is c.closed-in-CollectListed.ensures.failed c.collect_from_list-closed.ensures.failed
 
 pub returns-in-Export-clause-failed : goal.returns-in-Export-clause-failed
 returns-in-Export-clause-failed g c =
-    fails_of c.listed.result c.export-closed.result _ _ _ c.in-Export.is c.listed.ensures.failed c.export-closed.ensures.failed
+    fails_of c.listed.result c.export-closed.result g.Y.System.told _ _ _ c.in-Export.is c.listed.ensures.failed c.export-closed.ensures.failed
 
 pub returns-in-Show-clause-failed : goal.returns-in-Show-clause-failed
 returns-in-Show-clause-failed g c =
-    fails_of c.listed-in-Show.result c.show-closed.result _ _ _ c.in-Show.is c.listed-in-Show.ensures.failed c.show-closed.ensures.failed
+    fails_of c.listed-in-Show.result c.show-closed.result g.Y.System.told _ _ _ c.in-Show.is c.listed-in-Show.ensures.failed c.show-closed.ensures.failed
 
 pub returns-in-Check-clause-failed : goal.returns-in-Check-clause-failed
 returns-in-Check-clause-failed g c =
-    fails_of c.examined.result c.check-examined.result _ _ _ c.in-Check.is c.examined.ensures.failed c.check-examined.ensures.failed
+    fails_of c.examined.result c.check-examined.result g.Y.System.told _ _ _ c.in-Check.is c.examined.ensures.failed c.check-examined.ensures.failed
 
 pub returns-in-Migrate-clause-failed : goal.returns-in-Migrate-clause-failed
 returns-in-Migrate-clause-failed g c =
-    fails_of c.examined-in-Migrate.result c.migrate-examined.result _ _ _ c.in-Migrate.is c.examined-in-Migrate.ensures.failed c.migrate-examined.ensures.failed
+    fails_of c.examined-in-Migrate.result c.migrate-examined.result g.Y.System.told _ _ _ c.in-Migrate.is c.examined-in-Migrate.ensures.failed c.migrate-examined.ensures.failed
 
 pub returns-in-ListCodes-clause-failed : goal.returns-in-ListCodes-clause-failed
 returns-in-ListCodes-clause-failed g c =
-    fails_of c.succeeded-in-ListCodes.result c.list_codes.result _ _ _ c.in-ListCodes.is c.succeeded-in-ListCodes.ensures.failed c.list_codes.ensures.failed
+    fails_of c.succeeded-in-ListCodes.result c.list_codes.result g.Y.System.told _ _ _ c.in-ListCodes.is c.succeeded-in-ListCodes.ensures.failed c.list_codes.ensures.failed
 
 pub returns-in-Verify-clause-untouched : goal.returns-in-Verify-clause-untouched
 returns-in-Verify-clause-untouched g c =
@@ -303,7 +303,7 @@ returns-in-CheckNoted-clause-quiet g c = stays_quiet c.examined-in-CheckNoted.re
 
 pub returns-in-CheckNoted-clause-failed : goal.returns-in-CheckNoted-clause-failed
 returns-in-CheckNoted-clause-failed g c =
-    fails_of c.examined-in-CheckNoted.result c.check_noted-examined.result _ _ _ c.in-CheckNoted.is c.examined-in-CheckNoted.ensures.failed c.check_noted-examined.ensures.failed
+    fails_of c.examined-in-CheckNoted.result c.check_noted-examined.result g.Y.System.told _ _ _ c.in-CheckNoted.is c.examined-in-CheckNoted.ensures.failed c.check_noted-examined.ensures.failed
 
 pub returns-in-CheckNoted-clause-untouched : goal.returns-in-CheckNoted-clause-untouched
 returns-in-CheckNoted-clause-untouched g c =
@@ -324,7 +324,7 @@ returns-in-Notes-clause-quiet g c = stays_quiet c.without-in-Notes.result _ (g.E
 
 pub returns-in-Notes-clause-failed : goal.returns-in-Notes-clause-failed
 returns-in-Notes-clause-failed g c =
-    fails_of c.without-in-Notes.result c.work_on_notes.result _ _ _ c.in-Notes.is c.without-in-Notes.ensures.failed c.work_on_notes.ensures.failed
+    fails_of c.without-in-Notes.result c.work_on_notes.result g.Y.System.told _ _ _ c.in-Notes.is c.without-in-Notes.ensures.failed c.work_on_notes.ensures.failed
 
 pub returns-in-Notes-clause-untouched : goal.returns-in-Notes-clause-untouched
 returns-in-Notes-clause-untouched g c =
@@ -345,7 +345,7 @@ returns-in-ListOwners-clause-quiet g c = stays_quiet c.without-in-ListOwners.res
 
 pub returns-in-ListOwners-clause-failed : goal.returns-in-ListOwners-clause-failed
 returns-in-ListOwners-clause-failed g c =
-    fails_of c.without-in-ListOwners.result c.list_all_owners.result _ _ _ c.in-ListOwners.is c.without-in-ListOwners.ensures.failed c.list_all_owners.ensures.failed
+    fails_of c.without-in-ListOwners.result c.list_all_owners.result g.Y.System.told _ _ _ c.in-ListOwners.is c.without-in-ListOwners.ensures.failed c.list_all_owners.ensures.failed
 
 pub returns-in-ListOwners-clause-untouched : goal.returns-in-ListOwners-clause-untouched
 returns-in-ListOwners-clause-untouched g c =
@@ -366,7 +366,7 @@ returns-in-RenameOwner-clause-quiet g c = stays_quiet c.succeeded-in-RenameOwner
 
 pub returns-in-RenameOwner-clause-failed : goal.returns-in-RenameOwner-clause-failed
 returns-in-RenameOwner-clause-failed g c =
-    fails_of c.succeeded-in-RenameOwner.result c.rename_all.result _ _ _ c.in-RenameOwner.is c.succeeded-in-RenameOwner.ensures.failed c.rename_all.ensures.failed
+    fails_of c.succeeded-in-RenameOwner.result c.rename_all.result g.Y.System.told _ _ _ c.in-RenameOwner.is c.succeeded-in-RenameOwner.ensures.failed c.rename_all.ensures.failed
 
 pub returns-in-RenameOwner-clause-untouched : goal.returns-in-RenameOwner-clause-untouched
 returns-in-RenameOwner-clause-untouched g c =
@@ -387,7 +387,7 @@ returns-in-ReleaseSequence-clause-quiet g c = stays_quiet c.succeeded-in-Release
 
 pub returns-in-ReleaseSequence-clause-failed : goal.returns-in-ReleaseSequence-clause-failed
 returns-in-ReleaseSequence-clause-failed g c =
-    fails_of c.succeeded-in-ReleaseSequence.result c.release_sequence.result _ _ _ c.in-ReleaseSequence.is c.succeeded-in-ReleaseSequence.ensures.failed (IfErr-each c.release_sequence.result _ _ (by_name c.in-ReleaseSequence.sequences.now) c.release_sequence.ensures.failed)
+    fails_of c.succeeded-in-ReleaseSequence.result c.release_sequence.result g.Y.System.told _ _ _ c.in-ReleaseSequence.is c.succeeded-in-ReleaseSequence.ensures.failed (IfErr-each c.release_sequence.result _ _ (by_name c.in-ReleaseSequence.sequences.now) c.release_sequence.ensures.failed)
 
 pub returns-in-ReleaseSequence-clause-untouched : goal.returns-in-ReleaseSequence-clause-untouched
 returns-in-ReleaseSequence-clause-untouched g c =
