@@ -1,14 +1,14 @@
 -- The export of a journal stands behind what was answered over it.
-use Rattle.std.proofs.Common.{◌≡◌, ℕ, List, Option, Some, None, refl, subst, sym}
-use Rattle.std.specs.Prelude.{Err, Ok, OnErr, Result}
+use Rattle.std.proofs.Common.{◌≡◌, ◌∷◌, ◌++◌, ◌∙◌, [], ℕ, List, Option, Some, None, ap, append_assoc, inl, inr, option_map, refl, subst, sym}
+use Rattle.std.specs.Prelude.{Err, Ok, OnErr, OnOk, Result}
 use Rattle.sqlite.specs.Store.{Ghosts}
 use Rattle.sqlite.specs.Held.{Held}
 use Rattle.jc_base.specs.Journal.{Journal}
-use Rattle.jc_command_shared.specs.Deeds.{Deed, OpensOnce}
-use Rattle.jc_command_shared.specs.DeedLaws.{nothing_changes}
+use Rattle.jc_command_shared.specs.Deeds.{Adds, ChangesOnly, Deed, OpensOnce, beside, changes, puts}
+use Rattle.jc_command_shared.specs.DeedLaws.{leaves_old, nothing_changes}
 use Rattle.jc_keeper.specs.Listing.{export_text}
 use Rattle.jc_store.specs.Meaning.{AreMade, IsSound, KeepsJournal, Meaning, journal_of}
-use Rattle.jc_collector.specs.Exported.{LeavesOldIf, OpensAndExports, ReplacesIf}
+use Rattle.jc_collector.specs.Exported.{LeavesOldIf, MayReplace, OpensAndExports, ReplacesIf}
 use Rattle.jc_collector.specs.Open.{Begun, StandsOver}
 
 -- nothing was done
@@ -16,6 +16,23 @@ pub none_replaced : {T E : Type 0} (result : Result T E) (at : Option (List ℕ)
 none_replaced (Ok x) at old = tt
 none_replaced (Err e) None old = refl
 none_replaced (Err e) (Some at) old = nothing_changes old
+
+-- A file is made beside the one at this path, and gets its path, or that one stays.
+pub may_replace : {T E : Type 0} (old between new : Option (List Deed)) (at name other : List ℕ) → name ≡ beside at → other ≡ beside at
+    → Adds old between (changes name ∷ []) → (result : Result T E) (held : Option (List ℕ)) → OnOk result (Adds between new (puts other at held ∷ []))
+    → OnErr result (ChangesOnly (λ path. path ≡ other) between new) → MayReplace at old new
+may_replace old between new at name other first then made (Ok x) held placed stays = inr (held, adds_then old between new name other first then made placed)
+  where
+    adds_then : (old between new : Option (List Deed)) (name other : List ℕ) → name ≡ beside at → other ≡ beside at → Adds old between (changes name ∷ [])
+        → Adds between new (puts other at held ∷ []) → Adds old new (changes (beside at) ∷ puts (beside at) at held ∷ [])
+    adds_then None between new name other first then made placed = placed ∙ ap (option_map (λ now. now ++ puts other at held ∷ [])) made
+    adds_then (Some before) between new name other first then made placed =
+        placed
+        ∙ ap (option_map (λ now. now ++ puts other at held ∷ [])) made
+        ∙ ap Some (append_assoc before (changes name ∷ []) (puts other at held ∷ []))
+        ∙ (λ t. Some (before ++ changes (first t) ∷ puts (then t) at held ∷ []))
+may_replace {T = T} old between new at name other first then made (Err e) held placed stays =
+    inl (leaves_old old between new at name other first then made {T = T} (Err e) stays)
 
 -- the same journal, after a call that keeps it
 pub same_exported : (m : Meaning) → {S : Type 0} {g : Ghosts S} (then last : Held S) → KeepsJournal m g then last → IsSound g then → AreMade m g then

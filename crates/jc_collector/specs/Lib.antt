@@ -9,6 +9,7 @@ pub mod Kinds
 pub mod Earlier
 pub mod OverFiles
 pub mod Exported
+pub mod ExportedLaws
 pub mod IntoUnion
 pub mod Open
 pub mod Counted

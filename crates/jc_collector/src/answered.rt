@@ -12,10 +12,9 @@ ghost use Rattle.jc_collector_answers.specs.Tied.{NamedWith, PrintsWith};
 ghost use Rattle.jc_collector.specs.AnsweredOver.{AnswersIn, AnswersOver, CollectsIn, CollectsOver};
 ghost use Rattle.jc_collector.specs.Counted.{PrintsCounted};
 ghost use Rattle.jc_collector.specs.Database.{DatabaseFailsBy, IsOutFailure, MayEndNames, MayStop};
-ghost use Rattle.jc_collector.specs.Exported.{OpensAndExports, ReplacesIf};
+ghost use Rattle.jc_collector.specs.Exported.{MayReplaceIf, OpensAndExports, OpensAndMayReplace, ReplacesIf};
 ghost use Rattle.jc_keeper.specs.Listing.{export_text};
 ghost use Rattle.jc_collector.specs.Open.{Begun, HasKind, StandsIn, StandsOver};
-ghost use Rattle.jc_command_shared.specs.Deeds.{ChangesOnly, IsReplacedIf, OpensAndChanges};
 
 use crate::database::{Opened, OpenedFiles, open_or_make};
 use crate::target::Target;
@@ -61,7 +60,7 @@ pub fn answer_deliveries<'a, Y: Databases, F: OpenFromFiles, R: ByteStream, B: B
     ensures stopped { IfOk result (λ run. IfErr run.done IsOutFailure) }
     ensures failed { IfErr result (DatabaseFailsBy database.now) }
     ensures untouched { IfErr result (λ _. Keeps (O.contents output.old) (O.contents output.new)) }
-    ensures touched { OpensAndChanges database.now (IsReplacedIf (option_map (λ name. name.now) then_export.entry))
+    ensures touched { OpensAndMayReplace database.now (option_map (λ name. name.now) then_export.entry)
         (Y.deeds rt.old) (Y.deeds rt.new) }
 {
     let target = Target {
@@ -95,7 +94,7 @@ pub fn answer_lines<'a, Y: Databases, F: OpenFromFiles, L: BufRead, O: Write, E:
     ensures stopped { IfOk result (λ run. IfErr run.done MayEndNames) }
     ensures failed { IfErr result (DatabaseFailsBy database.now) }
     ensures untouched { IfErr result (λ _. Keeps (O.contents output.old) (O.contents output.new)) }
-    ensures touched { OpensAndChanges database.now (IsReplacedIf (option_map (λ name. name.now) then_export.entry))
+    ensures touched { OpensAndMayReplace database.now (option_map (λ name. name.now) then_export.entry)
         (Y.deeds rt.old) (Y.deeds rt.new) }
 {
     let target = Target {
@@ -108,7 +107,7 @@ pub fn answer_lines<'a, Y: Databases, F: OpenFromFiles, L: BufRead, O: Write, E:
 }
 
 /// Answers uploads over a database, which is made if there is none. Then its journal goes to a file, if one is named.
-#[tactic(auto, using(jc_command_shared::specs::DeedLaws::only_opens, jc_command_shared::specs::DeedLaws::opens_then))]
+#[tactic(auto, using(crate::specs::ExportedLaws::opens_alone, crate::specs::ExportedLaws::opens_then))]
 pub(crate) fn answer_uploads<'a, Y: Databases, F: OpenFromFiles, E, U: Uploads<E> + Drop, O: Write>(
     rt: &mut Y,
     target: Target<'a, F::Start>,
@@ -130,7 +129,7 @@ pub(crate) fn answer_uploads<'a, Y: Databases, F: OpenFromFiles, E, U: Uploads<E
         OpensAndExports target.entry.database.now (option_map (λ name. name.now) target.entry.then_export) (Y.deeds rt.old) (Y.deeds rt.new)))) }
     ensures failed { IfErr result (DatabaseFailsBy target.entry.database.now) }
     ensures untouched { IfErr result (λ _. Keeps (O.contents output.old) (O.contents output.new)) }
-    ensures touched { OpensAndChanges target.entry.database.now (IsReplacedIf (option_map (λ name. name.now) target.entry.then_export))
+    ensures touched { OpensAndMayReplace target.entry.database.now (option_map (λ name. name.now) target.entry.then_export)
         (Y.deeds rt.old) (Y.deeds rt.new) }
 {
     let Target {
@@ -183,7 +182,7 @@ fn answer_over<'a, Y: System, F: StoreInFiles, L: Listed, E, U: Uploads<E>, O: W
     ensures stopped { IfErr result (MayStop U.are_read) }
     ensures exported { OnOk result (StandsOver L.meaning F.Store keeper.new.conn (Begun L.meaning F.Store keeper.old.conn) (λ _ after.
         ReplacesIf (option_map (λ name. name.now) then_export.entry) (export_text after) (Y.deeds rt.old) (Y.deeds rt.new))) }
-    ensures touched { ChangesOnly (IsReplacedIf (option_map (λ name. name.now) then_export.entry)) (Y.deeds rt.old) (Y.deeds rt.new) }
+    ensures touched { MayReplaceIf (option_map (λ name. name.now) then_export.entry) (Y.deeds rt.old) (Y.deeds rt.new) }
 {
     // Does nothing: from its contract the proof has what might have been left before.
     sound_leaves_journals(keeper);

@@ -16,8 +16,7 @@ ghost use Rattle.jc_collector.specs.UnionAnswered.{AnswersNoted};
 ghost use Rattle.jc_collector.specs.Database.{DatabaseFailsBy};
 ghost use Rattle.jc_collector.specs.IntoUnion.{LeadsIf, UnionFailsBy, UnionStopsBy};
 ghost use Rattle.jc_collector.specs.UnionRun.{IsFoundAs, RunsFromList, RunsNoted};
-ghost use Rattle.jc_command_shared.specs.Deeds.{ChangesOnly, IsReplacedIf, OpensAndChanges};
-ghost use Rattle.jc_collector.specs.Exported.{OpensAndExports, ReplacesIf};
+ghost use Rattle.jc_collector.specs.Exported.{MayReplaceIf, OpensAndExports, OpensAndMayReplace, ReplacesIf};
 ghost use Rattle.jc_collector.specs.UnionOpened.{MayOpen};
 ghost use Rattle.jc_keeper.specs.Listing.{export_text};
 
@@ -82,7 +81,7 @@ pub fn collect_into_union<
         (λ before. MayCatchUp (L.known ledger) P.journal before (L.came ledger) × L.sound run.ledger × NoneCollide (L.came run.ledger))
         (λ _. OpensAndExports database.now (option_map (λ name. name.now) then_export.entry) (Y.deeds rt.old) (Y.deeds rt.new))) }
     ensures failed { IfErr result (λ run. UnionFailsBy database.now (list.now ∷ []) run.failure) }
-    ensures touched { OpensAndChanges database.now (IsReplacedIf (option_map (λ name. name.now) then_export.entry))
+    ensures touched { OpensAndMayReplace database.now (option_map (λ name. name.now) then_export.entry)
         (Y.deeds rt.old) (Y.deeds rt.new) }
 {
     check_names(rt, database, then_export)?;
@@ -97,7 +96,7 @@ pub fn collect_into_union<
 }
 
 /// Takes up the uploads that the lines of a reader name, which are read through a buffer.
-#[tactic(auto, using(jc_command_shared::specs::DeedLaws::does_nothing))]
+#[tactic(auto, using(crate::specs::ExportedLaws::does_nothing))]
 fn join_lines<
     'a,
     Y: Databases,
@@ -122,7 +121,7 @@ fn join_lines<
         (λ before. MayCatchUp (L.known ledger) P.journal before (L.came ledger) × L.sound run.ledger × NoneCollide (L.came run.ledger))
         (λ _. OpensAndExports target.entry.database.now (option_map (λ name. name.now) target.entry.then_export) (Y.deeds rt.old) (Y.deeds rt.new))) }
     ensures failed { IfErr result (λ run. UnionStopsBy run.failure ⊎ DatabaseFailsBy target.entry.database.now run.failure) }
-    ensures touched { OpensAndChanges target.entry.database.now (IsReplacedIf (option_map (λ name. name.now) target.entry.then_export))
+    ensures touched { OpensAndMayReplace target.entry.database.now (option_map (λ name. name.now) target.entry.then_export)
         (Y.deeds rt.old) (Y.deeds rt.new) }
 {
     let Ok(mut names) = BufReader::new(rt.alloc(), list) else {
@@ -156,7 +155,7 @@ fn join_names<
         (λ before. MayCatchUp (L.known ledger) P.journal before (L.came ledger) × L.sound run.ledger × NoneCollide (L.came run.ledger))
         (λ _. OpensAndExports target.entry.database.now (option_map (λ name. name.now) target.entry.then_export) (Y.deeds rt.old) (Y.deeds rt.new))) }
     ensures failed { IfErr result (λ run. UnionStopsBy run.failure ⊎ DatabaseFailsBy target.entry.database.now run.failure) }
-    ensures touched { OpensAndChanges target.entry.database.now (IsReplacedIf (option_map (λ name. name.now) target.entry.then_export))
+    ensures touched { OpensAndMayReplace target.entry.database.now (option_map (λ name. name.now) target.entry.then_export)
         (Y.deeds rt.old) (Y.deeds rt.new) }
 {
     let Target {
@@ -219,7 +218,7 @@ fn join_over<
         (λ before. MayCatchUp (L.known ledger) P.journal before (L.came ledger) × L.sound run.ledger × NoneCollide (L.came run.ledger))
         (λ _ after. ReplacesIf (option_map (λ name. name.now) then_export.entry) (export_text after) (Y.deeds rt.old) (Y.deeds rt.new))) }
     ensures failed { IfErr result (λ run. UnionStopsBy run.failure) }
-    ensures touched { ChangesOnly (IsReplacedIf (option_map (λ name. name.now) then_export.entry)) (Y.deeds rt.old) (Y.deeds rt.new) }
+    ensures touched { MayReplaceIf (option_map (λ name. name.now) then_export.entry) (Y.deeds rt.old) (Y.deeds rt.new) }
 {
     let AnsweredUnion { answered, union } = join_open::<_, F, T, L, P, _, _, _>(
         rt,
@@ -236,7 +235,7 @@ fn join_over<
 
 /// All of it before the present database is closed: the union is opened, the uploads are taken up, and the present
 /// database's journal is exported, if a path is given. What a crash leaves of a run is what it leaves of this union.
-#[tactic(auto, using(jc_command_shared::specs::DeedLaws::nothing_changes))]
+#[tactic(auto, using(crate::specs::ExportedLaws::may_stay))]
 pub fn join_open<
     'a,
     Y: System,
@@ -270,7 +269,7 @@ pub fn join_open<
     ensures failed { IfErr result.answered UnionStopsBy }
     ensures untouched { IfErr result.answered (λ failure. status_of failure ≢ Status.Failed
         → KeepsBytes (O.contents output.old) (O.contents output.new)) }
-    ensures touched { ChangesOnly (IsReplacedIf (option_map (λ name. name.now) then_export.entry)) (Y.deeds rt.old) (Y.deeds rt.new) }
+    ensures touched { MayReplaceIf (option_map (λ name. name.now) then_export.entry) (Y.deeds rt.old) (Y.deeds rt.new) }
 {
     let OpenedUnion { mut union, opened } = open_union::<S, T, L, P>(rt.alloc(), present, ledger);
     match opened {

@@ -3,12 +3,12 @@
 ghost use Rattle.std.specs.Prelude.{◌≡◌, ◌⊎◌, ◌≤◌, Ok, Err, IfOk, IfErr, OnErr, OnOk, option_map};
 ghost use Rattle.sqlite.specs.Held.{state};
 ghost use Rattle.sqlite.specs.View.{doubt};
-ghost use Rattle.jc_command_shared.specs.Deeds.{ChangesOnly, IsReplaced, IsReplacedIf, LeavesOld, Replaces};
+ghost use Rattle.jc_command_shared.specs.Deeds.{LeavesOld, Replaces};
 ghost use Rattle.jc_keeper.specs.Listing.{export_text};
 ghost use Rattle.jc_store.specs.Crash.{LeavesNoMore};
 ghost use Rattle.jc_store.specs.Meaning.{IsSound, KeepsJournal};
 ghost use Rattle.jc_collector.specs.Database.{IsBadName, IsOutFailure};
-ghost use Rattle.jc_collector.specs.Exported.{LeavesOldIf, ReplacesIf};
+ghost use Rattle.jc_collector.specs.Exported.{LeavesOldIf, MayReplace, MayReplaceIf, ReplacesIf};
 
 use crate::database::check_name;
 use crate::listing::export_journal;
@@ -87,7 +87,7 @@ fn is_same_file<Y: System>(rt: &Y, first: &str, second: &str) -> bool {
 
 /// Puts a keeper's journal into the file at a path, if one is given and all uploads were answered. The status stays that of
 /// the answers.
-#[tactic(auto, using(jc_command_shared::specs::DeedLaws::nothing_changes))]
+#[tactic(auto, using(crate::specs::ExportedLaws::may_stay))]
 pub(crate) fn export_after<'a, Y: System, S: Alter, L: Listed>(
     rt: &mut Y,
     keeper: &mut TableKeeper<S, L>,
@@ -106,7 +106,7 @@ pub(crate) fn export_after<'a, Y: System, S: Alter, L: Listed>(
         → OnOk result (ReplacesIf (option_map (λ name. name.now) path.entry)
         (export_text (⟦<TableKeeper<S, L> as Keeper>⟧.journal keeper.old)) (Y.deeds rt.old) (Y.deeds rt.new)) }
     ensures stays { OnErr result (LeavesOldIf (option_map (λ name. name.now) path.entry) (Y.deeds rt.old) (Y.deeds rt.new)) }
-    ensures touched { ChangesOnly (IsReplacedIf (option_map (λ name. name.now) path.entry)) (Y.deeds rt.old) (Y.deeds rt.new) }
+    ensures touched { MayReplaceIf (option_map (λ name. name.now) path.entry) (Y.deeds rt.old) (Y.deeds rt.new) }
 {
     let status = answered?;
     let Some(path) = path else {
@@ -132,7 +132,7 @@ fn export_file<'a, Y: System, S: Alter, L: Listed>(
         → OnOk result (Replaces path.now (export_text (⟦<TableKeeper<S, L> as Keeper>⟧.journal keeper.old))
         (Y.deeds rt.old) (Y.deeds rt.new)) }
     ensures stays { OnErr result (LeavesOld path.now (Y.deeds rt.old) (Y.deeds rt.new)) }
-    ensures touched { ChangesOnly (IsReplaced path.now) (Y.deeds rt.old) (Y.deeds rt.new) }
+    ensures touched { MayReplace path.now (Y.deeds rt.old) (Y.deeds rt.new) }
 {
     let beside = name_beside(rt.alloc(), path)?;
     let mut file = create_file(rt, beside.as_str())?;

@@ -19,7 +19,7 @@ use Rattle.jc_ledger_files.specs.NotesOf.{notes_of}
 use Rattle.jc_ledger_files.specs.Owned.{owner_found}
 use Rattle.jc_ledger_files.specs.Windows.{known_in}
 use Rattle.jc_collector.specs.declared.health.Health.{Health}
-use Rattle.jc_command_shared.specs.Deeds.{ChangesOnly, Deed, IsReplacedIf, OpensAndChanges, OpensOnce}
+use Rattle.jc_command_shared.specs.Deeds.{ChangesOnly, Deed, OpensOnce}
 use Rattle.jc_command_shared.specs.declared.failure.Failure.{Failure}
 use Rattle.jc_command_shared.specs.declared.failure.Failure.TheVariants.{BadId, BadLine, BadUpload, CannotOpen, OutOfMemory, ReadFailed, WriteFailed}
 use Rattle.jc_command_shared.specs.declared.status.Status.{Status}
@@ -38,7 +38,7 @@ use Rattle.jc_collector.specs.Inspected.{PrintsInspectedOf, PrintsSomeInspected}
 use Rattle.jc_collector.specs.IntoUnion.{LeadsIf, StoresNotedFromList, UnionFailsBy}
 use Rattle.jc_collector.specs.FromList.{PrintsFromList}
 use Rattle.jc_collector.specs.Earlier.{LeadsFrom}
-use Rattle.jc_collector.specs.Exported.{KeepsAndExports, OpensAndExports}
+use Rattle.jc_collector.specs.Exported.{KeepsAndExports, OpensAndExports, OpensAndMayReplace}
 use Rattle.jc_collector.specs.Kinds.{LeadsIn, LeadsThere}
 use Rattle.jc_collector.specs.OverFiles.{CollectsAll, Prints, PrintsAsked, StoresFromList, StoresPrinted, given_uploads}
 use Rattle.jc_sender.specs.Sent.{PrintsSomeUpload}
@@ -257,9 +257,9 @@ FailsBy told ListCodes given failure = failure ≡ WriteFailed
 -- ---- what is done to files
 
 -- What a request does to files, whether it is performed or fails: it opens its database, once or not at all, and makes,
--- renames or removes no other file but that of an export or of a resume point and the one beside it. A resume point's file
--- stays as it was, or is replaced by one with the text of a resume point, and no more. Beside that `collect`
--- notes sequences in a folder, of which the notes' ledger speaks.
+-- renames or removes no other file but that of an export or of a resume point and the one beside it. That file stays as it
+-- was, or a new one takes its place at once, in the case of a resume point one with the text of such a point, and no more.
+-- Beside that `collect` notes sequences in a folder, of which the notes' ledger speaks.
 abbrev pub DoesFor : Request → (old new : Option (List Deed)) → Type 0
 DoesFor (Verify kind file) old new = new ≡ old
 DoesFor (Inspect file most_entries most_fields most_bytes most_windows) old new = new ≡ old
@@ -267,11 +267,11 @@ DoesFor (Upload source limit most_bytes whole) old new = new ≡ old
 DoesFor (Ack source) old new = MayMoveOn source.resume.now old new
 DoesFor (Acknowledged upload) old new = new ≡ old
 DoesFor (Collect database tables uploads then_export) old new =
-    OpensAndChanges database.now (IsReplacedIf (option_map (λ name. name.now) then_export)) old new
+    OpensAndMayReplace database.now (option_map (λ name. name.now) then_export) old new
 DoesFor (CollectListed database tables list then_export) old new =
-    OpensAndChanges database.now (IsReplacedIf (option_map (λ name. name.now) then_export)) old new
+    OpensAndMayReplace database.now (option_map (λ name. name.now) then_export) old new
 DoesFor (CollectIntoUnion database tables list sequences most_windows then_export) old new =
-    OpensAndChanges database.now (IsReplacedIf (option_map (λ name. name.now) then_export)) old new
+    OpensAndMayReplace database.now (option_map (λ name. name.now) then_export) old new
 DoesFor (request.Export database) old new = OpensOnce database.now old new
 DoesFor (Show database field id first last) old new = OpensOnce database.now old new
 DoesFor (Check database) old new = OpensOnce database.now old new

@@ -1,6 +1,6 @@
 //! One run of the program.
 
-ghost use Rattle.std.specs.Prelude.{◌≡◌, ◌≢◌, ◌⊎◌, ◌≤◌, ⊤, None, Some, IsSome, Ok, Err, OnOk, IfOk, IfErr, IsOkAnd, map, string_bytes};
+ghost use Rattle.std.specs.Prelude.{◌≡◌, ◌≢◌, ◌⊎◌, ◌≤◌, None, Some, IsSome, Ok, Err, OnOk, IfOk, IfErr, IsOkAnd, map, string_bytes};
 ghost use Rattle.std.specs.Io.KnownBytes.{Appends, Keeps};
 ghost use Rattle.clap.specs.Words.{kind_of};
 ghost use Rattle.jc_command_args.specs.Answer.{IsAskedFor};
@@ -275,7 +275,7 @@ fn answered<
     }
 }
 
-#[tactic(auto, using(crate::proofs::Runs::unless_failed, jc_command_shared::specs::DeedLaws::does_nothing))]
+#[tactic(auto, using(crate::proofs::Runs::unless_failed, jc_collector::specs::ExportedLaws::does_nothing))]
 fn perform<
     'w,
     Y: Databases,

@@ -14,9 +14,8 @@ use Rattle.jc_command_args.specs.declared.request.Tables.{Tables}
 use Rattle.jc_database.specs.Files.{HoldsJournal, InFiles}
 use Rattle.jc_database.specs.Left.{IsLeftOf, StopsOnly}
 use Rattle.jc_ledger.specs.Known.{Known}
-use Rattle.jc_ledger.specs.Lagging.{MayCatchUp}
 use Rattle.jc_store.specs.Crash.{LeavesJournals, MayLeave}
-use Rattle.jc_store.specs.Meaning.{Meaning, journal_of}
+use Rattle.jc_store.specs.Meaning.{Meaning}
 use Rattle.jc_upload.specs.declared.answer.Answer.{Answer}
 use Rattle.jc_collector.specs.Noted.{HoldsNoted}
 use Rattle.jc_collector.specs.UnionLeft.{LeavesNoted}

@@ -10,7 +10,7 @@ ghost use Rattle.jc_database.specs.Left.{IsLeftOf, StopsOnly};
 ghost use Rattle.jc_collector_answers.specs.Answered.{KeepsPrinted};
 ghost use Rattle.jc_collector_answers.specs.Collected.{just, those_named};
 ghost use Rattle.jc_collector_answers.specs.Tied.{NamedWith, PrintsFront, PrintsWith};
-ghost use Rattle.jc_command_shared.specs.Deeds.{IsReplacedIf, OpensAndChanges};
+ghost use Rattle.jc_collector.specs.Exported.{OpensAndMayReplace};
 ghost use Rattle.jc_collector.specs.Kinds.{conn_of, journal_in, kind_of, meaning_of};
 ghost use Rattle.jc_theorems.specs.Stopped.{AnyLeft, FindsEach, LeavesEach, LeavesFirst, LeavesPrinted, WhenBegun, WhenStopped};
 
@@ -61,7 +61,7 @@ pub fn collect_and_stop<'a, Y: Databases, F: OpenFromFiles, R: ByteStream, B: By
         WhenStopped F.Store F.in_files tables F.first (map (of_delivery R.remaining B.bytes) deliveries.old) run.files.value
         (λ kind uploads before left. run.answered ≡ Err Failure.WriteFailed
         → ∥ LeavesFirst kind uploads before (O.contents output.old) (O.contents output.new) left ∥₁)) }
-    ensures touched { OpensAndChanges database.now (IsReplacedIf (option_map (λ name. name.now) then_export.entry))
+    ensures touched { OpensAndMayReplace database.now (option_map (λ name. name.now) then_export.entry)
         (Y.deeds rt.old) (Y.deeds rt.new) }
 {
     let Answered { done, keeper } = answer_deliveries(
@@ -97,7 +97,7 @@ pub fn collect_lines_and_stop<'a, Y: Databases, F: OpenFromFiles, L: BufRead, O:
     ensures each_failed { IfOk result (λ run. WhenBegun F.Store tables F.first run.files.value (λ kind before. IfErr run.answered (λ _.
         PrintsFront (λ answers. AnyLeft F.in_files run.files.value (LeavesEach (those_named Y.told NameLines.Uploads (L.remaining names.old)) kind before answers))
         (O.contents output.old) (O.contents output.new)))) }
-    ensures touched { OpensAndChanges database.now (IsReplacedIf (option_map (λ name. name.now) then_export.entry))
+    ensures touched { OpensAndMayReplace database.now (option_map (λ name. name.now) then_export.entry)
         (Y.deeds rt.old) (Y.deeds rt.new) }
 {
     let Answered { done, keeper } = answer_lines(

@@ -7,7 +7,7 @@ ghost use Rattle.sqlite.specs.View.{IsClean};
 ghost use Rattle.jc_collector_answers.specs.Collected.{those_named, told_within};
 ghost use Rattle.jc_collector_answers.specs.Kept.{HoldsPrinted};
 ghost use Rattle.jc_collector_answers.specs.PrintedLaws.{named};
-ghost use Rattle.jc_command_shared.specs.Deeds.{ChangesOnly, IsReplacedIf, OpensAndChanges};
+ghost use Rattle.jc_collector.specs.Exported.{MayReplaceIf, OpensAndMayReplace};
 ghost use Rattle.jc_database.specs.Files.{AreLawful};
 ghost use Rattle.jc_ledger.specs.Kept.{NoneCollide};
 ghost use Rattle.jc_ledger.specs.Lagging.{MayCatchUp};
@@ -42,7 +42,7 @@ pub struct StoppedUnion<'a, S, L: Ledger> {
 
 /// Does what `collect --sequences` does of the uploads that lines name up to where it closes its present database, and then
 /// is stopped: what a crash may leave of the files and of the notes is what it may leave at this moment.
-#[tactic(auto, using(jc_command_shared::specs::DeedLaws::only_opens, jc_command_shared::specs::DeedLaws::opens_then))]
+#[tactic(auto, using(jc_collector::specs::ExportedLaws::opens_alone, jc_collector::specs::ExportedLaws::opens_then))]
 pub fn collect_into_union_and_stop<
     'a,
     Y: Databases,
@@ -71,7 +71,7 @@ pub fn collect_into_union_and_stop<
         (λ kind before. HoldsPrinted (named (N.remaining names.old)) (λ answers. AnyLeft F.in_files run.files.value
         (LeavesNoted (those_named (told_within most_windows Y.told) NameLines.MachinesAndUploads (N.remaining names.old)) (meaning_of kind) P.journal before (L.came run.ledger.value) (L.may_leave run.ledger.value) answers))
         run.answered (O.contents output.old) (O.contents output.new))) }
-    ensures touched { OpensAndChanges database.now (IsReplacedIf (option_map (λ name. name.now) then_export.entry))
+    ensures touched { OpensAndMayReplace database.now (option_map (λ name. name.now) then_export.entry)
         (Y.deeds rt.old) (Y.deeds rt.new) }
 {
     match open_or_make(rt, database, start, tables)? {
@@ -126,7 +126,7 @@ fn stop_over<
         result.answered (O.contents output.old) (O.contents output.new) }
     ensures clean { IsClean (F.Store.view result.files.value) → L.clean result.ledger.value → NoneCollide (L.came result.ledger.value)
         → HasCleanDisk (state F.Store present.conn) }
-    ensures touched { ChangesOnly (IsReplacedIf (option_map (λ name. name.now) then_export.entry)) (Y.deeds rt.old) (Y.deeds rt.new) }
+    ensures touched { MayReplaceIf (option_map (λ name. name.now) then_export.entry) (Y.deeds rt.old) (Y.deeds rt.new) }
 {
     let AnsweredUnion { answered, union } = join_open::<_, F, T, L, P, _, _, _>(
         rt,

@@ -1,6 +1,6 @@
 -- The list is standard input, or a file.
 use Rattle.std.proofs.Common.{[], ◌∷◌, inr}
-use Rattle.jc_command_shared.specs.DeedLaws.{does_nothing}
+use Rattle.jc_collector.specs.ExportedLaws.{does_nothing}
 use Rattle.jc_collector.proofs.IntoUnion.{by_union}
 use Rattle.jc_collector.proofs.Results.{IfErr-each}
 use Rattle.jc_collector.proofs.into_union.collect_into_union.Goals as goal

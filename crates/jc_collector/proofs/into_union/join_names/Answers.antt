@@ -1,6 +1,6 @@
 -- The keeper is that of one kind, and has the journal that the files had in tables of this kind.
 use Rattle.jc_command_args.specs.declared.request.Tables.TheVariants.{ByKey, ByNumber}
-use Rattle.jc_command_shared.specs.DeedLaws.{only_opens, opens_then}
+use Rattle.jc_collector.specs.ExportedLaws.{opens_alone, opens_then}
 use Rattle.jc_collector.proofs.Exported.{opens_exports}
 use Rattle.jc_collector.proofs.IntoUnion.{found_as}
 use Rattle.jc_collector.proofs.Results.{IfOk-each}
@@ -25,7 +25,7 @@ pub returns-in-ByNumber-clause-touched : goal.returns-in-ByNumber-clause-touched
 returns-in-ByNumber-clause-touched g c = opens_then c.in_ok-keeper.ensures.touched c.join_over-in-ByNumber.ensures.touched
 
 pub returns-in_err-keeper-clause-touched : goal.returns-in_err-keeper-clause-touched
-returns-in_err-keeper-clause-touched g c = only_opens c.in_err-keeper.ensures.touched
+returns-in_err-keeper-clause-touched g c = opens_alone c.in_err-keeper.ensures.touched
 
 pub returns-in-ByKey-clause-exported : goal.returns-in-ByKey-clause-exported
 returns-in-ByKey-clause-exported g c =

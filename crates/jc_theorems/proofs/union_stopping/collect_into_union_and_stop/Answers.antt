@@ -3,7 +3,7 @@ use Rattle.jc_collector_answers.specs.Collected.{those_named, told_within}
 use Rattle.jc_collector_answers.specs.Kept.{HoldsPrinted}
 use Rattle.jc_collector_answers.specs.PrintedLaws.{named}
 use Rattle.jc_collector_answers.specs.declared.name_lines.NameLines.TheVariants.{MachinesAndUploads}
-use Rattle.jc_command_shared.specs.DeedLaws.{only_opens, opens_then}
+use Rattle.jc_collector.specs.ExportedLaws.{opens_alone, opens_then}
 use Rattle.jc_command_args.specs.declared.request.Tables.TheVariants.{ByKey, ByNumber}
 use Rattle.jc_collector.specs.Kinds.{meaning_of}
 use Rattle.jc_collector.specs.UnionLeft.{LeavesNoted}
@@ -46,4 +46,4 @@ pub returns-in-ByNumber-clause-touched : goal.returns-in-ByNumber-clause-touched
 returns-in-ByNumber-clause-touched g c = opens_then c.in_ok-keeper.ensures.touched c.stop_over-in-ByNumber.ensures.touched
 
 pub returns-in_err-keeper-clause-touched : goal.returns-in_err-keeper-clause-touched
-returns-in_err-keeper-clause-touched g c = only_opens c.in_err-keeper.ensures.touched
+returns-in_err-keeper-clause-touched g c = opens_alone c.in_err-keeper.ensures.touched
