@@ -1,8 +1,7 @@
 -- What a run of the program leaves that failed. (own)
-use Rattle.std.specs.Prelude.{◌≡◌, ◌⊎◌, ⊤, ℕ, List, Option, MatchOption}
+use Rattle.std.specs.Prelude.{◌⊎◌, ⊤, ℕ, List, Option, MatchOption}
 use Rattle.std.specs.Io.KnownBytes.{Keeps}
 use Rattle.clap.specs.Words.{Text}
-use Rattle.jc_base.specs.Journal.{Journal}
 use Rattle.jc_collector.specs.OverFiles.{IsListed}
 use Rattle.jc_collector.specs.UnionLeft.{FrontIsLeft}
 use Rattle.jc_collector.specs.declared.into_union.closing.NotedLeft.{NotedLeft}
@@ -16,8 +15,8 @@ use Rattle.jc_command.specs.Run.{Begins, Devices, stored_before}
 
 module _ {S C L N : Type 0} (begun : Begins) (g : Devices S C L N) where
   -- What is left of the database's files and of the notes has what the lines acknowledge that were printed, which are answers to
-  -- the first of the uploads that a list names: if the notes were at first what the finished databases have, and what is noted of
-  -- those that were set aside, and some of what the present one had.
+  -- the first of the uploads that a list names: if the notes were at first what is still noted of earlier databases, and some of
+  -- what the present one had.
   abbrev pub LeavesUnion : (made : Tables) → (list : List ℕ) → (most_windows : Option ℕ) → (given old new : Option (List ℕ)) → NotedLeft L N → Type 0
   LeavesUnion made list most_windows given old new left =
       (text : Option (List ℕ)) × IsListed begun.told list given text

@@ -1,5 +1,5 @@
 -- How a run of the program ends. (own)
-use Rattle.std.specs.Prelude.{◌≡◌, ◌⊎◌, ◌∷◌, [], ⊤, ℕ, List, Option, Some, IfSome, IsSomeAnd, MatchOption, length, map, option_map}
+use Rattle.std.specs.Prelude.{◌≡◌, ◌⊎◌, ◌∷◌, [], ⊤, ℕ, List, Option, Some, IsSomeAnd, MatchOption, length, map, option_map}
 use Rattle.std.specs.Borrow.{Bor}
 use Rattle.std.specs.Io.KnownBytes.{Keeps}
 use Rattle.clap.specs.Words.{Text}
@@ -52,8 +52,8 @@ use Rattle.jc_command_args.specs.Words.{AreWrong, AskFor, AskForHelp}
 -- ---- what is done over a database
 
 -- What a run begins with: what its database's files have, what the files of sequences' windows note, the machines that
--- sequences belong to, the journal of the finished databases, what is noted of databases that were set aside, the entries
--- that came in earlier runs, what is told of the files that are read, by their names, and what was done to files before.
+-- sequences belong to, what is still noted of the finished databases, and of those that were set aside, the entries that came
+-- in earlier runs, what is told of the files that are read, by their names, and what was done to files before.
 pub record Begins : Type 1 where
   pub image : Image
   pub noted : Known
@@ -76,9 +76,8 @@ begins_with image windows finished aside came told deeds = record {
   deeds = deeds;
 }
 
--- What is stored beside the present database: what the finished ones have, and what is noted of those that were set aside.
--- Notes may lag behind a database that was set aside, and behind no other but the present one: what they lack of it isn't
--- here, and may be stored once more.
+-- What is still noted of earlier databases. Notes may lag behind one that was set aside, and behind no other but the present
+-- one: what they lack of it isn't here, and may be stored once more.
 abbrev pub stored_before : Begins → Journal
 stored_before begun = union begun.finished begun.aside
 
@@ -128,9 +127,9 @@ module _ {S C L N : Type 0} (begun : Begins) (g : Devices S C L N) (left : Leave
     pub kept : Leads made (KeepsAndExports database at begun.deeds left.deeds)
     pub stores : Leads made (StoresFromList begun.told list given status old new)
 
-  -- If what the files of sequences noted is what the finished databases have, some of what those have that were set aside, and
-  -- some of what the present one had, the notes are sound at the end, and of the entries that came no two differ and have one
-  -- key and one digest, then such a step was made over the present database's journal.
+  -- If what the files of sequences noted is what is still noted of earlier databases, and some of what the present one had, the
+  -- notes are sound at the end, and of the entries that came no two differ and have one key and one digest, then such a step
+  -- was made over the present database's journal.
   abbrev pub LeadsNoted : (made : Tables) → ((known : Known) → (came : LogEntry → Type 0) → Journal → Journal → Type 0) → Type 0
   LeadsNoted made Step =
       IsSomeAnd left.files (λ closed. IsSomeAnd left.ledger (λ notes. LeadsIf made begun.image g.database closed
@@ -143,9 +142,8 @@ module _ {S C L N : Type 0} (begun : Begins) (g : Devices S C L N) (left : Leave
     pub stay : g.ledger.sound notes → StayOwned begun.owner (g.ledger.owner notes)
     pub after : g.ledger.clean notes → StayOwnedAfter begun.owner (g.ledger.may_own notes)
 
-  -- An answer to each upload that a list names was printed, line by line. What they acknowledge is stored in the union of the finished
-  -- databases and the present one, or was noted of one that was set aside. What is noted then is what these have. No sequence
-  -- was taken from its owner.
+  -- An answer to each upload that a list names was printed, line by line. What they acknowledge is stored in the present database,
+  -- or was still noted of an earlier one. What is noted then is what these have. No sequence was taken from its owner.
   pub record CollectsIntoUnion (made : Tables) (list : List ℕ) (most_windows : Option ℕ) (given old new : Option (List ℕ)) (status : Status) : Type 0 where
     pub printed : PrintsFromList begun.told list given status old new
     pub stores : LeadsNoted made (λ known came. StoresNotedFromList begun.told most_windows (stored_before begun) known came list given status old new)

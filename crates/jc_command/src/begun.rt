@@ -16,10 +16,10 @@ pub trait Begun: Drop {
     /// What the file of each window of a sequence has.
     ghost windows: { WindowName → List ℕ };
 
-    /// The journal of the finished databases.
+    /// What is still noted of the finished databases.
     ghost finished: { Journal };
 
-    /// What is noted of databases that were set aside. Of what else they have nothing is said.
+    /// What is still noted of those that were set aside. Of what else they have nothing is said.
     ghost aside: { Journal };
 
     /// The entries that came in earlier runs.

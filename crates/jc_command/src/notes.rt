@@ -1,6 +1,6 @@
 //! What commands do with the notes in a folder.
 
-ghost use Rattle.std.specs.Prelude.{◌≡◌, ◌≢◌, IfErr, IfOk};
+ghost use Rattle.std.specs.Prelude.{◌≢◌, IfErr, IfOk};
 ghost use Rattle.std.specs.Io.KnownBytes.{Keeps};
 ghost use Rattle.jc_collector.specs.Compared.{IsJudged};
 ghost use Rattle.jc_command_shared.specs.Deeds.{ChangesOnly};
