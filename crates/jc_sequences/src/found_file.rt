@@ -1,7 +1,10 @@
 //! A window's file that had something when it was opened.
 
-ghost use Rattle.std.specs.Prelude.{◌≡◌, [], ◌∷◌};
-ghost use Rattle.sqlite_disk.specs.Events.{raised, replay, settled};
+ghost use Rattle.std.specs.Prelude.{◌≡◌, ◌<◌, [], ◌∷◌, true, false, is_ok, length, IfOk, IsTrue, MatchResult, OnOk};
+ghost use Rattle.sqlite_disk.specs.Disk.{Holds, Only};
+ghost use Rattle.sqlite_disk.specs.Events.{flushed, measured, raised, read as was_read, replay, settled, written};
+ghost use Rattle.sqlite_disk.specs.Refusal.{as_number, finds_no_room, is_no_room as lacks_room};
+ghost use Rattle.jc_sequences.specs.Called.{Called};
 
 use crate::file_record::FileRecord;
 use crate::open_files::WindowFile;
@@ -64,6 +67,10 @@ impl<D: Disk, F: Found> FoundFile<D, F> {
 }
 
 impl<F: Found> WindowFile<F> for FoundFile<File, F> {
+    ghost use Rattle.std.specs.Prelude.{is_some};
+
+    ghost is_open = { λ f. is_some f.disk };
+
     fn open(
         rt: &HostRuntime,
         folder: &str,
@@ -111,31 +118,115 @@ fn count_if(rises: bool, count: u64) -> u64
     count
 }
 
-fn measure<D: Disk>(disk: &mut Option<D>) -> io::Result<usize> {
+/// Measures a file that is open, and notes it.
+fn measure<D: Disk>(disk: &mut Option<D>, calls: &mut FileRecord) -> io::Result<usize>
+    ensures noted { MatchResult result
+        (λ n. calls.new.events ≡ measured true n ∷ calls.old.events)
+        (λ _. calls.new.events ≡ measured false 0 ∷ calls.old.events) }
+    ensures made { IfOk result (λ n. Called disk.old disk.new (λ before after. IsTrue (D.is_clean after) → n ≡ length (D.seen before))) }
+{
     match disk {
-        Some(disk) if disk.may_be_used() => disk.len(),
-        _ => Err(io::ErrorKind::Other.into()),
+        Some(disk) if disk.may_be_used() => match disk.len() {
+            Ok(len) => {
+                calls.note(&[MEASURED, len as u64, 0, 1], &[]);
+                Ok(len)
+            }
+            Err(error) => {
+                calls.note(&[MEASURED, 0, 0, 0], &[]);
+                Err(error)
+            }
+        },
+        _ => {
+            calls.note(&[MEASURED, 0, 0, 0], &[]);
+            Err(io::ErrorKind::Other.into())
+        }
     }
 }
 
-fn read<D: Disk>(disk: &mut Option<D>, at: usize, buf: &mut [u8]) -> io::Result<()> {
+/// Reads, and notes it.
+fn read<D: Disk>(
+    disk: &mut Option<D>,
+    calls: &mut FileRecord,
+    at: usize,
+    buf: &mut [u8],
+) -> io::Result<()>
+    ensures noted { MatchResult result
+        (λ _. calls.new.events ≡ was_read at (length buf.old) true buf.new ∷ calls.old.events)
+        (λ _. calls.new.events ≡ was_read at (length buf.old) false [] ∷ calls.old.events) }
+    ensures made { OnOk result (Called disk.old disk.new (λ before after. IsTrue (D.is_clean after) → 0 < length buf.old → Holds (D.seen before) at buf.new)) }
+{
+    let (from, count) = (at as u64, buf.len() as u64);
     match disk {
-        Some(disk) if disk.may_be_used() => disk.read_at(at, buf),
-        _ => Err(io::ErrorKind::Other.into()),
+        Some(disk) if disk.may_be_used() => match disk.read_at(at, buf) {
+            Ok(()) => {
+                calls.note(&[READ, from, count, 1], buf);
+                Ok(())
+            }
+            Err(error) => {
+                calls.note(&[READ, from, count, 0], &[]);
+                Err(error)
+            }
+        },
+        _ => {
+            calls.note(&[READ, from, count, 0], &[]);
+            Err(io::ErrorKind::Other.into())
+        }
     }
 }
 
-fn write<D: Disk>(disk: &mut Option<D>, at: usize, bytes: &[u8]) -> io::Result<()> {
+/// Writes, and notes it.
+fn write<D: Disk>(
+    disk: &mut Option<D>,
+    calls: &mut FileRecord,
+    at: usize,
+    bytes: &[u8],
+) -> io::Result<()>
+    ensures noted { MatchResult result
+        (λ _. calls.new.events ≡ written at bytes.now true (length bytes.now) ∷ calls.old.events)
+        (λ e. calls.new.events ≡ written at bytes.now false (as_number (lacks_room e)) ∷ calls.old.events) }
+    ensures made { OnOk result (Called disk.old disk.new (λ before after. 0 < length bytes.now → Holds (D.seen after) at bytes.now)) }
+{
+    let (from, count) = (at as u64, bytes.len() as u64);
     match disk {
-        Some(disk) if disk.may_be_used() => disk.write_at(at, bytes),
-        _ => Err(io::ErrorKind::Other.into()),
+        Some(disk) if disk.may_be_used() => match disk.write_at(at, bytes) {
+            Ok(()) => {
+                calls.note(&[WRITTEN, from, count, 1], bytes);
+                Ok(())
+            }
+            Err(error) => {
+                calls.note(&[WRITTEN, from, u64::from(is_no_room(&error)), 0], bytes);
+                Err(error)
+            }
+        },
+        _ => {
+            let error: io::Error = io::ErrorKind::Other.into();
+            calls.note(&[WRITTEN, from, u64::from(is_no_room(&error)), 0], bytes);
+            Err(error)
+        }
     }
 }
 
-fn flush<D: Disk>(disk: &mut Option<D>) -> io::Result<()> {
+/// Syncs, and notes it.
+fn flush<D: Disk>(disk: &mut Option<D>, calls: &mut FileRecord) -> io::Result<()>
+    ensures noted { calls.new.events ≡ flushed (is_ok result) (as_number (finds_no_room result)) ∷ calls.old.events }
+    ensures made { OnOk result (Called disk.old disk.new (λ before after. Only (D.seen before) (D.may_leave after))) }
+{
     match disk {
-        Some(disk) if disk.may_be_used() => disk.sync(),
-        _ => Err(io::ErrorKind::Other.into()),
+        Some(disk) if disk.may_be_used() => match disk.sync() {
+            Ok(()) => {
+                calls.note(&[FLUSHED, 0, 0, 1], &[]);
+                Ok(())
+            }
+            Err(error) => {
+                calls.note(&[FLUSHED, 0, u64::from(is_no_room(&error)), 0], &[]);
+                Err(error)
+            }
+        },
+        _ => {
+            let error: io::Error = io::ErrorKind::Other.into();
+            calls.note(&[FLUSHED, 0, u64::from(is_no_room(&error)), 0], &[]);
+            Err(error)
+        }
     }
 }
 
@@ -184,13 +275,9 @@ impl<D: Disk, F: Found> Disk for FoundFile<D, F> {
     }
 
     fn len(&mut self) -> io::Result<usize> {
-        match measure(&mut self.disk) {
-            Ok(len) => {
-                self.calls.note(&[MEASURED, len as u64, 0, 1], &[]);
-                Ok(len)
-            }
+        match measure(&mut self.disk, &mut self.calls) {
+            Ok(len) => Ok(len),
             Err(error) => {
-                self.calls.note(&[MEASURED, 0, 0, 0], &[]);
                 self.faults = self.faults.saturating_add(1);
                 Err(error)
             }
@@ -201,14 +288,9 @@ impl<D: Disk, F: Found> Disk for FoundFile<D, F> {
         if buf.is_empty() {
             return Ok(());
         }
-        let (from, count) = (at as u64, buf.len() as u64);
-        match read(&mut self.disk, at, buf) {
-            Ok(()) => {
-                self.calls.note(&[READ, from, count, 1], buf);
-                Ok(())
-            }
+        match read(&mut self.disk, &mut self.calls, at, buf) {
+            Ok(()) => Ok(()),
             Err(error) => {
-                self.calls.note(&[READ, from, count, 0], &[]);
                 self.faults = self.faults.saturating_add(1);
                 Err(error)
             }
@@ -231,18 +313,11 @@ impl<D: Disk, F: Found> Disk for FoundFile<D, F> {
         if bytes.is_empty() {
             return Ok(());
         }
-        let (from, count) = (at as u64, bytes.len() as u64);
-        match write(&mut self.disk, at, bytes) {
-            Ok(()) => {
-                self.calls.note(&[WRITTEN, from, count, 1], bytes);
-                Ok(())
-            }
+        match write(&mut self.disk, &mut self.calls, at, bytes) {
+            Ok(()) => Ok(()),
             Err(error) => {
-                let is_full = is_no_room(&error);
-                self.calls
-                    .note(&[WRITTEN, from, u64::from(is_full), 0], bytes);
                 self.faults = self.faults.saturating_add(1);
-                self.tally.refused = count_if(is_full, self.tally.refused);
+                self.tally.refused = count_if(is_no_room(&error), self.tally.refused);
                 Err(error)
             }
         }
@@ -257,17 +332,12 @@ impl<D: Disk, F: Found> Disk for FoundFile<D, F> {
     }
 
     fn sync(&mut self) -> io::Result<()> {
-        match flush(&mut self.disk) {
-            Ok(()) => {
-                self.calls.note(&[FLUSHED, 0, 0, 1], &[]);
-                Ok(())
-            }
+        match flush(&mut self.disk, &mut self.calls) {
+            Ok(()) => Ok(()),
             Err(error) => {
-                let is_full = is_no_room(&error);
                 self.is_usable = false;
-                self.calls.note(&[FLUSHED, 0, u64::from(is_full), 0], &[]);
                 self.faults = self.faults.saturating_add(1);
-                self.tally.refused = count_if(is_full, self.tally.refused);
+                self.tally.refused = count_if(is_no_room(&error), self.tally.refused);
                 Err(error)
             }
         }

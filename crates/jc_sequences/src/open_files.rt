@@ -1,6 +1,6 @@
 //! The files of windows that are kept open.
 
-ghost use Rattle.std.specs.Prelude.{◌≡◌, ◌<◌, false, true, List, ℕ, IfNone, IfOk, IfSome, IsTrue, MatchOption, MatchResult, OnErr, OnOk, vec_len};
+ghost use Rattle.std.specs.Prelude.{◌≡◌, ◌<◌, Bool, false, true, List, ℕ, IfNone, IfOk, IfSome, IsTrue, MatchOption, MatchResult, OnErr, OnOk, vec_len};
 ghost use Rattle.jc_ledger_files.specs.declared.window_name.WindowName.{WindowName};
 ghost use Rattle.jc_ledger_files.specs.Files.{AreClean, IsAsFound, files_leave, files_seen};
 ghost use Rattle.jc_ledger_files.specs.Lent.{AllStay, IsBack, IsLent, OthersStay};
@@ -16,6 +16,9 @@ const MOST_FILES: usize = 64;
 
 /// The file of a window, which is opened, closed while it is kept, and opened again.
 pub trait WindowFile<F: Found>: Disk + Sized {
+    /// It isn't closed.
+    ghost is_open: { Self → Bool };
+
     /// Opens the file, or makes it.
     fn open(rt: &HostRuntime, folder: &str, name: WindowName) -> Result<Self, OpenError>
         ensures seen { IfOk result (λ file. Self.Disk.seen file ≡ F.found name) }
@@ -29,6 +32,7 @@ pub trait WindowFile<F: Found>: Disk + Sized {
 
     /// Closes it. What it has stays known.
     fn close(&mut self)
+        ensures closed { is_open self.new ≡ false }
         ensures stays { StaysAs Self.Disk.seen Self.Disk.may_leave Self.Disk.is_clean self.old self.new };
 }
 

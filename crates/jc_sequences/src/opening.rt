@@ -1,6 +1,6 @@
 //! Notes of sequences, opened.
 
-ghost use Rattle.std.specs.Prelude.{◌≡◌, ◌↔◌, ◌⊎◌, IfErr, IfOk};
+ghost use Rattle.std.specs.Prelude.{◌≡◌, ◌↔◌, ◌⊎◌, IfErr, IfOk, string_bytes};
 ghost use Rattle.jc_base.specs.declared.id.Id128.{Id128};
 ghost use Rattle.jc_base.specs.declared.id.Key.{Key};
 ghost use Rattle.jc_base.specs.LogEntry.{LogEntry};
@@ -105,6 +105,7 @@ fn sequences_over<D: Disk, W: Folder<D>, F: Found, A: Arrivals>(
 
 /// The folder's path, twice, or why it can't be opened.
 fn paths_of<'p>(rt: &HostRuntime, path: &'p str) -> Result<(String, String), Failure<'p>>
+    ensures same { IfOk result (λ paths. (string_bytes paths.0 ≡ path.now) × (string_bytes paths.1 ≡ path.now)) }
     ensures failed { IfErr result (λ failure. (failure ≡ Failure.CannotOpen path.entry) ⊎ (failure ≡ Failure.OutOfMemory)) }
 {
     match have_folder(rt, path) {
@@ -115,7 +116,9 @@ fn paths_of<'p>(rt: &HostRuntime, path: &'p str) -> Result<(String, String), Fai
 }
 
 /// Makes the folder if there is none, and answers its path, twice. It is there after a loss of power, too.
-fn have_folder(rt: &HostRuntime, path: &str) -> io::Result<(String, String)> {
+fn have_folder(rt: &HostRuntime, path: &str) -> io::Result<(String, String)>
+    ensures { IfOk result (λ paths. (string_bytes paths.0 ≡ path.now) × (string_bytes paths.1 ≡ path.now)) }
+{
     if !is_folder(rt, path) {
         make_lasting(rt, path)?;
     }
