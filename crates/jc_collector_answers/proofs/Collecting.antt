@@ -15,17 +15,20 @@ use Rattle.jc_collect.specs.RunLaws.{owned_none, owned_then}
 use Rattle.jc_collect.specs.declared.runs.RunEnd.{RunEnd}
 use Rattle.jc_collect.specs.declared.runs.RunEnd.TheVariants.{Done, Stopped}
 use Rattle.jc_keeper.specs.declared.keeper.Keeper as keepers
+use Rattle.jc_keeper.specs.Brought.{StoresFor}
 use Rattle.jc_upload.specs.declared.answer.Answer.{Answer}
 use Rattle.jc_upload.specs.declared.answer.Answer.TheVariants.{No}
 use Rattle.jc_command_shared.specs.declared.status.Status.{Status}
 use Rattle.jc_command_shared.specs.declared.status.Status.TheVariants.{Success}
 use Rattle.jc_collector_answers.specs.Answered.{worse}
+use Rattle.jc_collector_answers.specs.Brought.{CollectsText}
 use Rattle.jc_collector_answers.specs.Collected.{ByDefault, HoldsFirstOf, LosesName, just, those_named, upload_in, uploads_named}
 use Rattle.jc_collector_answers.specs.Kept.{AnswersHold, HasKept, HoldsPrinted, Printing, held_by}
-use Rattle.jc_collector_answers.specs.Named.{LosesLine}
+use Rattle.jc_collector_answers.specs.Named.{HasParts, LosesLine}
 use Rattle.jc_collector_answers.specs.declared.name_lines.NameLines.{NameLines}
 use Rattle.jc_collector_answers.specs.PrintedLaws.{front_none, many, many_other, named}
-use Rattle.jc_collector_answers.specs.Tied.{AreUnread, PrintsWith}
+use Rattle.jc_collector_answers.specs.Tied.{AreUnread, NamedWith, PrintsWith}
+use Rattle.jc_collector_answers.proofs.Machines.{IsOfOne, LinesUpTo, just_one, one_line, up_to_all, up_to_more, up_to_none}
 use Rattle.jc_collector_answers.proofs.Successive.{HoldsSoFar, holds_first, holds_front, holds_front_on, holds_named, holds_on_to}
 use Rattle.jc_collector_answers.proofs.Tying.{unread_owned, unread_refused}
 
@@ -211,13 +214,6 @@ module _ (told : List ℕ → Option (List ℕ)) (lines : NameLines) (text : Opt
     both known others one more so then limits defaults =
         collected_then limits known others first mid late one more (so limits defaults) (then limits defaults) earlier later
 
-    one_more : (known others : List (Option (List ℕ))) → known ++ others ≡ told (upload_in lines name) ∷ [] → length known ≡ 1
-        → known ≡ told (upload_in lines name) ∷ []
-    one_more [] others are one = absurd (omega (arith, one))
-    one_more (k ∷ []) [] are one = are
-    one_more (k ∷ []) (o ∷ others) are one = absurd cc
-    one_more (k ∷ l ∷ known) others are one = absurd (omega (arith, one))
-
     come_to : (text : Option (List ℕ)) (known : List (Option (List ℕ))) → HaveCome told lines text rest known
         → HaveCome told lines text next (known ++ told (upload_in lines name) ∷ [])
     come_to None known came = tt
@@ -237,7 +233,7 @@ module _ (told : List ℕ → Option (List ℕ)) (lines : NameLines) (text : Opt
     on_to one others so (then, alone) = record {
       known = so.known ++ then.known;
       came = subst (λ (ks : List (Option (List ℕ))). HaveCome told lines text next (so.known ++ ks))
-          (sym (one_more then.known then.others then.are (then.each ∙ alone))) (come_to text so.known so.came);
+          (sym (just_one (told (upload_in lines name)) then.known then.others then.are (then.each ∙ alone))) (come_to text so.known so.came);
       each = length-append so.known then.known ∙ ap₂ (λ (m n : ℕ). m + n) so.each then.each ∙ sym (length-append one others);
       holds = both so.known then.known one others so.holds then.holds;
     }
@@ -295,11 +291,16 @@ module _ (told : List ℕ → Option (List ℕ)) (lines : NameLines) (text : Opt
     pub record SoFar (rest : Option (List ℕ)) (first now : K) (status : Status) (old out : Option (List ℕ)) : Type 0 where
       pub each : k.clean now → k.made first → HoldsSoFar (HoldsUpTo told lines text rest (held_by k first) (held_by k now)) text rest status old out
       pub owner : HoldsSoFar (OnlyIfOwned k.has_owners) text rest status old out
+      pub brought : k.clean now → k.sound now → k.made first
+          → HoldsSoFar (LinesUpTo told lines (k.belongs now) text rest (k.journal first) (k.journal now)) text rest status old out
 
     pub so_far_first : (keeper : K) (old : Option (List ℕ)) → SoFar text keeper keeper Success old old
     so_far_first keeper old = record {
       each = λ clean made. holds_first (HoldsUpTo told lines text text (held_by k keeper) (held_by k keeper)) (first_of_all (held_by k keeper)) text old;
       owner = holds_first (OnlyIfOwned k.has_owners) (owned_none k.has_owners) text old;
+      brought = λ clean sound made.
+          holds_first (LinesUpTo told lines (k.belongs keeper) text text (k.journal keeper) (k.journal keeper))
+          (up_to_none told lines (k.belongs keeper) text (k.journal keeper)) text old;
     }
 
     module _ (first mid : K) (so : HasKept k first mid) (rest : Option (List ℕ)) (status : Status) (old was : Option (List ℕ))
@@ -307,20 +308,29 @@ module _ (told : List ℕ → Option (List ℕ)) (lines : NameLines) (text : Opt
       pub so_far_on_to : {F : Type 0} (late : K) (next new : Option (List ℕ)) (name : List ℕ) (more : Status) → HasKept k mid late
           → LosesLine rest next → LosesName name rest next
           → AnswersHold {F = F} k (many 1) (just (told (upload_in lines name) ∷ [])) mid late (Ok more) was new
+          → (machine : Option (List ℕ)) → HasParts lines name machine (upload_in lines name) → StoresFor k.belongs k.journal k.sound k.made machine mid late
           → SoFar next first late (worse status more) old new
-      so_far_on_to late next new name more kept loses_line loses one = record {
+      so_far_on_to {F = F} late next new name more kept loses_line loses one machine parts stored = record {
         each = λ clean made.
-            let answered = one.each clean (so.stays_made made) in
-            let Then = HoldsFirstOf (just (told (upload_in lines name) ∷ [])) (held_by k mid) (held_by k late) in
-            let alone : PrintsWith (λ others. Then others × (length others ≡ 1)) 1 more was new =
-            record { shown = answered.shown; holds = (answered.holds, answered.shown.each) } in
-            holds_on_to (HoldsUpTo told lines text rest (held_by k first) (held_by k mid)) (λ others. Then others × (length others ≡ 1))
+            holds_on_to (HoldsUpTo told lines text rest (held_by k first) (held_by k mid)) (IsOfOne told lines name (held_by k mid) (held_by k late))
             (HoldsUpTo told lines text next (held_by k first) (held_by k late))
             (λ those others h then. on_to rest next name loses (held_by k first) (held_by k mid) (held_by k late) so.was_sound kept.was_sound those others h then)
-            text rest next status more old was new (holds.each (kept.was_clean clean) made) loses_line alone;
+            text rest next status more old was new (holds.each (kept.was_clean clean) made) loses_line (alone clean made);
         owner = holds_on_to (OnlyIfOwned k.has_owners) (OnlyIfOwned k.has_owners) (OnlyIfOwned k.has_owners) (owned_then k.has_owners)
             text rest next status more old was new holds.owner loses_line one.owner;
+        brought = λ clean sound made.
+            holds_on_to (LinesUpTo told lines (k.belongs mid) text rest (k.journal first) (k.journal mid)) (IsOfOne told lines name (held_by k mid) (held_by k late))
+            (LinesUpTo told lines (k.belongs late) text next (k.journal first) (k.journal late))
+            (λ those others h then.
+            up_to_more told lines (k.belongs mid) (k.belongs late) (stored.stays sound) text rest next name loses (k.journal first) (k.journal mid) (k.journal late) those others h
+            (one_line told lines (k.belongs late) name machine parts (held_by k mid) (held_by k late) sound (stored.own sound (so.stays_made made)) others then))
+            text rest next status more old was new (holds.brought (kept.was_clean clean) (kept.was_sound sound) made) loses_line (alone clean made);
       }
+        where
+          alone : k.clean late → k.made first → PrintsWith (IsOfOne told lines name (held_by k mid) (held_by k late)) 1 more was new
+          alone clean made =
+              let answered = one.each clean (so.stays_made made) in
+              record { shown = answered.shown; holds = (answered.holds, answered.shown.each) }
 
       pub so_far_front_on : {E D : Type 0} (late : K) (next new : Option (List ℕ)) (name : List ℕ) (failure : E) (result : Result Status D) → HasKept k mid late
           → LosesName name rest next
@@ -359,3 +369,10 @@ module _ (told : List ℕ → Option (List ℕ)) (lines : NameLines) (text : Opt
             holds_named (HoldsFirstOf (those_named told lines text) (held_by k first) (held_by k mid)) text rest status old was (weaker clean made) none;
         owner = holds_named (OnlyIfOwned k.has_owners) text rest status old was holds.owner none;
       }
+
+      pub so_far_brought : IfSome rest (λ left. left ≡ []) → (k.sound mid → k.clean mid) → k.sound mid → k.made first
+          → NamedWith (CollectsText told lines (k.belongs mid) text (k.journal first) (k.journal mid)) text status old was
+      so_far_brought none clean is_sound is_made =
+          let it = holds.brought (clean is_sound) is_sound is_made in
+          holds_named (CollectsText told lines (k.belongs mid) text (k.journal first) (k.journal mid)) text rest status old was
+          (it.0, up_to_all told lines (k.belongs mid) text rest none (k.journal first) (k.journal mid) it.0.1.answers it.1) none

@@ -1,5 +1,6 @@
 pub mod Answered
 pub mod Collected
+pub mod Brought
 pub mod CollectedLaws
 pub mod Kept
 pub mod Named

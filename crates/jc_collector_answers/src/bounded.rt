@@ -1,8 +1,11 @@
 //! Uploads that the lines of a text name, where the windows of sequences are bounded that one may touch.
 
-ghost use Rattle.std.specs.Prelude.{◌≡◌, ◌⊎◌, ◌∷◌, [], Some, None, IfOk, IfErr};
+ghost use Rattle.std.specs.Prelude.{◌≡◌, ◌⊎◌, ◌∷◌, [], Some, None, IfOk, IfErr, option_map};
 ghost use Rattle.std.specs.Io.KnownBytes.{Keeps};
 ghost use Rattle.jc_collector_answers.specs.Answered.{PrintsAnswers};
+ghost use Rattle.jc_keeper.specs.Brought.{StoresFor};
+ghost use Rattle.jc_collect.specs.Taken.{Brings};
+ghost use Rattle.jc_collector_answers.specs.Brought.{AnswersForMachines};
 ghost use Rattle.jc_collector_answers.specs.Collected.{just, those_named, told_within};
 ghost use Rattle.jc_collector_answers.specs.Kept.{AnswersHold, HasKept, HoldsPrinted};
 ghost use Rattle.jc_collector_answers.specs.Named.{PrintsNamed};
@@ -43,6 +46,9 @@ pub fn answer_names_within<'a, R: System, K: Keeper, L: BufRead, O: Write, E: Wr
     ensures answers { AnswersHold K.Keeper (λ Holds. NamedWith Holds (L.remaining names.old))
         (those_named (told_within most_windows R.told) lines (L.remaining names.old)) keeper.old keeper.new result
         (O.contents output.old) (O.contents output.new) }
+    // What is new of each belongs to the machine that its line names.
+    ensures brought { AnswersForMachines K.Keeper (told_within most_windows R.told) lines (L.remaining names.old) keeper.old keeper.new result
+        (O.contents output.old) (O.contents output.new) }
     ensures printed { IfOk result (λ status.
         PrintsNamed (L.remaining names.old) status (O.contents output.old) (O.contents output.new)) }
     ensures quiet { IfOk result (λ status. status ≡ Status.Success
@@ -71,6 +77,8 @@ fn answer_bounded<'a, R: System, K: Keeper, L: BufRead, O: Write, E: Write>(
     // What the printed lines acknowledge is stored, and found after a crash.
     ensures answers { AnswersHold K.Keeper (λ Holds. NamedWith Holds (L.remaining names.old))
         (those_named (told_within (Some most_windows) R.told) lines (L.remaining names.old)) keeper.old keeper.new result
+        (O.contents output.old) (O.contents output.new) }
+    ensures brought { AnswersForMachines K.Keeper (told_within (Some most_windows) R.told) lines (L.remaining names.old) keeper.old keeper.new result
         (O.contents output.old) (O.contents output.new) }
     ensures printed { IfOk result (λ status.
         PrintsNamed (L.remaining names.old) status (O.contents output.old) (O.contents output.new)) }
@@ -113,6 +121,7 @@ fn answer_line_within<'a, R: System, K: Keeper, O: Write, E: Write>(
     ensures kept { HasKept K.Keeper keeper.old keeper.new }
     ensures answers { AnswersHold K.Keeper (λ Holds. PrintsWith Holds 1) (just (None ∷ [])) keeper.old keeper.new result
         (O.contents output.old) (O.contents output.new) }
+    ensures brought { StoresFor K.belongs K.journal K.sound K.made (option_map (λ name. name.now) machine.entry) keeper.old keeper.new }
     ensures printed { IfOk result (λ status. PrintsAnswers 1 status (O.contents output.old) (O.contents output.new)) }
     ensures quiet { IfOk result (λ status. status ≡ Status.Success
         → Keeps (E.contents errors.old) (E.contents errors.new)) }
@@ -123,7 +132,7 @@ fn answer_line_within<'a, R: System, K: Keeper, O: Write, E: Write>(
 }
 
 /// Collects the upload in the file with this name, and prints its answer.
-#[tactic(auto, using(crate::proofs::Kept::kept_same))]
+#[tactic(auto, using(crate::proofs::Kept::kept_same, jc_keeper::specs::BroughtLaws::brought_none))]
 fn answer_name_within<'a, R: System, K: Keeper, O: Write, E: Write>(
     rt: &R,
     keeper: &mut K,
@@ -135,6 +144,7 @@ fn answer_name_within<'a, R: System, K: Keeper, O: Write, E: Write>(
     ensures kept { HasKept K.Keeper keeper.old keeper.new }
     ensures answers { AnswersHold K.Keeper (λ Holds. PrintsWith Holds 1) (just (None ∷ [])) keeper.old keeper.new result
         (O.contents output.old) (O.contents output.new) }
+    ensures brought { Brings K.Keeper keeper.old keeper.new }
     ensures printed { IfOk result (λ status. PrintsAnswers 1 status (O.contents output.old) (O.contents output.new)) }
     ensures quiet { IfOk result (λ status. status ≡ Status.Success
         → Keeps (E.contents errors.old) (E.contents errors.new)) }
@@ -155,7 +165,7 @@ fn answer_name_within<'a, R: System, K: Keeper, O: Write, E: Write>(
 }
 
 /// Collects an upload that was opened, and prints its answer.
-#[tactic(auto, using(crate::proofs::Kept::kept_same))]
+#[tactic(auto, using(crate::proofs::Kept::kept_same, jc_keeper::specs::BroughtLaws::brought_none))]
 fn answer_within<'a, K: Keeper, F: Read + ReadFile + Drop, O: Write>(
     alloc: Global,
     keeper: &mut K,
@@ -166,6 +176,7 @@ fn answer_within<'a, K: Keeper, F: Read + ReadFile + Drop, O: Write>(
     ensures kept { HasKept K.Keeper keeper.old keeper.new }
     ensures answers { AnswersHold K.Keeper (λ Holds. PrintsWith Holds 1) (just (None ∷ [])) keeper.old keeper.new result
         (O.contents output.old) (O.contents output.new) }
+    ensures brought { Brings K.Keeper keeper.old keeper.new }
     ensures printed { IfOk result (λ status. PrintsAnswers 1 status (O.contents output.old) (O.contents output.new)) }
     ensures failed { IfErr result (λ failure. (failure ≡ Failure.WriteFailed) ⊎ (failure ≡ Failure.OutOfMemory)) }
 {
@@ -179,7 +190,7 @@ fn answer_within<'a, K: Keeper, F: Read + ReadFile + Drop, O: Write>(
 }
 
 /// Collects an upload, and prints its answer, of which it isn't said what the upload's bytes have to do with it.
-#[tactic(auto, using(crate::proofs::Kept::kept_same))]
+#[tactic(auto, using(crate::proofs::Kept::kept_same, jc_keeper::specs::BroughtLaws::brought_none))]
 fn answer_untold<'a, K: Keeper, F: Read + ReadFile + Drop, O: Write>(
     alloc: Global,
     keeper: &mut K,
@@ -189,6 +200,7 @@ fn answer_untold<'a, K: Keeper, F: Read + ReadFile + Drop, O: Write>(
     ensures kept { HasKept K.Keeper keeper.old keeper.new }
     ensures answers { AnswersHold K.Keeper (λ Holds. PrintsWith Holds 1) (just (None ∷ [])) keeper.old keeper.new result
         (O.contents output.old) (O.contents output.new) }
+    ensures brought { Brings K.Keeper keeper.old keeper.new }
     ensures printed { IfOk result (λ status. PrintsAnswers 1 status (O.contents output.old) (O.contents output.new)) }
     ensures failed { IfErr result (λ failure. (failure ≡ Failure.WriteFailed) ⊎ (failure ≡ Failure.OutOfMemory)) }
 {

@@ -1,6 +1,7 @@
 -- The keeper was told something before, of which nothing is seen.
 use Rattle.jc_collector_answers.proofs.Collecting.{answers_told}
 use Rattle.jc_collector_answers.proofs.Kept.{kept_then, kept_told}
+use Rattle.jc_collector_answers.proofs.Machines.{brought_told}
 use Rattle.jc_collector_answers.proofs.bounded.answer_line_within.Goals as goal
 
 pub returns-clause-kept : goal.returns-clause-kept
@@ -19,3 +20,9 @@ returns-clause-answers g c =
     (g.O.Write.contents c.answer_name_within.new.output) told.journal (λ found may. (told.crash found).0 may)
     (kept_told k c.args.keeper.now c.brought_by.new.self told.journal (λ found may. (told.crash found).0 may) told.sound.0 told.clean.0 told.made.1 told.recovers.1)
     c.answer_name_within.ensures.answers
+
+pub returns-clause-brought : goal.returns-clause-brought
+returns-clause-brought g c =
+    let told = c.brought_by.ensures in
+    brought_told g.K.Keeper _ c.args.keeper.now c.brought_by.new.self c.answer_name_within.new.keeper told.journal told.made.1 told.owners c.answer_name_within.ensures.kept.was_sound
+    told.brings c.answer_name_within.ensures.brought

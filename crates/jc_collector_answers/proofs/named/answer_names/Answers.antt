@@ -4,8 +4,9 @@ use Rattle.std.proofs.KnownBytes.{Keeps-refl, Keeps-trans}
 use Rattle.jc_command_shared.specs.declared.status.Status.{Status}
 use Rattle.jc_collector_answers.specs.Collected.{LosesName, upload_in}
 use Rattle.jc_collector_answers.specs.Named.{LosesLine}
-use Rattle.jc_collector_answers.proofs.Collecting.{SoFar, answers_at, so_far_first, so_far_front, so_far_front_on, so_far_named, so_far_on_to}
+use Rattle.jc_collector_answers.proofs.Collecting.{SoFar, answers_at, so_far_brought, so_far_first, so_far_front, so_far_front_on, so_far_named, so_far_on_to}
 use Rattle.jc_collector_answers.proofs.Kept.{kept_same, kept_then}
+use Rattle.jc_collector_answers.proofs.Machines.{parts_at}
 use Rattle.jc_collector_answers.proofs.Naming.{upload_is}
 use Rattle.jc_collector_answers.proofs.Successive.{success_of}
 use Rattle.jc_collector_answers.proofs.named.answer_names.Goals as goal
@@ -45,7 +46,8 @@ names-preserved g c =
       answers = subst (λ (s : Status). SoFar told lines text k next first late s old new) (sym c.worse-status.ensures)
           (so_far_on_to told lines text k first c.names.keeper so.kept (g.L.Read.remaining c.names.names) c.names.status old (g.O.Write.contents c.names.output) so.answers
           late next new name answered given.kept loses named_so
-          (answers_at k told c.parts.result.1.now (upload_in lines name) same given.answers));
+          (answers_at k told c.parts.result.1.now (upload_in lines name) same given.answers)
+          _ (parts_at lines c.deref.result.now name _ _ c.deref.ensures.value c.parts.ensures) given.brought);
     }
 
 pub returns-then-not-branch-clause-answers : goal.returns-then-not-branch-clause-answers
@@ -85,3 +87,10 @@ pub returns-clause-answers : goal.returns-clause-answers
 returns-clause-answers g c =
     so_far_front g.R.System.told c.args.lines (g.L.Read.remaining c.args.names.now) g.K.Keeper c.args.keeper.now c.names.keeper c.names.invariant.kept (g.L.Read.remaining c.names.names) c.names.status
     (g.O.Write.contents c.args.output.now) (g.O.Write.contents c.names.output) c.names.invariant.answers _ refl
+
+pub returns-then-not-branch-clause-brought : goal.returns-then-not-branch-clause-brought
+returns-then-not-branch-clause-brought g c =
+    let rest = g.L.Read.remaining c.names.names in
+    let none : IfSome rest (λ left. left ≡ []) = search rules in
+    so_far_brought g.R.System.told c.args.lines (g.L.Read.remaining c.args.names.now) g.K.Keeper c.args.keeper.now c.names.keeper c.names.invariant.kept rest c.names.status
+    (g.O.Write.contents c.args.output.now) (g.O.Write.contents c.names.output) c.names.invariant.answers none (g.met.K.Keeper.clean_if_sound c.names.keeper)
