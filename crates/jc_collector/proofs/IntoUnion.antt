@@ -1,16 +1,20 @@
 -- A run over a union of databases: why it fails, and what it makes of the files.
 use Rattle.std.proofs.Common.{◌≡◌, ◌⊎◌, ℕ, List, Option, Result, Ok, Err, inl, inr, sym, subst}
+use Rattle.std.specs.Prelude.{IfOk}
 use Rattle.std.proofs.Math.Logic.{∥∥₁_map}
 use Rattle.sqlite.specs.Store.{Ghosts}
 use Rattle.sqlite.specs.Recovery.{Image}
 use Rattle.sqlite.specs.Held.{Held, state}
 use Rattle.sqlite.specs.State.{HasCleanDisk}
+use Rattle.jc_base.specs.declared.id.Id128.{Id128}
 use Rattle.jc_base.specs.Journal.{Journal}
 use Rattle.jc_base.specs.LogEntry.{LogEntry}
+use Rattle.jc_collector_answers.specs.Brought.{CollectsText}
 use Rattle.jc_collector_answers.specs.Collected.{KeepsFirstOf}
 use Rattle.jc_collector_answers.specs.Kept.{HoldsPrinted}
 use Rattle.jc_collector_answers.specs.PrintedLaws.{named}
-use Rattle.jc_collector_answers.specs.Tied.{PrintsFront}
+use Rattle.jc_collector_answers.specs.Tied.{NamedWith, PrintsFront}
+use Rattle.jc_collector_answers.specs.declared.name_lines.NameLines.TheVariants.{MachinesAndUploads}
 use Rattle.jc_command_args.specs.declared.request.Tables.{Tables}
 use Rattle.jc_command_shared.specs.declared.failure.Failure.{Failure}
 use Rattle.jc_command_shared.specs.declared.failure.Failure.TheVariants.{Bad, BadAnswer, BadDatabaseName, BadExportName, BadFieldName, BadId, BadLine, BadResume, BadUpload, CannotOpen, OutOfMemory, ReadFailed, SourceChanged, StoreFailed, WordsAreNoText, WriteFailed}
@@ -86,6 +90,15 @@ module _ (database : List ℕ) (paths : List (List ℕ)) where
 -- one journal for another
 pub kept_same : {known : Known} {past one other : Journal} {came : LogEntry → Type 0} → other ≡ one → IsKept known past one came → IsKept known past other came
 kept_same {known = known} {past = past} {came = came} same kept = subst (λ (j : Journal). IsKept known past j came) (sym same) kept
+
+-- whose what is new is, between the same journals
+pub named_between : {F : Type 0} (told : List ℕ → Option (List ℕ)) (Of : Option (List ℕ) → Id128 → Type 0) (text : Option (List ℕ)) (past first then now last : Journal)
+    (result : Result Status F) (old new : Option (List ℕ)) → then ≡ first → last ≡ now
+    → IfOk result (λ status. NamedWith (CollectsText told MachinesAndUploads Of text (union past then) (union past now)) text status old new)
+    → IfOk result (λ status. NamedWith (CollectsText told MachinesAndUploads Of text (union past first) (union past last)) text status old new)
+named_between told Of text past first then now last result old new begins ends named =
+    subst (λ (j : Journal). IfOk result (λ status. NamedWith (CollectsText told MachinesAndUploads Of text (union past j) (union past last)) text status old new)) begins
+    (subst (λ (j : Journal). IfOk result (λ status. NamedWith (CollectsText told MachinesAndUploads Of text (union past then) (union past j)) text status old new)) (sym ends) named)
 
 pub keeps_same : {S C L : Type 0} {o : InFiles S C L} (m : Meaning) (files : C) (one other : Journal) → one ≡ other → KeepsAlways m o files one
     → KeepsAlways m o files other

@@ -33,7 +33,7 @@ module _ {S C R N : Type 0} (o : InFiles S C R) (n : ledgers.Ghosts N) (made : T
 
     pub runs_stored : Runs → IfOk result (λ run. LeadsIf made first o run.files
         (λ before. MayCatchUp (n.known ledger) past before (n.came ledger) × n.sound run.ledger × NoneCollide (n.came run.ledger))
-        (StoresNotedFromList told most_windows past (n.known run.ledger) (n.came run.ledger) list given run.status old new))
+        (StoresNotedFromList told most_windows past (n.known run.ledger) (n.came run.ledger) (n.owner run.ledger) list given run.status old new))
     runs_stored (inl early) = early_ok _ early
     runs_stored (inr (text, listed, runs)) = IfOk-weaker result _ _
         (λ run leads clean kind before begin holds.

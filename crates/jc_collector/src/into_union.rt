@@ -5,16 +5,18 @@ ghost use Rattle.std.specs.Io.KnownBytes.{Keeps as KeepsBytes};
 ghost use Rattle.sqlite.specs.Recovery.{Image};
 ghost use Rattle.jc_command_args.specs.declared.request.Tables.{Tables as Kind};
 ghost use Rattle.jc_command_shared.specs.Failure.{status_of};
+ghost use Rattle.jc_collector_answers.specs.Brought.{CollectsText};
 ghost use Rattle.jc_collector_answers.specs.Collected.{those_named, told_within};
 ghost use Rattle.jc_collector_answers.specs.Named.{PrintsNamed};
 ghost use Rattle.jc_collector_answers.specs.Tied.{NamedWith};
 ghost use Rattle.jc_database.specs.Files.{AreLawful};
 ghost use Rattle.jc_ledger.specs.Kept.{NoneCollide};
 ghost use Rattle.jc_ledger.specs.Lagging.{MayCatchUp};
+ghost use Rattle.jc_ledger.specs.Union.{union};
 ghost use Rattle.jc_store.specs.Meaning.{IsSound, journal_of};
 ghost use Rattle.jc_collector.specs.UnionAnswered.{AnswersNoted};
 ghost use Rattle.jc_collector.specs.Database.{DatabaseFailsBy};
-ghost use Rattle.jc_collector.specs.IntoUnion.{LeadsIf, UnionFailsBy, UnionStopsBy};
+ghost use Rattle.jc_collector.specs.IntoUnion.{BelongsBy, LeadsIf, UnionFailsBy, UnionStopsBy};
 ghost use Rattle.jc_collector.specs.UnionRun.{IsFoundAs, RunsFromList, RunsNoted};
 ghost use Rattle.jc_collector.specs.Exported.{MayReplaceIf, OpensAndExports, OpensAndMayReplace, ReplacesIf};
 ghost use Rattle.jc_collector.specs.UnionOpened.{MayOpen};
@@ -260,6 +262,11 @@ pub fn join_open<
     // acknowledge is stored and noted, and found after a crash.
     ensures answers { AnswersNoted T.meaning S.Store L.Ledger ⟦<TableUnion<S, T, L, P> as Keeper>⟧ P.journal (λ Holds. NamedWith Holds (N.remaining names.old))
         (those_named (told_within most Y.told) NameLines.MachinesAndUploads (N.remaining names.old)) present.conn ledger result.union result.union.present.conn result.union.ledger result.answered (O.contents output.old) (O.contents output.new) }
+    // What is new of each line belongs to the machine that the line names.
+    ensures brought { ⟦<TableUnion<S, T, L, P> as Keeper>⟧.sound result.union → MayOpen T.meaning S.Store present.conn (L.known ledger) P.journal (L.came ledger)
+        → IfOk result.answered (λ status. NamedWith (CollectsText (told_within most Y.told) NameLines.MachinesAndUploads (BelongsBy (L.owner result.union.ledger)) (N.remaining names.old)
+        (union P.journal (journal_of T.meaning S.Store present.conn)) (union P.journal (journal_of T.meaning S.Store result.union.present.conn)))
+        (N.remaining names.old) status (O.contents output.old) (O.contents output.new)) }
     // The present database's journal was exported, if a path is given.
     ensures exported { ⟦<TableUnion<S, T, L, P> as Keeper>⟧.clean result.union → MayOpen T.meaning S.Store present.conn (L.known ledger) P.journal (L.came ledger)
         → OnOk result.answered (IsSound S.Store result.union.present.conn → ReplacesIf (option_map (λ name. name.now) then_export.entry)

@@ -130,11 +130,11 @@ module _ {S C L N : Type 0} (begun : Begins) (g : Devices S C L N) (left : Leave
   -- If what the files of sequences noted is what is still noted of earlier databases, and some of what the present one had, the
   -- notes are sound at the end, and of the entries that came no two differ and have one key and one digest, then such a step
   -- was made over the present database's journal.
-  abbrev pub LeadsNoted : (made : Tables) → ((known : Known) → (came : LogEntry → Type 0) → Journal → Journal → Type 0) → Type 0
+  abbrev pub LeadsNoted : (made : Tables) → ((known : Known) → (came : LogEntry → Type 0) → (owner : Owner) → Journal → Journal → Type 0) → Type 0
   LeadsNoted made Step =
       IsSomeAnd left.files (λ closed. IsSomeAnd left.ledger (λ notes. LeadsIf made begun.image g.database closed
       (λ before. MayCatchUp begun.noted (stored_before begun) before begun.came × g.ledger.sound notes × NoneCollide (g.ledger.came notes))
-      (Step (g.ledger.known notes) (g.ledger.came notes))))
+      (Step (g.ledger.known notes) (g.ledger.came notes) (g.ledger.owner notes))))
 
   -- Each sequence that belonged to a machine belongs to it, if the notes are sound at the end. If the disk returned what was
   -- written, it does also after a crash then.
@@ -143,10 +143,11 @@ module _ {S C L N : Type 0} (begun : Begins) (g : Devices S C L N) (left : Leave
     pub after : g.ledger.clean notes → StayOwnedAfter begun.owner (g.ledger.may_own notes)
 
   -- An answer to each upload that a list names was printed, line by line. What they acknowledge is stored in the present database,
-  -- or was still noted of an earlier one. What is noted then is what these have. No sequence was taken from its owner.
+  -- or was still noted of an earlier one. What is noted then is what these have. What is new of a line belongs to the machine that
+  -- it names. No sequence was taken from its owner.
   pub record CollectsIntoUnion (made : Tables) (list : List ℕ) (most_windows : Option ℕ) (given old new : Option (List ℕ)) (status : Status) : Type 0 where
     pub printed : PrintsFromList begun.told list given status old new
-    pub stores : LeadsNoted made (λ known came. StoresNotedFromList begun.told most_windows (stored_before begun) known came list given status old new)
+    pub stores : LeadsNoted made (λ known came owner. StoresNotedFromList begun.told most_windows (stored_before begun) known came owner list given status old new)
     pub owners : IsSomeAnd left.ledger KeepOwners
 
   -- The line of what there is of a journal was printed. If the files are given back, it is that of the journal which they
@@ -188,7 +189,7 @@ module _ {S C L N : Type 0} (begun : Begins) (g : Devices S C L N) (left : Leave
       CollectsFromList database.now (option_map (λ name. name.now) then_export) tables list.now given old new status
   Performs (CollectIntoUnion database tables list sequences most_windows then_export) given old new status =
       CollectsIntoUnion tables list.now most_windows given old new status
-      × LeadsNoted tables (λ known came before. OpensAndExports database.now (option_map (λ name. name.now) then_export) begun.deeds left.deeds)
+      × LeadsNoted tables (λ known came owner before. OpensAndExports database.now (option_map (λ name. name.now) then_export) begun.deeds left.deeds)
   Performs (request.Export database) given old new status = (status ≡ Success) × LeadsOn (Prints export_text old new)
   Performs (Show database field id first last) given old new status =
       (status ≡ Success)

@@ -7,14 +7,14 @@ use Rattle.jc_store.specs.Crash.{MayLeave}
 use Rattle.jc_store.specs.Meaning.{IsSound, journal_of}
 use Rattle.jc_collector.specs.UnionLaws.{holds_nothing, holds_through, no_union}
 use Rattle.jc_collector.specs.Database.{IsOutFailure, MayEndNames}
-use Rattle.jc_collector.specs.IntoUnion.{UnionStopsBy}
+use Rattle.jc_collector.specs.IntoUnion.{BelongsBy, UnionStopsBy}
 use Rattle.jc_collector_answers.specs.Collected.{those_named, told_within}
 use Rattle.jc_collector_answers.specs.CollectedLaws.{some_named}
 use Rattle.jc_collector_answers.specs.PrintedLaws.{front_none, named, text_other}
 use Rattle.jc_collector_answers.specs.declared.name_lines.NameLines.TheVariants.{MachinesAndUploads}
 use Rattle.jc_collector.proofs.Causes.{names_failed}
 use Rattle.jc_collector.proofs.Exported.{same_exported}
-use Rattle.jc_collector.proofs.IntoUnion.{by_answers, kept_same}
+use Rattle.jc_collector.proofs.IntoUnion.{by_answers, kept_same, named_between}
 use Rattle.jc_collector.proofs.Counted.{printed_behind}
 use Rattle.jc_collector.proofs.Open.{clean_before, front_named}
 use Rattle.jc_collector.proofs.Results.{IfErr-each, failure_of_other, on_any, on_ok, on_ok_if, value_of_other}
@@ -125,3 +125,16 @@ returns-in-Err-clause-answers g c =
 
 pub returns-in-Err-clause-failed : goal.returns-in-Err-clause-failed
 returns-in-Err-clause-failed g c = rw c.why_no_union.ensures (inl (inl (no_union c.in-Err.stop)))
+
+pub returns-in-Ok-clause-brought : goal.returns-in-Ok-clause-brought
+returns-in-Ok-clause-brought g c = λ late may.
+    let opened = c.open_union-union.ensures in
+    let kept = c.answer_names_within-answered.ensures.kept in
+    let exported = c.export_after-done.ensures in
+    let then = c.open_union-union.result.union in
+    let then_sound = kept.was_sound (exported.before late.0, late.1) in
+    let made = on_ok _ _ _ c.in-Ok.is (opened.made may then_sound.1.1.1) in
+    value_of_other c.export_after-done.result c.answer_names_within-answered.result (λ status. status) _ exported.answered
+    (named_between (told_within c.args.most g.Y.System.told) (BelongsBy (g.L.Ledger.owner _)) (g.N.Read.remaining c.args.names.now) g.P.Past.journal _ _ _ _ c.answer_names_within-answered.result _ _
+    (opened.journal.same may.sound may.made then_sound.0) (exported.keeps.same (exported.before late.0) (kept.stays_made made).0 late.0)
+    (c.answer_names_within-answered.ensures.brought (exported.before late.0, late.1) made))
