@@ -215,12 +215,10 @@ class World:
         """The administrator gives a machine another name, and its key goes with it."""
         old = self.any().name
         new = f"{old.partition('.')[0]}.{self.counts['collector_renames']}"
-        self.collector.stop()
         if self.collector.call("journal-collect-admin", "rename", old, new).returncode == 0:
             for machine in self.machines:
                 if machine.name == old:
                     machine.rename(new)
-        self.collector.start()
 
     def collector_loses_notes(self) -> None:
         self.collector.stop(signal.SIGKILL)
