@@ -235,15 +235,11 @@ class Store(threading.Thread):
         return True
 
     def answered(self, upload: Waiting, answer: Answer) -> None:
-        """What was answered is on the disk: whatever else fails costs no answer. It comes last: who has it may send the
-        next upload, and closes this one's file."""
+        """What was answered is on the disk: whatever else fails costs no answer, with which the file is closed."""
         try:
             self.account(upload, answer)
         finally:
-            if answer.code == Code.READ_FAILED:
-                upload.put(Verdict.LATER, UNREADABLE)
-            else:
-                upload.reply.set_result(answer)
+            upload.reply.set_result(Put(Verdict.LATER, UNREADABLE) if answer.code == Code.READ_FAILED else answer)
 
     def account(self, upload: Waiting, answer: Answer) -> None:
         """What an answer means to the present, to the bounds of a machine, and to people."""
