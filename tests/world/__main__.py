@@ -42,6 +42,7 @@ def calm(world: World) -> list[str]:
     for machine in world.machines:
         machine.heal()
         machine.stop()
+        machine.journal.grow(1)     # who has nothing to send doesn't hear that the collector was set back
         machine.journal.end()
     for machine in world.machines:
         if tail := not_at_rest(world, machine):

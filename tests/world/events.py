@@ -192,8 +192,8 @@ class World:
     def collector_set_back(self) -> None:
         """What was acknowledged since is there again only as far as journals have it, which the judge holds it to."""
         if self.collector in self.snapshots and not self.share_a_key():
-            self.risk()
             self.collector.disk.set_back(self.snapshots[self.collector])
+            self.risk()
 
     def collector_backup(self) -> None:
         folder = self.collector.folder / f"backup-{len(self.backups)}"
@@ -203,13 +203,13 @@ class World:
     def collector_restored(self) -> None:
         """All of its folder is lost, and a backup is put back."""
         if self.backups and not self.share_a_key():
-            self.risk()
             self.collector.stop(signal.SIGKILL)
             shutil.rmtree(self.collector.data)
             self.collector.data.mkdir()
             self.collector.disk.free()
             told = self.collector.call("journal-collect-admin", "restore", self.backups[-1])
             assert told.returncode == 0, told.stderr.decode()
+            self.risk()
 
     def collector_renames(self) -> None:
         """The administrator gives a machine another name, and its key goes with it."""
@@ -278,6 +278,7 @@ class World:
         return len({machine.name for machine in self.machines}) < len(self.machines)
 
     def risk(self) -> None:
+        """What was acknowledged until now, when no service runs, may be lost."""
         for machine in self.machines:
             self.at_risk |= acknowledged(machine)
 
