@@ -200,6 +200,34 @@ def test_a_collector_that_was_restored(machine: Machine, collector: Collector) -
     assert len(collector.messages()) == 5
 
 
+def test_a_collector_that_was_restored_behind_a_lost_answer(machine: Machine, collector: Collector) -> None:
+    """What it stored and didn't answer isn't new when it is acknowledged: it is asked for, too."""
+    write(machine.journal / "system.journal", entries("one", 2))
+    assert machine.send() == 0, machine.said
+    write(machine.journal / "system.journal", entries("two", 1, begin=BEGIN + 1_000_000_000))
+
+    def cut(data: bytes) -> str:
+        collector.store(data, "web")
+        raise Cut
+    collector.before = cut
+    assert machine.send() == 3
+    collector.before = lambda data: None
+    rest(machine)
+    assert machine.send() == 0, machine.said
+    asked: list[int] = []
+
+    def knows(sequence: str, number: int) -> bool:
+        asked.append(number)
+        return number < 3
+    collector.knows = knows
+    write(machine.journal / "system.journal", entries("three", 1, begin=BEGIN + 2_000_000_000))
+    before = len(collector.uploads)
+    assert machine.send() == 1 and "lost" in machine.said
+    assert asked == [2, 3]
+    machine.send()
+    assert any(b"MESSAGE=two 0" in data for data in collector.uploads[before:])
+
+
 def test_a_clock_that_is_wrong(machine: Machine, collector: Collector) -> None:
     write(machine.journal / "system.journal", entries("one", 1))
     collector.greeting = lambda: f"journal-collect 1 {time.time_ns() // 1000 + 3 * 86_400_000_000} {'ab' * 32}"

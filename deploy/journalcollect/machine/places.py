@@ -8,7 +8,7 @@ often an upload went out in vain, and until when it rests; `machine` the machine
 collector's daily heads, and when each was first told; `told` what somebody has to look at; `value`, by name, the time
 that SINCE was (`since`) and that a first list of files was seen (`begun`); what was asked for by hand (`again`,
 `answers`); how many bytes of an upload the link carries and how often in a row it was cut (`bound`, `cuts`); SEQUENCE
-NUMBER TIME of the entry that was acknowledged last (`had`); by how many seconds the collector's clock was ahead
+NUMBER TIME of what was acknowledged last, new (`had`) or not (`repeated`); how far the collector's clock was ahead
 (`skew`); when it answered and acknowledged last (`answered`, `acknowledged`), and why nothing goes out (`trouble`).
 """
 import os
@@ -130,7 +130,7 @@ class Places:
     def forget_all(self) -> None:
         """What the journal has goes out once more."""
         self.do("DELETE FROM place")
-        self.do("DELETE FROM value WHERE name IN ('begun', 'had')")
+        self.do("DELETE FROM value WHERE name IN ('begun', 'had', 'repeated')")
 
     def go_back(self, since: str) -> None:
         """What the journal has since a time goes out once more."""
@@ -194,7 +194,7 @@ class Places:
         known = [row[0] for row in self.database.execute("SELECT id FROM machine")]
         if now not in known:
             self.do("INSERT INTO machine VALUES(?)", [[now]])
-            self.set(had="")
+            self.set(had="", repeated="")
         return [*known, now]
 
     def see_head(self, head: str) -> None:

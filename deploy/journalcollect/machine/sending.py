@@ -89,11 +89,15 @@ class Sending:
         if abs(skew) > SKEW_SECONDS:
             self.report.say(LOOK, f"the collector's clock is {skew:+} s from this machine's: set the one that is wrong")
         self.places.see_head(greeting.head or "")
-        sequence, number, noted = (self.places.value("had").split() + ["0"] * 3)[:3]
-        is_recent = number.isdigit() and noted.isdigit() and time.time() - int(noted) < HAD_SECONDS
-        if is_recent and self.link.ask(Had(sequence, int(number))) is Known.LOST:
+        if any(self.link.ask(key) is Known.LOST for key in self.keys()):
             self.report.say(LOOK, "the collector lost what it had acknowledged: what the journal still has goes out")
             self.places.forget_all()
+
+    def keys(self) -> dict[Had, str]:
+        """What was acknowledged last, if that was within the last days."""
+        said = [self.places.value(name).split() for name in ("had", "repeated")]
+        return {Had(each[0], int(each[1])): each[2] for each in said
+                if len(each) == 3 and all(map(str.isdigit, each[1:])) and time.time() - int(each[2]) < HAD_SECONDS}
 
     def take(self, number: int, data: bytes, reply: Reply) -> bool:
         """What an answer means to an upload; whether it is acknowledged."""
@@ -131,10 +135,11 @@ class Sending:
             self.take_answer(number, self.outbox.path(number).read_bytes(), lines)
 
     def acknowledge(self, number: int, data: bytes, is_new: bool) -> None:
-        """What was stored before may be known to a collector that was set back, so it isn't what is asked for next."""
-        pieces, _ = pieces_in(data)
-        if pieces and (is_new or not self.places.value("had")):
-            self.places.set(had=f"{pieces[-1].sequence} {pieces[-1].number} {int(time.time())}")
+        """A collector that was set back may know what was stored before, or not if its answer was lost: so both are
+        asked for next."""
+        if pieces := pieces_in(data)[0]:
+            key = f"{pieces[-1].sequence} {pieces[-1].number} {int(time.time())}"
+            self.places.set(**{"had" if is_new else "repeated": key})
         self.outbox.remove(number)
         self.places.set(acknowledged=int(time.time()), trouble="")
         self.pause = 0.0
