@@ -103,7 +103,7 @@ def few_files() -> None:
 
 
 def more_than_are_open(trial: Trial) -> None:
-    """More windows than files may be open, twice in one run: what wasn't used for longest is closed, and opened again."""
+    """More windows than files may be open, twice in one run: what wasn't used for long is closed, and opened again."""
     union = Union(trial)
     machine = Machine(trial.dice, WINDOWS)
     machine.entries = at_numbers(machine, range(7, WINDOWS * WINDOW, WINDOW))
