@@ -48,10 +48,8 @@ def test_nothing_is_deleted_without_an_acknowledgement(machine: Machine, collect
     assert collector.messages() == ["one 0", "one 1", "one 2"]
 
 
-def test_an_answer_that_is_lost(machine: Machine, collector: Collector) -> None:
-    """It was stored, and the answer didn't come: it goes out once more, and is stored once."""
-    write(machine.journal / "system.journal", entries("one", 3))
-
+def lose_an_answer(machine: Machine, collector: Collector) -> None:
+    """What goes out is stored, and its answer doesn't come."""
     def cut(data: bytes) -> str:
         collector.store(data, "web")
         raise Cut
@@ -59,6 +57,12 @@ def test_an_answer_that_is_lost(machine: Machine, collector: Collector) -> None:
     assert machine.send() == 3
     collector.before = lambda data: None
     rest(machine)
+
+
+def test_an_answer_that_is_lost(machine: Machine, collector: Collector) -> None:
+    """It was stored, and the answer didn't come: it goes out once more, and is stored once."""
+    write(machine.journal / "system.journal", entries("one", 3))
+    lose_an_answer(machine, collector)
     assert machine.send() == 0, machine.said
     assert collector.messages() == ["one 0", "one 1", "one 2"]
 
@@ -205,14 +209,7 @@ def test_a_collector_that_was_restored_behind_a_lost_answer(machine: Machine, co
     write(machine.journal / "system.journal", entries("one", 2))
     assert machine.send() == 0, machine.said
     write(machine.journal / "system.journal", entries("two", 1, begin=BEGIN + 1_000_000_000))
-
-    def cut(data: bytes) -> str:
-        collector.store(data, "web")
-        raise Cut
-    collector.before = cut
-    assert machine.send() == 3
-    collector.before = lambda data: None
-    rest(machine)
+    lose_an_answer(machine, collector)
     assert machine.send() == 0, machine.said
     asked: list[int] = []
 
