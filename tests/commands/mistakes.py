@@ -96,6 +96,23 @@ run --version
 > journal-collect 0.1.0
 room 1
 ====
+2: standard output is b'ack a0a1a2a3a4a5a6a7a8a9aaabacadaeaf 0 1 1 0\n' and not
+collects @db 1 ENTRY
+collects @other 2 ENTRY
+====
+2: standard output is b'bad 10 0\n' and not b'bad 10 1\n'
+file @in "=x"
+run verify export @in => reports 1 bad 10 1
+====
+2: standard output is b'journal-collect 0.1.0\n' and not b'journal-collect 9\n'
+run --version => journal-collect 0.1.0
+run --version => journal-collect 9
+====
+3: in.new is left
+file @in.new
+run --version
+> journal-collect 0.1.0
+====
 1: 'in' is no path in the folder
 missing in
 ====

@@ -14,16 +14,20 @@ has to do:
 | `input PIECES` | standard input of the next run has these bytes next |
 | `room N` | standard output of the next run takes N bytes and then fails |
 | `run ARGUMENTS` | a run with these arguments; `""` is an empty one |
+| `run ARGUMENTS => TEXT` | so, and one line of those below on what it has to do, of which `>` may be left out |
+| `collects PATH N PIECES` | a run that stores an upload of so many entries in a database, all of which are new |
 | `> TEXT` | standard output has this line next |
 | `prints PIECES` | standard output has these bytes next |
 | `has PIECES` | standard output has these bytes somewhere, and isn't looked at beyond that |
+| `reports N TEXT` | standard output has this line next, and the status is N |
 | `fails N TEXT` | standard error has this line next, and the status is N |
 | `misused TEXT` | standard error begins with this text and isn't looked at beyond that, and the status is 2 |
 | `status N` | the status is N |
 | `holds PATH PIECES` | the file has these bytes |
 | `missing PATH` | there is no such file |
 
-Of what isn't said, nothing may be printed and the status has to be 0. `tests/pieces.py` has the form of `PIECES`. `@`
+Of what isn't said, nothing may be printed and the status has to be 0, and no run leaves a file whose name ends in
+`.new`, by which it replaces another. `tests/pieces.py` has the form of `PIECES`. `@`
 stands for the case's folder and a `/`, as in `@db`, and `SOURCE` for the id of a source. Each case begins in an empty
 folder and with no input, and has a run.
 """
@@ -104,6 +108,14 @@ def report_of(case: Sequence[Line], library: str) -> str:
     return ""
 
 
+def parts_of(line: str) -> list[str]:
+    """A run, and what it has to do, which may stand in one line."""
+    run, arrow, wanted = line.partition(" => ") if word_of(line) == "run" else (line, "", "")
+    if not arrow:
+        return [line]
+    return [run, wanted if word_of(wanted) in WANTED else f"> {wanted}"]
+
+
 class Case:
     """How far a case has come. What is wrong is raised."""
 
@@ -120,7 +132,7 @@ class Case:
         self.has_run = False
 
     def perform(self, lines: Sequence[Line]) -> None:
-        for number, line in lines:
+        for number, line in ((number, part) for number, line in lines for part in parts_of(line)):
             word, _, rest = self.meant(line).partition(" ")
             if word not in WANTED:
                 self.compare()
@@ -149,6 +161,8 @@ class Case:
         """Fails unless the last run told what was said of it."""
         told, self.told = self.told, None
         if told:
+            if left := [path.name for path in Path(self.folder).rglob("*.new") if path.is_file()]:
+                raise ValueError(f"{left[0]} is left")
             differences = [f"{part} is {short(got)} and not {short(wanted)}"
                            for part, got, wanted in zip(PARTS, astuple(told), astuple(self.wanted)) if got != wanted]
             if differences:
@@ -171,6 +185,12 @@ class Case:
         self.told = Told(*run(*words, stdin=self.input, cwd=self.folder, env=environment))
         self.wanted = Told()
         self.input, self.room, self.has_run = b"", "", True
+
+    def collect(self, rest: str) -> None:
+        path, count, pieces = (*rest.split(" ", 2), "")[:3]
+        self.add_input(f"head:1:0 {pieces}")
+        self.run(f"collect {path}")
+        self.want(">", f"ack {SOURCE.hex()} 0 {count} {count} 0")
 
     def want(self, word: str, rest: str) -> None:
         """A line on what the last run has to tell."""
@@ -201,6 +221,12 @@ def want_part(wanted: Told, pieces: str, told: Told) -> None:
     if not part or part not in told.output:
         raise ValueError(f"standard output is {short(told.output)} and not one with {part!r}")
     wanted.output = told.output
+
+
+def want_report(wanted: Told, rest: str, told: Told) -> None:
+    status, _, line = rest.partition(" ")
+    want_status(wanted, status, told)
+    want_line(wanted, line, told)
 
 
 def want_failure(wanted: Told, rest: str, told: Told) -> None:
@@ -270,6 +296,7 @@ WANTED: dict[str, Callable[[Told, str, Told], None]] = {
     ">": want_line,
     "prints": want_bytes,
     "has": want_part,
+    "reports": want_report,
     "fails": want_failure,
     "misused": want_misuse,
     "status": want_status,
@@ -287,6 +314,7 @@ DONE: dict[str, Callable[[Case, str], None]] = {
     "input": Case.add_input,
     "room": Case.make_room,
     "run": Case.run,
+    "collects": Case.collect,
     "holds": with_more(expect_bytes),
     "missing": alone(expect_missing),
 }
