@@ -23,7 +23,8 @@ from .operations import No
 
 def make(folder: Folder, to: Path) -> Iterator[str]:
     """Copies what isn't there yet. Nothing is deleted or packed meanwhile; all that was acknowledged is finished."""
-    (to / "databases").mkdir(parents=True, exist_ok=True)
+    there = Folder(to)
+    there.databases.mkdir(parents=True, exist_ok=True)
     lock = folder.locked("backup.lock", is_waiting=True)
     try:
         new = to / "state.sqlite.new"
@@ -33,12 +34,13 @@ def make(folder: Folder, to: Path) -> Iterator[str]:
         with contextlib.closing(sqlite3.connect(new)) as rows:
             known = rows.execute("SELECT name, standing, digest FROM database").fetchall()
         finished = {name: digest for name, standing, digest in known if standing == "finished"}
-        bad = [name for name, digest in finished.items() if not copied(folder, name, digest, to)]
-        for name in (name for name, standing, _ in known if standing == "deleted"):
-            remove(to, name)
-        copy_notes(folder.sequences, to / "sequences")
+        bad = [name for name, digest in finished.items() if not copied(folder, name, digest, there)]
+        for name, standing, _ in known:
+            if standing == "deleted":
+                databases.delete(there, name)
+        copy_notes(folder.sequences, there.sequences)
         os.sync()
-        files.move(new, to / "state.sqlite")
+        files.move(new, there.state)
     finally:
         os.close(lock or -1)
     if bad:
@@ -60,12 +62,11 @@ def is_whole(path: Path, digest: str) -> bool:
     return found == digest
 
 
-def copied(folder: Folder, name: str, digest: str, to: Path) -> bool:
+def copied(folder: Folder, name: str, digest: str, to: Folder) -> bool:
     """Whether a database is in the backup now."""
-    there = to / "databases"
-    if forms(there, name) and databases.told_digest(there / f"{name}.db") == digest:
+    if forms(to.databases, name) and databases.told_digest(databases.path_of(to, name)) == digest:
         return True
-    return any(put(path, digest, there) for path in forms(folder.databases, name))
+    return any(put(path, digest, to.databases) for path in forms(folder.databases, name))
 
 
 def put(path: Path, digest: str, there: Path) -> bool:
@@ -81,11 +82,6 @@ def put(path: Path, digest: str, there: Path) -> bool:
     return True
 
 
-def remove(to: Path, name: str) -> None:
-    for path in [*forms(to / "databases", name), to / "databases" / f"{name}.db.sha256"]:
-        path.unlink(missing_ok=True)
-
-
 def copy_notes(sequences: Path, to: Path) -> None:
     """Copies the files of notes that changed. Who stores only adds to them."""
     to.mkdir(exist_ok=True)
@@ -97,41 +93,36 @@ def copy_notes(sequences: Path, to: Path) -> None:
                 shutil.copy2(path, copy)
 
 
-# Putting it back ------------------------------------------------------------------------------------------------------
-
-
 def restore(folder: Folder, backup: Path, lock: int) -> Iterator[str]:
     """Puts back each database that isn't there or isn't whole; what is known, and the notes, only into an empty folder.
     The next start sees to the rest. Nothing that is whole is replaced."""
-    if not (backup / "state.sqlite").is_file():
-        raise No(f"{backup / 'state.sqlite'} isn't there: no backup was finished")
+    kept = Folder(backup)
+    if not kept.state.is_file():
+        raise No(f"{kept.state} isn't there: no backup was finished")
     folder.make()
-    with contextlib.closing(sqlite3.connect(f"file:{backup / 'state.sqlite'}?mode=ro", uri=True)) as rows:
+    with contextlib.closing(sqlite3.connect(f"file:{kept.state}?mode=ro", uri=True)) as rows:
         known = rows.execute("SELECT name, digest FROM database WHERE standing = 'finished'").fetchall()
     is_empty = not any(folder.databases.iterdir()) and not any(folder.sequences.iterdir())
     count = 0
     for name, digest in known:
         if not any(is_whole(path, digest) for path in forms(folder.databases, name)):
             databases.delete(folder, name)
-            count += any(put(path, digest, folder.databases) for path in forms(backup / "databases", name))
+            count += any(put(path, digest, folder.databases) for path in forms(kept.databases, name))
     if is_empty:
-        shutil.copyfile(backup / "state.sqlite", folder.state)
-        shutil.copytree(backup / "sequences", folder.sequences, dirs_exist_ok=True)
+        shutil.copyfile(kept.state, folder.state)
+        shutil.copytree(kept.sequences, folder.sequences, dirs_exist_ok=True)
         Notes(State(folder), lock, threading.Event()).forget()
     own(folder.path)
     os.sync()
-    yield f"{count} of {len(known)} databases are put back, as of {moment(backup / 'state.sqlite')}"
+    taken = time.strftime("%Y-%m-%d %H:%M:%S UTC", time.gmtime(kept.state.stat().st_mtime))
+    yield f"{count} of {len(known)} databases are put back, as of {taken}"
     yield "machines send what came since, if they have it still"
-
-
-def moment(path: Path) -> str:
-    return time.strftime("%Y-%m-%d %H:%M:%S UTC", time.gmtime(path.stat().st_mtime))
 
 
 def own(top: Path) -> None:
     """All that is in a folder belongs to whom it belongs, as root can say."""
     if os.geteuid() == 0:
         told = top.stat()
-        for path in [*top.rglob("*")]:
+        for path in top.rglob("*"):
             if path.name not in ("journals", "sockets") and "journals" not in path.relative_to(top).parts:
                 os.chown(path, told.st_uid, told.st_gid, follow_symlinks=False)

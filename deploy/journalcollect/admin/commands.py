@@ -10,11 +10,12 @@ from collections.abc import Iterator
 from pathlib import Path
 from typing import Any
 
-from ..collector.settings import Folder, Settings
+from ..collector.settings import Folder
 from ..collector.settings import read as read_settings
 from ..common import program, settings
 from ..reading import making
-from ..setup.deeds import Deeds
+from ..setup.collector import set_up
+from ..setup.deeds import Deeds, status
 from . import backup
 from .machines import Machines
 from .operations import No
@@ -22,6 +23,7 @@ from .operations import No
 JOURNAL_FILE, FILE_ID = b"LPKSHHRH", slice(24, 40)
 # What a name of a command has for its words, and what it does.
 COMMANDS = {
+    "setup": ("", "makes this computer a collector; called again it changes nothing"),
     "admit": ("NAME", "lets a machine in, whose public key is on standard input; or each of a folder's files NAME.pub, "
                       "if a path with a / is said"),
     "retire": ("NAME", "lets a machine in no more; what it sent stays its days"),
@@ -39,63 +41,47 @@ COMMANDS = {
 OF_MACHINES = ("admit", "retire", "rename", "release")
 
 
-def main(words: list[str] | None = None) -> int:
+def main() -> int:
     """The status: 0, 1 if it can't be done, 2 if the words or settings are wrong, 3 if it failed."""
-    words = sys.argv[1:] if words is None else words
-    if words[:1] == ["setup"]:
-        from ..setup import collector as setup
-        return setup.main(words[1:])
-    asked = parser().parse_args(words)
-    try:
-        chosen = read_settings()
-        if asked.do in OF_MACHINES:
-            Machines(settings.FOLDER, Folder(Path(chosen.folder)), Deeds(asked.dry_run),
-                     lambda do, words: list(asked_of(chosen, do, words))).do(asked.do, *asked.words)
-            return 0
-        for line in done(chosen, asked.do, asked.words):
-            print(line, flush=True)
-    except settings.Wrong as error:
-        return failed(2, error)
-    except No as error:
-        return failed(1, error)
-    except (OSError, program.Failed, subprocess.SubprocessError) as error:
-        return failed(3, error)
-    return 0
-
-
-def failed(status: int, error: Exception) -> int:
-    print(f"journal-collect-admin: {error}", file=sys.stderr)
-    return status
-
-
-def parser() -> argparse.ArgumentParser:
-    made = argparse.ArgumentParser(prog="journal-collect-admin", description="What people do on the collector.")
-    commands = made.add_subparsers(dest="do", required=True, metavar="COMMAND")
-    commands.add_parser("setup", help="makes this computer a collector", add_help=False)
+    parser = argparse.ArgumentParser(prog="journal-collect-admin", description="What people do on the collector.")
+    commands = parser.add_subparsers(dest="do", required=True, metavar="COMMAND")
     for name, (of, does) in COMMANDS.items():
         command = commands.add_parser(name, help=f"{of}: {does}" if of else does, description=does)
         command.set_defaults(words=[])
         if of:
             count: int | str = "+" if ".." in of else len(of.split())
             command.add_argument("words", nargs=count, metavar=of.split()[-1].rstrip("."))
-    for name in OF_MACHINES:
+    for name in ("setup", *OF_MACHINES):
         commands.choices[name].add_argument("--dry-run", action="store_true",
                                             help="say what would be done, and do nothing")
     commands.choices["rebuild"].add_argument("--journals", dest="words", nargs="?", action="append", const="",
                                              metavar="FOLDER", help="journal files, of another folder with databases")
-    return made
+    asked = parser.parse_args()
+    if asked.do == "setup":
+        return status("journal-collect-admin setup", lambda: set_up(Deeds(asked.dry_run), settings.FOLDER))
+    try:
+        for line in done(Folder(Path(read_settings().folder)), asked):
+            print(line, flush=True)
+    except (settings.Wrong, No, OSError, program.Failed, subprocess.SubprocessError) as error:
+        print(f"journal-collect-admin: {error}", file=sys.stderr)
+        return {No: 1, settings.Wrong: 2}.get(type(error), 3)
+    return 0
 
 
-def done(chosen: Settings, do: str, words: list[str]) -> Iterator[Any]:
-    """What a command says."""
-    folder = Folder(Path(chosen.folder))
+def done(folder: Folder, asked: argparse.Namespace) -> Iterator[Any]:
+    """What a command says, which is done meanwhile."""
+    do: str = asked.do
+    words: list[str] = asked.words
     match do, words:
+        case _ if do in OF_MACHINES:
+            Machines(settings.FOLDER, folder, Deeds(asked.dry_run),
+                     lambda do, words: list(asked_of(folder, do, words))).do(do, *words)
         case "take", [name, *paths]:
             for path in map(Path, paths):
                 with upload_of(path) as handle:
-                    yield from asked_of(chosen, do, [name], handle)
+                    yield from asked_of(folder, do, [name], handle)
         case "backup", [to]:
-            yield from asked_of(chosen, "finish", [])
+            yield from asked_of(folder, "finish", [])
             yield from backup.make(folder, Path(to))
         case "restore", [of]:
             if (lock := folder.locked()) is None:
@@ -103,12 +89,12 @@ def done(chosen: Settings, do: str, words: list[str]) -> Iterator[Any]:
             yield from backup.restore(folder, Path(of), lock)
             os.close(lock)
         case "rebuild", [""]:
-            yield from asked_of(chosen, "journals", [])
+            yield from asked_of(folder, "journals", [])
         case "rebuild", [of]:
             if making.main(["--anew", of]):
                 raise No(f"not all journal files of {of} are made")
         case _:
-            yield from asked_of(chosen, do, words)
+            yield from asked_of(folder, do, words)
 
 
 def upload_of(path: Path) -> Any:
@@ -124,11 +110,11 @@ def upload_of(path: Path) -> Any:
     return made
 
 
-def asked_of(chosen: Settings, do: str, words: list[str], file: Any = None) -> Iterator[Any]:
+def asked_of(folder: Folder, do: str, words: list[str], file: Any = None) -> Iterator[Any]:
     """Has the service do something."""
     with socket.socket(socket.AF_UNIX) as one:
         try:
-            one.connect(str(Folder(Path(chosen.folder)).admin))
+            one.connect(str(folder.admin))
         except (FileNotFoundError, ConnectionRefusedError):
             raise No("the service doesn't run: systemctl start journal-collect") from None
         socket.send_fds(one, [json.dumps({"do": do, "words": words}).encode()], [file.fileno()] if file else [])

@@ -1,6 +1,6 @@
 """Which machines may send, and under which names. A deed is done only where it isn't done yet, and is said."""
 import sys
-from collections.abc import Callable, Iterator
+from collections.abc import Callable
 from pathlib import Path
 
 from ..collector.settings import Folder
@@ -10,8 +10,6 @@ from ..setup import keys
 from ..setup.deeds import Deeds
 from ..status import looking
 from .operations import No
-
-KNOWN = "SELECT name FROM machine WHERE seen > 0"
 
 
 class Machines:
@@ -24,14 +22,11 @@ class Machines:
         """Does what has this name. Each says how it stands where nothing was to do."""
         if not (self.etc / "keys").is_dir():
             raise No("this is no collector: journal-collect-admin setup makes it one")
-        known: dict[str, Callable[..., str]] = {
-            "admit": self.admit, "retire": self.retire, "rename": self.rename, "release": self.release}
-        stands = known[name](*words)
-        if not self.deeds.count:
-            self.deeds.write(self.etc / "authorized_keys", keys.text(self.etc, self.folder.sockets))
-        elif not self.deeds.is_rehearsal:
-            keys.write(self.etc, self.folder.sockets)
-        if not self.deeds.count:
+        stands = getattr(self, name)(*words)
+        path, text = self.etc / "authorized_keys", keys.text(self.etc, self.folder.sockets)
+        if self.deeds.count and not self.deeds.is_rehearsal:
+            files.replace(path, text.encode(), 0o644)
+        elif not self.deeds.count and not self.deeds.write(path, text):
             print(f"nothing was to do: {stands}")
 
     def key(self, name: str) -> Path:
@@ -43,25 +38,23 @@ class Machines:
     def admit(self, asked: str) -> str:
         """Lets a machine in, or those of a folder: all or none. No key is that of two machines."""
         whose = {keys.of(self.key(name)): name for name in keys.machines(self.etc)}
-        new = dict(brought(asked))
+        new = brought(asked)
         for name, text in new.items():
             if not (key := keys.of_text(text)):
                 raise No(f"what is given for {name} isn't a public key")
             if whose.setdefault(key, name) != name:
                 raise No(f"the key of {name} is that of {whose[key]}: each machine has a key of its own")
         for path, text in [(self.key(name), text) for name, text in new.items()]:
-            if keys.of(path) != keys.of_text(text):
-                self.deeds.say(f"replaces the key of {path.stem}" if path.exists() else f"lets {path.stem} in")
-                if not self.deeds.is_rehearsal:
-                    files.replace(path, f"{text}\n".encode(), 0o644)
+            deed = f"replaces the key of {path.stem}" if path.exists() else f"lets {path.stem} in"
+            if keys.of(path) != keys.of_text(text) and self.deeds.begin(deed):
+                files.replace(path, f"{text}\n".encode(), 0o644)
         return f"{', '.join(new)} may send"
 
     def retire(self, name: str) -> str:
         """Lets a machine in no more; the service ends its connections."""
-        if (path := self.key(name)).exists():
-            self.deeds.say(f"lets {name} in no more; what it sent stays its days")
-            if not self.deeds.is_rehearsal:
-                path.unlink()
+        path = self.key(name)
+        if path.exists() and self.deeds.begin(f"lets {name} in no more; what it sent stays its days"):
+            path.unlink()
         return f"{name} has no key"
 
     def rename(self, old: str, new: str) -> str:
@@ -75,11 +68,10 @@ class Machines:
         if to.exists() or not there:
             raise No(f"{new} has a key already" if there else f"{old} has no key in {key.parent}")
         self.ask("status", [])
-        known = {name for name, in looking.rows(self.folder.state, KNOWN)}
+        known = {name for name, in looking.rows(self.folder.state, "SELECT name FROM machine WHERE seen > 0")}
         if {old, new} <= known:
             raise No(f"{new} is known already")
-        self.deeds.say(f"renames {old} to {new}, with all that it sent")
-        if not self.deeds.is_rehearsal:
+        if self.deeds.begin(f"renames {old} to {new}, with all that it sent"):
             files.move(there[0], away)
             try:
                 if new not in known:
@@ -91,23 +83,18 @@ class Machines:
         return ""
 
     def release(self, sequence: str) -> str:
-        """Makes a sequence nobody's."""
         if not HEX_ID.fullmatch(sequence):
             raise No(f"{sequence} is no sequence's id: 32 digits and letters from a to f")
-        if sequence in program.owners(self.folder.sequences):
-            self.deeds.say(f"leaves {sequence} to the machine that brings a new entry of it next")
-            if not self.deeds.is_rehearsal:
-                self.ask("release", [sequence])
+        if sequence in program.owners(self.folder.sequences) and self.deeds.begin(
+                f"leaves {sequence} to the machine that brings a new entry of it next"):
+            self.ask("release", [sequence])
         return f"{sequence} is no machine's"
 
 
-def brought(name: str) -> Iterator[tuple[str, str]]:
+def brought(name: str) -> dict[str, str]:
     """A machine and its key, or those of a folder. No machine's name has a /."""
     if "/" not in name:
-        yield name, sys.stdin.read().strip()
-        return
-    paths = sorted(Path(name).glob("*.pub"))
-    if not paths:
+        return {name: sys.stdin.read().strip()}
+    if not (paths := sorted(Path(name).glob("*.pub"))):
         raise No(f"there is no NAME.pub in {name}")
-    for path in paths:
-        yield path.stem, path.read_text(errors="replace").strip()
+    return {path.stem: path.read_text(errors="replace").strip() for path in paths}

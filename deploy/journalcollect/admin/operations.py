@@ -34,14 +34,11 @@ class Operations:
         self.folder, self.state = store.folder, store.state
 
     def do(self, name: str, words: Sequence[str], handles: Sequence[int] = ()) -> Iterator[Any]:
-        """Does what has this name."""
-        if name == "take":
-            return self.take(words[0], handles[0])
-        known: dict[str, Callable[..., Iterator[Any]]] = {
+        known: dict[str, Callable[..., Iterator[Any] | None]] = {
             "status": self.status, "finish": self.finish, "rename": self.rename, "release": self.release,
-            "check": self.check, "moved": self.moved, "passed": self.passed, "rebuild": self.rebuild, "head": self.head,
-            "journals": self.journals}
-        return known[name](*words)
+            "take": self.take, "moved": self.moved, "passed": self.passed, "head": self.head, "check": self.check,
+            "rebuild": self.rebuild, "journals": self.journals}
+        return known[name](*words, *handles) or iter(())
 
     def status(self) -> Iterator[dict[str, Any]]:
         """What is so at the moment; what outlives the service is in state.sqlite."""
@@ -49,12 +46,11 @@ class Operations:
         yield {**self.store.status(), "version": journalcollect.VERSION, "connections": self.gate.count(),
                "is_begun": self.store.is_begun.is_set(), "head": self.store.head()}
 
-    def finish(self) -> Iterator[str]:
+    def finish(self) -> None:
         """The present database is finished: all that was acknowledged until now is in finished ones."""
         self.store.alone(lambda: None)
-        return iter(())
 
-    def rename(self, old: str, new: str) -> Iterator[str]:
+    def rename(self, old: str, new: str) -> None:
         """A machine has another name from now on. It has no key meanwhile, so its connections end."""
         end = time.monotonic() + GONE_SECONDS
         while old in self.gate.count():
@@ -67,13 +63,11 @@ class Operations:
             self.state.rename(old, new)
 
         self.store.alone(do)
-        return iter(())
 
-    def release(self, sequence: str) -> Iterator[str]:
+    def release(self, sequence: str) -> None:
         """A sequence is nobody's, until a machine brings a new entry of it."""
         self.store.alone(lambda: program.release(self.folder.sequences, sequence))
         self.state.released(sequence)
-        return iter(())
 
     def take(self, machine: str, handle: int) -> Iterator[str]:
         """An upload that came by other means is stored, whatever its size and kind; the answer."""
@@ -81,9 +75,8 @@ class Operations:
             raise No(f"{machine} can't be a machine's name")
         with files.unnamed(self.folder.recent) as copy:
             at = 0
-            while piece := os.pread(handle, PIECE, at):
-                files.write_all(copy, piece)
-                at += len(piece)
+            while count := os.sendfile(copy, handle, at, PIECE):
+                at += count
             yield str(self.store.ask(Waiting(machine, copy, at)))
 
     def moved(self, name: str) -> Iterator[str]:
@@ -117,9 +110,7 @@ class Operations:
         """Looks at all notes and all finished databases."""
         bad = [f"{name}: notes weren't as they were, and were made anew" for name in self.keeping.mend_notes()]
         found = self.state.names()
-        for name in found:
-            if fault := self.keeping.check(name):
-                bad.append(fault)
+        bad += filter(None, map(self.keeping.check, found))
         yield from bad
         if bad:
             raise No(f"{len(bad)} faults")

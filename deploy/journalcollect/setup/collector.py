@@ -1,13 +1,10 @@
 """`journal-collect-admin setup`: this computer becomes a collector. Called again it changes nothing."""
-import argparse
 import pwd
 import re
-from collections.abc import Sequence
 from pathlib import Path
 
-from journalcollect.common import settings
 from journalcollect.setup import keys
-from journalcollect.setup.deeds import Deeds, Stopped, as_root, fail, is_true, output
+from journalcollect.setup.deeds import Deeds, Stopped, is_true, output
 
 LIBRARY = Path(__file__).resolve().parents[2]
 SSHD = Path("/etc/ssh/sshd_config.d/journal-collect.conf")
@@ -15,26 +12,14 @@ LOGIN = "journal-collect-login"
 SERVICE = "journal-collect.service"
 
 
-def main(words: Sequence[str] | None = None) -> int:
-    parser = argparse.ArgumentParser(prog="journal-collect-admin setup", description=__doc__)
-    parser.add_argument("--dry-run", action="store_true", help="say what would be done, and do nothing")
-    asked = parser.parse_args(words)
-    deeds = Deeds(asked.dry_run)
-    try:
-        as_root()
-        set_up(deeds, settings.FOLDER)
-    except (Stopped, OSError, settings.Wrong) as error:
-        return fail("journal-collect-admin setup", error)
-    return 0
-
-
-def set_up(deeds: Deeds, etc: Path) -> None:
-    needs()
+def set_up(deeds: Deeds, etc: Path) -> int:
+    for path, package in (("/usr/sbin/sshd", "openssh-server"), (keys.NETCAT, "netcat-openbsd")):
+        if not Path(path).exists():
+            raise Stopped(f"there is no {path}: apt install {package}")
     deeds.users()
     folders(deeds, etc)
-    has_sshd_changed = deeds.write(SSHD, (LIBRARY / "sshd.conf").read_text())
     bound_logins(deeds)
-    if has_sshd_changed:
+    if deeds.write(SSHD, (LIBRARY / "sshd.conf").read_text()):
         reload_sshd(deeds)
     if not deeds.is_rehearsal:
         check_sshd(etc)
@@ -43,16 +28,9 @@ def set_up(deeds: Deeds, etc: Path) -> None:
         print("this is a collector already; nothing was to do")
     if not deeds.is_rehearsal:
         print("machines join with: journal-collect-join HOST; the keys of this host, to compare:")
-        for line in fingerprints():
-            print(f"  {line}")
-
-
-def needs() -> None:
-    """What other packages have to have brought."""
-    if not Path("/usr/sbin/sshd").exists():
-        raise Stopped("there is no sshd: apt install openssh-server")
-    if not Path(keys.NETCAT).exists():
-        raise Stopped(f"there is no {keys.NETCAT}: apt install netcat-openbsd")
+        for key in sorted(Path("/etc/ssh").glob("ssh_host_*_key.pub")):
+            print(f"  {output('ssh-keygen', '-l', '-f', key).strip()}")
+    return 0
 
 
 def folders(deeds: Deeds, etc: Path) -> None:
@@ -97,9 +75,3 @@ def check_sshd(etc: Path) -> None:
     allowed = re.findall(r"^allow(users|groups) (.*)$", told_by, re.MULTILINE)
     if allowed and not any(LOGIN in names.split() for _, names in allowed):
         raise Stopped(f"sshd's Allow{allowed[0][0]} keeps machines out: add {LOGIN} there, and call this again")
-
-
-def fingerprints() -> list[str]:
-    """The host keys of this computer, as who joins is shown them."""
-    paths = sorted(Path("/etc/ssh").glob("ssh_host_*_key.pub"))
-    return [output("ssh-keygen", "-l", "-f", path).strip() for path in paths]

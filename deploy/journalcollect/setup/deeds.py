@@ -2,15 +2,16 @@
 
 A rehearsal says the same lines and does nothing.
 """
-import grp
 import os
-import pwd
 import shutil
 import subprocess
 import sys
+from collections.abc import Callable
 from pathlib import Path
 
-from journalcollect.common import files
+from journalcollect.common import files, settings
+
+USERS = "journal-collect", "journal-collect-login", "journal-collect-send", "journal-collect-alarm"
 
 
 class Stopped(Exception):
@@ -19,63 +20,49 @@ class Stopped(Exception):
 
 class Deeds:
     def __init__(self, is_rehearsal: bool) -> None:
-        self.is_rehearsal = is_rehearsal
-        self.count = 0
+        self.is_rehearsal, self.count = is_rehearsal, 0
 
-    def say(self, text: str) -> None:
-        """One deed: what is said is what is done, or what would be."""
+    def begin(self, text: str) -> bool:
+        """Says one deed. False if it is only to be said."""
         self.count += 1
         print(f"would: {text}" if self.is_rehearsal else text, flush=True)
+        return not self.is_rehearsal
 
     def write(self, path: Path, text: str) -> bool:
         """A file has this text. True if it hadn't before."""
         if path.is_file() and path.read_text(encoding="utf-8", errors="replace") == text:
             return False
-        self.say(f"writes {path}")
-        if not self.is_rehearsal:
+        if self.begin(f"writes {path}"):
             path.parent.mkdir(parents=True, exist_ok=True)
             files.replace(path, text.encode(), 0o644)
         return True
 
     def folder(self, path: Path, mode: int, owner: str = "root", group: str = "root") -> None:
-        if not self.is_folder(path, mode, owner, group):
-            self.say(f"makes the folder {path}, mode {mode:04o}, of {owner}:{group}")
-            if not self.is_rehearsal:
-                path.mkdir(parents=True, exist_ok=True)
-                shutil.chown(path, owner, group)
-                path.chmod(mode)
-
-    @staticmethod
-    def is_folder(path: Path, mode: int, owner: str, group: str) -> bool:
         try:
-            there = path.stat()
-            return (there.st_mode & 0o7777, there.st_uid, there.st_gid) == (
-                mode, pwd.getpwnam(owner).pw_uid, grp.getgrnam(group).gr_gid)
+            is_so = (path.stat().st_mode & 0o7777, path.owner(), path.group()) == (mode, owner, group)
         except (FileNotFoundError, KeyError):
-            return False
+            is_so = False
+        if not is_so and self.begin(f"makes the folder {path}, mode {mode:04o}, of {owner}:{group}"):
+            path.mkdir(parents=True, exist_ok=True)
+            shutil.chown(path, owner, group)
+            path.chmod(mode)
 
     def call(self, text: str, *words: str | Path, given: bytes = b"") -> None:
         """A command that changes something. It has to end with 0."""
-        self.say(text)
-        if not self.is_rehearsal:
+        if self.begin(text):
             output(*words, given=given)
 
     def users(self) -> None:
         """Those that the package's list has."""
-        try:
-            for name in ("journal-collect", "journal-collect-login", "journal-collect-send", "journal-collect-alarm"):
-                pwd.getpwnam(name)
-            grp.getgrnam("journal-collect-read")
-        except KeyError:
+        if not (is_true("getent", "passwd", *USERS) and is_true("getent", "group", "journal-collect-read")):
             self.call("makes the users journal-collect..", "systemd-sysusers", "journal-collect.conf")
 
     def runs(self, unit: str, is_new: bool) -> None:
         """A unit is enabled and runs. It is begun again if what it reads at its start is new."""
-        if is_true("systemctl", "is-enabled", unit) and is_true("systemctl", "is-active", unit):
-            if is_new:
-                self.call(f"restarts {unit}", "systemctl", "restart", unit)
-            return
-        self.call(f"enables and starts {unit}", "systemctl", "enable", "--quiet", "--now", unit)
+        if not (is_true("systemctl", "is-enabled", unit) and is_true("systemctl", "is-active", unit)):
+            self.call(f"enables and starts {unit}", "systemctl", "enable", "--quiet", "--now", unit)
+        elif is_new:
+            self.call(f"restarts {unit}", "systemctl", "restart", unit)
 
 
 def output(*words: str | Path, given: bytes = b"") -> str:
@@ -95,11 +82,12 @@ def is_true(*words: str | Path) -> bool:
     return subprocess.run(words, capture_output=True, check=False).returncode == 0
 
 
-def as_root() -> None:
-    if os.geteuid():
-        raise Stopped("root sets up a computer: call it with sudo")
-
-
-def fail(name: str, error: Exception) -> int:
-    print(f"{name}: {error}", file=sys.stderr)
-    return 1
+def status(program: str, do: Callable[[], int]) -> int:
+    """What a set-up ends with, as only root may do one: 1 if it can't go on, and what it says of that."""
+    try:
+        if os.geteuid():
+            raise Stopped("root sets up a computer: call it with sudo")
+        return do()
+    except (Stopped, OSError, settings.Wrong) as error:
+        print(f"{program}: {error}", file=sys.stderr)
+        return 1

@@ -10,22 +10,22 @@ import socket
 import subprocess
 import sys
 import time
-from collections.abc import Sequence
 from pathlib import Path
 
 from journalcollect.common import names, settings
 from journalcollect.setup import keys
-from journalcollect.setup.deeds import Deeds, Stopped, as_root, fail, is_true, output
+from journalcollect.setup.deeds import Deeds, Stopped, is_true, output, status
 from journalcollect.status import machine
 from journalcollect.status.findings import Findings
 
 USER = "journal-collect-send"
-SERVICE = "journal-collect-send.service"
 SEND = Path(__file__).resolve().parents[2] / "programs" / "journal-collect-send"
+SETTINGS = "machine.conf.d/10-join.conf"
+SSH = ("ssh", "-o", "StrictHostKeyChecking=yes")
 PATIENCE, REFUSED = 60.0, "Permission denied"
 
 
-def main(words: Sequence[str] | None = None) -> int:
+def main() -> int:
     parser = argparse.ArgumentParser(prog="journal-collect-join", description=__doc__,
                                      formatter_class=argparse.RawDescriptionHelpFormatter)
     parser.add_argument("host", metavar="HOST", help="the collector's name")
@@ -35,12 +35,8 @@ def main(words: Sequence[str] | None = None) -> int:
     parser.add_argument("--port", type=int, default=22, help="where the collector's sshd listens (22)")
     parser.add_argument("--new-key", action="store_true", help="make another key in place of the one that is there")
     parser.add_argument("--dry-run", action="store_true", help="say what would be done, and do nothing")
-    asked = parser.parse_args(words)
-    try:
-        as_root()
-        return Joining(asked, settings.FOLDER).join()
-    except (Stopped, OSError, settings.Wrong) as error:
-        return fail("journal-collect-join", error)
+    asked = parser.parse_args()
+    return status(parser.prog, lambda: Joining(asked, settings.FOLDER).join())
 
 
 class Joining:
@@ -51,7 +47,7 @@ class Joining:
         self.host_keys: str | None = asked.host_keys
         self.wants_new_key: bool = asked.new_key
         self.deeds = Deeds(asked.dry_run)
-        self.etc, self.key, self.known = etc, etc / "key", etc / "known_hosts"
+        self.etc, self.key, self.public, self.known = etc, etc / "key", etc / "key.pub", etc / "known_hosts"
         self.name: str = asked.name or self.known_name() or socket.gethostname()
         if not names.is_machine(self.name):
             raise Stopped(f"{self.name} can't be a machine's name: say another one by --name")
@@ -59,17 +55,16 @@ class Joining:
     def join(self) -> int:
         self.deeds.users()
         self.make_key()
-        is_new = self.learn_host_keys()
-        is_new |= self.write_settings()
+        where = self.host if self.port == 22 else f"{self.host}:{self.port}"
+        is_new = self.learn_host_keys() | self.deeds.write(self.etc / SETTINGS, f"COLLECTOR={where}\n")
         if self.via and (is_new or self.refusal()):
-            self.be_admitted(self.via)
+            self.deeds.call(f"has its key admitted by {self.via}", *SSH, self.via,
+                            f"journal-collect-admin admit {self.name}", given=f"{self.public_key()}\n".encode())
         if is_new and is_true("systemctl", "is-active", "systemd-journald.service"):
             # it keeps as many files as the package has it keep
             self.deeds.call("restarts systemd-journald.service", "systemctl", "restart", "systemd-journald.service")
-        self.deeds.runs(SERVICE, is_new)
-        if self.deeds.is_rehearsal:
-            return 0
-        return self.tell()
+        self.deeds.runs(machine.SERVICE, is_new)
+        return 0 if self.deeds.is_rehearsal else self.tell()
 
     def known_name(self) -> str:
         """The name under which this machine joined before is the comment of its key."""
@@ -77,21 +72,16 @@ class Joining:
         return words[2] if len(words) == 3 and names.is_machine(words[2]) else ""
 
     def public_key(self) -> str:
-        path = self.key.with_name("key.pub")
-        return path.read_text().strip() if path.exists() else ""
+        return self.public.read_text().strip() if self.public.exists() else ""
 
     def make_key(self) -> None:
-        if self.key.exists() and not self.wants_new_key and self.known_name() == self.name:
-            return
-        self.deeds.say(f"makes {self.key}, the key of {self.name}")
-        if not self.deeds.is_rehearsal:
+        is_kept = self.key.exists() and not self.wants_new_key and self.known_name() == self.name
+        if not is_kept and self.deeds.begin(f"makes {self.key}, the key of {self.name}"):
             self.etc.mkdir(exist_ok=True)
-            for path in (self.key, self.key.with_name("key.pub")):
+            for path in (self.key, self.public):
                 path.unlink(missing_ok=True)
             output("ssh-keygen", "-q", "-t", "ed25519", "-N", "", "-C", self.name, "-f", self.key)
             shutil.chown(self.key, pwd.getpwnam(USER).pw_uid)
-
-    # The collector's host keys
 
     def learn_host_keys(self) -> bool:
         """They are asked for anew by --via and --host-keys, and else only where none are known."""
@@ -118,23 +108,10 @@ class Joining:
         print(output("ssh-keygen", "-l", "-f", "-", given=by_kind.encode()), end="", flush=True)
         if self.deeds.is_rehearsal:
             return scanned
-        try:
-            answer = input("Are they the same? (yes/no) ")
-        except EOFError:
-            answer = ""
-        if answer.strip() != "yes":
+        print("Are they the same? (yes/no) ", end="", flush=True)
+        if sys.stdin.readline().strip() != "yes":
             raise Stopped("not joined: nobody vouches for the host keys; compare them, or say --via or --host-keys")
         return scanned
-
-    def write_settings(self) -> bool:
-        where = self.host if self.port == 22 else f"{self.host}:{self.port}"
-        return self.deeds.write(self.etc / "machine.conf.d" / "10-join.conf", f"COLLECTOR={where}\n")
-
-    # The collector
-
-    def be_admitted(self, via: str) -> None:
-        self.deeds.call(f"has its key admitted by {via}", "ssh", "-o", "StrictHostKeyChecking=yes", via,
-                        f"journal-collect-admin admit {self.name}", given=self.public_key().encode() + b"\n")
 
     def refusal(self) -> str:
         """Why the collector doesn't greet this machine; nothing if it does."""
@@ -167,7 +144,7 @@ class Joining:
 def told_by_login(via: str) -> str:
     """The collector's host keys, as root's own ssh is told them there."""
     try:
-        return output("ssh", "-o", "StrictHostKeyChecking=yes", via, "cat /etc/ssh/ssh_host_*_key.pub")
+        return output(*SSH, via, "cat /etc/ssh/ssh_host_*_key.pub")
     except Stopped as error:
         raise Stopped(f"{error}\nlog in there by `ssh {via}` once, and call this again; "
                       "or leave --via out, and compare the host keys") from None
@@ -175,7 +152,4 @@ def told_by_login(via: str) -> str:
 
 def key_of(line: str) -> str:
     """The kind and the bytes of a public key, whether ssh-keygen wrote the line or ssh-keyscan."""
-    for text in (line.strip(), line.strip().partition(" ")[2]):
-        if key := keys.of_text(text):
-            return key
-    return ""
+    return keys.of_text(line) or keys.of_text(line.strip().partition(" ")[2])

@@ -2,7 +2,7 @@
 import re
 from pathlib import Path
 
-from journalcollect.common import files, names
+from journalcollect.common import names
 
 # A public key as ssh-keygen writes it: its kind, its bytes, and a comment.
 KEY = re.compile(r"((?:ssh|ecdsa|sk)-[a-z0-9@.-]+ [A-Za-z0-9+/]+=*)(?: [^\x00-\x1f\x7f]*)?", re.ASCII)
@@ -30,8 +30,3 @@ def text(etc: Path, sockets: Path) -> str:
     whose = {name: of(etc / "keys" / f"{name}.pub") for name in machines(etc)}
     return "".join(f'command="{NETCAT} -NU {sockets / name}",restrict {key} {name}\n'
                    for name, key in whose.items() if key)
-
-
-def write(etc: Path, sockets: Path) -> None:
-    """Makes the file that sshd reads."""
-    files.replace(etc / "authorized_keys", text(etc, sockets).encode(), mode=0o644)

@@ -3,16 +3,15 @@ from collections import Counter
 from dataclasses import dataclass, field
 from pathlib import Path
 
-from journalcollect.collector import settings as collector_settings
+from journalcollect.collector.settings import FREE_FILES, Settings
+from journalcollect.collector.settings import read as read_settings
 from journalcollect.common import files, settings
 from journalcollect.reading import places
 from journalcollect.setup import keys
+from journalcollect.setup.collector import SERVICE, SSHD
 from journalcollect.status import looking, words
-from journalcollect.status.findings import Findings
+from journalcollect.status.findings import DAY, HOUR, Findings
 
-SERVICE = "journal-collect.service"
-SSHD = Path("/etc/ssh/sshd_config.d/journal-collect.conf")
-HOUR, DAY = 3600.0, 86400.0
 # A machine whose journal grows is seen within a minute; a quiet one logs something within hours.
 SILENT_SECONDS, LEAST_DAYS, BEHIND_SECONDS = 2 * HOUR, 7.0, HOUR
 REBUILD = "journal-collect-admin check; then put back a backup, or: journal-collect-admin rebuild"
@@ -43,23 +42,35 @@ class Collector:
     days_left: float | None = None
     waiting_for_files: int = 0
 
+    def lines(self, now: float) -> list[tuple[str, str]]:
+        """What people are shown of it, each with its name."""
+        rate = f", {words.size(self.bytes_a_day)} a day" if self.bytes_a_day else ""
+        left = f", full in {self.days_left:.0f} days" if self.days_left is not None else ""
+        standing = ", ".join(f"{count} {name}" for name, count in sorted(self.databases.items())) or "none finished yet"
+        waiting = f"{self.waiting_for_files} databases wait" if self.waiting_for_files else "all made"
+        return [("collector", self.folder), ("service", self.service),
+                ("databases", f"{standing}; {self.entries} entries, {words.size(self.bytes)}"),
+                ("disk", f"{words.size(self.free_bytes)} free{rate}{left}"), ("journal files", waiting),
+                *((each.name, f"called {words.ago(each.seen, now)}, last new entry {words.ago(each.stored, now)}, "
+                   f"{each.entries} entries") for each in self.machines)]
 
-def is_set_up(etc: Path) -> bool:
-    return (etc / "authorized_keys").exists() or Path(collector_settings.Settings().folder, "state.sqlite").exists()
+
+def is_set_up() -> bool:
+    return (settings.FOLDER / "authorized_keys").exists() or Path(Settings().folder, "state.sqlite").exists()
 
 
 def look(now: float, findings: Findings) -> Collector:
     try:
-        chosen = collector_settings.read()
+        chosen = read_settings()
     except settings.Wrong as fault:
         findings.wrong("settings", "collector", str(fault), f"change it below {settings.FOLDER}/collector.conf.d")
         return Collector()
     found, folder = Collector(chosen.folder), Path(chosen.folder)
     look_at_service(found, folder, findings)
-    look_at_machines(found, folder, settings.FOLDER / "keys", now, findings)
+    look_at_machines(found, folder, settings.FOLDER, now, findings)
     look_at_databases(found, folder, chosen.read_days * DAY, now, findings)
     look_at_what_is_in_databases_alone(folder, findings)
-    look_at_disk(found, folder, chosen, now, findings)
+    look_at_disk(found, folder, chosen, findings)
     look_at_what_was_told(found, folder, now, findings)
     return found
 
@@ -73,29 +84,23 @@ def look_at_service(found: Collector, folder: Path, findings: Findings) -> None:
     if not SSHD.exists():
         findings.failed("sshd", "collector", f"sshd doesn't take machines' keys: there is no {SSHD}",
                         "journal-collect-admin setup")
-    if not any(sshd and sshd.runs for sshd in map(looking.unit, ("ssh.service", "ssh.socket"))):
+    if not any(looking.unit(sshd).get("ActiveState") in looking.RUNS for sshd in ("ssh.service", "ssh.socket")):
         findings.failed("sshd", "collector", "sshd doesn't run, so no machine can send",
                         "systemctl enable --now ssh.service")
 
 
-def look_at_machines(found: Collector, folder: Path, there: Path, now: float, findings: Findings) -> None:
+def look_at_machines(found: Collector, folder: Path, etc: Path, now: float, findings: Findings) -> None:
     """Those that have a key: a retired one is none."""
     known = {row[0]: Machine(*row) for row in looking.rows(
         folder / "state.sqlite", "SELECT name, seen, stored, entries, refused, skew FROM machine")}
-    found.machines = [known.get(name, Machine(name)) for name in keys.machines(there.parent)]
-    admitted = text_of(there.parent / "authorized_keys")
+    found.machines = [known.get(name, Machine(name)) for name in keys.machines(etc)]
+    path = etc / "authorized_keys"
+    admitted = path.read_text(errors="replace") if path.exists() else ""
     for machine in found.machines:
         if f"/{machine.name}\",restrict" not in admitted:
-            findings.failed("key", machine.name, f"{there / machine.name}.pub is no key that sshd takes",
+            findings.failed("key", machine.name, f"{etc / 'keys' / machine.name}.pub is no key that sshd takes",
                             f"journal-collect-admin admit {machine.name} < KEY.pub")
         judge_machine(machine, now, findings)
-
-
-def text_of(path: Path) -> str:
-    try:
-        return path.read_text(errors="replace")
-    except OSError:
-        return ""
 
 
 def judge_machine(machine: Machine, now: float, findings: Findings) -> None:
@@ -149,16 +154,15 @@ def look_at_what_is_in_databases_alone(folder: Path, findings: Findings) -> None
                       "databases have them: journal-collect export DATABASE")
 
 
-def look_at_disk(found: Collector, folder: Path, chosen: collector_settings.Settings, now: float,
-                 findings: Findings) -> None:
+def look_at_disk(found: Collector, folder: Path, chosen: Settings, findings: Findings) -> None:
     """At the rate of the last week. What goes after KEEP_DAYS makes room for as much as comes then."""
     if not folder.is_dir():
         return
     found.free_bytes, free_files = files.free(folder)
     room = found.free_bytes - chosen.free_bytes
     remedy = "make room, or lower KEEP_DAYS or KEEP_BYTES in collector.conf.d and restart the service"
-    if room <= 0 or free_files <= collector_settings.FREE_FILES:
-        least = f"{words.size(chosen.free_bytes)} and {collector_settings.FREE_FILES} files"
+    if room <= 0 or free_files <= FREE_FILES:
+        least = f"{words.size(chosen.free_bytes)} and {FREE_FILES} files"
         findings.failed("disk", "collector", f"{words.size(found.free_bytes)} and {free_files} files are free, and "
                         f"with less than {least} nothing is stored", remedy)
     elif found.bytes_a_day and found.bytes_a_day * chosen.keep_days - found.bytes > room:
@@ -184,7 +188,7 @@ OF_FILES, SECONDS_SAID = ("damaged", "notes"), {"damaged": 7 * DAY}
 
 def look_at_what_was_told(found: Collector, folder: Path, now: float, findings: Findings) -> None:
     """What the service told of lately, unless it is about a machine that has no key any more, or was said above."""
-    there, said = {machine.name for machine in found.machines}, {(each.name, each.about) for each in findings.found}
+    there, said = {machine.name for machine in found.machines}, {(each.name, each.about) for each in findings}
     for cause, text, last, count in looking.rows(folder / "state.sqlite", "SELECT cause, text, last, count FROM told"):
         name, _, about = cause.partition(" ")
         is_there = not about or about in there or name in OF_FILES
@@ -192,17 +196,3 @@ def look_at_what_was_told(found: Collector, folder: Path, now: float, findings: 
         if is_recent and is_there and (name, about) not in said:
             findings.look(name, about or "collector", f"{text} ({count} times, last {words.ago(last, now)})",
                           TOLD.get(name, MORE).format(about=about))
-
-
-def lines(found: Collector, now: float) -> list[tuple[str, str]]:
-    """What people are shown of it, each with its name."""
-    rate = f", {words.size(found.bytes_a_day)} a day" if found.bytes_a_day else ""
-    left = f", full in {found.days_left:.0f} days" if found.days_left is not None else ""
-    standing = ", ".join(f"{count} {name}" for name, count in sorted(found.databases.items())) or "none finished yet"
-    told = [("collector", found.folder), ("service", found.service),
-            ("databases", f"{standing}; {found.entries} entries, {words.size(found.bytes)}"),
-            ("disk", f"{words.size(found.free_bytes)} free{rate}{left}"),
-            ("journal files", f"{found.waiting_for_files} databases wait" if found.waiting_for_files else "all made")]
-    told += [(machine.name, f"called {words.ago(machine.seen, now)}, last new entry {words.ago(machine.stored, now)}, "
-              f"{machine.entries} entries") for machine in found.machines]
-    return told

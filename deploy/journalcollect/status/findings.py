@@ -1,21 +1,19 @@
 """What isn't as it should be: each finding has a name for programs, a sentence, and what to do."""
 import enum
-from dataclasses import dataclass, field
+from dataclasses import dataclass
+from functools import partialmethod
 
 from journalcollect.status import words
 
-
+HOUR, DAY = 3600.0, 86400.0
 SKEW_SECONDS = 60.0
+WORDS = ("well", "look", "wrong settings", "failed")
 CLOCK = "timedatectl on both says which is wrong; timedatectl set-ntp yes mends it"
 
 
 class Status(enum.IntEnum):
     """What a monitor goes by, and the program's own status."""
     WELL, LOOK, WRONG, FAILED = range(4)
-
-    @property
-    def word(self) -> str:
-        return ("well", "look", "wrong settings", "failed")[self]
 
 
 @dataclass(frozen=True)
@@ -28,24 +26,16 @@ class Finding:
     remedy: str
 
     def line(self) -> str:
-        return f"{self.status.word}: {self.about}: {self.text}\n    → {self.remedy}"
+        return f"{WORDS[self.status]}: {self.about}: {self.text}\n    → {self.remedy}"
 
 
-@dataclass
-class Findings:
-    found: list[Finding] = field(default_factory=list)
+class Findings(list[Finding]):
+    def add(self, status: Status, name: str, about: str, text: str, remedy: str) -> None:
+        self.append(Finding(status, name, about, text, remedy))
 
-    def look(self, name: str, about: str, text: str, remedy: str) -> None:
-        """Something to look at: entries still come."""
-        self.found.append(Finding(Status.LOOK, name, about, text, remedy))
-
-    def wrong(self, name: str, about: str, text: str, remedy: str) -> None:
-        """Settings, or the call, are wrong."""
-        self.found.append(Finding(Status.WRONG, name, about, text, remedy))
-
-    def failed(self, name: str, about: str, text: str, remedy: str) -> None:
-        """Nothing comes, or is stored, until it is mended."""
-        self.found.append(Finding(Status.FAILED, name, about, text, remedy))
+    look = partialmethod(add, Status.LOOK)         # entries still come
+    wrong = partialmethod(add, Status.WRONG)       # the settings, or the call
+    failed = partialmethod(add, Status.FAILED)     # nothing comes, or is stored, until it is mended
 
     def clock(self, about: str, ahead: float, this: str, other: str) -> None:
         """By so many seconds a clock goes ahead of another one."""
@@ -55,4 +45,4 @@ class Findings:
 
     @property
     def status(self) -> Status:
-        return max((finding.status for finding in self.found), default=Status.WELL)
+        return max((finding.status for finding in self), default=Status.WELL)

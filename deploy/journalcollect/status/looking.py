@@ -4,32 +4,22 @@ import subprocess
 import tempfile
 from contextlib import closing
 from pathlib import Path
-from typing import Any, NamedTuple
+from typing import Any
 
 from journalcollect.status.findings import Findings
 
-SECONDS = 10
+SECONDS, RUNS = 10, ("active", "activating", "reloading")
 
 
-class Unit(NamedTuple):
-    """What it does now, and whether it is started with the computer."""
-    active: str
-    enabled: str
-
-    @property
-    def runs(self) -> bool:
-        return self.active in ("active", "activating", "reloading")
-
-
-def unit(name: str) -> Unit | None:
-    """None if systemd doesn't know it, or can't be asked."""
+def unit(name: str) -> dict[str, str]:
+    """What systemd says of it; nothing if systemd doesn't know it, or can't be asked."""
     try:
         told = subprocess.run(["systemctl", "show", "--property=LoadState,ActiveState,UnitFileState", "--", name],
                               capture_output=True, check=False, timeout=SECONDS, stdin=subprocess.DEVNULL)
     except (OSError, subprocess.TimeoutExpired):
-        return None
+        return {}
     known = dict(line.partition("=")[::2] for line in told.stdout.decode("utf-8", "replace").splitlines())
-    return Unit(known["ActiveState"], known["UnitFileState"]) if known.get("LoadState") == "loaded" else None
+    return known if known.get("LoadState") == "loaded" else {}
 
 
 def service(name: str, about: str, findings: Findings) -> str:
@@ -37,12 +27,13 @@ def service(name: str, about: str, findings: Findings) -> str:
     told = unit(name)
     if not told:
         return "unknown"
-    if not told.runs:
+    if told["ActiveState"] not in RUNS:
         findings.failed("service", about, f"{name} doesn't run",
                         f"systemctl enable --now {name}; journalctl -u {name} says why it ended")
-    elif told.enabled != "enabled":
+        return "doesn't run"
+    if told["UnitFileState"] != "enabled":
         findings.look("service", about, f"{name} isn't started with the computer", f"systemctl enable {name}")
-    return "runs" if told.runs else "doesn't run"
+    return "runs"
 
 
 def answer(path: Path, mode: str, query: str) -> list[Any]:

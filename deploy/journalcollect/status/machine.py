@@ -7,11 +7,9 @@ from pathlib import Path
 from journalcollect.common import files, settings
 from journalcollect.machine import settings as machine_settings
 from journalcollect.status import looking, words
-from journalcollect.status.findings import CLOCK, Findings
+from journalcollect.status.findings import CLOCK, DAY, HOUR, Findings
 
 SERVICE, FILES = "journal-collect-send.service", "machine.conf.d"
-HOUR, DAY = 3600.0, 86400.0
-STALE_SECONDS = HOUR
 # As few files as these are made in seconds.
 FREE_FILES = 16
 JOIN = "journal-collect-join HOST, as the guide has it"
@@ -55,10 +53,20 @@ class Machine:
     skew: float = 0.0
     trouble: str = ""
 
+    @property
+    def host(self) -> str:
+        return self.collector.rpartition("@")[2]
 
-def is_set_up(etc: Path) -> bool:
+    def lines(self, now: float) -> list[tuple[str, str]]:
+        """What people are shown of it, each with its name."""
+        waits = f"{self.waiting} uploads with {words.size(self.waiting_bytes)}, since {words.day(self.waiting_since)}"
+        return [("machine", f"sends to {self.collector}"), ("service", self.service),
+                ("acknowledged", words.ago(self.acknowledged, now)), ("waiting", waits if self.waiting else "nothing")]
+
+
+def is_set_up() -> bool:
     try:
-        return bool(settings.read(etc / FILES, machine_settings.Settings).collector)
+        return bool(settings.read(settings.FOLDER / FILES, machine_settings.Settings).collector)
     except settings.Wrong:
         return True
 
@@ -90,23 +98,12 @@ def look_at_folder(found: Machine, folder: Path, now: float, findings: Findings)
     places = folder / "places.sqlite"
     values = dict(looking.rows(places, "SELECT name, value FROM value"))
     found.acknowledged, found.answered, found.skew = (
-        as_number(values.get(name, "")) for name in ("acknowledged", "answered", "skew"))
+        float(values.get(name) or 0) for name in ("acknowledged", "answered", "skew"))
     found.trouble = values.get("trouble", "")
     for at, text in looking.rows(places, "SELECT max(time) AS time, text FROM told GROUP BY text ORDER BY time"):
         is_over = PASSING.match(text) and (found.trouble or found.acknowledged >= at)
         if now - at < DAY and not is_over:
-            findings.look("told", "machine", f"{text} ({words.ago(at, now)})", remedy(text, host_of(found)))
-
-
-def as_number(text: str) -> float:
-    try:
-        return float(text)
-    except ValueError:
-        return 0.0
-
-
-def host_of(found: Machine) -> str:
-    return found.collector.rpartition("@")[2]
+            findings.look("told", "machine", f"{text} ({words.ago(at, now)})", remedy(text, found.host))
 
 
 def look_at_room(found: Machine, chosen: machine_settings.Settings, findings: Findings) -> None:
@@ -123,15 +120,14 @@ def look_at_room(found: Machine, chosen: machine_settings.Settings, findings: Fi
 
 
 def judge(found: Machine, now: float, findings: Findings) -> None:
-    host = host_of(found)
     if found.trouble:
-        findings.failed("trouble", "machine", f"nothing goes out: {found.trouble}", remedy(found.trouble, host))
+        findings.failed("trouble", "machine", f"nothing goes out: {found.trouble}", remedy(found.trouble, found.host))
     elif not found.acknowledged:
         findings.look("never", "machine", "nothing was acknowledged yet",
                       f"wait a minute; then journalctl -u {SERVICE}")
-    elif found.waiting and now - max(found.acknowledged, found.waiting_since) > STALE_SECONDS:
+    elif found.waiting and now - max(found.acknowledged, found.waiting_since) > HOUR:
         findings.look("waits", "machine", f"{found.waiting} uploads wait since {words.day(found.waiting_since)}",
-                      f"on {host}: journal-collect-status; here: journalctl -u {SERVICE}")
+                      f"on {found.host}: journal-collect-status; here: journalctl -u {SERVICE}")
     if found.refused:
         findings.look("refused", "machine", f"{found.refused} files in {found.folder}/refused: entries that no "
                       "collector takes", "journal-collect verify export FILE says why; remove them once you saw them")
@@ -139,14 +135,5 @@ def judge(found: Machine, now: float, findings: Findings) -> None:
 
 
 def remedy(trouble: str, host: str) -> str:
-    for pattern, text in REMEDIES:
-        if re.search(pattern, trouble, re.IGNORECASE):
-            return text.format(host=host)
-    return f"journalctl -u {SERVICE}; on {host}: journal-collect-status"
-
-
-def lines(found: Machine, now: float) -> list[tuple[str, str]]:
-    """What people are shown of it, each with its name."""
-    waits = f"{found.waiting} uploads with {words.size(found.waiting_bytes)}, since {words.day(found.waiting_since)}"
-    return [("machine", f"sends to {found.collector}"), ("service", found.service),
-            ("acknowledged", words.ago(found.acknowledged, now)), ("waiting", waits if found.waiting else "nothing")]
+    known = (text for pattern, text in REMEDIES if re.search(pattern, trouble, re.IGNORECASE))
+    return next(known, f"journalctl -u {SERVICE}; on {{host}}: journal-collect-status").format(host=host)

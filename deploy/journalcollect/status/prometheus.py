@@ -7,6 +7,7 @@ from journalcollect.status.findings import Findings
 from journalcollect.status.machine import Machine
 
 PREFIX = "journal_collect_"
+ESCAPED = str.maketrans({"\\": r"\\", '"': r'\"', "\n": r"\n"})
 # A name with its help, and the values with what each is of.
 Figure = tuple[str, str, dict[str, float]]
 
@@ -20,34 +21,31 @@ def text(collector: Collector | None, machine: Machine | None, findings: Finding
             kind = "counter" if name.endswith("_total") else "gauge"
             lines += [f"# HELP {PREFIX}{name} {words}", f"# TYPE {PREFIX}{name} {kind}"]
             lines += [f"{PREFIX}{name}{marks} {plain(value)}" for marks, value in values.items()]
-    return "\n".join(lines) + "\n"
+    return "\n".join(lines)
 
 
 def of_findings(findings: Findings) -> Iterator[Figure]:
     yield "status", "The worst of all findings: 0 well, 1 look, 2 wrong settings, 3 failed", {"": findings.status}
     # the last of a name and what it is about stands, so the worst does
-    found = sorted(findings.found, key=lambda each: each.status)
+    found = sorted(findings, key=lambda each: each.status)
     yield "finding", "Something that isn't as it should be; its value is its status", {
         labels(name=each.name, about=each.about): each.status for each in found}
 
 
 def of_collector(collector: Collector) -> Iterator[Figure]:
-    def each(value: Callable[[Sender], float]) -> dict[str, float]:
-        return {labels(machine=machine.name): value(machine) for machine in collector.machines}
+    def each(name: str, words: str, value: Callable[[Sender], float]) -> Figure:
+        return f"machine_{name}", words, {labels(machine=it.name): value(it) for it in collector.machines}
 
-    yield "machine_seen_timestamp_seconds", "When a machine called last", each(lambda it: it.seen)
-    yield ("machine_stored_timestamp_seconds", "When something new of a machine was stored last",
-           each(lambda it: it.stored))
-    yield "machine_entries_total", "Entries of a machine that were stored", each(lambda it: it.entries)
-    yield "machine_refused_total", "Uploads of a machine that were refused", each(lambda it: it.refused)
-    yield ("machine_clock_skew_seconds", "By how much a machine's clock is ahead of the collector's",
-           each(lambda it: it.skew))
+    yield each("seen_timestamp_seconds", "When a machine called last", lambda it: it.seen)
+    yield each("stored_timestamp_seconds", "When something new of a machine was stored last", lambda it: it.stored)
+    yield each("entries_total", "Entries of a machine that were stored", lambda it: it.entries)
+    yield each("refused_total", "Uploads of a machine that were refused", lambda it: it.refused)
+    yield each("clock_skew_seconds", "By how much a machine's clock is ahead of the collector's", lambda it: it.skew)
     yield "databases", "Databases by how they stand", {
         labels(standing=standing): count for standing, count in collector.databases.items()}
     yield "stored_bytes", "What finished databases take", {"": collector.bytes}
     yield "free_bytes", "What the collector's disk has left", {"": collector.free_bytes}
-    yield ("databases_waiting_for_files", "Finished databases without journal files",
-           {"": collector.waiting_for_files})
+    yield "databases_waiting_for_files", "Finished databases without journal files", {"": collector.waiting_for_files}
 
 
 def of_machine(machine: Machine) -> Iterator[Figure]:
@@ -63,8 +61,4 @@ def plain(value: float) -> str:
 
 
 def labels(**marks: str) -> str:
-    return "{" + ",".join(f'{name}="{escaped(value)}"' for name, value in marks.items()) + "}"
-
-
-def escaped(value: str) -> str:
-    return value.replace("\\", "\\\\").replace('"', '\\"').replace("\n", "\\n")
+    return "{" + ",".join(f'{name}="{value.translate(ESCAPED)}"' for name, value in marks.items()) + "}"

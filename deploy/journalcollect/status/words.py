@@ -20,10 +20,8 @@ def size(count: float) -> str:
 
 
 def span(seconds: float) -> str:
-    for least, unit in STEPS:
-        if seconds >= 2 * least or unit == "s":
-            return f"{max(0.0, seconds) / least:.0f} {unit}"
-    return ""
+    length, unit = next((step for step in STEPS if seconds >= 2 * step[0]), STEPS[-1])
+    return f"{max(0.0, seconds) / length:.0f} {unit}"
 
 
 def ago(at: float | None, now: float) -> str:
