@@ -18,7 +18,10 @@ import time
 from multiprocessing.connection import Connection
 from pathlib import Path
 
-from load import Answers, Collector, Line, in_threads, told, upload, whole
+from load import ROOT, Answers, Collector, Line, in_threads, told, upload, whole
+
+sys.path.append(str(ROOT / "deploy"))
+from journalcollect.common.uploads import MOST_WINDOWS, WINDOW  # noqa: E402
 
 HEALTHY, HOSTILE, CONNECTIONS = 20, 2, 4
 
@@ -37,12 +40,12 @@ def many_sequences(number: int, turn: int) -> bytes:
     return whole(b"".join(entry(sequence(number, turn, which), 1) for which in range(3900)), 3900)
 
 
-def many_windows(number: int, turn: int) -> bytes:
-    return whole(b"".join(entry(sequence(number, turn), 1 + 4096 * each) for each in range(3900)), 3900)
+def many_windows(number: int, turn: int, count: int = 3900) -> bytes:
+    return whole(b"".join(entry(sequence(number, turn), 1 + WINDOW * each) for each in range(count)), count)
 
 
 def sixteen_windows(number: int, turn: int) -> bytes:
-    return whole(b"".join(entry(sequence(number, turn), 1 + 4096 * each) for each in range(16)), 16)
+    return many_windows(number, turn, MOST_WINDOWS)
 
 
 def many_fields(number: int, turn: int) -> bytes:

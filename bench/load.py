@@ -34,6 +34,7 @@ from typing import BinaryIO
 
 ROOT = Path(__file__).resolve().parents[1]
 sys.path[:0] = [str(ROOT / "tests/machine"), str(ROOT / "tests")]
+from samples import second_head  # noqa: E402
 from sshd import CONFIG, SSHD  # noqa: E402
 
 OPTIONS = ("BatchMode=yes", "IdentitiesOnly=yes", "ControlPath=none", "UserKnownHostsFile=/dev/null",
@@ -75,7 +76,7 @@ def upload(machine: int, first: int, count: int) -> bytes:
 
 def whole(body: bytes, count: int) -> bytes:
     """An upload of its own source."""
-    return b"JCUPLD02\1\1" + bytes(6) + os.urandom(16) + bytes(8) + count.to_bytes(8, "little") + body
+    return second_head(0, True, count, os.urandom(16)) + body
 
 
 class Line:

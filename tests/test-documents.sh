@@ -59,7 +59,7 @@ changed docs/GATE.md 's/^There are [0-9]+\.$/There are 7./' "~docs/GATE.md tells
 changed crates/jc_base/refused/limit-off-by-one.edit '/^goal:/d' \
     "crates/jc_base/refused/limit-off-by-one.edit names no goal that has to refuse it"
 changed docs/FORMATS.md 's/^\| 60 \|/| 59 |/' "~code (59, *code (60, *"
-changed docs/FORMATS.md 's/16,777,216/33,554,432/' \
+changed docs/FORMATS.md 's/^(\| value \| .* )[0-9,]+ \|$/\17 |/' \
     "deploy/journalcollect/common/fit.py has other limits than docs/FORMATS.md"
 changed deploy/journalcollect/common/codes.py 's/OVER_BOUNDS = 6/OVER_BOUNDS = 7/' \
     "deploy/journalcollect/common/codes.py: 7 isn't OVER_BOUNDS in docs/FORMATS.md"

@@ -13,6 +13,7 @@ from typing import Any
 from ..collector.settings import Folder
 from ..collector.settings import read as read_settings
 from ..common import program, settings
+from ..machine.journal import looked_at
 from ..reading import making
 from ..setup.collector import set_up
 from ..setup.deeds import Deeds, status
@@ -20,7 +21,6 @@ from . import backup
 from .machines import Machines
 from .operations import No
 
-JOURNAL_FILE, FILE_ID = b"LPKSHHRH", slice(24, 40)
 # What a name of a command has for its words, and what it does.
 COMMANDS = {
     "setup": ("", "makes this computer a collector; called again it changes nothing"),
@@ -99,14 +99,13 @@ def done(folder: Folder, asked: argparse.Namespace) -> Iterator[Any]:
 
 def upload_of(path: Path) -> Any:
     """An open file with an upload: the file itself, or one that is made of a journal file."""
-    file = open(path, "rb")
-    head = file.read(64)
-    if not head.startswith(JOURNAL_FILE):
-        return file
-    file.close()
+    try:
+        source = looked_at(path).id
+    except ValueError:
+        return open(path, "rb")
     made = tempfile.TemporaryFile()
-    subprocess.run([program.path(), "upload", "--source", head[FILE_ID].hex(), "--resume", "/nonexistent/resume",
-                    "file", path], stdout=made, check=True)
+    subprocess.run([program.path(), "upload", "--source", source, "--resume", "/nonexistent/resume", "file", path],
+                   stdout=made, check=True)
     return made
 
 

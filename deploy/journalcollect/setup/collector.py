@@ -3,6 +3,7 @@ import pwd
 import re
 from pathlib import Path
 
+from journalcollect.collector.settings import Settings
 from journalcollect.setup import keys
 from journalcollect.setup.deeds import Deeds, Stopped, is_true, output
 
@@ -37,7 +38,7 @@ def folders(deeds: Deeds, etc: Path) -> None:
     """Machines' login enters the folder of sockets alone, and readers what isn't for the service alone."""
     deeds.folder(etc / "keys", 0o755)
     deeds.folder(etc / "collector.conf.d", 0o755)
-    state = Path("/var/lib/journal-collect")
+    state = Path(Settings().folder)
     deeds.folder(state, 0o751, "journal-collect", "journal-collect-read")
     deeds.folder(state / "sockets", 0o710, "journal-collect", LOGIN)
     deeds.folder(state / "journals", 0o750, "journal-collect", "journal-collect-read")
