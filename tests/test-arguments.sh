@@ -1,14 +1,13 @@
 #!/usr/bin/env bash
-# What arguments ask for, by what the program then does: which files it takes, in which order, with which limits. And
-# the mistakes in arguments, by the words that stand for each kind of mistake.
+# What arguments ask for, by what the program then does: which files it takes, and in which order. And the mistakes in
+# arguments, by the words that stand for each kind of mistake.
 set -uo pipefail
 . "$(dirname "$0")/expect.sh"
 
 new_folder
 most=9223372036854775807
 db=$folder/db
-samples 'a=stream(E1, E2)' 'b=stream(E3)' '-a=stream(entry_text(10))' 'in=E1 + E2' \
-    'many=b"".join(map(entry_text, range(1, 1002)))' 'journal=FILE' 'uploaded=head(2) + FILE'
+samples 'a=stream(E1, E2)' 'b=stream(E3)' '-a=stream(entry_text(10))'
 
 # the uploads in the order of the arguments, one of them twice; one after `--`; and the one on standard input
 a=$folder/a b=$folder/b
@@ -30,14 +29,10 @@ shows "1 2 3 10" "$db"
 shows "2 3" "$db" --id 000102030405060708090a0b0c0d0e0f --from 2 --to 3
 shows "" --to=0 "$db" "--from=$most"
 shows "1 2 3" --to 007 "$db"
-expect 2 "" "bad id" "$PROGRAM" show "$db" --id "no id" --from 2 --to 3
 
 # the field that `show` has in its lines, and names that none has
 first="000102030405060708090a0b0c0d0e0f 1 1000000 5"
-expect 0 "$first hi" "" "$PROGRAM" show "$db" --to 1 --field MESSAGE
 expect 0 "$first -" "" "$PROGRAM" show "$db" --to 1 --field=_BOOT_ID
-"$PROGRAM" collect "$folder/file.db" "$folder/uploaded" > "$folder/told"
-expect 0 "$first 101112131415161718191a1b1c1d1e1f" "" "$PROGRAM" show "$folder/file.db" --field _BOOT_ID
 for name in "" = A=B "MESSAGE=" $'\n' $'A\nB' $'A\n' __ __CURSOR __SEQNUM; do
     expect 2 "" "bad field name" "$PROGRAM" show "$db" --field "$name"
 done
@@ -45,38 +40,10 @@ for name in _ _A A__ " " $'\t' "größe" "$(printf 'A%.0s' {1..2000})"; do
     expect 0 "$first -" "" "$PROGRAM" show "$db" --to 1 --field "$name"
 done
 
-# the file of `inspect`, and that of `--then-export`, before the database and after it
-expect 0 "upload $id 0 2 0 000102030405060708090a0b0c0d0e0f 2 1" "" "$PROGRAM" inspect "$a"
+# the file of `inspect`, and that of `--then-export`
 expect 0 "upload $id 0 1 0 000102030405060708090a0b0c0d0e0f 10 1" "" env -C "$folder" "$PROGRAM" inspect -- -a
-expect 0 "ack $id 0 1 0 0" "" "$PROGRAM" collect --then-export "$folder/out" "$db" "$b"
-cmp -s "$folder/all" "$folder/out" || differs "--then-export before the database"
-rm "$folder/out"
 expect 0 "ack $id 0 1 0 0" "" "$PROGRAM" collect "$db" "--then-export=$folder/out" < "$b"
 cmp -s "$folder/all" "$folder/out" || differs "--then-export after the database"
-
-# what a file holds; at most 1,000 entries unless a limit is given, and a journal file whole whatever the limit
-machine() { "$PROGRAM" "$1" --source "$id" --resume "$folder/resume" "${@:2}"; }
-counts() { tail -c +49 "$folder/told" > "$folder/body" && "$PROGRAM" verify "$1" "$folder/body"; }
-expect 0 "ok 2 0" "" "$PROGRAM" verify export "$folder/in"
-expect 0 "ok 1 0" "" "$PROGRAM" verify file "$folder/journal"
-machine upload export "$folder/many" > "$folder/told"
-expect 0 "ok 1000 0" "" counts export
-machine upload --limit 0 export "$folder/many" > "$folder/told"
-expect 0 "ok 0 0" "" counts export
-machine upload --limit 0 file "$folder/journal" > "$folder/told"
-expect 0 "ok 1 0" "" counts file
-# as many of these as fit in its bytes, of which the header has 48 and each of the first 121, and one in any case
-for row in "290 2" "289 1" "169 1" "0 1" "$most 1000"; do
-    read -r bytes count <<< "$row"
-    machine upload --bytes "$bytes" export "$folder/many" > "$folder/told"
-    expect 0 "ok $count 0" "" counts export
-done
-machine upload --limit 1 --bytes 290 export "$folder/many" > "$folder/told"
-expect 0 "ok 1 0" "" counts export
-machine upload --bytes 0 file "$folder/journal" > "$folder/told"
-expect 0 "ok 1 0" "" counts file
-expect 0 "resume 2" "" machine ack export "$folder/in" <<< "ack $id 0 2 2 0"
-expect 0 "resume 2 000102030405060708090a0b0c0d0e0f 2" "" cat "$folder/resume"
 
 # mistakes
 missing="error: the following required arguments were not provided:"
@@ -112,10 +79,11 @@ expect 2 "" "~error: invalid value 'x' for '--from <N>': *" "$PROGRAM" show db -
 expect 2 "" "~error: invalid value '-1' for '--from <N>': *" "$PROGRAM" show db --from=-1
 expect 2 "" "~error: invalid value '9223372036854775808' for '--to <N>': *" "$PROGRAM" show db --to 9223372036854775808
 expect 2 "" "~error: invalid value '9223372036854775808' for '--limit <N>': *" \
-    machine upload --limit 9223372036854775808 export "$folder/in"
+    "$PROGRAM" upload --limit 9223372036854775808 --source "$id" --resume r export in
 expect 2 "" "~error: invalid value '9223372036854775808' for '--bytes <N>': *" \
-    machine upload --bytes 9223372036854775808 export "$folder/in"
-expect 2 "" "~error: invalid value 'x' for '--bytes <N>': *" machine upload --bytes x export "$folder/in"
+    "$PROGRAM" upload --bytes 9223372036854775808 --source "$id" --resume r export in
+expect 2 "" "~error: invalid value 'x' for '--bytes <N>': *" \
+    "$PROGRAM" upload --bytes x --source "$id" --resume r export in
 expect 2 "" "~error: invalid value 'other' for '<KIND>'"$'\n'"  \\[possible values: export, file\\]*" \
-    "$PROGRAM" verify other "$folder/in"
+    "$PROGRAM" verify other in
 finish
