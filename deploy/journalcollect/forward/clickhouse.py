@@ -1,10 +1,9 @@
 """ClickHouse, by HTTP: rows of JSON for a table whose sorting key has an entry's key, so that a row that comes again is
 merged with the first one."""
+import contextlib
 import http.client
 import re
 import signal
-import socket
-from dataclasses import dataclass
 from urllib.parse import urlencode
 
 from . import settings
@@ -24,31 +23,15 @@ OF_TABLE = "Unknown field"
 
 
 class Unavailable(Exception):
-    """It takes nothing now. Sent again later, the same may be taken. The connection may have been cut."""
-
-    def __init__(self, reason: str, is_cut: bool = False) -> None:
-        super().__init__(reason)
-        self.is_cut = is_cut
+    """It takes nothing now, and why. Sent again later, the same may be taken."""
 
 
 class Refused(Exception):
     """A row will never be taken, and why."""
 
 
-@dataclass(frozen=True)
-class Answer:
-    status: int
-    body: bytes
-
-    @property
-    def text(self) -> str:
-        """What it said, on one line."""
-        said = self.body[:LONGEST_REASON].decode(errors="replace").strip()
-        return f"{self.status} {''.join(each if each.isprintable() else '?' for each in said)}".strip()
-
-
 class ClickHouse:
-    """One table, over one connection."""
+    """One table."""
 
     def __init__(self, chosen: Settings, seconds: float) -> None:
         parts, context, self.seconds = chosen.parts, settings.encryption(chosen), seconds
@@ -62,27 +45,25 @@ class ClickHouse:
         """Whether the table is there, with all columns; Unavailable if not."""
         database, _, table = self.table.rpartition(".")
         where = f"'{database}'" if database else "currentDatabase()"
-        answer = self.post("/", f"SELECT name FROM system.columns WHERE database = {where} AND table = '{table}' "
-                                "FORMAT TabSeparated".encode())
-        if answer.status != 200:
-            raise Unavailable(answer.text)
-        has = set(answer.body.decode(errors="replace").split())
+        status, said = self.post("/", f"SELECT name FROM system.columns WHERE database = {where} AND table = '{table}' "
+                                      "FORMAT TabSeparated".encode())
+        if status != 200:
+            raise Unavailable(one_line(status, said))
+        has = set(said.split())
         if missing := sorted({*OWN, *COLUMNS.values()} - has):
             lacks = f"lacks {', '.join(missing)}" if has else "isn't there"
             raise Unavailable(f"the table {self.table} {lacks}: see journal-collect-forward --schema")
 
     def put(self, rows: list[Row]) -> None:
         """Brings rows there: it has all of them when this returns. Refused if one of them is wrong."""
-        answer = self.post(self.insert, b"".join([row.data for row in rows]))
-        if answer.status == 200 and not answer.body:
+        status, said = self.post(self.insert, b"".join([row.data for row in rows]))
+        if status == 200 and not said:
             return
-        said = answer.body.decode(errors="replace")
         code = CODE.search(said)
-        if answer.status == 413 or code and int(code[1]) in OF_ROWS and OF_TABLE not in said:
-            raise Refused(answer.text)
-        raise Unavailable(answer.text)
+        is_of_rows = status == 413 or code and int(code[1]) in OF_ROWS and OF_TABLE not in said
+        raise (Refused if is_of_rows else Unavailable)(one_line(status, said))
 
-    def post(self, target: str, body: bytes) -> Answer:
+    def post(self, target: str, body: bytes) -> tuple[int, str]:
         """A request, and its answer. All of it has a deadline, however slowly something comes."""
         signal.signal(signal.SIGALRM, self.end)
         try:
@@ -92,22 +73,21 @@ class ClickHouse:
             finally:
                 signal.setitimer(signal.ITIMER_REAL, 0)
         except (OSError, http.client.HTTPException) as error:
-            self.connection.close()
-            is_cut = not isinstance(error, (ConnectionRefusedError, socket.gaierror))
-            raise Unavailable(f"it can't be reached: {str(error) or type(error).__name__}", is_cut) from error
+            raise Unavailable(f"it can't be reached: {str(error) or type(error).__name__}") from error
 
     def end(self, *_: object) -> None:
         raise TimeoutError(f"no answer within {self.seconds:g} s")
 
-    def exchange(self, target: str, body: bytes) -> Answer:
-        # It may have closed the connection while nothing was under way.
-        self.connection.close()
+    def exchange(self, target: str, body: bytes) -> tuple[int, str]:
+        self.connection.close()                     # it may be one that broke, or that the server has closed
         self.connection.connect()
-        try:
+        with contextlib.suppress(BrokenPipeError, ConnectionResetError):    # who finds this too large answers before
             self.connection.request("POST", self.path + target, body, self.headers)
-        except (BrokenPipeError, ConnectionResetError):
-            # It may have answered before it had all, as one does that finds this too large.
-            if self.connection.sock is None:
-                raise
         response = self.connection.getresponse()
-        return Answer(response.status, response.read(MOST_BYTES))
+        return response.status, response.read(MOST_BYTES).decode(errors="replace")
+
+
+def one_line(status: int, said: str) -> str:
+    """An answer as people read it."""
+    text = "".join(each if each.isprintable() else "?" for each in said[:LONGEST_REASON].strip())
+    return f"{status} {text}".strip()

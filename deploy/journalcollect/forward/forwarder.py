@@ -1,6 +1,6 @@
 """journal-collect-forward: brings what was collected to ClickHouse, database by database."""
 import argparse
-import fcntl
+import json
 import os
 import shutil
 import signal
@@ -18,9 +18,9 @@ from ..common.settings import Wrong
 from ..common.entries import spans
 from ..common.export_stream import Unfit
 from ..reading import exports
-from . import settings
+from . import place, settings
 from .clickhouse import ClickHouse, Refused, Unavailable
-from .place import Kept, Place
+from .place import Place
 from .rows import Row, row
 from .settings import Settings
 
@@ -28,18 +28,19 @@ STATUSES = """\
 Status: 0 all went well; 1 something to look at: entries that were put aside, databases that are damaged or went before
 they were forwarded; 2 the call or the settings are wrong; 3 something failed; 75 another run is under way."""
 BATCH_ENTRIES, BATCH_BYTES, POLL_SECONDS = 5_000, 8 << 20, 5.0
-LONGEST_WAIT, PATIENCE, MOST_CUTS = 60.0, 8.0, 3
+LONGEST_WAIT, PATIENCE = 60.0, 8.0
 ALL = "all"
 
 
 class Forwarder:
     """One run."""
 
-    def __init__(self, chosen: Settings, folder: Path, once: bool, seconds: float) -> None:
-        self.chosen, self.once, self.seconds = chosen, once, seconds
-        self.folder, self.state = Folder(folder), folder / "forward"
-        self.folder.scratch, self.kept = self.state / "scratch", Kept(self.state)
-        self.place, self.database, self.status, self.waits_for = Place(), "", 0, ""
+    def __init__(self, chosen: Settings, folder: Path, once: bool) -> None:
+        self.chosen, self.folder, self.once, self.state = chosen, Folder(folder), once, folder / "forward"
+        self.folder.scratch = self.state / "scratch"
+        # How far it has come; what the engine doesn't take, a line for each entry; why it waits, and since when.
+        self.path, self.aside, self.problem = (self.state / each for each in ("place.json", "aside.json", "problem"))
+        self.place, self.status, self.waits_for = place.read(self.path), 0, ""
 
     def tell(self, text: str, status: int = 0) -> None:
         print(f"forward: {text}", file=sys.stderr, flush=True)
@@ -50,36 +51,46 @@ class Forwarder:
         return {name: databases.told_digest(databases.path_of(self.folder, name)) or ""
                 for name in databases.finished(self.folder)}
 
-    def run(self, place: Place) -> int:
-        self.place, engine = place, ClickHouse(self.chosen, self.seconds)
-        self.kept.problem.unlink(missing_ok=True)
+    def begin(self, again: list[str], keeps: bool) -> None:
+        """What is to be forwarded once more. What another target has says nothing of this one."""
+        if ALL in again:
+            self.place = Place()
+        elif self.place.target not in ("", self.chosen.target) and not keeps:
+            raise Wrong(f"`{self.place.target}` has what was forwarded, and the settings name `{self.chosen.target}`: "
+                        f"call --again {ALL} to forward all to it, or --keep-place if it has the same")
+        for name in again:
+            if name != ALL and not (self.place.done.pop(name, None) or self.place.bad.pop(name, None)):
+                raise Wrong(f"{name} wasn't forwarded")
+        self.place.target = self.chosen.target
+
+    def run(self, engine: ClickHouse) -> int:
+        self.problem.unlink(missing_ok=True)
         shutil.rmtree(self.folder.scratch, ignore_errors=True)          # what a run left that was killed
         self.folder.scratch.mkdir()
         self.insist(engine.look)
         while True:
             finished = self.finished()
-            for name in place.note(finished):
+            for name in self.place.note(finished):
                 self.tell(f"{name} went before it was forwarded", LOOK)
-            for name in place.waited:
+            for name in self.place.waited:
                 self.forward(name, finished[name], engine)
-            self.kept.write(place)
-            if self.once and not place.waiting(self.finished()):
+            self.place.write(self.path)
+            if self.once and not self.place.waiting(self.finished()):
                 return self.status
             time.sleep(0.0 if self.once else POLL_SECONDS)
 
     def forward(self, name: str, digest: str, engine: ClickHouse) -> None:
         """Brings a database there. If a stop comes between, all of it goes out once more, and counts once."""
-        self.database = name
         try:
             for batch in batches(self.rows(name)):
-                self.bring(batch, engine)
+                self.bring(name, batch, engine)
             self.place.done[name] = digest
         except (program.Failed, databases.Damaged, Unfit, ValueError) as error:
             self.place.bad[name] = digest
             self.tell(f"{name} is damaged, and not all of it is forwarded: {error}", LOOK)
         except FileNotFoundError:
             self.tell(f"{name} went while it was forwarded", LOOK)
-        self.kept.write(self.place)
+        self.place.write(self.path)
 
     def rows(self, name: str) -> Iterator[Row]:
         """The entries of a database, in the order of their keys."""
@@ -88,58 +99,62 @@ class Forwarder:
             for span in spans(data):
                 yield row(data[span.begin:span.end], day)
 
-    def bring(self, batch: list[Row], engine: ClickHouse) -> None:
-        """Brings rows there, however long that takes. What isn't taken is found by halves, and put aside; so is what
-        cuts the connection again and again."""
+    def bring(self, name: str, batch: list[Row], engine: ClickHouse) -> None:
+        """Brings rows there, however long that takes. What isn't taken is found by halves, and put aside."""
         try:
-            self.insist(lambda: engine.put(batch), MOST_CUTS if len(batch) > 1 else None)
-        except (Refused, Unavailable) as fault:
+            self.insist(lambda: engine.put(batch))
+        except Refused as fault:
             if len(batch) == 1:
-                self.kept.put_aside(self.database, batch[0], str(fault))
-                self.tell(f"{batch[0].sequence} {batch[0].number} isn't taken, and is put aside in {self.kept.aside}: "
-                          f"{fault}", LOOK)
+                self.put_aside(name, batch[0], str(fault))
                 return
             half = len(batch) // 2
-            self.bring(batch[:half], engine)
-            self.bring(batch[half:], engine)
+            self.bring(name, batch[:half], engine)
+            self.bring(name, batch[half:], engine)
 
-    def insist(self, step: Callable[[], None], most_cuts: int | None = None) -> None:
-        """Takes a step again and again until the engine lets it be taken, or has cut the connection too often."""
-        seconds, cuts = 1.0, 0
+    def put_aside(self, database: str, row: Row, why: str) -> None:
+        """A row is on the disk when this returns, and why it isn't taken; after a stop perhaps once more."""
+        said = {"database": database, "why": why, "row": json.loads(row.data)}
+        with open(self.aside, "ab") as file:
+            file.write(json.dumps(said).encode() + b"\n")
+            file.flush()
+            os.fsync(file.fileno())
+        self.tell(f"{row.sequence} {row.number} isn't taken, and is put aside in {self.aside}: {why}", LOOK)
+
+    def insist(self, step: Callable[[], None]) -> None:
+        """Takes a step again and again until the engine lets it be taken."""
+        seconds = 1.0
         while True:
             try:
                 step()
                 break
             except Unavailable as unavailable:
-                cuts = cuts + 1 if unavailable.is_cut else 0
-                if cuts == most_cuts:
-                    raise
-                self.wait(unavailable, seconds)
+                self.wait(str(unavailable), seconds)
                 seconds = min(2 * seconds, LONGEST_WAIT)
         if self.waits_for:
             self.tell("it goes on")
             self.waits_for = ""
-            self.kept.problem.unlink(missing_ok=True)
+            self.problem.unlink(missing_ok=True)
 
-    def wait(self, why: Unavailable, seconds: float) -> None:
-        if str(why) != self.waits_for:
-            self.waits_for = str(why)
+    def wait(self, why: str, seconds: float) -> None:
+        if why != self.waits_for:
+            self.waits_for = why
             self.tell(f"{why}; it is tried again in {seconds:.0f} s, and later at least each minute")
-            files.replace(self.kept.problem, f"{int(time.time())} {why}\n".encode(errors="replace"))
+            files.replace(self.problem, f"{int(time.time())} {why}\n".encode(errors="replace"))
         if self.once and seconds > PATIENCE:
-            raise TimeoutError(f"nothing is taken: {why}") from why
+            raise TimeoutError(f"nothing is taken: {why}")
         time.sleep(seconds)
 
     def say_status(self) -> int:
         """How far behind it is; whether something is to be looked at."""
-        place, finished = self.kept.read(), self.finished()
-        print(f"engine {self.chosen.target}\nforwarded {len(place.done)} newest {max(place.done, default='none')}\n"
-              f"waiting {len(place.waiting(finished))}")
-        wrong = [f"damaged {name}" for name in place.bad] + [f"missed {name}" for name in place.missed]
-        if aside := self.kept.count_aside():
-            wrong.append(f"aside {aside} in {self.kept.aside}")
-        if self.kept.problem.exists():
-            since, _, why = self.kept.problem.read_text(errors="replace").strip().partition(" ")
+        done, waiting = self.place.done, self.place.waiting(self.finished())
+        print(f"engine {self.chosen.target}\nforwarded {len(done)} newest {max(done, default='none')}\n"
+              f"waiting {len(waiting)}")
+        wrong = [f"damaged {name}" for name in self.place.bad] + [f"missed {name}" for name in self.place.missed]
+        if self.aside.exists():
+            count = self.aside.read_bytes().count(b"\n")
+            wrong.append(f"aside {count} in {self.aside}")
+        if self.problem.exists():
+            since, _, why = self.problem.read_text(errors="replace").strip().partition(" ")
             wrong.append(f"waits since {int(time.time()) - int(since)} seconds: {why}")
         print(*wrong, sep="\n", end="\n" if wrong else "")
         return LOOK if wrong else 0
@@ -157,21 +172,6 @@ def batches(rows: Iterator[Row]) -> Iterator[list[Row]]:
             batch, held = [], 0
     if batch:
         yield batch
-
-
-def place_for(chosen: Settings, kept: Kept, again: list[str], keeps: bool) -> Place:
-    """How far it has come. What another target has says nothing of this one."""
-    place = kept.read()
-    if ALL in again:
-        place = Place()
-    elif place.target not in ("", chosen.target) and not keeps:
-        raise Wrong(f"`{place.target}` has what was forwarded, and the settings name `{chosen.target}`: call "
-                    f"--again {ALL} to forward all to it, or --keep-place if it has the same")
-    for name in again:
-        if name != ALL and not (place.done.pop(name, None) or place.bad.pop(name, None)):
-            raise Wrong(f"{name} wasn't forwarded")
-    place.target = chosen.target
-    return place
 
 
 def arguments() -> argparse.Namespace:
@@ -199,17 +199,16 @@ def main() -> int:
         if not chosen.url:
             print("forward: URL isn't set; nothing is forwarded", file=sys.stderr)
             return 0
-        run = Forwarder(chosen, Path(collector_settings.read().folder), asked.once, asked.timeout)
+        run = Forwarder(chosen, Path(collector_settings.read().folder), asked.once)
         if asked.status:
             return run.say_status()
         run.state.mkdir(exist_ok=True)
         signal.signal(signal.SIGTERM, lambda *_: sys.exit(0))
-        with open(run.state / "lock", "wb") as lock:
-            fcntl.flock(lock, fcntl.LOCK_EX | fcntl.LOCK_NB)
-            return run.run(place_for(chosen, run.kept, asked.again, asked.keep_place))
-    except BlockingIOError:
-        print("forward: another run is under way", file=sys.stderr)
-        return BUSY
+        if run.folder.locked("forward/lock") is None:
+            print("forward: another run is under way", file=sys.stderr)
+            return BUSY
+        run.begin(asked.again, asked.keep_place)
+        return run.run(ClickHouse(chosen, asked.timeout))
     except (Wrong, OSError) as fault:
         print(f"forward: {fault}", file=sys.stderr)
         return WRONG if isinstance(fault, Wrong) else FAILED

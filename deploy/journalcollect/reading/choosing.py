@@ -2,24 +2,23 @@
 
 Files are opened as they are chosen, so that none is missing when a database gets its place in a day meanwhile.
 """
-import os
 import resource
 from collections.abc import Iterable
+from contextlib import ExitStack
 from pathlib import Path
 from typing import NamedTuple
 
 from . import places, remote
 from .places import About, Places
+from .remote import Header
 
 FOREVER = 1 << 63
 
 
 class File(NamedTuple):
-    """An open journal file, the first and last time in it, and how many entries it has."""
+    """An open journal file, and what it has."""
     handle: int
-    first: int
-    last: int
-    entries: int
+    head: Header
 
 
 class Standing(NamedTuple):
@@ -28,52 +27,40 @@ class Standing(NamedTuple):
     finished: list[File]
 
     def since(self, since: int, until: int = FOREVER) -> "Standing":
-        return Standing([file for file in self.present if min(file.first, file.last) <= until],
-                        [file for file in self.finished if file.last >= since and file.first <= until])
+        return Standing([file for file in self.present if min(file.head.first, file.head.last) <= until],
+                        [file for file in self.finished if file.head.last >= since and file.head.first <= until])
 
     @property
     def files(self) -> list[File]:
         return self.present + self.finished
 
 
-def standing(at: Places) -> Standing:
+def standing(at: Places, opened: ExitStack) -> Standing:
     """The files that stand now."""
     _, hard = resource.getrlimit(resource.RLIMIT_NOFILE)
     resource.setrlimit(resource.RLIMIT_NOFILE, (hard, hard))
     for _ in range(20):
-        opened: list[File] = []
         try:
             return look(at, opened)
         except FileNotFoundError:
-            close(opened)
+            opened.close()
     raise OSError(f"the files in {at.journals} change all the time")
 
 
-def look(at: Places, opened: list[File]) -> Standing:
+def look(at: Places, opened: ExitStack) -> Standing:
     """The present is listed first, then what takes its place, then what takes that one's: so nothing is passed over."""
     live, told = sorted(at.present.glob("*.journal")), at.made()
     days = {path.parent for path in told.values()} - {at.today}
     by_time = [path for day in days for path in day.glob("*.journal")]
     by_time += [path for path in at.today.glob("*.journal") if told.get(remote.stem(path), at.today).parent == at.today]
     present = open_all((path for path in live if remote.stem(path) not in told), opened)
-    return Standing(present, sorted(open_all(by_time, opened), key=lambda file: file.first))
+    return Standing(present, sorted(open_all(by_time, opened), key=lambda file: file.head.first))
 
 
-def open_all(paths: Iterable[Path], opened: list[File]) -> list[File]:
+def open_all(paths: Iterable[Path], opened: ExitStack) -> list[File]:
     """Those that have entries."""
-    found = []
-    for path in paths:
-        handle = os.open(path, os.O_RDONLY | os.O_CLOEXEC)
-        head = remote.header(handle)
-        opened.append(File(handle, head.first, head.last, head.entries) if head else File(handle, 0, 0, 0))
-        if opened[-1].entries:
-            found.append(opened[-1])
-    return found
-
-
-def close(files: Iterable[File]) -> None:
-    for file in files:
-        os.close(file.handle)
+    handles = [opened.enter_context(open(path, "rb", buffering=0)).fileno() for path in paths]
+    return [File(handle, head) for handle in handles if (head := remote.header(handle)) and head.entries]
 
 
 def about(at: Places) -> About:

@@ -25,8 +25,4 @@ def exported(folder: Folder, name: str) -> Iterator[Data]:
     """All entries of a database, as a canonical stream."""
     with databases.unpacked(folder, name) as copy, files.unnamed(folder.scratch) as stream:
         program.export(copy, stream)
-        if not os.fstat(stream).st_size:
-            yield b""
-            return
-        with mmap.mmap(stream, 0, access=mmap.ACCESS_READ) as data:
-            yield data
+        yield mmap.mmap(stream, 0, access=mmap.ACCESS_READ) if os.fstat(stream).st_size else b""

@@ -4,7 +4,6 @@ import math
 import os
 import subprocess
 import sys
-import threading
 import time
 from collections import Counter
 from collections.abc import Iterator
@@ -15,24 +14,24 @@ from ..common import times
 from .choosing import FOREVER, File, Standing
 from .words import Call
 
-PROGRAM = "journalctl"
 CURSORS = ("cursor", "after-cursor", "cursor-file", "show-cursor")
+PROCESSORS = os.cpu_count() or 1
+Entry = dict[str, Any]
 
 
 class Window(NamedTuple):
     """Some files, and the span of which entries of them are asked for, in microseconds."""
     files: list[File]
-    since: int
-    until: int
+    since: int = 0
+    until: int = FOREVER
 
     def words(self, call: Call) -> list[str]:
-        """The words for this span."""
+        """The call of journalctl for this span."""
         if self.since:
-            call = call.without("since").plus(("since", times.spelled(self.since)))
+            call = call.without("since").plus(since=times.spelled(self.since))
         if self.until < FOREVER:
-            call = call.without("until").plus(("until", times.spelled(self.until)))
-        files = [f"--file=/proc/self/fd/{handle}" for handle in self.handles]
-        return [PROGRAM, *files, "--merge", "--no-pager", *call.words()]
+            call = call.without("until").plus(until=times.spelled(self.until))
+        return ["journalctl", *(f"--file=/proc/self/fd/{handle}" for handle in self.handles), "--merge", *call.words()]
 
     @property
     def handles(self) -> list[int]:
@@ -42,89 +41,75 @@ class Window(NamedTuple):
 def windows(standing: Standing, since: int, until: int, many: int) -> list[Window]:
     """About so many windows with as many entries each, the oldest first. The present has one of its own, since its
     entries aren't in the order of their times."""
-    files = standing.finished
-    each = sum(file.entries for file in files) // many + 1
+    each = sum(file.head.entries for file in standing.finished) // many + 1
     bounds, held = [since], 0
-    for file in files:
-        if held >= each and file.first > bounds[-1]:
-            bounds.append(file.first)
+    for file in standing.finished:
+        if held >= each and file.head.first > bounds[-1]:
+            bounds.append(file.head.first)
             held = 0
-        held += file.entries
-    found = []
-    for begin, end in zip(bounds, [*(bound - 1 for bound in bounds[1:]), until]):
-        of_span = [file for file in files if file.last >= begin and file.first <= end]
-        if of_span:
-            found.append(Window(of_span, begin, end))
-    return [*found, *([Window(standing.present, since, until)] if standing.present else [])]
+        held += file.head.entries
+    ends = [*(bound - 1 for bound in bounds[1:]), until]
+    found = [Window(standing.since(begin, end).finished, begin, end) for begin, end in zip(bounds, ends)]
+    return [window for window in [*found, Window(standing.present, since, until)] if window.files]
 
 
-def become(window: Window, call: Call) -> int:
+def become(window: Window, call: Call) -> None:
     """This process becomes journalctl, with its pager."""
     for handle in window.handles:
         os.set_inheritable(handle, True)
-    os.execvp(PROGRAM, [word for word in window.words(call) if word != "--no-pager" or call.has("no-pager")])
+    words = window.words(call)
+    os.execvp(words[0], words)
 
 
-def entries(window: Window, call: Call, *fields: str, end: float = math.inf) -> Iterator[dict[str, Any]]:
+def entries(window: Window, call: Call, *fields: str, end: float = math.inf) -> Iterator[Entry]:
     """The entries as JSON says them, with some fields alone if named; those until a moment of the monotonic clock."""
-    call = call.without("output", "output-fields", "quiet").plus(("output", "json"), ("quiet", None))
+    call = call.without("output", "output-fields").plus("quiet", output="json")
     if fields:
-        call = call.plus(("output-fields", ",".join(fields)))
-    with subprocess.Popen(window.words(call), stdout=subprocess.PIPE, stderr=subprocess.DEVNULL,
-                          pass_fds=window.handles) as process:
+        call = call.plus(output_fields=",".join(fields))
+    words = ["timeout", str(max(end - time.monotonic(), 0.001)), *window.words(call)]
+    with subprocess.Popen(words, stdout=subprocess.PIPE, stderr=subprocess.DEVNULL, pass_fds=window.handles) as process:
         assert process.stdout
-        timer = threading.Timer(max(end - time.monotonic(), 0.0), process.kill)
-        if end < math.inf:
-            timer.start()
-        try:
-            yield from (json.loads(line) for line in process.stdout if line.endswith(b"}\n"))
-        finally:
-            timer.cancel()
-            process.terminate()
+        yield from (json.loads(line) for line in process.stdout if line.endswith(b"}\n"))
 
 
 def side_by_side(found: list[Window], call: Call) -> int:
     """Says what each window has in turn, read on all processors; the status is 1 if a word isn't found."""
-    import tempfile                                     # here, and below, since most calls do without
+    import shutil                                       # here, and below, since most calls do without
+    import tempfile
     from concurrent.futures import ThreadPoolExecutor
     if os.isatty(1):
         os.environ.setdefault("SYSTEMD_COLORS", "1")
 
     def read(window: Window) -> tuple[IO[bytes], int]:
         said = tempfile.TemporaryFile()
-        ended = subprocess.run(window.words(call.without("quiet").plus(("quiet", None))), stdout=said,
-                               pass_fds=window.handles, check=False)
+        ended = subprocess.run(window.words(call.plus("quiet")), stdout=said, pass_fds=window.handles, check=False)
         return said, ended.returncode
 
     failed, is_empty = 0, True
-    with ThreadPoolExecutor(os.cpu_count()) as pool:
+    with ThreadPoolExecutor(PROCESSORS) as pool:
         for said, status in pool.map(read, reversed(found) if call.has("reverse") else found):
             failed = status if status > 1 else failed
+            is_empty = is_empty and not os.fstat(said.fileno()).st_size
             said.seek(0)
-            while piece := said.read(1 << 20):
-                is_empty = False
-                sys.stdout.buffer.write(piece)
+            shutil.copyfileobj(said, sys.stdout.buffer)
             said.close()
     if is_empty and not call.has("quiet"):
         print("-- No entries --")
     return failed or int(is_empty and call.has("grep"))
 
 
-def newest(found: list[Window], call: Call, lines: int) -> int:
-    """The time of the oldest of so many newest entries; 0 if there are fewer."""
+def newest(found: list[Window], call: Call, lines: int, *fields: str, end: float = math.inf) -> list[Entry]:
+    """So many newest entries, the newest first. Some windows are read at once, those of the newest entries first."""
     from concurrent.futures import ThreadPoolExecutor
-    call = call.without("lines", "reverse", "no-tail", "pager-end").plus(("lines", str(lines)))
-    latest: list[int] = []
-    at_once = os.cpu_count() or 1
-    with ThreadPoolExecutor(at_once) as pool:
-        for place in range(len(found), 0, -at_once):
-            for part in pool.map(lambda window: [int(each["__REALTIME_TIMESTAMP"]) for each in
-                                                 entries(window, call, "_BOOT_ID")],
-                                 found[max(place - at_once, 0):place]):
-                latest += part
-            if len(latest) >= lines:
-                return sorted(latest)[-lines]
-    return 0
+    call = call.without("lines", "reverse", "no-tail", "pager-end").plus("reverse", lines=str(lines))
+    latest: list[Entry] = []
+    with ThreadPoolExecutor(PROCESSORS) as pool:
+        for place in range(len(found), 0, -PROCESSORS):
+            if len(latest) < lines and time.monotonic() < end:
+                windows = found[max(place - PROCESSORS, 0):place]
+                for read in pool.map(lambda window: list(entries(window, call, *fields, end=end)), windows):
+                    latest += read
+    return sorted(latest, key=lambda entry: int(entry["__REALTIME_TIMESTAMP"]), reverse=True)[:lines]
 
 
 def count_one(window: Window, call: Call, names: list[str]) -> Counter[tuple[int, tuple[str, ...]]]:
@@ -147,5 +132,5 @@ def count(found: list[Window], call: Call, *names: str) -> Counter[tuple[int, tu
     from concurrent.futures import ProcessPoolExecutor
     for handle in {each for window in found for each in window.handles}:
         os.set_inheritable(handle, True)
-    with ProcessPoolExecutor(os.cpu_count()) as pool:
+    with ProcessPoolExecutor(PROCESSORS) as pool:
         return sum(pool.map(count_one, found, [call] * len(found), [list(names)] * len(found)), Counter())

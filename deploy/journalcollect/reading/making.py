@@ -3,16 +3,15 @@
 They are a cache: what is there is made of databases, and counts once it has its name.
 """
 import argparse
-import fcntl
 import gzip
 import heapq
+import itertools
 import os
 import shutil
 import sys
 import time
 from collections.abc import Iterable, Iterator
 from pathlib import Path
-from typing import NamedTuple
 
 from ..collector import databases
 from ..collector import settings as collector_settings
@@ -25,42 +24,24 @@ from .places import ABOUT, ALL, About, Places
 from .remote import Remote
 
 UNKNOWN = "systemd-journal-remote didn't write them"
-TOGETHER = 256
 # One of them costs the files of a database or of a day, until the next run.
 FAILURES = (OSError, EOFError, ValueError, program.Failed, databases.Damaged, remote.Failed, Unfit)
 
 
-class Said(NamedTuple):
-    """An entry on its way: its time, machine and boot, and what systemd-journal-remote reads."""
-    realtime: int
-    machine: bytes
-    boot: bytes
-    text: bytes
-
-
-def spooled(path: Path) -> Iterator[Said]:
-    """What `write` packed: a line with the time, the machine, the boot and the length, and then the text."""
+def spooled(path: Path) -> Iterator[tuple[int, bytes]]:
+    """What `by_time` packed: the time of each entry, and its text."""
     with gzip.open(path) as file:
         while line := file.readline():
-            realtime, machine, boot, length = line[:-1].split(b"\t")
-            yield Said(int(realtime), machine, boot, file.read(int(length)))
+            realtime, length = map(int, line.split())
+            yield realtime, file.read(length)
 
 
-def write(said: Iterable[Said], folder: Path, name: str, about: About, spool: gzip.GzipFile | None = None) -> None:
+def write(texts: Iterable[bytes], folder: Path, name: str, about: About) -> None:
     """Makes journal files of entries that come by time. What systemd-journal-remote leaves out is told."""
-    writer, texts = Remote(folder / f"{name}.journal"), list[bytes]()
-    for realtime, machine, boot, text in said:
-        about.entries += 1
-        about.add(machine.decode(), boot.decode(), realtime, realtime)
-        if spool:
-            spool.write(b"%d\t%s\t%s\t%d\n%s" % (realtime, machine, boot, len(text), text))
-        texts.append(text)
-        if len(texts) == TOGETHER:
-            writer.write(b"".join(texts))
-            texts.clear()
-    writer.write(b"".join(texts))
+    writer = Remote(folder / f"{name}.journal")
+    writer.write(texts)
     writer.finish()
-    written = sum(head.entries for path in remote.parts(folder, name) if (head := remote.header(path)))
+    written = sum(head.entries for head in remote.headers(remote.parts(folder, name)))
     if written < about.entries:
         about.leave_out(UNKNOWN, about.entries - written)
 
@@ -77,11 +58,10 @@ class Maker:
         """One run at a time; who comes while another one is under way leaves it that, if not all is to be made anew."""
         self.places.make()
         self.folder.scratch.mkdir(exist_ok=True)
-        with open(self.places.journals / ".lock", "wb") as lock:
-            try:
-                fcntl.flock(lock, fcntl.LOCK_EX | (0 if is_anew else fcntl.LOCK_NB))
-            except BlockingIOError:
-                return 0
+        lock = self.folder.locked("journals/.lock", is_waiting=is_anew)
+        if lock is None:
+            return 0
+        with open(lock, "rb"):
             for folder in [*self.places.days(), self.places.today] if is_anew else ():
                 shutil.rmtree(folder, ignore_errors=True)
             self.places.make()
@@ -104,27 +84,30 @@ class Maker:
                 self.make_day(day)
             except FAILURES as error:
                 status = told(f"none are made of {day}: {error}")
-        if status:
-            self.clean()
+        self.clean()
         self.forget()
         return status
 
     def wanted(self) -> set[str]:
         """The finished databases of the days that are kept."""
         finished = {name: self.day_of(name) for name in databases.finished(self.folder)}
-        days = sorted(set(finished.values()), reverse=True)[:self.chosen.read_days]
-        return {name for name, day in finished.items() if day in days}
+        kept = self.kept(finished.values())
+        return {name for name, day in finished.items() if day in kept}
+
+    def kept(self, days: Iterable[str]) -> list[str]:
+        """The newest of some days: on which something came, so a clock that is wrong costs one."""
+        return sorted(set(days), reverse=True)[:self.chosen.read_days]
 
     def make(self, name: str) -> None:
         """Journal files of one database, and its text for the day's."""
         making, about, packed = self.places.making, About([name]), self.places.making / f"{name}.gz"
         with exports.exported(self.folder, name) as data, gzip.open(packed, "wb", compresslevel=1) as spool:
-            write(self.by_time(data, about), making, name, about, spool)
+            write(self.by_time(data, about, spool), making, name, about)
         for path in [*remote.parts(making, name), packed]:
             path.rename(self.places.today / path.name)
         about.write(self.places.today / f"{name}.json")
 
-    def by_time(self, data: Data, about: About) -> Iterator[Said]:
+    def by_time(self, data: Data, about: About, spool: gzip.GzipFile) -> Iterator[bytes]:
         """The entries of an export in the order of their times. What can't be in a journal file is told."""
         found = sorted((int(data[span.begin + len("__REALTIME_TIMESTAMP="):data.find(b"\n", span.begin)]), span)
                        for span in entries.spans(data))
@@ -135,7 +118,11 @@ class Maker:
                 about.leave_out(str(reason))
                 continue
             machine = self.owners.get(entry.sequence, "")
-            yield Said(realtime, machine.encode(), entry.boot.encode(), entry.text(machine, self.chosen.read_keys))
+            about.entries += 1
+            about.add(machine, entry.boot, realtime, realtime)
+            text = entry.text(machine, self.chosen.read_keys)
+            spool.write(b"%d %d\n%s" % (realtime, len(text), text))
+            yield text
 
     def day_of(self, name: str) -> str:
         return str(exports.day_of(self.folder, name))
@@ -149,17 +136,16 @@ class Maker:
         """One sequence of files of a day's databases takes the place of theirs. A day that was made before, as with a
         database that was recovered late, has a further folder."""
         names = sorted(name for name in self.places.of_today() if self.day_of(name) == day)
-        making, about = self.places.making / day, About(names)
+        making, about, today = self.places.making / day, About(names), self.places.today
         making.mkdir()
-        spools = [spooled(self.places.today / f"{name}.gz") for name in names]
-        write(heapq.merge(*spools, key=lambda said: said.realtime), making, ALL, about)
         for name in names:
-            for reason, many in places.about(self.places.today / f"{name}.json").untaken.items():
-                about.leave_out(reason, many if reason != UNKNOWN else 0)
+            about.join(places.about(today / f"{name}.json"))
+        about.untaken.pop(UNKNOWN, None)
+        merged = heapq.merge(*(spooled(today / f"{name}.gz") for name in names), key=lambda each: each[0])
+        write((text for _, text in merged), making, ALL, about)
         about.write(making / ABOUT)
-        ends = ["", *(f".{number}" for number in range(2, 10_000))]
-        making.rename(next(path for end in ends if not (path := self.places.journals / (day + end)).exists()))
-        self.clean()
+        named = (self.places.journals / (f"{day}.{number}" if number > 1 else day) for number in itertools.count(1))
+        making.rename(next(path for path in named if not path.exists()))
 
     def clean(self) -> None:
         """What a run left that was stopped, and what has its place in a day."""
@@ -167,14 +153,14 @@ class Maker:
         self.places.making.mkdir(exist_ok=True)        # what a run began that was killed may end later than it
         stands = {name for name, path in self.places.made().items() if path.parent == self.places.today}
         for path in self.places.today.iterdir():
-            if (remote.stem(path) if path.suffix == ".journal" else path.stem) not in stands:
+            if remote.stem(path) not in stands:
                 path.unlink()
 
     def forget(self) -> None:
-        """Days that are over READ_DAYS days go: days on which something came, so a clock that is wrong costs one."""
-        days = {day.name[:10] for day in self.places.days()} | set(map(self.day_of, self.places.of_today()))
-        kept = sorted(days, reverse=True)[:self.chosen.read_days]
-        for folder in (each for each in self.places.days() if each.name[:10] not in kept):
+        """Days that are over READ_DAYS days go."""
+        days = {folder: folder.name[:10] for folder in self.places.days()}
+        kept = self.kept([*days.values(), *map(self.day_of, self.places.of_today())])
+        for folder in (each for each, day in days.items() if day not in kept):
             shutil.rmtree(folder)
 
 

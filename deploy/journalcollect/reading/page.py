@@ -6,7 +6,6 @@ Each request has a deadline and a bound of lines, and a few go at once. Whoever 
 """
 import argparse
 import base64
-import contextlib
 import hashlib
 import json
 import os
@@ -18,8 +17,8 @@ import subprocess
 import threading
 import time
 from collections import Counter
-from collections.abc import Iterator
 from concurrent.futures import ThreadPoolExecutor
+from contextlib import ExitStack
 from http import HTTPStatus
 from http.server import BaseHTTPRequestHandler
 from pathlib import Path
@@ -28,7 +27,7 @@ from urllib.parse import parse_qs, urlsplit
 
 from ..collector import settings
 from . import choosing, journalctl, remote
-from .choosing import FOREVER, File
+from .choosing import FOREVER
 from .journalctl import Window
 from .places import Places
 from .present import sequence_id
@@ -38,8 +37,7 @@ SECONDS, LINES, BARS, AT_ONCE = 10.0, 500, 60, 4
 HOSTS = re.compile(r"(localhost|127\.0\.0\.1|\[::1\])(:\d{1,5})?", re.ASCII)
 NUMBER = re.compile(r"i=([0-9a-f]+)")
 MATCH = re.compile(r"[A-Z_][A-Z0-9_]{0,63}=.*", re.DOTALL | re.ASCII)
-Asked = dict[str, list[str]]
-Entry = dict[str, Any]
+OWN = re.compile(b"<style>(.*)</style>.*<script>(.*)</script>", re.DOTALL)
 
 
 class Refused(Exception):
@@ -50,123 +48,100 @@ class Refused(Exception):
         self.status = status
 
 
-def page() -> tuple[bytes, str]:
-    """The page, and what a browser is to run of it: its own script and style, and nothing else."""
-    text = Path(__file__).with_name("page.html").read_bytes()
-
-    def digest(tag: bytes) -> str:
-        found = re.search(b"<%s>(.*?)</%s>" % (tag, tag), text, re.DOTALL)
-        assert found
-        return base64.b64encode(hashlib.sha256(found[1]).digest()).decode()
-
-    script, style = digest(b"script"), digest(b"style")
-    return text, (f"default-src 'none'; script-src 'sha256-{script}'; style-src 'sha256-{style}'; connect-src 'self'; "
-                  "img-src data:; base-uri 'none'; form-action 'none'; frame-ancestors 'none'")
+def policy(page: bytes) -> str:
+    """What a browser is to run of the page: its own script and style, and nothing else."""
+    own = OWN.search(page)
+    assert own
+    style, script = (base64.b64encode(hashlib.sha256(each).digest()).decode() for each in own.groups())
+    return (f"default-src 'none'; script-src 'sha256-{script}'; style-src 'sha256-{style}'; connect-src 'self'; "
+            "img-src data:; base-uri 'none'; form-action 'none'; frame-ancestors 'none'")
 
 
-def one(asked: Asked, name: str) -> str:
-    return asked.get(name, [""])[-1]
+class Asked:
+    """What is asked for, and until when it is to be answered. Each answer is an object of JSON."""
 
+    def __init__(self, places: Places, query: str) -> None:
+        self.places, self.values, self.end = places, parse_qs(query), time.monotonic() + SECONDS
 
-def number(asked: Asked, name: str, otherwise: int) -> int:
-    said = one(asked, name)
-    if said and not (said.isascii() and said.isdigit() and len(said) < 19):
-        raise Refused(HTTPStatus.BAD_REQUEST, f"{name} isn't a whole number")
-    return int(said) if said else otherwise
+    def number(self, name: str, otherwise: int) -> int:
+        said = self.values.get(name, [""])[-1]
+        if said and not (said.isascii() and said.isdigit() and len(said) < 19):
+            raise Refused(HTTPStatus.BAD_REQUEST, f"{name} isn't a whole number")
+        return int(said) if said else otherwise
 
-
-def call_of(asked: Asked) -> Call:
-    """What is asked for, in journalctl's words."""
-    call = Call()
-    for match in [f"_COLLECTED_FROM={name}" for name in asked.get("machine", []) if name] + asked.get("match", []):
-        if not MATCH.fullmatch(match):
+    def call(self) -> Call:
+        """In journalctl's words."""
+        machines = [f"_COLLECTED_FROM={name}" for name in self.values.get("machine", [])]
+        call = Call([("unit", unit) for unit in self.values.get("unit", [])], machines + self.values.get("match", []))
+        if not all(map(MATCH.fullmatch, call.matches)):
             raise Refused(HTTPStatus.BAD_REQUEST, "match isn't FIELD=VALUE")
-        call.matches.append(match)
-    for unit in filter(None, asked.get("unit", [])):
-        call = call.plus(("unit", unit))
-    if one(asked, "priority"):
-        call = call.plus(("priority", str(number(asked, "priority", 7) & 7)))
-    if words := one(asked, "words"):
-        call = call.plus(("grep", re.escape(words)), ("case-sensitive", "no" if words == words.lower() else "yes"))
-    return call
+        if (priority := self.number("priority", 8)) < 8:
+            call = call.plus(priority=str(priority))
+        for words in self.values.get("words", []):
+            call = call.plus(grep=re.escape(words), case_sensitive="no" if words == words.lower() else "yes")
+        return call
 
+    def windows(self, opened: ExitStack, since: int = 0, until: int = FOREVER, many: int = 0) -> list[Window]:
+        """Spans of a time, the oldest first."""
+        chosen = choosing.standing(self.places, opened).since(since, until)
+        return journalctl.windows(chosen, since, until, many or len(chosen.files) // 32 + 1)
 
-class Reader:
-    """What the page asks for. Each answer is an object of JSON."""
-
-    def __init__(self, folder: Path) -> None:
-        self.places = Places(folder)
-
-    @contextlib.contextmanager
-    def windows(self, since: int, until: int, many: int) -> Iterator[list[Window]]:
-        """Spans of the time asked for, the newest first."""
-        standing = choosing.standing(self.places)
-        try:
-            chosen = standing.since(since, until)
-            yield journalctl.windows(chosen, since, until, many or len(chosen.files) // 32 + 1)[::-1]
-        finally:
-            choosing.close(standing.files)
-
-    def entries(self, asked: Asked, end: float) -> Any:
+    def entries(self) -> Any:
         """The newest entries, the newest first."""
-        lines, call, tail, found = min(number(asked, "lines", 100), LINES), call_of(asked), self.tail(), list[Entry]()
-        with self.windows(number(asked, "since", 0), number(asked, "until", FOREVER), 0) as windows:
-            for window in windows:
-                left = lines - len(found)
-                if left > 0 and time.monotonic() < end:
-                    found += journalctl.entries(window, call.plus(("reverse", None), ("lines", str(left))), end=end)
-        return {"entries": found, "tail": tail, "is_cut": time.monotonic() > end, "has_more": len(found) == lines}
+        lines, tail = min(self.number("lines", 100), LINES), self.tail()
+        with ExitStack() as opened:
+            windows = self.windows(opened, self.number("since", 0), self.number("until", FOREVER))
+            found = journalctl.newest(windows, self.call(), lines, end=self.end)
+        return {"entries": found, "tail": tail, "is_cut": time.monotonic() > self.end, "has_more": len(found) == lines}
 
     def tail(self) -> int:
         """The number of the present's last entry."""
-        heads = map(remote.header, self.places.present.glob("*.journal"))
-        return max((head.last_number for head in heads if head), default=0)
+        heads = remote.headers(self.places.present.glob("*.journal"))
+        return max((head.last_number for head in heads), default=0)
 
-    def live(self, asked: Asked, end: float) -> Any:
+    def live(self) -> Any:
         """What came after a number of the present, in the order in which it came."""
-        after, tail, opened = number(asked, "tail", 0), self.tail(), list[File]()
-        call = call_of(asked).plus(("cursor", f"s={sequence_id()};i={after + 1:x}"), ("lines", str(LINES)))
-        try:
-            choosing.open_all(sorted(self.places.present.glob("*.journal")) if tail > after else [], opened)
-            found = list(journalctl.entries(Window(opened, 0, FOREVER), call, end=end)) if opened else []
-        finally:
-            choosing.close(opened)
+        after, tail = self.number("tail", 0), self.tail()
+        call = self.call().plus(cursor=f"s={sequence_id()};i={after + 1:x}", lines=str(LINES))
+        with ExitStack() as opened:
+            paths = sorted(self.places.present.glob("*.journal")) if tail > after else []
+            files = choosing.open_all(paths, opened)
+            found = list(journalctl.entries(Window(files), call, end=self.end)) if files else []
         reached = [int(part[1], 16) for each in found if (part := NUMBER.search(each["__CURSOR"]))]
         return {"entries": found, "tail": max(reached) if len(found) == LINES else max([tail, *reached])}
 
-    def histogram(self, asked: Asked, end: float) -> Any:
+    def histogram(self) -> Any:
         """How many entries each part of a span has, warnings and errors among them; and from when on that is so."""
-        since, until = number(asked, "since", 0), number(asked, "until", time.time_ns() // 1000)
-        call = call_of(asked)
-        with self.windows(since, until, 16) as windows, ThreadPoolExecutor(os.cpu_count()) as pool:
-            since = since or min((file.first for window in windows for file in window.files), default=until)
+        since, until = self.number("since", 0), self.number("until", time.time_ns() // 1000)
+        with ExitStack() as opened, ThreadPoolExecutor(journalctl.PROCESSORS) as pool:
+            windows = self.windows(opened, since, until, 16)[::-1]
+            since = since or min((file.head.first for window in windows for file in window.files), default=until)
             step, bars, counted_from = max((until - since) // BARS, 1), [[0, 0, 0] for _ in range(BARS)], since
-            found = [journalctl.entries(window, call, "PRIORITY", end=end) for window in windows]
-            for window, (counts, is_whole) in zip(windows, pool.map(lambda each: count(each, since, step, end), found)):
+            counted = pool.map(lambda window: self.count(window, since, step), windows)
+            for window, (counts, is_whole) in zip(windows, counted):
                 for (bar, kind), many in counts.items():
                     bars[bar][kind] += many
                 if not is_whole:
                     counted_from = max(counted_from, min(window.until, until))
         return {"since": since, "step": step, "bars": bars, "counted_from": counted_from}
 
-    def names(self, _asked: Asked, _end: float) -> Any:
+    def count(self, window: Window, since: int, step: int) -> tuple[Counter[tuple[int, int]], bool]:
+        """How many entries each bar has of each kind: others, warnings, errors. Whether all were counted."""
+        bars = Counter[tuple[int, int]]()
+        for entry in journalctl.entries(window, self.call(), "PRIORITY", end=self.end):
+            place, priority = (int(entry["__REALTIME_TIMESTAMP"]) - since) // step, str(entry.get("PRIORITY", "6"))
+            bars[min(max(place, 0), BARS - 1), 2 if priority <= "3" else 1 if priority == "4" else 0] += 1
+        return bars, time.monotonic() < self.end
+
+    def names(self) -> Any:
         """The machines, and the units of the newest files, to complete what is typed."""
         units: set[str] = set()
-        with self.windows(0, FOREVER, 0) as windows:
-            for window in windows[:2]:
+        with ExitStack() as opened:
+            for window in self.windows(opened)[-2:]:
                 ended = subprocess.run(window.words(Call([("field", "_SYSTEMD_UNIT")])), capture_output=True, text=True,
                                        errors="replace", check=False, timeout=SECONDS, pass_fds=window.handles)
                 units.update(ended.stdout.splitlines())
         return {"machines": sorted(filter(None, choosing.about(self.places).boots)), "units": sorted(units)[:2000]}
-
-
-def count(found: Iterator[Entry], since: int, step: int, end: float) -> tuple[Counter[tuple[int, int]], bool]:
-    """How many entries each bar has of each kind: others, warnings, errors. Whether all were counted."""
-    bars = Counter[tuple[int, int]]()
-    for entry in found:
-        place, priority = (int(entry["__REALTIME_TIMESTAMP"]) - since) // step, str(entry.get("PRIORITY", "6"))
-        bars[min(max(place, 0), BARS - 1), 2 if priority <= "3" else 1 if priority == "4" else 0] += 1
-    return bars, time.monotonic() < end
 
 
 class Handler(BaseHTTPRequestHandler):
@@ -190,7 +165,7 @@ class Handler(BaseHTTPRequestHandler):
 
     def answer(self) -> tuple[HTTPStatus, str, bytes]:
         host = self.headers.get("Host", "")
-        if not HOSTS.fullmatch(host) and host not in self.server.hosts:
+        if not HOSTS.fullmatch(host) and host != self.server.host:
             raise Refused(HTTPStatus.MISDIRECTED_REQUEST, "this page isn't reached by that name")
         if self.headers.get("Sec-Fetch-Site", "same-origin") not in ("same-origin", "none"):
             raise Refused(HTTPStatus.FORBIDDEN, "another page asks")
@@ -202,7 +177,7 @@ class Handler(BaseHTTPRequestHandler):
         if not self.server.turns.acquire(timeout=SECONDS):
             raise Refused(HTTPStatus.SERVICE_UNAVAILABLE, "too many requests are under way")
         try:
-            found = CALLS[asked.path](self.server.reader, parse_qs(asked.query), time.monotonic() + SECONDS)
+            found = CALLS[asked.path](Asked(self.server.places, asked.query))
         finally:
             self.server.turns.release()
         return HTTPStatus.OK, "application/json", json.dumps(found, separators=(",", ":")).encode()
@@ -211,7 +186,7 @@ class Handler(BaseHTTPRequestHandler):
         """What is asked for stays between who asks and the journal."""
 
 
-CALLS = {"/entries": Reader.entries, "/live": Reader.live, "/histogram": Reader.histogram, "/names": Reader.names}
+CALLS = {"/entries": Asked.entries, "/live": Asked.live, "/histogram": Asked.histogram, "/names": Asked.names}
 
 
 class Server(socketserver.ThreadingMixIn, socketserver.UnixStreamServer):
@@ -221,9 +196,9 @@ class Server(socketserver.ThreadingMixIn, socketserver.UnixStreamServer):
     def __init__(self, listening: socket.socket, folder: Path, host: str) -> None:
         super().__init__("", Handler, bind_and_activate=False)
         self.socket.close()
-        self.socket, self.reader, self.turns = listening, Reader(folder), threading.BoundedSemaphore(AT_ONCE)
-        self.hosts = {host} - {""}
-        self.page, self.policy = page()
+        self.socket, self.places, self.host = listening, Places(folder), host or None
+        self.turns, self.page = threading.BoundedSemaphore(AT_ONCE), Path(__file__).with_name("page.html").read_bytes()
+        self.policy = policy(self.page)
 
     def get_request(self) -> tuple[socket.socket, str]:
         return self.socket.accept()[0], "-"

@@ -10,7 +10,6 @@
 A name that is too large for one file has further ones, `NAME@..journal`.
 """
 import json
-import os
 import re
 from dataclasses import asdict, dataclass, field
 from pathlib import Path
@@ -47,7 +46,10 @@ class About:
         self.untaken[reason] = self.untaken.get(reason, 0) + count
 
     def join(self, other: "About") -> None:
-        """The machines and boots of the other are added."""
+        """What the other has is added, but for its databases."""
+        self.entries += other.entries
+        for reason, count in other.untaken.items():
+            self.leave_out(reason, count)
         for machine, boots in other.boots.items():
             for boot, (first, last) in boots.items():
                 self.add(machine, boot, first, last)
@@ -77,9 +79,8 @@ class Places:
                 folder.chmod(FOLDER_MODE)
 
     def days(self) -> list[Path]:
-        """The folders of days, the newest first."""
-        names = os.listdir(self.journals) if self.journals.exists() else []
-        return [self.journals / name for name in sorted(names, reverse=True) if DAY.fullmatch(name)]
+        """The folders of days."""
+        return [path for path in self.journals.glob("*") if DAY.fullmatch(path.name)]
 
     def of_today(self) -> set[str]:
         return {path.stem for path in self.today.glob("*.json")}

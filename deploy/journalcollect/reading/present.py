@@ -11,7 +11,7 @@ import subprocess
 import sys
 import threading
 import time
-from collections.abc import Callable
+from collections.abc import Callable, Iterator
 from pathlib import Path
 
 from ..common import entries
@@ -33,26 +33,20 @@ def sequence_id() -> str:
     return hashlib.sha256(b"journal-collect present " + Path("/etc/machine-id").read_bytes()).hexdigest()[:32]
 
 
-class Live:
+class Live(Remote):
     """The present of one database."""
 
     def __init__(self, places: Places, name: str, with_keys: bool) -> None:
-        self.name, self.with_keys = name, with_keys
-        self.keys: set[tuple[str, int]] = set()
+        self.with_keys, self.keys = with_keys, set[tuple[str, int]]()
         self.about, self.path_of_about, self.is_told = About([name]), places.present / f"{name}.json", True
-        self.remote = Remote(places.present / f"{name}.journal", sequence_id(), self.before(places))
-
-    def before(self, places: Places) -> int:
-        """The number before the first one: as it was if the database has a present, and else one that nothing had."""
-        heads = [head for path in remote.parts(places.present, self.name) if (head := remote.header(path))]
-        if heads:
-            return min(head.first_number - 1 if head.entries else head.last_number for head in heads)
-        others = [head.last_number for path in places.present.glob("*.journal") if (head := remote.header(path))]
-        return max([time.time_ns() // 1000, *others])
+        super().__init__(places.present / f"{name}.journal", sequence_id(), before(places, name))
 
     def add(self, upload: Path) -> None:
         """The entries of an upload that weren't there before."""
-        data, machine, texts = upload.read_bytes(), upload.name.partition(".")[2], list[bytes]()
+        self.write(self.texts(upload.read_bytes(), upload.name.partition(".")[2]))
+        self.is_told = False
+
+    def texts(self, data: bytes, machine: str) -> Iterator[bytes]:
         try:
             for span in entries.spans(data, HEADER) if data[KIND] == STREAM else ():
                 try:
@@ -63,17 +57,23 @@ class Live:
                 if (entry.sequence, entry.number) not in self.keys:
                     self.keys.add((entry.sequence, entry.number))
                     self.about.add(machine, entry.boot, entry.realtime, entry.realtime)
-                    texts.append(entry.text(machine, self.with_keys))
+                    yield entry.text(machine, self.with_keys)
         except Unfit as fault:
             self.about.leave_out(f"their upload can't be read: {fault}")
-        self.remote.write(b"".join(texts))
-        self.is_told = False
 
     def say(self) -> None:
         """What the files have now, beside them."""
         if not self.is_told:
             self.about.write(self.path_of_about)
             self.is_told = True
+
+
+def before(places: Places, name: str) -> int:
+    """The number before the first one: as it was if the database has a present, and else one that nothing had."""
+    if heads := remote.headers(remote.parts(places.present, name)):
+        return min(head.first_number - 1 if head.entries else head.last_number for head in heads)
+    others = remote.headers(places.present.glob("*.journal"))
+    return max([time.time_ns() // 1000, *(head.last_number for head in others)])
 
 
 class Present(threading.Thread):
@@ -86,7 +86,7 @@ class Present(threading.Thread):
         self.events: queue.Queue[Path | str | None] = queue.Queue()
         self.lives: dict[str, Live] = {}
         self.maker: subprocess.Popen[bytes] | None = None
-        self.makes_again, self.looked, self.cleaned = True, 0.0, 0.0
+        self.makes_again, self.looked = True, 0.0
 
     def feed(self, upload: Path) -> None:
         """An upload is stored, and is recent/DATABASE/N."""
@@ -119,14 +119,14 @@ class Present(threading.Thread):
                     break
                 time.sleep(min(failures, SECONDS_WAITING))
         for live in self.lives.values():
-            live.remote.kill()
+            live.kill()
         if self.maker:
             self.maker.terminate()
 
     def let_go(self) -> bool:
         """What can't be made doesn't hold on to what was finished; whether the end was told."""
         told = [self.events.get() for _ in range(self.events.qsize())]
-        for folder in self.recent.iterdir() if self.recent.exists() else ():
+        for folder in self.recent.glob("*"):
             if self.is_finished(folder.name):
                 shutil.rmtree(folder, ignore_errors=True)
         return None in told
@@ -137,10 +137,10 @@ class Present(threading.Thread):
     def begin(self) -> None:
         """All that waits is known by recent/, so what the queue has of it would come twice: keys tell."""
         for live in self.lives.values():
-            live.remote.kill()
+            live.kill()
         self.lives.clear()
-        for folder in sorted(self.recent.iterdir()) if self.recent.exists() else ():
-            for upload in sorted(folder.iterdir(), key=number):
+        for folder in sorted(self.recent.glob("*")):
+            for upload in sorted(folder.iterdir()):
                 self.live(folder.name).add(upload)
             if self.is_finished(folder.name):
                 self.end(folder.name)
@@ -175,26 +175,24 @@ class Present(threading.Thread):
         self.looked = now
         for live in self.lives.values():
             live.say()
-            if live.remote.process.poll() is not None:
+            if live.process.poll() is not None:
                 raise Failed("systemd-journal-remote ended")
-        self.make()
-        if now - self.cleaned > SECONDS_WAITING:
-            self.cleaned = now
+        if self.makes_again and (self.maker is None or self.maker.poll() is not None):
+            self.makes_again = False
             self.clean()
+            self.make()
 
     def end(self, name: str) -> None:
         if live := self.lives.pop(name, None):
-            live.remote.finish()
+            live.finish()
             live.say()
         shutil.rmtree(self.recent / name, ignore_errors=True)
 
     def make(self) -> None:
-        """Journal files of finished databases, by a process of its own; one at a time."""
-        if self.makes_again and (self.maker is None or self.maker.poll() is not None):
-            self.makes_again = False
-            self.maker = subprocess.Popen(
-                ["nice", "-n", "10", sys.executable, "-B", "-m", "journalcollect.reading.making", self.places.folder],
-                cwd=Path(__file__).resolve().parents[2], stdin=subprocess.DEVNULL)
+        """Journal files of finished databases, by a process of its own."""
+        self.maker = subprocess.Popen(
+            ["nice", "-n", "10", sys.executable, "-B", "-m", "journalcollect.reading.making", self.places.folder],
+            cwd=Path(__file__).resolve().parents[2], stdin=subprocess.DEVNULL)
 
     def clean(self) -> None:
         """The present of databases whose journal files stand goes after a while."""
@@ -204,8 +202,3 @@ class Present(threading.Thread):
             is_replaced = name in made or not self.is_finished(name)
             if name not in self.lives and is_replaced and time.time() - path.stat().st_mtime > SECONDS_STANDING:
                 path.unlink(missing_ok=True)
-
-
-def number(upload: Path) -> int:
-    """Uploads of a database come in the order of their numbers, recent/DATABASE/NUMBER.MACHINE."""
-    return int(upload.name.partition(".")[0])

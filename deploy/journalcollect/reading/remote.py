@@ -2,13 +2,14 @@
 import re
 import struct
 import subprocess
+from collections.abc import Iterable
 from pathlib import Path
 from typing import NamedTuple
 
-from ..common import files
-
 REMOTE = Path("/lib/systemd/systemd-journal-remote")
-SIGNATURE, HEADER, SEQUENCE_AT, LAST_AT, MANY_AT = b"LPKSHHRH", 208, 72, 160, 152
+SIGNATURE, HEADER, SEQUENCE_AT, LAST_AT = b"LPKSHHRH", 208, 72, 160
+# Where a header says how many entries there are, their last and first number, their first and last time.
+COUNTS_AT, COUNTS = 152, struct.Struct("<3Q8x2Q")
 # How it names a file that was full: of NAME.journal it is NAME@SEQUENCE-NUMBER-TIME.journal.
 PART = re.compile(r"(.+?)(?:@[0-9a-f]{32}-[0-9a-f]{16}-[0-9a-f]{16})?\.journal")
 
@@ -33,10 +34,13 @@ def header(file: Path | int) -> Header | None:
             head = opened.read(HEADER)
     except OSError:
         return None
-    if len(head) < HEADER or not head.startswith(SIGNATURE):
-        return None
-    entries, last_number, first_number, _, first, last = struct.unpack_from("<6Q", head, MANY_AT)
-    return Header(entries, last_number, first_number, first, last)
+    is_one = len(head) == HEADER and head.startswith(SIGNATURE)
+    return Header(*COUNTS.unpack_from(head, COUNTS_AT)) if is_one else None
+
+
+def headers(paths: Iterable[Path]) -> list[Header]:
+    """Those of the journal files among some files."""
+    return [head for path in paths if (head := header(path))]
 
 
 def stem(path: Path) -> str:
@@ -77,24 +81,24 @@ class Remote:
     @staticmethod
     def started(path: Path, given: int) -> subprocess.Popen[bytes]:
         try:
-            return subprocess.Popen([REMOTE, f"--output={path}", "-"], stdin=given, stdout=subprocess.DEVNULL,
-                                    stderr=subprocess.DEVNULL, umask=0o027, start_new_session=True)
+            return subprocess.Popen([REMOTE, f"--output={path}", "-"], bufsize=1 << 18, stdin=given,
+                                    stdout=subprocess.DEVNULL, stderr=subprocess.DEVNULL, umask=0o027,
+                                    start_new_session=True)
         except OSError as error:
             raise Failed(f"systemd-journal-remote, of the package of that name, can't be run: {error}") from error
 
-    def write(self, text: bytes) -> None:
+    def write(self, texts: Iterable[bytes]) -> None:
         assert self.process.stdin
         try:
-            files.write_all(self.process.stdin.fileno(), text)
-        except OSError as error:
-            self.kill()
-            raise Failed(f"systemd-journal-remote ended: {error}") from error
+            self.process.stdin.writelines(texts)
+            self.process.stdin.flush()
+        except BrokenPipeError as error:
+            raise Failed("systemd-journal-remote ended") from error
 
     def finish(self) -> None:
         """All that was written is in files that are closed."""
-        assert self.process.stdin
-        self.process.stdin.close()
-        if self.process.wait():
+        self.process.communicate()
+        if self.process.returncode:
             raise Failed(f"systemd-journal-remote ended with status {self.process.returncode}")
 
     def kill(self) -> None:

@@ -9,6 +9,8 @@ import sys
 import time
 from collections import Counter
 from collections.abc import Iterable
+from contextlib import ExitStack
+from functools import cached_property
 from operator import itemgetter
 from pathlib import Path
 
@@ -18,7 +20,7 @@ from ..common.settings import Wrong
 from . import choosing, journalctl, places, words
 from .choosing import FOREVER, Standing
 from .journalctl import Window
-from .places import Places
+from .places import About, Places
 from .words import BEHIND, Call
 
 HELP = """\
@@ -48,23 +50,29 @@ MANY_FILES = 200
 # A histogram has at most so many lines, each with a bar of so many characters, or so many columns of values.
 BARS, WIDTH, COLUMNS, OTHERS = 40, 40, 8, ("(others)",)
 STEPS = [1, 10, 60, 600, 3600, 6 * 3600, 86400, 7 * 86400]
+SECOND = 1_000_000
 
 
 class Search:
     """One call."""
 
     def __init__(self, call: Call, at: Places) -> None:
-        self.asked, self.at = call, at
+        self.asked, self.at, self.opened = call, at, ExitStack()
         if call.has("utc"):
             os.environ["TZ"] = "UTC"
             time.tzset()
         self.since, self.until = self.time_of("since", 0), self.time_of("until", FOREVER)
-        self.call = call.of([f"_COLLECTED_FROM={name}" for name in self.machines()])
+        self.names = self.machines()
+        self.call = call.of([f"_COLLECTED_FROM={name}" for name in self.names])
         if (call.has("boot") or call.has("dmesg")) and call.value("boot") != "all" and not call.has("list-boots"):
-            self.call = self.of_boots()
+            self.call = self.of_boots(call.value("boot") or "0")
         if call.has("dmesg"):
             self.call = self.call.of(["_TRANSPORT=kernel"])
         self.call = self.call.without("boot", "dmesg", "merge", "list-boots")
+
+    @cached_property
+    def about(self) -> About:
+        return choosing.about(self.at)
 
     def time_of(self, name: str, otherwise: int) -> int:
         """What an option says, in microseconds; what it can't say is left to journalctl."""
@@ -73,25 +81,21 @@ class Search:
 
     def machines(self) -> list[str]:
         """The machines asked for; none if all are."""
-        patterns = list(filter(None, self.asked.values("machine")))
-        if not patterns:
-            return []
-        known = [name for name in choosing.about(self.at).boots if name]
-        found = sorted({name for pattern in patterns for name in known if fnmatch.fnmatchcase(name, pattern)})
-        if not found:
+        patterns = [value for option, value in self.asked.options if option == "machine" and value]
+        found = sorted({name for pattern in patterns for name in self.about.boots
+                        if name and fnmatch.fnmatchcase(name, pattern)})
+        if patterns and not found:
             raise Wrong(f"nothing of a machine {' or '.join(patterns)} can be read yet: journal-collect-status says "
                         "whether it sends, --list-machines of which something can be read")
         return found
 
     def boots(self) -> dict[str, list[tuple[str, int, int]]]:
         """The boots of each machine asked for, in their order, with their first and last time."""
-        chosen, about = self.machines(), choosing.about(self.at)
         return {machine: sorted(((boot, first, last) for boot, (first, last) in boots.items()), key=itemgetter(1, 2))
-                for machine, boots in sorted(about.boots.items()) if not chosen or machine in chosen}
+                for machine, boots in sorted(self.about.boots.items()) if not self.names or machine in self.names}
 
-    def of_boots(self) -> Call:
+    def of_boots(self, said: str) -> Call:
         """The boot that is asked for, of each machine that has it."""
-        said = self.asked.value("boot") or "0"
         match = BEHIND["boot"].fullmatch(said)
         if not match:
             raise Wrong(f"{said} is no boot")
@@ -110,35 +114,37 @@ class Search:
         return self.call.of([f"_BOOT_ID={each}" for each in found])
 
     def standing(self) -> Standing:
-        return choosing.standing(self.at).since(self.since, self.until)
+        return choosing.standing(self.at, self.opened).since(self.since, self.until)
 
     def windows(self) -> list[Window]:
         """Spans for all processors, some for each."""
-        return journalctl.windows(self.standing(), self.since, self.until, 4 * (os.cpu_count() or 1))
+        return journalctl.windows(self.standing(), self.since, self.until, 4 * journalctl.PROCESSORS)
 
     def run(self) -> int:
+        """What this front says itself, or journalctl."""
         for name, do in (("list-machines", self.list_machines), ("list-boots", self.list_boots),
                          ("failed", self.failed), ("count-by", self.count), ("histogram", self.count),
                          ("follow", self.follow)):
             if self.asked.has(name):
-                return do()
-        if self.asked.has("field") and self.call.matches:
-            return self.list_values(self.asked.value("field") or "")
+                do()
+                return 0
         return self.show()
 
     def show(self) -> int:
         """journalctl itself; on all processors, if a word is looked for."""
         call, is_plain = self.call, self.asked.has(*journalctl.CURSORS, "field", "fields", "header", "verify")
+        if call.has("field") and call.matches:
+            return self.list_values(call.value("field") or "")
         if call.has("grep") and not is_plain and call.lines is None:
             return journalctl.side_by_side(self.windows(), call)
         standing = self.standing()
         if call.lines and not is_plain and (call.has("grep") or len(standing.files) > MANY_FILES):
-            found = journalctl.windows(standing, self.since, self.until, len(standing.files))
-            self.since = max(self.since, journalctl.newest(found, call, call.lines))
-            standing = standing.since(self.since, self.until)
-        files = standing.files or choosing.standing(self.at).files[:1]
-        if files:
-            return journalctl.become(Window(files, 0, FOREVER), call)
+            found = journalctl.windows(standing, self.since, self.until, len(standing.files) + 1)
+            latest = journalctl.newest(found, call, call.lines, "_BOOT_ID")
+            if len(latest) == call.lines:
+                standing = standing.since(int(latest[-1]["__REALTIME_TIMESTAMP"]), self.until)
+        if files := standing.files or choosing.standing(self.at, self.opened).files[:1]:
+            journalctl.become(Window(files), call)
         print("-- No entries --")
         return 0
 
@@ -148,45 +154,33 @@ class Search:
         print(*sorted(found - {"-"}), sep="\n")
         return 0
 
-    def follow(self) -> int:
+    def follow(self) -> None:
         """The present, of which all that came within an hour is there."""
-        words = [f"--directory={self.at.present}", "--merge", *self.call.words()]
-        os.execvp(journalctl.PROGRAM, [journalctl.PROGRAM, *words])
+        words = ["journalctl", f"--directory={self.at.present}", "--merge", *self.call.words()]
+        os.execvp(words[0], words)
 
-    def list_boots(self) -> int:
+    def list_boots(self) -> None:
         boots = self.boots()
         for machine, of_machine in boots.items():
             if len(boots) > 1:
                 print(f"{machine or '(by hand)'}:")
             print(f"IDX {'BOOT ID':<32} {'FIRST ENTRY':<27} LAST ENTRY")
             for place, (boot, first, last) in enumerate(of_machine, 1 - len(of_machine)):
-                print(f"{place:3} {boot} {self.at_time(first):<27} {self.at_time(last)}")
-        return 0
+                print(f"{place:3} {boot} {moment(first):<27} {moment(last)}")
 
-    def list_machines(self) -> int:
+    def list_machines(self) -> None:
         """Each machine with its first and last entry, when it was seen last, and how far its clock is ahead."""
-        seen = {name: (at or 0.0, skew or 0.0)
-                for name, at, skew in places.known(self.at.folder, "SELECT name, seen, skew FROM machine")}
-        about = choosing.about(self.at)
-        wanted = self.machines() or sorted({*about.boots, *seen} - {""})
+        known = places.known(self.at.folder, "SELECT name, ifnull(seen, 0), ifnull(skew, 0) FROM machine")
+        seen = {name: (at, skew) for name, at, skew in known}
         print(f"{'MACHINE':<24} {'FIRST ENTRY':<27} {'LAST ENTRY':<27} {'SEEN':<27} CLOCK AHEAD")
-        for name in wanted:
-            spans = about.boots.get(name, {}).values()
-            first = self.at_time(min(span[0] for span in spans)) if spans else "-"
-            last = self.at_time(max(span[1] for span in spans)) if spans else "-"
+        for name in self.names or sorted({*self.about.boots, *seen} - {""}):
             at, skew = seen.get(name, (0.0, 0.0))
-            print(f"{name:<24} {first:<27} {last:<27} {self.at_time(int(at * 1e6)) if at else '-':<27} "
-                  f"{f'{skew:+.1f} s' if at else '-'}")
-        return 0
+            came = [each for span in self.about.boots.get(name, {}).values() for each in span]
+            said = [min(came, default=0), max(came, default=0), int(at * 1e6)]
+            print(f"{name:<24}", *(f"{moment(each) if each else '-':<27}" for each in said),
+                  f"{skew:+.1f} s" if at else "-")
 
-    def at_time(self, microseconds: int) -> str:
-        """As journalctl says times; a machine may say any."""
-        try:
-            return time.strftime("%a %Y-%m-%d %H:%M:%S %Z", time.localtime(microseconds // 1_000_000))
-        except (ValueError, OverflowError, OSError):
-            return f"@{microseconds}"
-
-    def count(self) -> int:
+    def count(self) -> None:
         """--count-by, --histogram, or both."""
         said = self.asked.value("count-by")
         found = journalctl.count(self.windows(), self.call, *([SHORT.get(said, said)] if said else []))
@@ -196,7 +190,7 @@ class Search:
         if not self.asked.has("histogram"):
             for value, count in by_value.most_common():
                 print(f"{count:>10} {one_line(*value)}")
-            return 0
+            return
         step, bars = self.step(found), Counter[tuple[int, tuple[str, ...]]]()
         names = [value for value, _ in by_value.most_common(COLUMNS)]
         for (second, value), count in found.items():
@@ -207,9 +201,8 @@ class Search:
         most = max(bars.values(), default=1)
         for second in sorted({second for second, _ in bars}):
             counts = [bars[second, name] for name in names]
-            print(f"{self.at_time(second * 1_000_000):<27}", *(f"{count:>16}" for count in counts),
+            print(f"{moment(second * SECOND):<27}", *(f"{count:>16}" for count in counts),
                   *([] if said else ["#" * (counts[0] * WIDTH // most)]))
-        return 0
 
     def step(self, found: Iterable[tuple[int, object]]) -> int:
         """How many seconds a line of the histogram has."""
@@ -220,18 +213,25 @@ class Search:
         span = max(seconds) - min(seconds)
         return int(said) if said else next((step for step in STEPS if span // step < BARS), STEPS[-1])
 
-    def failed(self) -> int:
+    def failed(self) -> None:
         """Which units failed, by what systemd says of them."""
         last, times = dict[tuple[str, ...], int](), Counter[tuple[str, ...]]()
         for (second, key), count in journalctl.count(self.windows(), self.call.of([UNIT_FAILED]), *OF_FAILED).items():
             times[key] += count
             last[key] = max(last.get(key, 0), second)
         print(f"{'LAST':<27} {'TIMES':>6} {'MACHINE':<16} {'RESULT':<14} UNIT")
-        for key, second in sorted(last.items(), key=lambda each: -each[1]):
+        for key, second in sorted(last.items(), key=itemgetter(1), reverse=True):
             machine, unit, user_unit, result = map(one_line, key)
-            print(f"{self.at_time(second * 1_000_000):<27} {times[key]:>6} {machine:<16} {result:<14} "
+            print(f"{moment(second * SECOND):<27} {times[key]:>6} {machine:<16} {result:<14} "
                   f"{unit if unit != '-' else user_unit}")
-        return 0
+
+
+def moment(microseconds: int) -> str:
+    """As journalctl says times; a machine may say any."""
+    try:
+        return time.strftime("%a %Y-%m-%d %H:%M:%S %Z", time.localtime(microseconds // SECOND))
+    except (ValueError, OverflowError, OSError):
+        return f"@{microseconds}"
 
 
 def one_line(value: str) -> str:

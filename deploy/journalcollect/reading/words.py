@@ -13,9 +13,8 @@ VALUE = ("output o, output-fields, identifier t, priority p, facility, grep g, c
          "since S, until U, unit u, user-unit, field F, machine M, count-by, folder")
 MAYBE = "lines n, boot b, case-sensitive, histogram"
 OWN = {"list-machines", "failed", "count-by", "folder", "histogram", "machine"}
-KINDS = {words[0]: (kind, words[1] if len(words) > 1 else "") for kind in (NONE, VALUE, MAYBE)
-         for words in (each.split() for each in kind.split(", "))}
-LETTERS = {letter: name for name, (_, letter) in KINDS.items() if letter}
+KINDS = {each.split()[0]: kind for kind in (NONE, VALUE, MAYBE) for each in kind.split(", ")}
+LETTERS = {each[-1]: each[:-2] for kind in (NONE, VALUE, MAYBE) for each in kind.split(", ") if each[-2] == " "}
 # What may be the value of an option that can stand without one.
 BEHIND = {"lines": re.compile(r"\d+|all"), "boot": re.compile(r"all|(?=.)([0-9a-fA-F]{32})?([+-]?\d+)?")}
 
@@ -29,18 +28,17 @@ class Call:
     def has(self, *names: str) -> bool:
         return any(name in names for name, _ in self.options)
 
-    def values(self, name: str) -> list[str | None]:
-        return [value for each, value in self.options if each == name]
-
     def value(self, name: str) -> str | None:
         """The last one, as journalctl takes it."""
-        return next(reversed(self.values(name)), None)
+        return next((value for each, value in reversed(self.options) if each == name), None)
 
     def without(self, *names: str) -> "Call":
         return replace(self, options=[each for each in self.options if each[0] not in names])
 
-    def plus(self, *options: tuple[str, str | None]) -> "Call":
-        return replace(self, options=[*self.options, *options])
+    def plus(self, *names: str, **values: str) -> "Call":
+        """With further options, some without a value."""
+        named = [(name.replace("_", "-"), value) for name, value in values.items()]
+        return replace(self, options=[*self.options, *((name, None) for name in names), *named])
 
     def of(self, matches: list[str]) -> "Call":
         """Narrowed down: `+` is an alternative to all before it, so each alternative gets the matches."""
@@ -71,22 +69,21 @@ def read(words: list[str]) -> Call:
             call.matches.extend(left)
             break
         if word.startswith("--"):
-            said, equals, value = word[2:].partition("=")
+            said, has_value, value = word[2:].partition("=")
             name = whole(said)
-            if equals and KINDS[name][0] == NONE:
+            if has_value and KINDS[name] == NONE:
                 raise Wrong(f"--{name} takes no value")
-            call.options.append((name, value if equals else following(name, left)))
         elif word.startswith("-") and word != "-":
-            letters = word[1:]
-            while letters:
-                if letters[0] not in LETTERS:
-                    raise Wrong(f"-{letters[0]} is no option here")
-                name, letters = LETTERS[letters[0]], letters[1:]
-                takes_rest = bool(letters) and KINDS[name][0] is not NONE
-                call.options.append((name, letters if takes_rest else following(name, left)))
-                letters = "" if takes_rest else letters
+            name, has_value, value = LETTERS.get(word[1], ""), word[2:], word[2:]
+            if not name:
+                raise Wrong(f"-{word[1]} is no option here")
+            if has_value and KINDS[name] == NONE:
+                left.insert(0, f"-{value}")             # further letters
+                has_value = ""
         else:
             call.matches.append(word)
+            continue
+        call.options.append((name, value if has_value else following(name, left)))
     return call
 
 
@@ -100,8 +97,8 @@ def whole(said: str) -> str:
 
 def following(name: str, left: list[str]) -> str | None:
     """The value of an option that has none of its own: the next word, where that is to be one."""
-    if KINDS[name][0] == VALUE and not left:
+    if KINDS[name] == VALUE and not left:
         raise Wrong(f"--{name} takes a value")
-    if KINDS[name][0] == VALUE or left and name in BEHIND and BEHIND[name].fullmatch(left[0]):
+    if KINDS[name] == VALUE or left and name in BEHIND and BEHIND[name].fullmatch(left[0]):
         return left.pop(0)
     return None
