@@ -7,6 +7,7 @@ import signal
 import subprocess
 import time
 from collections.abc import Iterator
+from contextlib import contextmanager
 from dataclasses import dataclass
 from pathlib import Path
 
@@ -43,10 +44,23 @@ class Forwarding:
         self.collector.finish(name)
         shutil.rmtree(self.collector.path / "recent" / name)
 
+    @contextmanager
+    def waiting(self) -> Iterator[subprocess.Popen[str]]:
+        """One that runs, once it says that nothing is taken, and ends it."""
+        place = self.collector.path / "forward" / "place.json"
+        place.unlink(missing_ok=True)
+        with self.start() as process:
+            wait_until(lambda: place.exists() and json.loads(place.read_bytes())["waits_for"])
+            yield process
+            process.terminate()
+
 
 @pytest.fixture
-def forwarding(collector: Collector) -> Forwarding:
-    return Forwarding(collector)
+def forwarding(collector: Collector, engine: StandIn) -> Forwarding:
+    """It brings things to `engine`, if nothing else is said."""
+    one = Forwarding(collector)
+    one.set(URL=engine.url)
+    return one
 
 
 @pytest.fixture
@@ -70,7 +84,6 @@ def numbers(rows: list[dict[str, object]]) -> list[int]:
 
 
 def test_each_entry_of_each_database_comes(forwarding: Forwarding, engine: StandIn) -> None:
-    forwarding.set(URL=engine.url)
     for place, name in enumerate(NAMES[:3]):
         forwarding.database(name, *(odd(place * 100 + number) for number in range(1, 101)))
     subprocess.run(["zstd", "-q", "--rm", forwarding.collector.path / "databases" / f"{NAMES[0]}.db"], check=True)
@@ -91,7 +104,6 @@ def test_each_entry_of_each_database_comes(forwarding: Forwarding, engine: Stand
 
 
 def test_it_goes_on_where_it_was_killed(forwarding: Forwarding, engine: StandIn) -> None:
-    forwarding.set(URL=engine.url)
     for place, name in enumerate(NAMES):
         forwarding.database(name, *(plain("web", place * 2000 + number, "m") for number in range(1, 2001)))
     choose = random.Random(3)
@@ -106,7 +118,6 @@ def test_it_goes_on_where_it_was_killed(forwarding: Forwarding, engine: StandIn)
 
 
 def test_what_isnt_taken_is_put_aside_and_the_rest_comes(forwarding: Forwarding, engine: StandIn) -> None:
-    forwarding.set(URL=engine.url)
     engine.bad = "poison"
     forwarding.database(NAMES[0], *(plain("web", number, "poison" if number in (7, 40) else "m")
                                     for number in range(1, 101)))
@@ -126,7 +137,6 @@ def test_what_isnt_taken_is_put_aside_and_the_rest_comes(forwarding: Forwarding,
 
 def test_a_request_has_a_deadline_as_a_whole(forwarding: Forwarding, engine: StandIn) -> None:
     """A server that sends a byte now and then holds nobody longer than that, and SIGTERM ends it at once."""
-    forwarding.set(URL=engine.url)
     forwarding.database(NAMES[0], plain("web", 1, "m"))
     engine.drip = 0.2
     process = forwarding.start("--timeout", "1")
@@ -144,28 +154,25 @@ def test_a_request_has_a_deadline_as_a_whole(forwarding: Forwarding, engine: Sta
     assert forwarding.call("--status").returncode == 0
 
 
-@pytest.mark.parametrize("state", ["cut", "busy", "gone"])
+@pytest.mark.parametrize("state", ["cut", "busy"])
 def test_it_waits_while_nothing_is_taken(forwarding: Forwarding, engine: StandIn, state: str) -> None:
-    forwarding.set(URL=engine.url)
     forwarding.database(NAMES[0], *(plain("web", number, "m") for number in range(1, 51)))
     engine.cut, engine.answer = state == "cut", b"Code: 202. Too many simultaneous queries" if state == "busy" else b""
-    if state == "gone":
-        forwarding.set(URL="http://localhost:9")
-    process = forwarding.start()
-    wait_until((forwarding.collector.path / "forward" / "problem").exists)
-    assert process.poll() is None and engine.rows == []
-    if state == "gone":
+    with forwarding.waiting() as process:
+        assert process.poll() is None and engine.rows == []
+        engine.cut, engine.answer = False, b""
+        wait_until(lambda: numbers(engine.rows) == list(range(1, 51)))
         process.terminate()
-        assert "it can't be reached" in process.communicate()[1]
-        return
-    engine.cut, engine.answer = False, b""
-    wait_until(lambda: numbers(engine.rows) == list(range(1, 51)))
-    process.terminate()
-    assert process.communicate()[1].count("it is tried again") >= 1
+        assert process.communicate()[1].count("it is tried again") >= 1
+
+
+def test_it_waits_for_who_isnt_there(forwarding: Forwarding) -> None:
+    forwarding.set(URL="http://localhost:9")
+    with forwarding.waiting():
+        assert "it can't be reached" in forwarding.call("--status").stdout
 
 
 def test_another_target_isnt_taken_for_the_last_one(forwarding: Forwarding, engine: StandIn) -> None:
-    forwarding.set(URL=engine.url)
     forwarding.database(NAMES[0], plain("web", 1, "m"))
     assert forwarding.call("--once").returncode == 0
     forwarding.set(URL=engine.url, TABLE="logs.other")
@@ -177,17 +184,14 @@ def test_another_target_isnt_taken_for_the_last_one(forwarding: Forwarding, engi
 
 
 def test_a_database_that_went_or_is_damaged_is_told(forwarding: Forwarding, engine: StandIn) -> None:
-    forwarding.set(URL="http://localhost:9")
-    forwarding.database(NAMES[0], plain("web", 1, "m"))
-    forwarding.database(NAMES[1], plain("web", 2, "m"))
-    state = forwarding.collector.path / "forward"
+    for number, name in enumerate(NAMES[:3], 1):
+        forwarding.database(name, plain("web", number, "m"))
+    state, databases = forwarding.collector.path / "forward", forwarding.collector.path / "databases"
     state.mkdir()
     (state / "place.json").write_text(json.dumps({"target": f"{engine.url} journal", "waited": NAMES[:2]}))
-    (forwarding.collector.path / "databases" / f"{NAMES[0]}.db").unlink()
-    (forwarding.collector.path / "databases" / f"{NAMES[0]}.db.sha256").unlink()
-    (forwarding.collector.path / "databases" / f"{NAMES[1]}.db").write_bytes(b"none" * 5000)
-    forwarding.database(NAMES[2], plain("web", 3, "m"))
-    forwarding.set(URL=engine.url)
+    for path in databases.glob(f"{NAMES[0]}.*"):
+        path.unlink()
+    (databases / f"{NAMES[1]}.db").write_bytes(b"none" * 5000)
     done = forwarding.call("--once")
     assert done.returncode == 1 and f"{NAMES[0]} went before" in done.stderr and f"{NAMES[1]} is damaged" in done.stderr
     assert numbers(engine.rows) == [3]
@@ -195,7 +199,7 @@ def test_a_database_that_went_or_is_damaged_is_told(forwarding: Forwarding, engi
 
 
 @pytest.mark.parametrize("values", [{"URL": "ftp://x"}, {"URL": "http://x:0"}, {"URL": "http://x/?a"},
-                                    {"URL": "http://u@x"},
+                                    {"URL": "http://u@x"}, {"URL": "http://x:99999"}, {"URL": "https://"},
                                     {"TABLE": "a;b"}, {"ENGINE": "loki"},
                                     {"URL": "http://other", "AUTHORIZATION_FILE": "/x"},
                                     {"URL": "https://x", "CA_FILE": "/x"}], ids=str)
@@ -205,8 +209,9 @@ def test_wrong_settings(forwarding: Forwarding, values: dict[str, str]) -> None:
     assert done.returncode == 2 and done.stderr.startswith("forward: "), done
 
 
-def test_nothing_goes_out_without_a_url(forwarding: Forwarding) -> None:
-    assert forwarding.call("--once").returncode == 0
+def test_nothing_goes_out_without_a_url(forwarding: Forwarding, engine: StandIn) -> None:
+    forwarding.set()
+    assert forwarding.call("--once").returncode == 0 and engine.requests == 0
 
 
 def certificate(folder: Path, name: str) -> Path:
@@ -229,12 +234,8 @@ def test_encrypted_both_sides_prove_who_they_are(forwarding: Forwarding, tmp_pat
     try:
         for wrong in ({"CA_FILE": ours}, {"CERTIFICATE_FILE": own}, {"CA_FILE": own, "CERTIFICATE_FILE": own}):
             forwarding.set(URL=engine.url, **wrong)
-            (forwarding.collector.path / "forward" / "problem").unlink(missing_ok=True)
-            process = forwarding.start()
-            wait_until((forwarding.collector.path / "forward" / "problem").exists)
-            process.terminate()
-            process.communicate()
-            assert engine.rows == []
+            with forwarding.waiting():
+                assert engine.rows == []
         forwarding.set(URL=engine.url, CA_FILE=ours, CERTIFICATE_FILE=own, AUTHORIZATION_FILE=secret)
         assert forwarding.call("--once").returncode == 0
         assert numbers(engine.rows) == [1] and engine.headers["Authorization"] == "Bearer abc"
@@ -259,7 +260,8 @@ def clickhouse(tmp_path: Path) -> Iterator[server.ClickHouse]:
 def test_clickhouse_has_each_entry_once_over_kills_of_both(
         forwarding: Forwarding, clickhouse: server.ClickHouse) -> None:
     forwarding.set(URL=clickhouse.url)
-    assert "isn't there" in look(forwarding)
+    with forwarding.waiting():
+        assert "isn't there" in forwarding.call("--status").stdout
     clickhouse.run(forwarding.call("--schema").stdout)
     for place, name in enumerate(NAMES):
         forwarding.database(name, *(odd(place * 500 + number) for number in range(1, 501)))
@@ -281,10 +283,3 @@ def test_clickhouse_has_each_entry_once_over_kills_of_both(
     assert by_number[3]["message"] == "tab\t\nline\n\n\"quotes\" ünï\u2028"
     for view in ("lines", "errors", "hours"):
         clickhouse.query(f"SELECT count() FROM journal_{view}")
-
-
-def look(forwarding: Forwarding) -> str:
-    process = forwarding.start()
-    wait_until((forwarding.collector.path / "forward" / "problem").exists)
-    process.terminate()
-    return process.communicate()[1]

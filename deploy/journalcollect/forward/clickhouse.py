@@ -7,7 +7,7 @@ import signal
 from urllib.parse import urlencode
 
 from . import settings
-from .rows import COLUMNS, OWN, Row
+from .rows import COLUMNS, OWN
 from .settings import Settings
 
 MOST_BYTES, LONGEST_REASON = 1 << 20, 400
@@ -54,9 +54,9 @@ class ClickHouse:
             lacks = f"lacks {', '.join(missing)}" if has else "isn't there"
             raise Unavailable(f"the table {self.table} {lacks}: see journal-collect-forward --schema")
 
-    def put(self, rows: list[Row]) -> None:
+    def put(self, rows: list[bytes]) -> None:
         """Brings rows there: it has all of them when this returns. Refused if one of them is wrong."""
-        status, said = self.post(self.insert, b"".join([row.data for row in rows]))
+        status, said = self.post(self.insert, b"".join(rows))
         if status == 200 and not said:
             return
         code = CODE.search(said)

@@ -1,5 +1,6 @@
 """journal-collect-forward: brings what was collected to ClickHouse, database by database."""
 import argparse
+import itertools
 import json
 import os
 import shutil
@@ -7,7 +8,9 @@ import signal
 import sys
 import time
 from collections.abc import Callable, Iterator
+from dataclasses import asdict, dataclass, field
 from pathlib import Path
+from typing import Any
 
 from ..collector import databases
 from ..collector import settings as collector_settings
@@ -17,30 +20,62 @@ from ..common.report import BUSY, FAILED, LOOK, WRONG
 from ..common.settings import Wrong
 from ..common.entries import spans
 from ..common.export_stream import Unfit
-from ..reading import exports
-from . import place, settings
+from ..reading import making
+from . import settings
 from .clickhouse import ClickHouse, Refused, Unavailable
-from .place import Place
-from .rows import Row, row
+from .rows import row
 from .settings import Settings
 
 STATUSES = """\
 Status: 0 all went well; 1 something to look at: entries that were put aside, databases that are damaged or went before
 they were forwarded; 2 the call or the settings are wrong; 3 something failed; 75 another run is under way."""
 BATCH_ENTRIES, BATCH_BYTES, POLL_SECONDS = 5_000, 8 << 20, 5.0
-LONGEST_WAIT, PATIENCE = 60.0, 8.0
+WAITS, LONGEST_WAIT, PATIENCE = (1, 2, 4, 8, 16, 32), 60, 8
 ALL = "all"
 
 
+@dataclass
+class Place:
+    """How far it has come: the target; the databases that are forwarded, or can't be, by their digests; those that
+    waited, and those that went before their turn; why nothing is taken, if that is so, and since when."""
+    target: str = ""
+    done: dict[str, str] = field(default_factory=dict)
+    bad: dict[str, str] = field(default_factory=dict)
+    waited: list[str] = field(default_factory=list)
+    missed: list[str] = field(default_factory=list)
+    waits_for: str = ""
+    waits_since: int = 0
+
+    def waiting(self, finished: dict[str, str]) -> list[str]:
+        """The databases that wait, the oldest first."""
+        return sorted(name for name, digest in finished.items()
+                      if digest not in (self.done.get(name), self.bad.get(name)))
+
+    def note(self, finished: dict[str, str]) -> list[str]:
+        """These are there now; those that waited and went."""
+        gone = [name for name in self.waited if name not in {*finished, *self.done, *self.bad}]
+        self.missed += gone
+        self.done = {name: digest for name, digest in self.done.items() if name in finished}
+        self.bad = {name: digest for name, digest in self.bad.items() if name in finished}
+        self.waited = self.waiting(finished)
+        return gone
+
+
 class Forwarder:
-    """One run."""
+    """One run. How far it has come is in one file, which is replaced whole once the engine has what it says; what the
+    engine doesn't take is in another one, a line for each entry."""
 
     def __init__(self, chosen: Settings, folder: Path, once: bool) -> None:
         self.chosen, self.folder, self.once, self.state = chosen, Folder(folder), once, folder / "forward"
         self.folder.scratch = self.state / "scratch"
-        # How far it has come; what the engine doesn't take, a line for each entry; why it waits, and since when.
-        self.path, self.aside, self.problem = (self.state / each for each in ("place.json", "aside.json", "problem"))
-        self.place, self.status, self.waits_for = place.read(self.path), 0, ""
+        self.path, self.aside, self.status = self.state / "place.json", self.state / "aside.json", 0
+        try:
+            self.place = Place(**json.loads(self.path.read_bytes()))
+        except (FileNotFoundError, ValueError, TypeError):
+            self.place = Place()                        # what comes again counts once
+
+    def write(self) -> None:
+        files.replace(self.path, json.dumps(asdict(self.place), indent=1).encode())
 
     def tell(self, text: str, status: int = 0) -> None:
         print(f"forward: {text}", file=sys.stderr, flush=True)
@@ -61,10 +96,10 @@ class Forwarder:
         for name in again:
             if name != ALL and not (self.place.done.pop(name, None) or self.place.bad.pop(name, None)):
                 raise Wrong(f"{name} wasn't forwarded")
-        self.place.target = self.chosen.target
+        self.place.target, self.place.waits_for = self.chosen.target, ""
+        self.write()
 
     def run(self, engine: ClickHouse) -> int:
-        self.problem.unlink(missing_ok=True)
         shutil.rmtree(self.folder.scratch, ignore_errors=True)          # what a run left that was killed
         self.folder.scratch.mkdir()
         self.insist(engine.look)
@@ -74,7 +109,7 @@ class Forwarder:
                 self.tell(f"{name} went before it was forwarded", LOOK)
             for name in self.place.waited:
                 self.forward(name, finished[name], engine)
-            self.place.write(self.path)
+            self.write()
             if self.once and not self.place.waiting(self.finished()):
                 return self.status
             time.sleep(0.0 if self.once else POLL_SECONDS)
@@ -90,56 +125,53 @@ class Forwarder:
             self.tell(f"{name} is damaged, and not all of it is forwarded: {error}", LOOK)
         except FileNotFoundError:
             self.tell(f"{name} went while it was forwarded", LOOK)
-        self.place.write(self.path)
+        self.write()
 
-    def rows(self, name: str) -> Iterator[Row]:
+    def rows(self, name: str) -> Iterator[bytes]:
         """The entries of a database, in the order of their keys."""
-        day = exports.day_of(self.folder, name)
-        with exports.exported(self.folder, name) as data:
+        day = making.day_of(self.folder, name)
+        with making.exported(self.folder, name) as data:
             for span in spans(data):
                 yield row(data[span.begin:span.end], day)
 
-    def bring(self, name: str, batch: list[Row], engine: ClickHouse) -> None:
+    def bring(self, database: str, batch: list[bytes], engine: ClickHouse) -> None:
         """Brings rows there, however long that takes. What isn't taken is found by halves, and put aside."""
         try:
             self.insist(lambda: engine.put(batch))
         except Refused as fault:
             if len(batch) == 1:
-                self.put_aside(name, batch[0], str(fault))
+                self.put_aside(database, json.loads(batch[0]), str(fault))
                 return
             half = len(batch) // 2
-            self.bring(name, batch[:half], engine)
-            self.bring(name, batch[half:], engine)
+            self.bring(database, batch[:half], engine)
+            self.bring(database, batch[half:], engine)
 
-    def put_aside(self, database: str, row: Row, why: str) -> None:
+    def put_aside(self, database: str, row: dict[str, Any], why: str) -> None:
         """A row is on the disk when this returns, and why it isn't taken; after a stop perhaps once more."""
-        said = {"database": database, "why": why, "row": json.loads(row.data)}
         with open(self.aside, "ab") as file:
-            file.write(json.dumps(said).encode() + b"\n")
+            file.write(json.dumps({"database": database, "why": why, "row": row}).encode() + b"\n")
             file.flush()
             os.fsync(file.fileno())
-        self.tell(f"{row.sequence} {row.number} isn't taken, and is put aside in {self.aside}: {why}", LOOK)
+        self.tell(f"{row['sequence']} {row['number']} isn't taken, and is put aside in {self.aside}: {why}", LOOK)
 
     def insist(self, step: Callable[[], None]) -> None:
         """Takes a step again and again until the engine lets it be taken."""
-        seconds = 1.0
-        while True:
+        for seconds in itertools.chain(WAITS, itertools.repeat(LONGEST_WAIT)):
             try:
                 step()
                 break
             except Unavailable as unavailable:
                 self.wait(str(unavailable), seconds)
-                seconds = min(2 * seconds, LONGEST_WAIT)
-        if self.waits_for:
+        if self.place.waits_for:
             self.tell("it goes on")
-            self.waits_for = ""
-            self.problem.unlink(missing_ok=True)
+            self.place.waits_for = ""
+            self.write()
 
-    def wait(self, why: str, seconds: float) -> None:
-        if why != self.waits_for:
-            self.waits_for = why
-            self.tell(f"{why}; it is tried again in {seconds:.0f} s, and later at least each minute")
-            files.replace(self.problem, f"{int(time.time())} {why}\n".encode(errors="replace"))
+    def wait(self, why: str, seconds: int) -> None:
+        if why != self.place.waits_for:
+            self.place.waits_for, self.place.waits_since = why, int(time.time())
+            self.tell(f"{why}; it is tried again in {seconds} s, and later at least each minute")
+            self.write()
         if self.once and seconds > PATIENCE:
             raise TimeoutError(f"nothing is taken: {why}")
         time.sleep(seconds)
@@ -153,20 +185,18 @@ class Forwarder:
         if self.aside.exists():
             count = self.aside.read_bytes().count(b"\n")
             wrong.append(f"aside {count} in {self.aside}")
-        if self.problem.exists():
-            since, _, why = self.problem.read_text(errors="replace").strip().partition(" ")
-            wrong.append(f"waits since {int(time.time()) - int(since)} seconds: {why}")
+        if self.place.waits_for:
+            wrong.append(f"waits since {int(time.time()) - self.place.waits_since} seconds: {self.place.waits_for}")
         print(*wrong, sep="\n", end="\n" if wrong else "")
         return LOOK if wrong else 0
 
 
-def batches(rows: Iterator[Row]) -> Iterator[list[Row]]:
+def batches(rows: Iterator[bytes]) -> Iterator[list[bytes]]:
     """Rows that go out together: so many at most, or so many bytes and one row more."""
-    batch: list[Row] = []
-    held = 0
+    batch, held = list[bytes](), 0
     for each in rows:
         batch.append(each)
-        held += len(each.data)
+        held += len(each)
         if len(batch) == BATCH_ENTRIES or held >= BATCH_BYTES:
             yield batch
             batch, held = [], 0

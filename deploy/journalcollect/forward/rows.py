@@ -1,6 +1,5 @@
 """Entries as rows of JSON: known fields in columns of their own, and all others beside them."""
 import json
-from dataclasses import dataclass
 from datetime import date
 from hashlib import blake2b
 from typing import Any
@@ -24,14 +23,6 @@ MARK, BACKSLASH = "bytes:", "\ud800"
 DAY, EPOCH = 86_400_000_000, date(1970, 1, 1).toordinal()
 # An entry counts to the day that it says, if that is at most so many days before its database's.
 DAYS_BEFORE = 30
-
-
-@dataclass(slots=True)
-class Row:
-    """An entry's key, and the entry as a line of JSON."""
-    sequence: str
-    number: int
-    data: bytes
 
 
 def as_text(value: bytes) -> str:
@@ -63,9 +54,9 @@ def day_of(realtime: int, database: date) -> str:
     return str(date.fromordinal(ordinal) if is_plausible else database)
 
 
-def row(entry: bytes, database: date) -> Row:
-    """An entry of a database that was begun on a day. An empty column stands for no field, so an empty value is among
-    the others, and so are further values of a field."""
+def row(entry: bytes, database: date) -> bytes:
+    """An entry of a database that was begun on a day, as a line of JSON. An empty column stands for no field, so an
+    empty value is among the others, and so are further values of a field."""
     (_, realtime, _), (_, monotonic, _), (_, number, _), (_, sequence, _), *own = fields(entry)
     names, values = [name for name, *_ in own], [as_text(value) for _, value, _ in own]
     said: dict[str, Any] = {
@@ -79,5 +70,4 @@ def row(entry: bytes, database: date) -> Row:
             said["values"].append(value)
         else:
             said[column] = value
-    data = json.dumps(said, ensure_ascii=False, separators=(",", ":")).encode() + b"\n"
-    return Row(said["sequence"], said["number"], data)
+    return json.dumps(said, ensure_ascii=False, separators=(",", ":")).encode() + b"\n"

@@ -11,7 +11,7 @@ from ..common import settings
 from ..common.settings import Wrong
 
 TABLE = re.compile(r"[A-Za-z_][A-Za-z0-9_]*(\.[A-Za-z_][A-Za-z0-9_]*)?")
-PATH = re.compile(r"(/[A-Za-z0-9._~-]+)*/?")
+URL = re.compile(r"(https?://[^/?#@:][^/?#@]*(/[A-Za-z0-9._~-]+)*/?)?")
 
 
 @dataclass(frozen=True)
@@ -38,21 +38,15 @@ def read() -> Settings:
     chosen = settings.read(settings.FOLDER / "forward.conf.d", Settings)
     if not TABLE.fullmatch(chosen.table):
         raise Wrong(f"TABLE can't be {chosen.table}: it is NAME or DATABASE.NAME")
-    if chosen.url:
-        look_at_url(chosen)
-    return chosen
-
-
-def look_at_url(chosen: Settings) -> None:
     try:
         parts, port = chosen.parts, chosen.parts.port
     except ValueError as error:
         raise Wrong(f"URL can't be {chosen.url}: {error}") from None
-    if parts.scheme not in ("http", "https") or not parts.hostname or port == 0 or parts.query or parts.fragment \
-            or parts.username or not PATH.fullmatch(parts.path):
+    if not URL.fullmatch(chosen.url) or port == 0:
         raise Wrong(f"URL can't be {chosen.url}: it is https://HOST:PORT, with a path behind it if need be")
-    if parts.scheme == "http" and chosen.authorization_file and not is_here(parts.hostname):
+    if parts.scheme == "http" and chosen.authorization_file and not is_here(parts.hostname or ""):
         raise Wrong("URL has to begin with https: AUTHORIZATION_FILE would go out for all to read")
+    return chosen
 
 
 def is_here(host: str) -> bool:

@@ -2,6 +2,7 @@
 import json
 import math
 import os
+import shutil
 import subprocess
 import sys
 import time
@@ -11,12 +12,14 @@ from itertools import product
 from typing import IO, Any, NamedTuple
 
 from ..common import times
-from .choosing import FOREVER, File, Standing
+from .places import FOREVER, File, Standing
 from .words import Call
 
 CURSORS = ("cursor", "after-cursor", "cursor-file", "show-cursor")
 PROCESSORS = os.cpu_count() or 1
 Entry = dict[str, Any]
+Values = tuple[str, ...]
+Counts = Counter[tuple[int, Values]]
 
 
 class Window(NamedTuple):
@@ -26,11 +29,10 @@ class Window(NamedTuple):
     until: int = FOREVER
 
     def words(self, call: Call) -> list[str]:
-        """The call of journalctl for this span."""
         if self.since:
-            call = call.without("since").plus(since=times.spelled(self.since))
+            call = call.plus(since=times.spelled(self.since))
         if self.until < FOREVER:
-            call = call.without("until").plus(until=times.spelled(self.until))
+            call = call.plus(until=times.spelled(self.until))
         return ["journalctl", *(f"--file=/proc/self/fd/{handle}" for handle in self.handles), "--merge", *call.words()]
 
     @property
@@ -63,19 +65,16 @@ def become(window: Window, call: Call) -> None:
 
 def entries(window: Window, call: Call, *fields: str, end: float = math.inf) -> Iterator[Entry]:
     """The entries as JSON says them, with some fields alone if named; those until a moment of the monotonic clock."""
-    call = call.without("output", "output-fields").plus("quiet", output="json")
-    if fields:
-        call = call.plus(output_fields=",".join(fields))
-    words = ["timeout", str(max(end - time.monotonic(), 0.001)), *window.words(call)]
+    call = call.plus("quiet", output="json", **({"output_fields": ",".join(fields)} if fields else {}))
+    words = ["timeout", "--foreground", str(max(end - time.monotonic(), 0.001)), *window.words(call)]
     with subprocess.Popen(words, stdout=subprocess.PIPE, stderr=subprocess.DEVNULL, pass_fds=window.handles) as process:
         assert process.stdout
         yield from (json.loads(line) for line in process.stdout if line.endswith(b"}\n"))
 
 
 def side_by_side(found: list[Window], call: Call) -> int:
-    """Says what each window has in turn, read on all processors; the status is 1 if a word isn't found."""
-    import shutil                                       # here, and below, since most calls do without
-    import tempfile
+    """Says what each window has in turn, read on all processors; the status is 1 if nothing is found."""
+    import tempfile                                     # here, and below, since most calls do without
     from concurrent.futures import ThreadPoolExecutor
     if os.isatty(1):
         os.environ.setdefault("SYSTEMD_COLORS", "1")
@@ -95,14 +94,13 @@ def side_by_side(found: list[Window], call: Call) -> int:
             said.close()
     if is_empty and not call.has("quiet"):
         print("-- No entries --")
-    return failed or int(is_empty and call.has("grep"))
+    return failed or int(is_empty)
 
 
 def newest(found: list[Window], call: Call, lines: int, *fields: str, end: float = math.inf) -> list[Entry]:
     """So many newest entries, the newest first. Some windows are read at once, those of the newest entries first."""
     from concurrent.futures import ThreadPoolExecutor
-    call = call.without("lines", "reverse", "no-tail", "pager-end").plus("reverse", lines=str(lines))
-    latest: list[Entry] = []
+    call, latest = call.plus("reverse", lines=str(lines)), list[Entry]()
     with ThreadPoolExecutor(PROCESSORS) as pool:
         for place in range(len(found), 0, -PROCESSORS):
             if len(latest) < lines and time.monotonic() < end:
@@ -112,9 +110,9 @@ def newest(found: list[Window], call: Call, lines: int, *fields: str, end: float
     return sorted(latest, key=lambda entry: int(entry["__REALTIME_TIMESTAMP"]), reverse=True)[:lines]
 
 
-def count_one(window: Window, call: Call, names: list[str]) -> Counter[tuple[int, tuple[str, ...]]]:
+def count_one(window: Window, call: Call, names: list[str]) -> Counts:
     """How many entries each second has, by the values of some fields. Of several values of a field each counts."""
-    found: Counter[tuple[int, tuple[str, ...]]] = Counter()
+    found = Counts()
     for entry in entries(window, call, *(names or ["_BOOT_ID"])):
         second = int(entry["__REALTIME_TIMESTAMP"]) // 1_000_000
         found.update((second, each) for each in product(*(texts(entry.get(name, "-")) for name in names)))
@@ -127,7 +125,7 @@ def texts(value: Any) -> list[str]:
     return [each if isinstance(each, str) else "?" for each in several]
 
 
-def count(found: list[Window], call: Call, *names: str) -> Counter[tuple[int, tuple[str, ...]]]:
+def count(found: list[Window], call: Call, *names: str) -> Counts:
     """The same of all windows, on all processors."""
     from concurrent.futures import ProcessPoolExecutor
     for handle in {each for window in found for each in window.handles}:

@@ -1,31 +1,52 @@
 """Makes journal files of finished databases, and of those that began on one day one sequence of files by time.
 
-They are a cache: what is there is made of databases, and counts once it has its name.
+usage: python3 -m journalcollect.reading.making [--anew] FOLDER
+
+They are a cache: what is there is made of databases, and counts once it has its name. `--anew` makes all of them, also
+those that stand.
 """
-import argparse
+import contextlib
 import gzip
 import heapq
 import itertools
+import mmap
 import os
 import shutil
 import sys
 import time
-from collections.abc import Iterable, Iterator
+from collections.abc import Callable, Iterable, Iterator
+from datetime import UTC, date, datetime
 from pathlib import Path
 
-from ..collector import databases
-from ..collector import settings as collector_settings
+from ..collector import databases, settings
 from ..collector.settings import Folder
 from ..common import entries, files, program
 from ..common.entries import Data, Untaken
 from ..common.export_stream import Unfit
-from . import exports, places, remote
+from . import places, remote
 from .places import ABOUT, ALL, About, Places
 from .remote import Remote
 
 UNKNOWN = "systemd-journal-remote didn't write them"
 # One of them costs the files of a database or of a day, until the next run.
 FAILURES = (OSError, EOFError, ValueError, program.Failed, databases.Damaged, remote.Failed, Unfit)
+
+
+def day_of(folder: Folder, name: str) -> date:
+    """The day on which a database was begun, by its name; by its file, if that says none."""
+    try:
+        return date.fromisoformat(name[:10])
+    except ValueError:
+        digest = databases.beside(databases.path_of(folder, name), ".sha256")
+        return datetime.fromtimestamp(digest.stat().st_mtime, UTC).date()
+
+
+@contextlib.contextmanager
+def exported(folder: Folder, name: str) -> Iterator[Data]:
+    """All entries of a database, as a canonical stream."""
+    with databases.unpacked(folder, name) as copy, files.unnamed(folder.scratch) as stream:
+        program.export(copy, stream)
+        yield mmap.mmap(stream, 0, access=mmap.ACCESS_READ) if os.fstat(stream).st_size else b""
 
 
 def spooled(path: Path) -> Iterator[tuple[int, bytes]]:
@@ -43,56 +64,54 @@ def write(texts: Iterable[bytes], folder: Path, name: str, about: About) -> None
     writer.finish()
     written = sum(head.entries for head in remote.headers(remote.parts(folder, name)))
     if written < about.entries:
-        about.leave_out(UNKNOWN, about.entries - written)
+        about.untaken[UNKNOWN] = about.entries - written
 
 
 class Maker:
     """One run: everything that waits is made, the newest first."""
 
-    def __init__(self, folder: Path, chosen: collector_settings.Settings) -> None:
+    def __init__(self, folder: Path, chosen: settings.Settings) -> None:
         self.places, self.folder, self.chosen = Places(folder), Folder(folder), chosen
         # The machine of each sequence; of what came by hand there may be none.
         self.owners: dict[str, str] = dict(places.known(folder, "SELECT id, machine FROM sequence"))
 
     def run(self, is_anew: bool) -> int:
-        """One run at a time; who comes while another one is under way leaves it that, if not all is to be made anew."""
+        """One run at a time, up to the end of its process: who comes while another one is under way leaves it that, if
+        not all is to be made anew."""
         self.places.make()
         self.folder.scratch.mkdir(exist_ok=True)
-        lock = self.folder.locked("journals/.lock", is_waiting=is_anew)
-        if lock is None:
+        if self.folder.locked("journals/.lock", is_waiting=is_anew) is None:
             return 0
-        with open(lock, "rb"):
-            for folder in [*self.places.days(), self.places.today] if is_anew else ():
-                shutil.rmtree(folder, ignore_errors=True)
-            self.places.make()
-            return self.make_all()
-
-    def make_all(self) -> int:
+        for folder in [*self.places.days(), self.places.today] if is_anew else ():
+            shutil.rmtree(folder, ignore_errors=True)
+        self.places.make()
         if not remote.REMOTE.exists():
             return told("there is no systemd-journal-remote, a package of its own: no databases are packed meanwhile")
         self.clean()
         status = 0
-        for name in sorted(self.wanted() - self.places.made().keys(), reverse=True):
+        for what, make in self.waiting():
             if files.free(self.places.folder)[0] <= self.chosen.free_bytes:
-                return told(f"FREE_BYTES is {self.chosen.free_bytes}, and fewer are free: none are made")
+                status = told(f"FREE_BYTES is {self.chosen.free_bytes}, and fewer are free: none are made")
+                break
             try:
-                self.make(name)
+                make(what)
             except FAILURES as error:
-                status = told(f"none are made of {name}: {error}")
-        for day in filter(self.is_over, sorted(set(map(self.day_of, self.places.of_today())), reverse=True)):
-            try:
-                self.make_day(day)
-            except FAILURES as error:
-                status = told(f"none are made of {day}: {error}")
+                status = told(f"none are made of {what}: {error}")
         self.clean()
         self.forget()
         return status
 
-    def wanted(self) -> set[str]:
-        """The finished databases of the days that are kept."""
+    def waiting(self) -> Iterator[tuple[str, Callable[[str], None]]]:
+        """What is to be made, and how: the finished databases of the days that are kept, then the days that are over."""
         finished = {name: self.day_of(name) for name in databases.finished(self.folder)}
-        kept = self.kept(finished.values())
-        return {name for name, day in finished.items() if day in kept}
+        kept, made = self.kept(finished.values()), self.places.made()
+        for name in sorted(finished.keys() - made.keys(), reverse=True):
+            if finished[name] in kept:
+                yield name, self.make
+        over = max(time.strftime("%F", time.gmtime(time.time() - 86_400)), *finished.values())
+        for day in sorted(set(map(self.day_of, self.places.of_today())), reverse=True):
+            if day < over:
+                yield day, self.make_day
 
     def kept(self, days: Iterable[str]) -> list[str]:
         """The newest of some days: on which something came, so a clock that is wrong costs one."""
@@ -101,7 +120,7 @@ class Maker:
     def make(self, name: str) -> None:
         """Journal files of one database, and its text for the day's."""
         making, about, packed = self.places.making, About([name]), self.places.making / f"{name}.gz"
-        with exports.exported(self.folder, name) as data, gzip.open(packed, "wb", compresslevel=1) as spool:
+        with exported(self.folder, name) as data, gzip.open(packed, "wb", compresslevel=1) as spool:
             write(self.by_time(data, about, spool), making, name, about)
         for path in [*remote.parts(making, name), packed]:
             path.rename(self.places.today / path.name)
@@ -115,7 +134,7 @@ class Maker:
             try:
                 entry = entries.entry(data, span)
             except Untaken as reason:
-                about.leave_out(str(reason))
+                about.untaken[str(reason)] += 1
                 continue
             machine = self.owners.get(entry.sequence, "")
             about.entries += 1
@@ -125,12 +144,7 @@ class Maker:
             yield text
 
     def day_of(self, name: str) -> str:
-        return str(exports.day_of(self.folder, name))
-
-    def is_over(self, day: str) -> bool:
-        """Nothing more comes of a day: a database began after it, or a day has gone by."""
-        newest = max(map(self.day_of, databases.finished(self.folder)))
-        return newest > day or day < time.strftime("%F", time.gmtime(time.time() - 86_400))
+        return str(day_of(self.folder, name))
 
     def make_day(self, day: str) -> None:
         """One sequence of files of a day's databases takes the place of theirs. A day that was made before, as with a
@@ -169,17 +183,14 @@ def told(text: str) -> int:
     return 1
 
 
-def main(words: list[str] | None = None) -> int:
-    parser = argparse.ArgumentParser(prog="journal-files", description=__doc__)
-    parser.add_argument("--anew", action="store_true", help="all of them, also those that stand")
-    parser.add_argument("folder", metavar="FOLDER", type=Path)
-    asked = parser.parse_args(words)
+def main(words: list[str]) -> int:
+    *asked, folder = words
     os.umask(0o027)
     try:
-        return Maker(asked.folder, collector_settings.read()).run(asked.anew)
+        return Maker(Path(folder), settings.read()).run("--anew" in asked)
     except OSError as error:
         return told(str(error))
 
 
 if __name__ == "__main__":
-    sys.exit(main())
+    sys.exit(main(sys.argv[1:]))

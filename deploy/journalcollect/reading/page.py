@@ -26,26 +26,21 @@ from typing import Any
 from urllib.parse import parse_qs, urlsplit
 
 from ..collector import settings
-from . import choosing, journalctl, remote
-from .choosing import FOREVER
+from . import journalctl, places
 from .journalctl import Window
-from .places import Places
+from .places import FOREVER, Places
 from .present import sequence_id
 from .words import Call
 
 SECONDS, LINES, BARS, AT_ONCE = 10.0, 500, 60, 4
 HOSTS = re.compile(r"(localhost|127\.0\.0\.1|\[::1\])(:\d{1,5})?", re.ASCII)
-NUMBER = re.compile(r"i=([0-9a-f]+)")
+WHOLE, NUMBER = re.compile("[0-9]{1,19}"), re.compile(r"i=([0-9a-f]+)")
 MATCH = re.compile(r"[A-Z_][A-Z0-9_]{0,63}=.*", re.DOTALL | re.ASCII)
 OWN = re.compile(b"<style>(.*)</style>.*<script>(.*)</script>", re.DOTALL)
 
 
 class Refused(Exception):
-    """The request isn't answered so, and why."""
-
-    def __init__(self, status: HTTPStatus, why: str) -> None:
-        super().__init__(why)
-        self.status = status
+    """The request isn't answered: the status that says so, and why."""
 
 
 def policy(page: bytes) -> str:
@@ -64,10 +59,10 @@ class Asked:
         self.places, self.values, self.end = places, parse_qs(query), time.monotonic() + SECONDS
 
     def number(self, name: str, otherwise: int) -> int:
-        said = self.values.get(name, [""])[-1]
-        if said and not (said.isascii() and said.isdigit() and len(said) < 19):
+        said = self.values.get(name, [str(otherwise)])[-1]
+        if not WHOLE.fullmatch(said):
             raise Refused(HTTPStatus.BAD_REQUEST, f"{name} isn't a whole number")
-        return int(said) if said else otherwise
+        return int(said)
 
     def call(self) -> Call:
         """In journalctl's words."""
@@ -83,29 +78,23 @@ class Asked:
 
     def windows(self, opened: ExitStack, since: int = 0, until: int = FOREVER, many: int = 0) -> list[Window]:
         """Spans of a time, the oldest first."""
-        chosen = choosing.standing(self.places, opened).since(since, until)
+        chosen = self.places.standing(opened).since(since, until)
         return journalctl.windows(chosen, since, until, many or len(chosen.files) // 32 + 1)
 
     def entries(self) -> Any:
         """The newest entries, the newest first."""
-        lines, tail = min(self.number("lines", 100), LINES), self.tail()
+        lines, tail = min(self.number("lines", 100), LINES), self.places.tail()
         with ExitStack() as opened:
             windows = self.windows(opened, self.number("since", 0), self.number("until", FOREVER))
             found = journalctl.newest(windows, self.call(), lines, end=self.end)
         return {"entries": found, "tail": tail, "is_cut": time.monotonic() > self.end, "has_more": len(found) == lines}
 
-    def tail(self) -> int:
-        """The number of the present's last entry."""
-        heads = remote.headers(self.places.present.glob("*.journal"))
-        return max((head.last_number for head in heads), default=0)
-
     def live(self) -> Any:
         """What came after a number of the present, in the order in which it came."""
-        after, tail = self.number("tail", 0), self.tail()
+        after, tail = self.number("tail", 0), self.places.tail()
         call = self.call().plus(cursor=f"s={sequence_id()};i={after + 1:x}", lines=str(LINES))
         with ExitStack() as opened:
-            paths = sorted(self.places.present.glob("*.journal")) if tail > after else []
-            files = choosing.open_all(paths, opened)
+            files = places.open_all(self.places.live() if tail > after else [], opened)
             found = list(journalctl.entries(Window(files), call, end=self.end)) if files else []
         reached = [int(part[1], 16) for each in found if (part := NUMBER.search(each["__CURSOR"]))]
         return {"entries": found, "tail": max(reached) if len(found) == LINES else max([tail, *reached])}
@@ -141,7 +130,7 @@ class Asked:
                 ended = subprocess.run(window.words(Call([("field", "_SYSTEMD_UNIT")])), capture_output=True, text=True,
                                        errors="replace", check=False, timeout=SECONDS, pass_fds=window.handles)
                 units.update(ended.stdout.splitlines())
-        return {"machines": sorted(filter(None, choosing.about(self.places).boots)), "units": sorted(units)[:2000]}
+        return {"machines": sorted(filter(None, self.places.about().boots)), "units": sorted(units)[:2000]}
 
 
 class Handler(BaseHTTPRequestHandler):
@@ -153,8 +142,8 @@ class Handler(BaseHTTPRequestHandler):
         try:
             status, kind, body = self.answer()
         except (Refused, OSError, ValueError) as error:
-            status = error.status if isinstance(error, Refused) else HTTPStatus.INTERNAL_SERVER_ERROR
-            kind, body = "text/plain; charset=utf-8", f"{error}\n".encode()
+            status, why = error.args if isinstance(error, Refused) else (HTTPStatus.INTERNAL_SERVER_ERROR, error)
+            kind, body = "text/plain; charset=utf-8", f"{why}\n".encode()
         self.send_response(status)
         for name, value in (("Content-Type", kind), ("Content-Length", str(len(body))), ("Cache-Control", "no-store"),
                             ("Content-Security-Policy", self.server.policy), ("X-Content-Type-Options", "nosniff"),
@@ -193,10 +182,10 @@ class Server(socketserver.ThreadingMixIn, socketserver.UnixStreamServer):
     """A thread for each connection, a few of which read at once."""
     daemon_threads = True
 
-    def __init__(self, listening: socket.socket, folder: Path, host: str) -> None:
+    def __init__(self, listening: socket.socket, folder: Path, host: str | None) -> None:
         super().__init__("", Handler, bind_and_activate=False)
         self.socket.close()
-        self.socket, self.places, self.host = listening, Places(folder), host or None
+        self.socket, self.places, self.host = listening, Places(folder), host
         self.turns, self.page = threading.BoundedSemaphore(AT_ONCE), Path(__file__).with_name("page.html").read_bytes()
         self.policy = policy(self.page)
 
@@ -207,7 +196,7 @@ class Server(socketserver.ThreadingMixIn, socketserver.UnixStreamServer):
 def main() -> int:
     parser = argparse.ArgumentParser(prog="journal-collect-page", description=__doc__,
                                      formatter_class=argparse.RawDescriptionHelpFormatter)
-    parser.add_argument("--host", default="", help="the name under which a proxy, which says who reads, is reached")
+    parser.add_argument("--host", help="the name under which a proxy, which says who reads, is reached")
     asked = parser.parse_args()
     if os.environ.get("LISTEN_FDS") != "1":
         parser.error("journal-collect-page.socket starts it: it takes the socket that systemd hands over")

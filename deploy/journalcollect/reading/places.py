@@ -1,4 +1,4 @@
-"""Where journal files stand in a collector's folder.
+"""Where journal files stand in a collector's folder, and which of them a call reads.
 
     journals/present/NAME.journal    what is acknowledged of a database that isn't finished, in the order of its coming
     journals/today/NAME.journal      the entries of a finished database by their times
@@ -11,16 +11,23 @@ A name that is too large for one file has further ones, `NAME@..journal`.
 """
 import json
 import re
-from dataclasses import asdict, dataclass, field
+import resource
+from collections import Counter
+from collections.abc import Iterable
+from contextlib import ExitStack, closing, suppress
+from dataclasses import dataclass, field
 from pathlib import Path
-from typing import Any
+from typing import Any, NamedTuple
 
 from ..common import files
+from . import remote
+from .remote import Header
 
 DAY = re.compile(r"\d{4}-\d\d-\d\d(\.\d+)?", re.ASCII)
 ALL, ABOUT = "all", "about.json"
 # The group that a collector's folder has may read, whatever else who makes them leaves to others.
 MODE, FOLDER_MODE = 0o640, 0o750
+FOREVER = 1 << 63
 # A machine that says more boots of one day than these isn't listened to.
 MOST_BOOTS = 1_000
 
@@ -31,7 +38,7 @@ class About:
     alone, and of each machine the first and last time of each boot, in microseconds."""
     databases: list[str] = field(default_factory=list)
     entries: int = 0
-    untaken: dict[str, int] = field(default_factory=dict)
+    untaken: Counter[str] = field(default_factory=Counter)
     boots: dict[str, dict[str, list[int]]] = field(default_factory=dict)
 
     def add(self, machine: str, boot: str, first: int, last: int) -> None:
@@ -42,25 +49,41 @@ class About:
         elif len(boots) < MOST_BOOTS:
             boots[boot] = [first, last]
 
-    def leave_out(self, reason: str, count: int = 1) -> None:
-        self.untaken[reason] = self.untaken.get(reason, 0) + count
-
     def join(self, other: "About") -> None:
         """What the other has is added, but for its databases."""
         self.entries += other.entries
-        for reason, count in other.untaken.items():
-            self.leave_out(reason, count)
+        self.untaken.update(other.untaken)
         for machine, boots in other.boots.items():
             for boot, (first, last) in boots.items():
                 self.add(machine, boot, first, last)
 
     def write(self, path: Path) -> None:
-        files.replace(path, json.dumps(asdict(self), separators=(",", ":")).encode(), MODE)
+        files.replace(path, json.dumps(vars(self), separators=(",", ":")).encode(), MODE)
 
 
 def about(path: Path) -> About:
     """What a file says; nothing if it went meanwhile."""
     return About(**json.loads(path.read_bytes())) if path.exists() else About()
+
+
+class File(NamedTuple):
+    """An open journal file, and what it has."""
+    handle: int
+    head: Header
+
+
+class Standing(NamedTuple):
+    """What stands now: the present's files, which aren't in the order of times, and those by time, the oldest first."""
+    present: list[File]
+    finished: list[File]
+
+    def since(self, since: int, until: int = FOREVER) -> "Standing":
+        return Standing([file for file in self.present if min(file.head.first, file.head.last) <= until],
+                        [file for file in self.finished if file.head.last >= since and file.head.first <= until])
+
+    @property
+    def files(self) -> list[File]:
+        return self.present + self.finished
 
 
 class Places:
@@ -92,11 +115,52 @@ class Places:
             found |= dict.fromkeys(about(day / ABOUT).databases, day / ABOUT)
         return found
 
+    def about(self) -> About:
+        """What all files have together."""
+        joined, told = About(), self.made()
+        for path in {*told.values(), *(path for path in self.present.glob("*.json") if path.stem not in told)}:
+            joined.join(about(path))
+        return joined
+
+    def standing(self, opened: ExitStack) -> Standing:
+        """The files that stand now, each database in one of its places. They are opened as they are chosen, so that
+        none is missing when a database gets its place in a day meanwhile."""
+        _, hard = resource.getrlimit(resource.RLIMIT_NOFILE)
+        resource.setrlimit(resource.RLIMIT_NOFILE, (hard, hard))
+        for _ in range(20):
+            with suppress(FileNotFoundError):
+                return self.look(opened)
+            opened.close()
+        raise OSError(f"the files in {self.journals} change all the time")
+
+    def look(self, opened: ExitStack) -> Standing:
+        """The present is listed first, then what takes its place, then what takes that one's: none is passed over."""
+        live, told = self.live(), self.made()
+        days = {path.parent for path in told.values()} - {self.today}
+        by_time = [path for day in days for path in day.glob("*.journal")]
+        by_time += [path for path in self.today.glob("*.journal")
+                    if told.get(remote.stem(path), self.today).parent == self.today]
+        present = open_all((path for path in live if remote.stem(path) not in told), opened)
+        return Standing(present, sorted(open_all(by_time, opened), key=lambda file: file.head.first))
+
+    def live(self) -> list[Path]:
+        """The present's files."""
+        return sorted(self.present.glob("*.journal"))
+
+    def tail(self) -> int:
+        """The number of the present's last entry."""
+        return max((head.last_number for head in remote.headers(self.live())), default=0)
+
+
+def open_all(paths: Iterable[Path], opened: ExitStack) -> list[File]:
+    """Those that have entries."""
+    handles = [opened.enter_context(open(path, "rb", buffering=0)).fileno() for path in paths]
+    return [File(handle, head) for handle in handles if (head := remote.header(handle)) and head.entries]
+
 
 def known(folder: Path, query: str) -> list[Any]:
     """What the service knows of a collector; nothing, if that can't be read."""
     import sqlite3                                      # here, since most searches do without
-    from contextlib import closing
     try:
         with closing(sqlite3.connect(f"file:{folder}/state.sqlite?mode=ro", uri=True)) as rows:
             return rows.execute(query).fetchall()

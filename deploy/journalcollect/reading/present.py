@@ -52,14 +52,14 @@ class Live(Remote):
                 try:
                     entry = entries.entry(data, span)
                 except Untaken as reason:
-                    self.about.leave_out(str(reason))
+                    self.about.untaken[str(reason)] += 1
                     continue
                 if (entry.sequence, entry.number) not in self.keys:
                     self.keys.add((entry.sequence, entry.number))
                     self.about.add(machine, entry.boot, entry.realtime, entry.realtime)
                     yield entry.text(machine, self.with_keys)
         except Unfit as fault:
-            self.about.leave_out(f"their upload can't be read: {fault}")
+            self.about.untaken[f"their upload can't be read: {fault}"] += 1
 
     def say(self) -> None:
         """What the files have now, beside them."""
@@ -72,8 +72,7 @@ def before(places: Places, name: str) -> int:
     """The number before the first one: as it was if the database has a present, and else one that nothing had."""
     if heads := remote.headers(remote.parts(places.present, name)):
         return min(head.first_number - 1 if head.entries else head.last_number for head in heads)
-    others = remote.headers(places.present.glob("*.journal"))
-    return max([time.time_ns() // 1000, *(head.last_number for head in others)])
+    return max(time.time_ns() // 1000, places.tail())
 
 
 class Present(threading.Thread):
@@ -86,7 +85,7 @@ class Present(threading.Thread):
         self.events: queue.Queue[Path | str | None] = queue.Queue()
         self.lives: dict[str, Live] = {}
         self.maker: subprocess.Popen[bytes] | None = None
-        self.makes_again, self.looked = True, 0.0
+        self.makes_again = True
 
     def feed(self, upload: Path) -> None:
         """An upload is stored, and is recent/DATABASE/N."""
@@ -151,13 +150,17 @@ class Present(threading.Thread):
         return self.lives[name]
 
     def follow(self) -> None:
+        """Takes up what is told, up to the end, and looks around once a second."""
+        looked = 0.0
         while (event := self.next()) is not None:
             if isinstance(event, Path):
                 self.live(event.parent.name).add(event)
             elif event:
                 self.end(event)
                 self.makes_again = True
-            self.look()
+            if time.monotonic() - looked > 1.0:
+                looked = time.monotonic()
+                self.look()
 
     def next(self) -> Path | str | None:
         """What is told next: an upload that is still there, a finished database, nothing for a while, or the end."""
@@ -168,11 +171,7 @@ class Present(threading.Thread):
         return "" if isinstance(event, Path) and not event.exists() else event
 
     def look(self) -> None:
-        """What is to be done now and then."""
-        now = time.monotonic()
-        if now - self.looked < 1.0:
-            return
-        self.looked = now
+        """What is to be done now and then: journal files are made by a process of its own, one at a time."""
         for live in self.lives.values():
             live.say()
             if live.process.poll() is not None:
@@ -180,19 +179,15 @@ class Present(threading.Thread):
         if self.makes_again and (self.maker is None or self.maker.poll() is not None):
             self.makes_again = False
             self.clean()
-            self.make()
+            self.maker = subprocess.Popen(
+                ["nice", "-n", "10", sys.executable, "-B", "-m", "journalcollect.reading.making", self.places.folder],
+                cwd=Path(__file__).resolve().parents[2], stdin=subprocess.DEVNULL)
 
     def end(self, name: str) -> None:
         if live := self.lives.pop(name, None):
             live.finish()
             live.say()
         shutil.rmtree(self.recent / name, ignore_errors=True)
-
-    def make(self) -> None:
-        """Journal files of finished databases, by a process of its own."""
-        self.maker = subprocess.Popen(
-            ["nice", "-n", "10", sys.executable, "-B", "-m", "journalcollect.reading.making", self.places.folder],
-            cwd=Path(__file__).resolve().parents[2], stdin=subprocess.DEVNULL)
 
     def clean(self) -> None:
         """The present of databases whose journal files stand goes after a while."""

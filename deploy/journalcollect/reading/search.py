@@ -5,10 +5,11 @@ collector's name of a machine, and boots are counted for each machine by itself.
 """
 import fnmatch
 import os
+import signal
 import sys
 import time
 from collections import Counter
-from collections.abc import Iterable
+from collections.abc import Callable, Iterable
 from contextlib import ExitStack
 from functools import cached_property
 from operator import itemgetter
@@ -17,10 +18,9 @@ from pathlib import Path
 from ..collector import settings
 from ..common import times
 from ..common.settings import Wrong
-from . import choosing, journalctl, places, words
-from .choosing import FOREVER, Standing
-from .journalctl import Window
-from .places import About, Places
+from . import journalctl, places, words
+from .journalctl import Counts, Values, Window
+from .places import FOREVER, About, Places, Standing
 from .words import BEHIND, Call
 
 HELP = """\
@@ -61,7 +61,9 @@ class Search:
         if call.has("utc"):
             os.environ["TZ"] = "UTC"
             time.tzset()
-        self.since, self.until = self.time_of("since", 0), self.time_of("until", FOREVER)
+        # What systemd can't read as a time is left to journalctl.
+        since, until = (value and times.read(value) for value in (call.value("since"), call.value("until")))
+        self.since, self.until = int(since or 0), int(until or FOREVER)
         self.names = self.machines()
         self.call = call.of([f"_COLLECTED_FROM={name}" for name in self.names])
         if (call.has("boot") or call.has("dmesg")) and call.value("boot") != "all" and not call.has("list-boots"):
@@ -72,12 +74,7 @@ class Search:
 
     @cached_property
     def about(self) -> About:
-        return choosing.about(self.at)
-
-    def time_of(self, name: str, otherwise: int) -> int:
-        """What an option says, in microseconds; what it can't say is left to journalctl."""
-        found = times.read(said) if (said := self.asked.value(name)) else None
-        return otherwise if found is None else found
+        return self.at.about()
 
     def machines(self) -> list[str]:
         """The machines asked for; none if all are."""
@@ -114,50 +111,46 @@ class Search:
         return self.call.of([f"_BOOT_ID={each}" for each in found])
 
     def standing(self) -> Standing:
-        return choosing.standing(self.at, self.opened).since(self.since, self.until)
+        return self.at.standing(self.opened).since(self.since, self.until)
 
-    def windows(self) -> list[Window]:
-        """Spans for all processors, some for each."""
-        return journalctl.windows(self.standing(), self.since, self.until, 4 * journalctl.PROCESSORS)
+    def counted(self, call: Call, *names: str) -> Counts:
+        """What is asked for, on all processors: some spans for each."""
+        windows = journalctl.windows(self.standing(), self.since, self.until, 4 * journalctl.PROCESSORS)
+        return journalctl.count(windows, call, *names)
 
     def run(self) -> int:
         """What this front says itself, or journalctl."""
-        for name, do in (("list-machines", self.list_machines), ("list-boots", self.list_boots),
-                         ("failed", self.failed), ("count-by", self.count), ("histogram", self.count),
-                         ("follow", self.follow)):
-            if self.asked.has(name):
-                do()
-                return 0
-        return self.show()
+        own: dict[str, Callable[[], int | None]] = {
+            "list-machines": self.list_machines, "list-boots": self.list_boots, "failed": self.failed,
+            "count-by": self.count, "histogram": self.count, "follow": self.follow}
+        if self.call.matches:
+            own["field"] = self.list_values             # journalctl says those of all files
+        do = next((do for name, do in own.items() if self.asked.has(name)), self.show)
+        return do() or 0
 
     def show(self) -> int:
         """journalctl itself; on all processors, if a word is looked for."""
-        call, is_plain = self.call, self.asked.has(*journalctl.CURSORS, "field", "fields", "header", "verify")
-        if call.has("field") and call.matches:
-            return self.list_values(call.value("field") or "")
+        call, standing, many = self.call, self.standing(), 4 * journalctl.PROCESSORS
+        is_plain = call.has(*journalctl.CURSORS, "field", "fields", "header", "verify")
         if call.has("grep") and not is_plain and call.lines is None:
-            return journalctl.side_by_side(self.windows(), call)
-        standing = self.standing()
+            return journalctl.side_by_side(journalctl.windows(standing, self.since, self.until, many), call)
         if call.lines and not is_plain and (call.has("grep") or len(standing.files) > MANY_FILES):
-            found = journalctl.windows(standing, self.since, self.until, len(standing.files) + 1)
-            latest = journalctl.newest(found, call, call.lines, "_BOOT_ID")
-            if len(latest) == call.lines:
-                standing = standing.since(int(latest[-1]["__REALTIME_TIMESTAMP"]), self.until)
-        if files := standing.files or choosing.standing(self.at, self.opened).files[:1]:
+            windows = journalctl.windows(standing, self.since, self.until, len(standing.files) + 1)
+            newest = journalctl.newest(windows, call, call.lines, "_BOOT_ID")
+            if len(newest) == call.lines:
+                standing = standing.since(int(newest[-1]["__REALTIME_TIMESTAMP"]), self.until)
+        if files := standing.files or self.at.standing(self.opened).files[:1]:
             journalctl.become(Window(files), call)
         print("-- No entries --")
         return 0
 
-    def list_values(self, name: str) -> int:
-        """The values of a field, of what is asked for; journalctl says those of all files."""
-        found = {value for _, (value,) in journalctl.count(self.windows(), self.call.without("field"), name)}
-        print(*sorted(found - {"-"}), sep="\n")
-        return 0
+    def list_values(self) -> None:
+        values = {value for _, (value,) in self.counted(self.call.without("field"), self.asked.value("field") or "")}
+        print(*sorted(values - {"-"}), sep="\n")
 
     def follow(self) -> None:
         """The present, of which all that came within an hour is there."""
-        words = ["journalctl", f"--directory={self.at.present}", "--merge", *self.call.words()]
-        os.execvp(words[0], words)
+        journalctl.become(Window([]), self.call.plus(directory=str(self.at.present)))
 
     def list_boots(self) -> None:
         boots = self.boots()
@@ -183,15 +176,15 @@ class Search:
     def count(self) -> None:
         """--count-by, --histogram, or both."""
         said = self.asked.value("count-by")
-        found = journalctl.count(self.windows(), self.call, *([SHORT.get(said, said)] if said else []))
-        by_value: Counter[tuple[str, ...]] = Counter()
+        found = self.counted(self.call, *([SHORT.get(said, said)] if said else []))
+        by_value = Counter[Values]()
         for (_, value), count in found.items():
             by_value[value] += count
         if not self.asked.has("histogram"):
             for value, count in by_value.most_common():
                 print(f"{count:>10} {one_line(*value)}")
             return
-        step, bars = self.step(found), Counter[tuple[int, tuple[str, ...]]]()
+        step, bars = self.step(found), Counts()
         names = [value for value, _ in by_value.most_common(COLUMNS)]
         for (second, value), count in found.items():
             bars[second // step * step, value if value in names else OTHERS] += count
@@ -215,8 +208,8 @@ class Search:
 
     def failed(self) -> None:
         """Which units failed, by what systemd says of them."""
-        last, times = dict[tuple[str, ...], int](), Counter[tuple[str, ...]]()
-        for (second, key), count in journalctl.count(self.windows(), self.call.of([UNIT_FAILED]), *OF_FAILED).items():
+        last, times = dict[Values, int](), Counter[Values]()
+        for (second, key), count in self.counted(self.call.of([UNIT_FAILED]), *OF_FAILED).items():
             times[key] += count
             last[key] = max(last.get(key, 0), second)
         print(f"{'LAST':<27} {'TIMES':>6} {'MACHINE':<16} {'RESULT':<14} UNIT")
@@ -240,18 +233,13 @@ def one_line(value: str) -> str:
 
 
 def main() -> int:
+    signal.signal(signal.SIGPIPE, signal.SIG_DFL)       # whoever reads may stop
     try:
         call = words.read(sys.argv[1:])
         if call.has("help"):
             sys.stdout.write(HELP)
             return 0
         return Search(call, Places(Path(call.value("folder") or settings.read().folder))).run()
-    except Wrong as wrong:
-        print(f"journal-collect-search: {wrong}", file=sys.stderr)
-        return 2
-    except BrokenPipeError:
-        os.dup2(os.open(os.devnull, os.O_WRONLY), 1)
-        return 0
-    except OSError as error:
+    except (Wrong, OSError) as error:
         print(f"journal-collect-search: {error}", file=sys.stderr)
-        return 3
+        return 2 if isinstance(error, Wrong) else 3

@@ -36,7 +36,7 @@ class Call:
         return replace(self, options=[each for each in self.options if each[0] not in names])
 
     def plus(self, *names: str, **values: str) -> "Call":
-        """With further options, some without a value."""
+        """With further options, some without a value. Of several values of one journalctl takes the last."""
         named = [(name.replace("_", "-"), value) for name, value in values.items()]
         return replace(self, options=[*self.options, *((name, None) for name in names), *named])
 
