@@ -4,13 +4,14 @@ import re
 import ssl
 import stat
 from dataclasses import dataclass
-from ipaddress import ip_address
 from urllib.parse import SplitResult, urlsplit
 
 from ..common import settings
 from ..common.settings import Wrong
 
 TABLE = re.compile(r"[A-Za-z_][A-Za-z0-9_]*(\.[A-Za-z_][A-Za-z0-9_]*)?")
+# What is sent there doesn't leave this machine.
+HERE = re.compile(r"localhost|127(\.[0-9]{1,3}){3}|::1")
 URL = re.compile(r"(https?://[^/?#@:][^/?#@]*(/[A-Za-z0-9._~-]+)*/?)?")
 
 
@@ -44,17 +45,9 @@ def read() -> Settings:
         raise Wrong(f"URL can't be {chosen.url}: {error}") from None
     if not URL.fullmatch(chosen.url) or port == 0:
         raise Wrong(f"URL can't be {chosen.url}: it is https://HOST:PORT, with a path behind it if need be")
-    if parts.scheme == "http" and chosen.authorization_file and not is_here(parts.hostname or ""):
+    if parts.scheme == "http" and chosen.authorization_file and not HERE.fullmatch(parts.hostname or ""):
         raise Wrong("URL has to begin with https: AUTHORIZATION_FILE would go out for all to read")
     return chosen
-
-
-def is_here(host: str) -> bool:
-    """Whether what is sent there doesn't leave this machine."""
-    try:
-        return ip_address(host).is_loopback
-    except ValueError:
-        return host == "localhost"
 
 
 def secret(path: str) -> str:

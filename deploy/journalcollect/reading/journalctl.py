@@ -15,7 +15,6 @@ from ..common import times
 from .places import FOREVER, File, Standing
 from .words import Call
 
-CURSORS = ("cursor", "after-cursor", "cursor-file", "show-cursor")
 PROCESSORS = os.cpu_count() or 1
 Entry = dict[str, Any]
 Values = tuple[str, ...]

@@ -39,7 +39,9 @@ class Live(Remote):
     def __init__(self, places: Places, name: str, with_keys: bool) -> None:
         self.with_keys, self.keys = with_keys, set[tuple[str, int]]()
         self.about, self.path_of_about, self.is_told = About([name]), places.present / f"{name}.json", True
-        super().__init__(places.present / f"{name}.journal", sequence_id(), before(places, name))
+        path = places.present / f"{name}.journal"
+        remote.begin(path, sequence_id(), before(places, name))
+        super().__init__(path)
 
     def add(self, upload: Path) -> None:
         """The entries of an upload that weren't there before."""

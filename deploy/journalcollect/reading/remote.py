@@ -53,39 +53,36 @@ def parts(folder: Path, name: str) -> list[Path]:
     return [*sorted(folder.glob(f"{name}@*.journal")), *folder.glob(f"{name}.journal")]
 
 
+def begin(path: Path, sequence: str, last_number: int) -> None:
+    """A file without entries, whose next one has a number of this sequence. It takes the place of what had its name, so
+    that at each moment a file says which number comes first."""
+    new = path.with_name(f".{path.name}")
+    new.unlink(missing_ok=True)
+    if started(new, subprocess.DEVNULL).wait():
+        raise Failed(f"systemd-journal-remote can't make {path}")
+    with open(new, "r+b") as file:
+        file.seek(SEQUENCE_AT)
+        file.write(bytes.fromhex(sequence))
+        file.seek(LAST_AT)
+        file.write(struct.pack("<Q", last_number))
+    new.rename(path)
+    for part in path.parent.glob(f"{path.stem}@*.journal*"):
+        part.unlink()
+
+
+def started(path: Path, given: int) -> subprocess.Popen[bytes]:
+    try:
+        return subprocess.Popen([REMOTE, f"--output={path}", "-"], bufsize=1 << 18, stdin=given, umask=0o027,
+                                stdout=subprocess.DEVNULL, stderr=subprocess.DEVNULL, start_new_session=True)
+    except OSError as error:
+        raise Failed(f"systemd-journal-remote, of the package of that name, can't be run: {error}") from error
+
+
 class Remote:
-    """One that writes NAME.journal, and further files when one is full. Its numbers go on from those of a sequence, if
-    that is given."""
+    """One that writes NAME.journal, with numbers that go on from those there, and further files when one is full."""
 
-    def __init__(self, path: Path, sequence: str = "", last_number: int = 0) -> None:
-        if sequence:
-            self.begin(path, sequence, last_number)
-        self.process = self.started(path, subprocess.PIPE)
-
-    def begin(self, path: Path, sequence: str, last_number: int) -> None:
-        """A file without entries, whose next one has a number of this sequence. It takes the place of what had its
-        name, so that at each moment a file says which number comes first."""
-        new = path.with_name(f".{path.name}")
-        new.unlink(missing_ok=True)
-        if self.started(new, subprocess.DEVNULL).wait():
-            raise Failed(f"systemd-journal-remote can't make {path}")
-        with open(new, "r+b") as file:
-            file.seek(SEQUENCE_AT)
-            file.write(bytes.fromhex(sequence))
-            file.seek(LAST_AT)
-            file.write(struct.pack("<Q", last_number))
-        new.rename(path)
-        for part in path.parent.glob(f"{path.stem}@*.journal*"):
-            part.unlink()
-
-    @staticmethod
-    def started(path: Path, given: int) -> subprocess.Popen[bytes]:
-        try:
-            return subprocess.Popen([REMOTE, f"--output={path}", "-"], bufsize=1 << 18, stdin=given,
-                                    stdout=subprocess.DEVNULL, stderr=subprocess.DEVNULL, umask=0o027,
-                                    start_new_session=True)
-        except OSError as error:
-            raise Failed(f"systemd-journal-remote, of the package of that name, can't be run: {error}") from error
+    def __init__(self, path: Path) -> None:
+        self.process = started(path, subprocess.PIPE)
 
     def write(self, texts: Iterable[bytes]) -> None:
         assert self.process.stdin

@@ -45,6 +45,8 @@ The files are in /var/lib/journal-collect/journals: journalctl -D FOLDER/journal
 SHORT = {"machine": "_COLLECTED_FROM", "unit": "_SYSTEMD_UNIT", "boot": "_BOOT_ID", "priority": "PRIORITY"}
 UNIT_FAILED = "MESSAGE_ID=d9b373ed55a64feb8242e02dbe79a49c"
 OF_FAILED = ["_COLLECTED_FROM", "UNIT", "USER_UNIT", "UNIT_RESULT"]
+# With these journalctl reads one file after the other.
+PLAIN = ("cursor", "after-cursor", "cursor-file", "show-cursor", "field", "fields", "header", "verify")
 # From so many files on it is found out first which of them the newest entries are in.
 MANY_FILES = 200
 # A histogram has at most so many lines, each with a bar of so many characters, or so many columns of values.
@@ -113,10 +115,12 @@ class Search:
     def standing(self) -> Standing:
         return self.at.standing(self.opened).since(self.since, self.until)
 
+    def windows(self, standing: Standing) -> list[Window]:
+        """Spans for all processors, some for each."""
+        return journalctl.windows(standing, self.since, self.until, 4 * journalctl.PROCESSORS)
+
     def counted(self, call: Call, *names: str) -> Counts:
-        """What is asked for, on all processors: some spans for each."""
-        windows = journalctl.windows(self.standing(), self.since, self.until, 4 * journalctl.PROCESSORS)
-        return journalctl.count(windows, call, *names)
+        return journalctl.count(self.windows(self.standing()), call, *names)
 
     def run(self) -> int:
         """What this front says itself, or journalctl."""
@@ -130,10 +134,10 @@ class Search:
 
     def show(self) -> int:
         """journalctl itself; on all processors, if a word is looked for."""
-        call, standing, many = self.call, self.standing(), 4 * journalctl.PROCESSORS
-        is_plain = call.has(*journalctl.CURSORS, "field", "fields", "header", "verify")
+        call, standing = self.call, self.standing()
+        is_plain = call.has(*PLAIN)
         if call.has("grep") and not is_plain and call.lines is None:
-            return journalctl.side_by_side(journalctl.windows(standing, self.since, self.until, many), call)
+            return journalctl.side_by_side(self.windows(standing), call)
         if call.lines and not is_plain and (call.has("grep") or len(standing.files) > MANY_FILES):
             windows = journalctl.windows(standing, self.since, self.until, len(standing.files) + 1)
             newest = journalctl.newest(windows, call, call.lines, "_BOOT_ID")
