@@ -94,14 +94,6 @@ def cut_calls(paths: Sequence[str], _: str) -> list[str]:
     return ["reader", *paths, *devices]
 
 
-def cut(told: Told, _: Sequence[bytes]) -> bytes:
-    return one([heard_text(told) for _ in range(4)])
-
-
-def fails(told: Told, _: Sequence[bytes]) -> bytes:
-    return heard_text(told)
-
-
 def fed(told: Told, _: Sequence[bytes]) -> bytes:
     said = []
     while told.rest:
@@ -121,10 +113,6 @@ def file_end(count: int, end: str) -> bytes:
     return b"ok %d" % count if end == "ok 0" else b"stopped"
 
 
-def payload(told: Told, _: Sequence[bytes]) -> bytes:
-    return told.text("payload")
-
-
 def long_file(told: Told) -> tuple[bytes, int, int, int]:
     """How a file ends in a longer space, the number of its arrays, and what was asked of the space."""
     line = told.line()
@@ -137,15 +125,6 @@ def end_calls(paths: Sequence[str], length: str) -> list[str]:
     return [*numbered(f"{length},0"), "long", *paths]
 
 
-def ends(told: Told, _: Sequence[bytes]) -> bytes:
-    return b"%s %d %d" % long_file(told)[:3]
-
-
-def asked(told: Told, _: Sequence[bytes]) -> bytes:
-    end, _, _, size = long_file(told)
-    return end + b" %d" % size
-
-
 def parts(told: Told, _: Sequence[bytes]) -> bytes:
     said = []
     while told.rest:
@@ -154,10 +133,6 @@ def parts(told: Told, _: Sequence[bytes]) -> bytes:
 
 
 # Values and texts.
-
-def line(told: Told, _: Sequence[bytes]) -> bytes:
-    return told.line().encode()
-
 
 def value_calls(paths: Sequence[str], _: str) -> list[str]:
     return [*numbered(str(MOST)), "value", *paths]
@@ -172,14 +147,6 @@ def spelled(told: Told) -> tuple[bytes, bytes, bytes, bytes]:
     if has_failed == (front == whole):
         raise ValueError("a sink didn't fail as it said")
     return is_text, field, whole, front
-
-
-def text(told: Told, _: Sequence[bytes]) -> bytes:
-    return spelled(told)[0]
-
-
-def value(told: Told, _: Sequence[bytes]) -> bytes:
-    return spelled(told)[1]
 
 
 def write_calls(paths: Sequence[str], _: str) -> list[str]:
@@ -210,10 +177,6 @@ def answer(told: Told, _: Sequence[bytes]) -> bytes:
     return b"none" if said == b"none\n" else said
 
 
-def resume(told: Told, _: Sequence[bytes]) -> bytes:
-    return told.text("resume")
-
-
 # Uploads.
 
 def upload(told: Told) -> bytes:
@@ -229,22 +192,6 @@ def uploader(told: Told) -> tuple[bytes, bytes, bytes]:
     return told.line().encode(), upload(told), upload(told)
 
 
-def agrees(told: Told, _: Sequence[bytes]) -> bytes:
-    return uploader(told)[0]
-
-
-def next_upload(told: Told, _: Sequence[bytes]) -> bytes:
-    return uploader(told)[1]
-
-
-def whole(told: Told, _: Sequence[bytes]) -> bytes:
-    return uploader(told)[2]
-
-
-def sends(told: Told, _: Sequence[bytes]) -> bytes:
-    return upload(told)
-
-
 def acks(told: Told, _: Sequence[bytes]) -> bytes:
     uploader(told)
     said = b""
@@ -255,23 +202,23 @@ def acks(told: Told, _: Sequence[bytes]) -> bytes:
 
 
 WORDS = {
-    "cut": Word(cut_calls, cut),
-    "fails": Word(each("entries"), fails, has_numbers=True),
+    "cut": Word(cut_calls, lambda told, _: one([heard_text(told) for _ in range(4)])),
+    "fails": Word(each("entries"), lambda told, _: heard_text(told), has_numbers=True),
     "fed": Word(together("scanner"), fed),
-    "payload": Word(each("payload"), payload, has_numbers=True),
-    "ends": Word(end_calls, ends, has_numbers=True),
-    "asked": Word(each("long"), asked, has_numbers=True),
+    "payload": Word(each("payload"), lambda told, _: told.text("payload"), has_numbers=True),
+    "ends": Word(end_calls, lambda told, _: b"%s %d %d" % long_file(told)[:3], has_numbers=True),
+    "asked": Word(each("long"), lambda told, _: b"%s %d" % long_file(told)[::3], has_numbers=True),
     "parts": Word(each("parts"), parts, has_numbers=True),
-    "fields": Word(each("fields"), line),
-    "text": Word(value_calls, text),
-    "value": Word(value_calls, value),
+    "fields": Word(each("fields"), lambda told, _: told.line().encode()),
+    "text": Word(value_calls, lambda told, _: spelled(told)[0]),
+    "value": Word(value_calls, lambda told, _: spelled(told)[1]),
     "writes": Word(write_calls, writes),
     "head": Word(each("head"), head),
     "answer": Word(each("answer"), answer),
-    "resume": Word(each("resume"), resume),
-    "agrees": Word(together("uploader"), agrees, things=2),
-    "next": Word(together("uploader"), next_upload, has_numbers=True, things=2),
-    "whole": Word(together("uploader"), whole, has_numbers=True, things=2),
-    "sends": Word(each("send"), sends),
+    "resume": Word(each("resume"), lambda told, _: told.text("resume")),
+    "agrees": Word(together("uploader"), lambda told, _: uploader(told)[0], things=2),
+    "next": Word(together("uploader"), lambda told, _: uploader(told)[1], has_numbers=True, things=2),
+    "whole": Word(together("uploader"), lambda told, _: uploader(told)[2], has_numbers=True, things=2),
+    "sends": Word(each("send"), lambda told, _: upload(told)),
     "acks": Word(together("uploader"), acks, things=3),
 }

@@ -2,13 +2,8 @@
 import sys
 from pathlib import Path
 
-import pytest
+HERE = Path(__file__).resolve().parent
+sys.path[:0] = [str(HERE), str(HERE.parent / "reading"), str(HERE.parent)]
+from collecting import collector  # noqa: E402
 
-sys.path[:0] = [str(Path(__file__).resolve().parents[1] / "reading"), str(Path(__file__).resolve().parents[1])]
-sys.path.insert(0, str(Path(__file__).resolve().parent))
-from collecting import Collector  # noqa: E402
-
-
-@pytest.fixture
-def collector(tmp_path: Path) -> Collector:
-    return Collector(tmp_path / "collector")
+__all__ = ["collector"]

@@ -22,7 +22,7 @@ CONFIG = """<?xml version="1.0"?>
     <tmp_path>{data}/tmp/</tmp_path>
     <user_files_path>{folder}/user_files/</user_files_path>
     <format_schema_path>{folder}/format_schemas/</format_schema_path>
-    <users_config>{folder}/users.xml</users_config>
+    <users_config>{folder}/config.xml</users_config>
     <default_profile>default</default_profile>
     <default_database>default</default_database>
     <mark_cache_size>67108864</mark_cache_size>
@@ -31,6 +31,10 @@ CONFIG = """<?xml version="1.0"?>
     <timezone>UTC</timezone>
     <remote_servers><journals>{shards}</journals></remote_servers>
     {more}
+    <profiles><default><max_memory_usage>2000000000</max_memory_usage></default></profiles>
+    <users><default><password></password><networks><ip>127.0.0.1</ip></networks>
+        <profile>default</profile><quota>default</quota></default></users>
+    <quotas><default></default></quotas>
 </yandex>
 """
 SHARD = "<shard><internal_replication>true</internal_replication>{}</shard>"
@@ -40,14 +44,6 @@ REPLICATED = """<interserver_http_port>{interserver}</interserver_http_port>
     <interserver_http_host>127.0.0.1</interserver_http_host>
     <zookeeper><node><host>127.0.0.1</host><port>{zookeeper}</port></node></zookeeper>
     <macros><shard>{shard}</shard><replica>{replica}</replica></macros>"""
-USERS = """<?xml version="1.0"?>
-<yandex>
-    <profiles><default><max_memory_usage>2000000000</max_memory_usage></default></profiles>
-    <users><default><password></password><networks><ip>127.0.0.1</ip></networks>
-        <profile>default</profile><quota>default</quota></default></users>
-    <quotas><default></default></quotas>
-</yandex>
-"""
 
 
 def is_installed() -> bool:
@@ -70,7 +66,6 @@ class ClickHouse:
         self.config = folder / "config.xml"
         self.config.write_text(CONFIG.format(folder=folder, data=data or folder / "data", http=self.http, tcp=self.tcp,
                                              shards=known, more=more), encoding="utf-8")
-        (folder / "users.xml").write_text(USERS, encoding="utf-8")
         self.process: subprocess.Popen[bytes] | None = None
 
     @property

@@ -113,14 +113,6 @@ def stored(told: Told) -> bytes:
     return told.text("stored")
 
 
-def caught(told: Told) -> bytes:
-    return told.line().encode()
-
-
-def nothing(_: Told) -> bytes:
-    return b""
-
-
 def failure(told: Told) -> bytes:
     """How a call failed, and how often it did."""
     return line(told) + b", " + line(told)

@@ -3,20 +3,10 @@ this, and before them those of mistakes.py, which have to fail. Each journal tha
 
 usage: python3 rows.py [NAME..]
 """
-from __future__ import annotations
-
-import sys
 from pathlib import Path
 
 import mistakes
+import row_scripts
 from made import reports_of
-from row_scripts import counted, scripts_in, wrong
 
-
-def main(names: list[str]) -> int:
-    scripts = scripts_in(Path(__file__).resolve().parent, names)
-    return counted([*mistakes.unlike(), *wrong(scripts, reports_of)])
-
-
-if __name__ == "__main__":
-    sys.exit(main(sys.argv[1:]))
+row_scripts.run(Path(__file__).resolve().parent, mistakes.unlike(), reports_of)

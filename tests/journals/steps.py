@@ -32,7 +32,7 @@ from collections.abc import Iterator
 
 from batches import answer, lines_of, wanted_by
 from failing import Failing, Stopping
-from journals import NEVER, Journal, Step, added, added_and_next, caught, failure, nothing, stored, storing, taking
+from journals import NEVER, Journal, Step, added, added_and_next, failure, line, stored, storing, taking
 from pieces import bytes_of
 from told import report_of
 
@@ -101,7 +101,7 @@ def step_of(number: int, word: str, rest: str) -> Step:
     if word == "present":
         return Step(number, "present stored", [], stored, bytes_of(rest))
     if word in ("turn", "machine", "nobody"):
-        return Step(number, f"{word} {rest}".strip(), [], nothing, b"")
+        return Step(number, f"{word} {rest}".strip(), [], lambda _: b"", b"")
     if word == "asked":
         return Step(number, "asked", [], failure, wanted_by(f" {rest}")[1].encode())
     if word not in READINGS:
@@ -129,6 +129,6 @@ def conflict(number: int, rest: str) -> Step:
 READINGS = {
     "add": ("add {}", added),
     "present-add": ("present add {}", added),
-    "catch": ("catch {}", caught),
-    "recover": ("recover {}", caught),
+    "catch": ("catch {}", line),
+    "recover": ("recover {}", line),
 }

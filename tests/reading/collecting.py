@@ -9,6 +9,8 @@ import sys
 from dataclasses import dataclass, field
 from pathlib import Path
 
+import pytest
+
 ROOT = Path(__file__).resolve().parents[2]
 sys.path.insert(0, str(ROOT / "deploy"))
 os.environ["PYTHONPATH"] = str(ROOT / "deploy")
@@ -126,6 +128,11 @@ class Collector:
         done = self.search("-o", "cat", "-q", *words)
         assert done.returncode in (0, 1), done.stderr
         return done.stdout.splitlines()
+
+
+@pytest.fixture
+def collector(tmp_path: Path) -> Collector:
+    return Collector(tmp_path / "collector")
 
 
 __all__ = ["BEGIN", "Collector", "Entry", "Present", "REMOTE", "ROOT", "SEARCH", "digits", "plain"]

@@ -5,7 +5,6 @@ import shutil
 import socket
 import subprocess
 import sys
-import threading
 import time
 from collections.abc import Iterator
 from pathlib import Path
@@ -16,7 +15,7 @@ import browser
 import pytest
 from browser import Browser
 from collecting import ROOT, Collector, Entry, Present, plain
-from waiting import PATIENCE, listens, wait_until
+from waiting import PATIENCE, free_port, listens, wait_until
 
 PAGE = ROOT / "deploy" / "programs" / "journal-collect-page"
 # The page with another deadline of requests: on a computer that does much else one takes longer than people wait.
@@ -43,29 +42,26 @@ class Over(http.client.HTTPConnection):
 
 
 class Served:
-    """A page over a collector, which is also reached by a port."""
+    """A page over a collector."""
 
     def __init__(self, collector: Collector, present: Present, folder: Path, now: int) -> None:
         self.collector, self.present, self.path, self.now = collector, present, folder / "socket", now
-        words = [f"--setenv={name}={value}" for name, value in collector.environment.items()]
-        words += [sys.executable, "-B", "-c", PATIENT, "--host", "logs.example.org"]
-        self.process = subprocess.Popen(["systemd-socket-activate", f"--listen={self.path}", *words],
-                                        stderr=subprocess.DEVNULL)
-        wait_until(lambda: listens(self.path))
-        self.listening = socket.create_server(("127.0.0.1", 0))
-        self.url = f"http://localhost:{self.listening.getsockname()[1]}/"
-        threading.Thread(target=self.carry, daemon=True).start()
+        self.processes = [self.started(self.path)]
 
-    def carry(self) -> None:
-        while True:
-            try:
-                one = self.listening.accept()[0]
-            except OSError:
-                return
-            other = socket.socket(socket.AF_UNIX)
-            other.connect(str(self.path))
-            for a, b in ((one, other), (other, one)):
-                threading.Thread(target=pump, args=(a, b), daemon=True).start()
+    def started(self, at: Path | int) -> subprocess.Popen[bytes]:
+        """One on a socket's path, or on a port."""
+        words = [f"--setenv={name}={value}" for name, value in self.collector.environment.items()]
+        words += [sys.executable, "-B", "-c", PATIENT, "--host", "logs.example.org"]
+        listen = f"--listen={at}" if isinstance(at, Path) else f"--listen=127.0.0.1:{at}"
+        process = subprocess.Popen(["systemd-socket-activate", listen, *words], stderr=subprocess.DEVNULL)
+        wait_until(lambda: listens(at))
+        return process
+
+    def url(self) -> str:
+        """Where a browser finds it."""
+        port = free_port()
+        self.processes.append(self.started(port))
+        return f"http://localhost:{port}/"
 
     def ask(self, path: str, host: str = "localhost", method: str = "GET", **headers: str) -> tuple[int, bytes, Any]:
         connection = Over(self.path)
@@ -83,18 +79,9 @@ class Served:
         self.present.feed(self.collector.recent(NAMES[2], [entry]))
 
     def end(self) -> None:
-        self.listening.close()
-        self.process.terminate()
-        assert self.process.wait(PATIENCE) == 0
-
-
-def pump(a: socket.socket, b: socket.socket) -> None:
-    try:
-        while piece := a.recv(65536):
-            b.sendall(piece)
-        b.shutdown(socket.SHUT_WR)
-    except OSError:
-        pass
+        for process in self.processes:
+            process.terminate()
+            assert process.wait(PATIENCE) == 0
 
 
 @pytest.fixture
@@ -193,7 +180,7 @@ needs_browser = pytest.mark.skipif(browser.PROGRAM is None, reason="Chromium isn
 @pytest.fixture
 def opened(served: Served) -> Iterator[Browser]:
     one = Browser()
-    one.open(served.url)
+    one.open(served.url())
     wait_until(lambda: one.run("document.querySelectorAll('tbody.entry').length") > 0)
     yield one
     complaints = one.complaints()

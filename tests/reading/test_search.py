@@ -28,6 +28,7 @@ CONDITIONS = [
     ["-S", f"@{AT + 3000}", "-U", f"@{AT + DAY + 3000}"], ["-S", f"@{AT + 2 * DAY}", "-u", "cron"],
     ["-S", f"@{AT + 9 * DAY}"], ["-U", f"@{AT - DAY}"], ["_BOOT_ID=" + digits("web", 1)], ["NO_FIELD=x"],
     ["-n", "7"], ["-n7", "-u", "nginx"], ["-r", "-n", "20"], ["-n", "5", "-p", "3"], ["-n", "5", "-g", "word3"],
+    ["-n", "5", "-g", "word3", "-S", f"@{AT + 9 * DAY}"],
     ["-r", "-g", "word3"], ["--lines=all", "-u", "ssh"], ["-rn3", "_TRANSPORT=kernel"], ["-e", "-u", "cron"]]
 TEXTS = ["short", "short-full", "short-iso", "short-iso-precise", "short-precise", "short-unix", "cat", "verbose",
          "with-unit"]
@@ -59,7 +60,7 @@ def finished(tmp_path_factory: pytest.TempPathFactory, both: Both) -> Collector:
 
 
 def journalctl(own: Path, words: list[str]) -> subprocess.CompletedProcess[str]:
-    return subprocess.run(["journalctl", f"--file={own}/*.journal", "--merge", "-q", "--no-pager", *words], text=True,
+    return subprocess.run(["journalctl", f"--file={own}/*.journal", "-q", "--no-pager", *words], text=True,
                           errors="replace", capture_output=True, check=False,
                           env={**os.environ, "TZ": "UTC", "LC_ALL": "C.UTF-8"})
 
@@ -86,7 +87,8 @@ def test_there_are_two_hundred_calls() -> None:
 def test_it_is_what_journalctl_gives(both: Both, finished: Collector, words: list[str]) -> None:
     own, collector, _ = both
     is_of_last = any(word.startswith(("-n", "-rn")) for word in words)
-    expected, said = journalctl(own / "*", words), (finished if is_of_last else collector).search("-q", *words)
+    expected = journalctl(own / "*", ["--merge", *words])
+    said = (finished if is_of_last else collector).search("-q", *words)
     assert as_said(said.stdout) == as_said(expected.stdout), said.stderr
     assert said.returncode == expected.returncode
 
@@ -98,8 +100,7 @@ def test_it_is_what_journalctl_gives(both: Both, finished: Collector, words: lis
 def test_boots_of_a_machine(both: Both, finished: Collector, machine: str, words: list[str]) -> None:
     own, collector = both[0], finished if "-n" in words else both[1]
     words = [word.replace("ID", digits(machine, 1)) for word in words]
-    plain = subprocess.run(["journalctl", f"--file={own / machine}/*.journal", "-q", "-o", "json", *words],
-                           capture_output=True, text=True, check=True)
+    plain = journalctl(own / machine, ["-o", "json", *words])
     said = collector.search("-q", "-o", "json", "-M", machine, *words)
     assert as_said(said.stdout) == as_said(plain.stdout), said.stderr
 
@@ -107,8 +108,7 @@ def test_boots_of_a_machine(both: Both, finished: Collector, machine: str, words
 @pytest.mark.parametrize("machine", machines.NAMES)
 def test_the_table_of_boots(both: Both, machine: str) -> None:
     own, collector, _ = both
-    plain = subprocess.run(["journalctl", f"--file={own / machine}/*.journal", "--list-boots", "--utc"],
-                           capture_output=True, text=True, check=True)
+    plain = journalctl(own / machine, ["--list-boots", "--utc"])
     assert collector.search("-M", machine, "--list-boots", "--utc").stdout == plain.stdout
 
 

@@ -6,11 +6,17 @@ import sys
 from collections.abc import Callable, Iterable, Iterator, Sequence
 from itertools import zip_longest
 from pathlib import Path
+from typing import NoReturn
 
 
 def scripts_in(folder: Path, names: Sequence[str]) -> list[Path]:
     """The scripts in a folder: those of these names, or all."""
     return [folder / f"{name}.rows" for name in names] or sorted(folder.glob("*.rows"))
+
+
+def run(folder: Path, mistakes: Iterable[str], reports_of: Callable[[str, str], Iterable[str]]) -> NoReturn:
+    """A test of rows: what is reported of mistakes, and of a folder's scripts, those that the call names or all."""
+    sys.exit(counted([*mistakes, *wrong(scripts_in(folder, sys.argv[1:]), reports_of)]))
 
 
 def wrong(scripts: Iterable[Path], reports_of: Callable[[str, str], Iterable[str]]) -> Iterator[str]:
