@@ -66,10 +66,16 @@ class ClickHouse:
     def post(self, target: str, body: bytes) -> tuple[int, str]:
         """A request, and its answer. All of it has a deadline, however slowly something comes."""
         signal.signal(signal.SIGALRM, self.end)
+        self.connection.close()                     # it may be one that broke, or that the server has closed
         try:
             signal.setitimer(signal.ITIMER_REAL, self.seconds)
             try:
-                return self.exchange(target, body)
+                self.connection.connect()
+                # Who finds this too large answers before all of it is there.
+                with contextlib.suppress(BrokenPipeError, ConnectionResetError):
+                    self.connection.request("POST", self.path + target, body, self.headers)
+                response = self.connection.getresponse()
+                return response.status, response.read(MOST_BYTES).decode(errors="replace")
             finally:
                 signal.setitimer(signal.ITIMER_REAL, 0)
         except (OSError, http.client.HTTPException) as error:
@@ -77,14 +83,6 @@ class ClickHouse:
 
     def end(self, *_: object) -> None:
         raise TimeoutError(f"no answer within {self.seconds:g} s")
-
-    def exchange(self, target: str, body: bytes) -> tuple[int, str]:
-        self.connection.close()                     # it may be one that broke, or that the server has closed
-        self.connection.connect()
-        with contextlib.suppress(BrokenPipeError, ConnectionResetError):    # who finds this too large answers before
-            self.connection.request("POST", self.path + target, body, self.headers)
-        response = self.connection.getresponse()
-        return response.status, response.read(MOST_BYTES).decode(errors="replace")
 
 
 def one_line(status: int, said: str) -> str:

@@ -171,7 +171,7 @@ class Handler(BaseHTTPRequestHandler):
             self.server.turns.release()
         return HTTPStatus.OK, "application/json", json.dumps(found, separators=(",", ":")).encode()
 
-    def log_request(self, code: int | str = "-", size: int | str = "-") -> None:
+    def log_message(self, *_: Any) -> None:
         """What is asked for stays between who asks and the journal."""
 
 
@@ -188,9 +188,6 @@ class Server(socketserver.ThreadingMixIn, socketserver.UnixStreamServer):
         self.socket, self.places, self.host = listening, Places(folder), host
         self.turns, self.page = threading.BoundedSemaphore(AT_ONCE), Path(__file__).with_name("page.html").read_bytes()
         self.policy = policy(self.page)
-
-    def get_request(self) -> tuple[socket.socket, str]:
-        return self.socket.accept()[0], "-"
 
 
 def main() -> int:
