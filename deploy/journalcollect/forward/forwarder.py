@@ -9,6 +9,7 @@ import sys
 import time
 from collections.abc import Callable, Iterator
 from dataclasses import asdict, dataclass, field
+from datetime import date
 from pathlib import Path
 from typing import Any
 
@@ -129,7 +130,7 @@ class Forwarder:
 
     def rows(self, name: str) -> Iterator[bytes]:
         """The entries of a database, in the order of their keys."""
-        day = making.day_of(self.folder, name)
+        day = date.fromisoformat(name[:10])
         with making.exported(self.folder, name) as data:
             for span in spans(data):
                 yield row(data[span.begin:span.end], day)

@@ -15,7 +15,6 @@ import shutil
 import sys
 import time
 from collections.abc import Callable, Iterable, Iterator
-from datetime import UTC, date, datetime
 from pathlib import Path
 
 from ..collector import databases, settings
@@ -24,21 +23,12 @@ from ..common import entries, files, program
 from ..common.entries import Data, Untaken
 from ..common.export_stream import Unfit
 from . import places, remote
-from .places import ABOUT, ALL, About, Places
+from .places import ABOUT, ALL, DAY, About, Places
 from .remote import Remote
 
 UNKNOWN = "systemd-journal-remote didn't write them"
 # One of them costs the files of a database or of a day, until the next run.
 FAILURES = (OSError, EOFError, ValueError, program.Failed, databases.Damaged, remote.Failed, Unfit)
-
-
-def day_of(folder: Folder, name: str) -> date:
-    """The day on which a database was begun, by its name; by its file, if that says none."""
-    try:
-        return date.fromisoformat(name[:10])
-    except ValueError:
-        digest = databases.beside(databases.path_of(folder, name), ".sha256")
-        return datetime.fromtimestamp(digest.stat().st_mtime, UTC).date()
 
 
 @contextlib.contextmanager
@@ -102,20 +92,21 @@ class Maker:
         return status
 
     def waiting(self) -> Iterator[tuple[str, Callable[[str], None]]]:
-        """What is to be made, and how: the finished databases of the days that are kept, then the days that are over."""
-        finished = {name: self.day_of(name) for name in databases.finished(self.folder)}
-        kept, made = self.kept(finished.values()), self.places.made()
-        for name in sorted(finished.keys() - made.keys(), reverse=True):
-            if finished[name] in kept:
+        """What is to be made, and how: the finished databases of the days that are kept, then the days that are over.
+        The name of a database begins with its day."""
+        finished = set(filter(DAY.match, databases.finished(self.folder)))
+        kept = self.kept(finished)
+        for name in sorted(finished - self.places.made().keys(), reverse=True):
+            if name[:10] in kept:
                 yield name, self.make
-        over = max(time.strftime("%F", time.gmtime(time.time() - 86_400)), *finished.values())
-        for day in sorted(set(map(self.day_of, self.places.of_today())), reverse=True):
+        over = max([time.strftime("%F", time.gmtime(time.time() - 86_400)), *kept[:1]])
+        for day in sorted({name[:10] for name in self.places.of_today()}, reverse=True):
             if day < over:
                 yield day, self.make_day
 
-    def kept(self, days: Iterable[str]) -> list[str]:
-        """The newest of some days: on which something came, so a clock that is wrong costs one."""
-        return sorted(set(days), reverse=True)[:self.chosen.read_days]
+    def kept(self, names: Iterable[str]) -> list[str]:
+        """The newest days of these names: on which something came, so a clock that is wrong costs one."""
+        return sorted({name[:10] for name in names}, reverse=True)[:self.chosen.read_days]
 
     def make(self, name: str) -> None:
         """Journal files of one database, and its text for the day's."""
@@ -143,13 +134,10 @@ class Maker:
             spool.write(b"%d %d\n%s" % (realtime, len(text), text))
             yield text
 
-    def day_of(self, name: str) -> str:
-        return str(day_of(self.folder, name))
-
     def make_day(self, day: str) -> None:
         """One sequence of files of a day's databases takes the place of theirs. A day that was made before, as with a
         database that was recovered late, has a further folder."""
-        names = sorted(name for name in self.places.of_today() if self.day_of(name) == day)
+        names = sorted(name for name in self.places.of_today() if name.startswith(day))
         making, about, today = self.places.making / day, About(names), self.places.today
         making.mkdir()
         for name in names:
@@ -172,10 +160,10 @@ class Maker:
 
     def forget(self) -> None:
         """Days that are over READ_DAYS days go."""
-        days = {folder: folder.name[:10] for folder in self.places.days()}
-        kept = self.kept([*days.values(), *map(self.day_of, self.places.of_today())])
-        for folder in (each for each, day in days.items() if day not in kept):
-            shutil.rmtree(folder)
+        kept = self.kept([*(folder.name for folder in self.places.days()), *self.places.of_today()])
+        for folder in self.places.days():
+            if folder.name[:10] not in kept:
+                shutil.rmtree(folder)
 
 
 def told(text: str) -> int:

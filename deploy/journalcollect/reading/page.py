@@ -183,8 +183,7 @@ class Server(socketserver.ThreadingMixIn, socketserver.UnixStreamServer):
     daemon_threads = True
 
     def __init__(self, listening: socket.socket, folder: Path, host: str | None) -> None:
-        super().__init__("", Handler, bind_and_activate=False)
-        self.socket.close()
+        socketserver.BaseServer.__init__(self, "", Handler)
         self.socket, self.places, self.host = listening, Places(folder), host
         self.turns, self.page = threading.BoundedSemaphore(AT_ONCE), Path(__file__).with_name("page.html").read_bytes()
         self.policy = policy(self.page)
