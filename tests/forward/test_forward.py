@@ -2,7 +2,6 @@
 import json
 import os
 import random
-import shutil
 import signal
 import subprocess
 import time
@@ -38,11 +37,6 @@ class Forwarding:
     def call(self, *words: str) -> subprocess.CompletedProcess[str]:
         return subprocess.run([FORWARD, *words], env=self.collector.environment, text=True, capture_output=True,
                               check=False, timeout=PATIENCE)
-
-    def database(self, name: str, *entries: Entry) -> None:
-        self.collector.recent(name, list(entries))
-        self.collector.finish(name)
-        shutil.rmtree(self.collector.path / "recent" / name)
 
     @contextmanager
     def waiting(self) -> Iterator[subprocess.Popen[str]]:
@@ -85,7 +79,7 @@ def numbers(rows: list[dict[str, object]]) -> list[int]:
 
 def test_each_entry_of_each_database_comes(forwarding: Forwarding, engine: StandIn) -> None:
     for place, name in enumerate(NAMES[:3]):
-        forwarding.database(name, *(odd(place * 100 + number) for number in range(1, 101)))
+        forwarding.collector.database(name, *(odd(place * 100 + number) for number in range(1, 101)))
     subprocess.run(["zstd", "-q", "--rm", forwarding.collector.path / "databases" / f"{NAMES[0]}.db"], check=True)
     done = forwarding.call("--once")
     assert (done.returncode, done.stderr) == (0, "")
@@ -105,7 +99,7 @@ def test_each_entry_of_each_database_comes(forwarding: Forwarding, engine: Stand
 
 def test_it_goes_on_where_it_was_killed(forwarding: Forwarding, engine: StandIn) -> None:
     for place, name in enumerate(NAMES):
-        forwarding.database(name, *(plain("web", place * 2000 + number, "m") for number in range(1, 2001)))
+        forwarding.collector.database(name, *(plain("web", place * 2000 + number, "m") for number in range(1, 2001)))
     choose = random.Random(3)
     for _ in range(12):
         process = forwarding.start("--once")
@@ -119,8 +113,8 @@ def test_it_goes_on_where_it_was_killed(forwarding: Forwarding, engine: StandIn)
 
 def test_what_isnt_taken_is_put_aside_and_the_rest_comes(forwarding: Forwarding, engine: StandIn) -> None:
     engine.bad = "poison"
-    forwarding.database(NAMES[0], *(plain("web", number, "poison" if number in (7, 40) else "m")
-                                    for number in range(1, 101)))
+    forwarding.collector.database(NAMES[0], *(plain("web", number, "poison" if number in (7, 40) else "m")
+                                              for number in range(1, 101)))
     done = forwarding.call("--once")
     assert done.returncode == 1 and done.stderr.count("isn't taken") == 2
     assert numbers(engine.rows) == [number for number in range(1, 101) if number not in (7, 40)]
@@ -137,7 +131,7 @@ def test_what_isnt_taken_is_put_aside_and_the_rest_comes(forwarding: Forwarding,
 
 def test_a_request_has_a_deadline_as_a_whole(forwarding: Forwarding, engine: StandIn) -> None:
     """A server that sends a byte now and then holds nobody longer than that, and SIGTERM ends it at once."""
-    forwarding.database(NAMES[0], plain("web", 1, "m"))
+    forwarding.collector.database(NAMES[0], plain("web", 1, "m"))
     engine.drip = 0.2
     process = forwarding.start("--timeout", "1")
     wait_until(lambda: engine.held >= 2)
@@ -156,7 +150,7 @@ def test_a_request_has_a_deadline_as_a_whole(forwarding: Forwarding, engine: Sta
 
 @pytest.mark.parametrize("state", ["cut", "busy"])
 def test_it_waits_while_nothing_is_taken(forwarding: Forwarding, engine: StandIn, state: str) -> None:
-    forwarding.database(NAMES[0], *(plain("web", number, "m") for number in range(1, 51)))
+    forwarding.collector.database(NAMES[0], *(plain("web", number, "m") for number in range(1, 51)))
     engine.cut, engine.answer = state == "cut", b"Code: 202. Too many simultaneous queries" if state == "busy" else b""
     with forwarding.waiting() as process:
         assert process.poll() is None and engine.rows == []
@@ -173,7 +167,7 @@ def test_it_waits_for_who_isnt_there(forwarding: Forwarding) -> None:
 
 
 def test_another_target_isnt_taken_for_the_last_one(forwarding: Forwarding, engine: StandIn) -> None:
-    forwarding.database(NAMES[0], plain("web", 1, "m"))
+    forwarding.collector.database(NAMES[0], plain("web", 1, "m"))
     assert forwarding.call("--once").returncode == 0
     forwarding.set(URL=engine.url, TABLE="logs.other")
     done = forwarding.call("--once")
@@ -185,7 +179,7 @@ def test_another_target_isnt_taken_for_the_last_one(forwarding: Forwarding, engi
 
 def test_a_database_that_went_or_is_damaged_is_told(forwarding: Forwarding, engine: StandIn) -> None:
     for number, name in enumerate(NAMES[:3], 1):
-        forwarding.database(name, plain("web", number, "m"))
+        forwarding.collector.database(name, plain("web", number, "m"))
     state, databases = forwarding.collector.path / "forward", forwarding.collector.path / "databases"
     state.mkdir()
     (state / "place.json").write_text(json.dumps({"target": f"{engine.url} journal", "waited": NAMES[:2]}))
@@ -230,7 +224,7 @@ def test_encrypted_both_sides_prove_who_they_are(forwarding: Forwarding, tmp_pat
     secret.write_text("Bearer abc\n")
     secret.chmod(0o600)
     engine = StandIn(ours, own)
-    forwarding.database(NAMES[0], plain("web", 1, "m"))
+    forwarding.collector.database(NAMES[0], plain("web", 1, "m"))
     try:
         for wrong in ({"CA_FILE": ours}, {"CERTIFICATE_FILE": own}, {"CA_FILE": own, "CERTIFICATE_FILE": own}):
             forwarding.set(URL=engine.url, **wrong)
@@ -264,7 +258,7 @@ def test_clickhouse_has_each_entry_once_over_kills_of_both(
         assert "isn't there" in forwarding.call("--status").stdout
     clickhouse.run(forwarding.call("--schema").stdout)
     for place, name in enumerate(NAMES):
-        forwarding.database(name, *(odd(place * 500 + number) for number in range(1, 501)))
+        forwarding.collector.database(name, *(odd(place * 500 + number) for number in range(1, 501)))
     choose = random.Random(4)
     for moment in range(20):
         process = forwarding.start("--once")

@@ -55,7 +55,7 @@ def test_each_entry_is_there_once_over_kills(collector: Collector, replicas: lis
     written_to.run(CLUSTER.read_text().replace("@table@", "journal"))
     forwarding.set(URL=written_to.url, TABLE="journal")
     for place, name in enumerate(NAMES):
-        forwarding.database(name, *(odd(place * 500 + number) for number in range(1, 501)))
+        collector.database(name, *(odd(place * 500 + number) for number in range(1, 501)))
     choose = random.Random(7)
     for _ in range(6):
         process, killed = forwarding.start("--once"), choose.choice(replicas)

@@ -2,6 +2,7 @@
 import hashlib
 import itertools
 import os
+import shutil
 import sqlite3
 import struct
 import subprocess
@@ -105,6 +106,13 @@ class Collector:
         self.store(name, given)
         for machine in {path.name.partition(".")[2] for path in given}:
             self.state.execute("INSERT OR IGNORE INTO sequence VALUES(?, ?)", (digits("sequence", machine), machine))
+
+    def database(self, name: str, *entries: Entry) -> None:
+        """A finished one of these entries, an upload for each machine, which is gone."""
+        for machine in dict.fromkeys(entry.machine for entry in entries):
+            self.recent(name, [entry for entry in entries if entry.machine == machine])
+        self.finish(name)
+        shutil.rmtree(self.path / "recent" / name)
 
     def store(self, name: str, uploads: list[Path]) -> None:
         database = self.path / "databases" / f"{name}.db"

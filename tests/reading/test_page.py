@@ -1,7 +1,6 @@
 """journal-collect-page: what its server answers, and the page in a headless Chromium."""
 import http.client
 import json
-import shutil
 import socket
 import subprocess
 import sys
@@ -89,13 +88,10 @@ def served(collector: Collector, tmp_path: Path) -> Iterator[Served]:
     """Sixty entries of two machines within the last hour, and hostile ones, in finished databases and the present."""
     now = int(time.time()) * 1_000_000
     for place, name in enumerate(NAMES[:2]):
-        for machine in ("web", "db"):
-            collector.recent(name, [plain(machine, place * 15 + number, f"{machine} {place * 15 + number}",
-                                          now - (40 - place * 15 - number) * 60_000_000, PRIORITY=str(2 + number % 6),
-                                          _SYSTEMD_UNIT=f"{'nginx' if number % 2 else 'cron'}.service")
-                                    for number in range(1, 16)])
-        collector.finish(name)
-        shutil.rmtree(collector.path / "recent" / name)
+        collector.database(name, *(plain(machine, place * 15 + number, f"{machine} {place * 15 + number}",
+                                         now - (40 - place * 15 - number) * 60_000_000, PRIORITY=str(2 + number % 6),
+                                         _SYSTEMD_UNIT=f"{'nginx' if number % 2 else 'cron'}.service")
+                                   for machine in ("web", "db") for number in range(1, 16)))
     assert collector.make().returncode == 0
     collector.recent(NAMES[2], [plain("web", 100 + number, message, now - 60_000_000 + number)
                                 for number, message in enumerate(HOSTILE)])
