@@ -9,6 +9,7 @@ from random import Random
 from typing import NamedTuple
 
 import samples
+from pathlib import Path
 from make import Machine
 from model import Journal
 
@@ -150,9 +151,7 @@ def listed(dice: Random, base: str, brought: list[Brought]) -> str:
     for number, (machine, upload) in enumerate(brought):
         folder = FOLDER if machine is None else dice.choice((FOLDER, WITH_TAB))
         paths.append(os.path.join(base, folder, f"{number}"))
-        with open(paths[-1], "wb") as file:
-            file.write(upload)
+        Path(paths[-1]).write_bytes(upload)
     name = os.path.join(base, "list")
-    with open(name, "wb") as file:
-        file.write(as_lines(paths, brought))
+    Path(name).write_bytes(as_lines(paths, brought))
     return name

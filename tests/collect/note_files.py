@@ -8,6 +8,7 @@ import os
 import shutil
 import struct
 from collections.abc import Iterator
+from pathlib import Path
 
 from model import Journal
 
@@ -60,8 +61,7 @@ def file_of(folder: str, sequence: bytes, number: int = OWNER) -> str:
 def give(folder: str, sequence: bytes, machine: str) -> None:
     """A sequence is a machine's from now on."""
     path = file_of(folder, sequence)
-    with open(f"{path}.new", "wb") as file:
-        file.write(note(machine.encode()) + CLOSED)
+    Path(f"{path}.new").write_bytes(note(machine.encode()) + CLOSED)
     os.replace(f"{path}.new", path)
 
 

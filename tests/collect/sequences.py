@@ -10,6 +10,7 @@ import resource
 import stat
 import subprocess
 from collections.abc import Sequence
+from pathlib import Path
 from typing import Any
 
 from brought import Brought, as_lines
@@ -47,14 +48,9 @@ class Union:
         self.trial.expect(what, told, (as_output(lines), "", status_of(lines)))
         self.trial.expect(f"{what}: notes", notes_of(self.folder), noted(self.journal))
 
-    def path(self, entry: Entry) -> str:
+    def path(self, entry: Entry) -> Path:
         """The file that has the note of an entry."""
-        return file_of(self.folder, *entry.key)
-
-
-def content(path: str) -> bytes:
-    with open(path, "rb") as file:
-        return file.read()
+        return Path(file_of(self.folder, *entry.key))
 
 
 def note_of(entry: Entry) -> bytes:
@@ -80,11 +76,12 @@ def folder_is_made(trial: Trial) -> None:
     trial.expect("its folder's mode", stat.S_IMODE(os.stat(below).st_mode), 0o700)
     windows = {name for name in os.listdir(below) if not name.endswith("-wal")}
     trial.expect("windows", windows, {"0", "1", str(2**51 - 1), str(2**51)})
-    trial.expect("their files", [content(union.path(entry)) for entry in far], [note_of(one) + CLOSED for one in far])
+    read = [union.path(entry).read_bytes() for entry in far]
+    trial.expect("their files", read, [note_of(entry) + CLOSED for entry in far])
     owner = file_of(union.folder, machine.seqnum_id)
-    trial.expect("whose it is", content(owner), note(WEB.encode()) + CLOSED)
+    trial.expect("whose it is", Path(owner).read_bytes(), note(WEB.encode()) + CLOSED)
     union.take("again, and one more", machine.stream(0, 4), machine=WEB)
-    trial.expect("the longer file", content(union.path(near)), note_of(far[0]) + note_of(near) + CLOSED)
+    trial.expect("the longer file", union.path(near).read_bytes(), note_of(far[0]) + note_of(near) + CLOSED)
 
 
 def many_windows(trial: Trial) -> None:
@@ -119,10 +116,9 @@ def behind_notes(trial: Trial) -> None:
         first, _, last = machine.entries
         union.take("the first", machine.stream(0, 1))
         tail = (b"", CLOSED, note_of(last)[:-1], CLOSED + 3 * OPEN, b"\xff")[place]
-        with open(union.path(first), "wb") as file:
-            file.write(note_of(first) + tail)
+        union.path(first).write_bytes(note_of(first) + tail)
         union.take(f"behind {tail!r}", machine.stream(2, 3))
-        made = content(union.path(last))
+        made = union.path(last).read_bytes()
         trial.expect(f"the file behind {tail!r}", made[:2 * NOTE.size + 1], note_of(first) + note_of(last) + CLOSED)
         union.take(f"all behind {tail!r}", machine.stream(0, 3))
 
@@ -132,8 +128,7 @@ def owned_by(trial: Trial, text: bytes) -> tuple[Union, Machine]:
     union, machine = Union(trial), Machine(trial.dice, 4)
     path = file_of(union.folder, machine.seqnum_id)
     os.makedirs(os.path.dirname(path))
-    with open(path, "wb") as file:
-        file.write(text)
+    Path(path).write_bytes(text)
     return union, machine
 
 

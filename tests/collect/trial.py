@@ -9,6 +9,7 @@ import subprocess
 import sys
 import tempfile
 from collections.abc import Iterable, Sequence
+from pathlib import Path
 from typing import Any
 
 from model import Journal
@@ -108,8 +109,7 @@ class Trial:
         folder = self.folder()
         names = [os.path.join(folder, f"upload-{number}") for number in range(len(uploads))]
         for name, upload in zip(names, uploads):
-            with open(name, "wb") as file:
-                file.write(upload)
+            Path(name).write_bytes(upload)
         return names
 
     def copy(self, database: str) -> str:

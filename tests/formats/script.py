@@ -17,6 +17,7 @@ import re
 import subprocess
 import tempfile
 from collections.abc import Iterator, Sequence
+from pathlib import Path
 from dataclasses import dataclass
 
 from pieces import bytes_of
@@ -43,8 +44,7 @@ class Row:
         bytes are put into a folder."""
         paths = [os.path.join(folder, f"{self.line}-{place}") for place in range(len(self.things))]
         for path, thing in zip(paths, self.things):
-            with open(path, "wb") as file:
-                file.write(thing)
+            Path(path).write_bytes(thing)
         words = ["limits", self.limits] if self.limits else []
         return [*words, *WORDS[self.word].calls(paths, self.numbers), "line", self.end()]
 

@@ -18,6 +18,7 @@ from concurrent.futures import ThreadPoolExecutor
 from typing import NamedTuple
 
 import samples
+from pathlib import Path
 from make import Machine
 from model import Bad, Entry, Journal, read_stream
 from stock import IS_HERE, stock
@@ -43,8 +44,7 @@ class Stored(NamedTuple):
     def put(self, trial: Trial) -> str:
         database = trial.database()
         for end, data in (("", self.file), ("-wal", self.log)):
-            with open(database + end, "wb") as file:
-                file.write(data)
+            Path(database + end).write_bytes(data)
         return database
 
 
@@ -52,9 +52,9 @@ class Stored(NamedTuple):
 Damage = tuple[str, Stored, str, int, bytes | None]
 
 
-def content(path: str) -> bytes:
-    with open(path, "rb") as file:
-        return file.read()
+def files_of(database: str) -> tuple[bytes, bytes]:
+    """The database and its log."""
+    return Path(database).read_bytes(), Path(database + "-wal").read_bytes()
 
 
 def entries_in(text: bytes) -> list[Entry] | None:
@@ -114,7 +114,7 @@ def refused(trial: Trial, what: str, stored: Stored, database: str, exported: To
     trial.expect(f"{what}: {errors}", errors.startswith(REFUSALS), True)
     trial.expect(f"{what}: check", run("check", database), (errors.encode(), "", 1) if is_bad else (b"", errors, 3))
     trial.expect(f"{what}: collect", run("collect", database, *stored.names), exported)
-    trial.expect(f"{what}: the file stays", content(database) == stored.file, True)
+    trial.expect(f"{what}: the file stays", Path(database).read_bytes() == stored.file, True)
     return " ".join(errors.split()[:2])
 
 
@@ -135,7 +135,7 @@ def small(trial: Trial) -> Stored:
     again = [upload, samples.stream(samples.H1)]
     names = trial.put(again)
     trial.expect("a small database", run("collect", database, names[0]), (as_output([line]), "", 0))
-    return Stored(content(database), content(database + "-wal"), [journal], again, names)
+    return Stored(*files_of(database), [journal], again, names)
 
 
 def large(trial: Trial) -> tuple[Stored, Stored]:
@@ -156,10 +156,10 @@ def large(trial: Trial) -> tuple[Stored, Stored]:
         told = [process.stdout.readline() for _ in uploads]
         process.kill()
     trial.expect("a large database", b"".join(told), as_output(lines))
-    killed = Stored(content(database), content(database + "-wal"), journals, uploads, names)
+    killed = Stored(*files_of(database), journals, uploads, names)
     again = [journal.copy().take(upload) for upload in uploads]
     trial.expect("a large database, closed", run("collect", database, *names), (as_output(again), "", 0))
-    return Stored(content(database), content(database + "-wal"), journals[-1:], uploads, names), killed
+    return Stored(*files_of(database), journals[-1:], uploads, names), killed
 
 
 def page_damage(dice: random.Random, stored: Stored) -> Iterator[Damage]:
