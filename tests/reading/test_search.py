@@ -59,10 +59,9 @@ def finished(tmp_path_factory: pytest.TempPathFactory, both: Both) -> Collector:
     return collector
 
 
-def journalctl(own: Path, words: list[str]) -> subprocess.CompletedProcess[str]:
-    return subprocess.run(["journalctl", f"--file={own}/*.journal", "-q", "--no-pager", *words], text=True,
-                          errors="replace", capture_output=True, check=False,
-                          env={**os.environ, "TZ": "UTC", "LC_ALL": "C.UTF-8"})
+def journalctl(own: Path, *words: str) -> subprocess.CompletedProcess[str]:
+    return subprocess.run(["journalctl", f"--file={own}/*.journal", "--no-pager", *words], text=True, errors="replace",
+                          capture_output=True, check=False, env={**os.environ, "TZ": "UTC", "LC_ALL": "C.UTF-8"})
 
 
 def as_said(text: str) -> list[Any]:
@@ -87,7 +86,7 @@ def test_there_are_two_hundred_calls() -> None:
 def test_it_is_what_journalctl_gives(both: Both, finished: Collector, words: list[str]) -> None:
     own, collector, _ = both
     is_of_last = any(word.startswith(("-n", "-rn")) for word in words)
-    expected = journalctl(own / "*", ["--merge", *words])
+    expected = journalctl(own / "*", "-q", "--merge", *words)
     said = (finished if is_of_last else collector).search("-q", *words)
     assert as_said(said.stdout) == as_said(expected.stdout), said.stderr
     assert said.returncode == expected.returncode
@@ -100,7 +99,7 @@ def test_it_is_what_journalctl_gives(both: Both, finished: Collector, words: lis
 def test_boots_of_a_machine(both: Both, finished: Collector, machine: str, words: list[str]) -> None:
     own, collector = both[0], finished if "-n" in words else both[1]
     words = [word.replace("ID", digits(machine, 1)) for word in words]
-    plain = journalctl(own / machine, ["-o", "json", *words])
+    plain = journalctl(own / machine, "-q", "-o", "json", *words)
     said = collector.search("-q", "-o", "json", "-M", machine, *words)
     assert as_said(said.stdout) == as_said(plain.stdout), said.stderr
 
@@ -108,7 +107,7 @@ def test_boots_of_a_machine(both: Both, finished: Collector, machine: str, words
 @pytest.mark.parametrize("machine", machines.NAMES)
 def test_the_table_of_boots(both: Both, machine: str) -> None:
     own, collector, _ = both
-    plain = journalctl(own / machine, ["--list-boots", "--utc"])
+    plain = journalctl(own / machine, "--list-boots", "--utc")
     assert collector.search("-M", machine, "--list-boots", "--utc").stdout == plain.stdout
 
 
