@@ -40,11 +40,10 @@ ln "$folder/twice.db" "$folder/sub/second.db"
 cp "$db" "$folder/played.db"
 printf 'x' > "$folder/played.db-journal"
 explains 3 "" "cannot open $folder/gone.db" "$folder/gone.db is missing: *" check "$folder/gone.db"
-explains 3 "" "cannot open $folder/gone/logs.db" "$folder/gone/logs.db * a folder that is missing: *" \
-    check "$folder/gone/logs.db"
-explains 3 "" "cannot open $folder/up/logs.db" "$folder/up/logs.db * a folder that is missing: *" \
-    export "$folder/up/logs.db"
-explains 3 "" "cannot open $folder/gone/logs.db" "$folder/gone/logs.db * a folder that is missing: *" \
+for name in "$folder/gone/logs.db" "$folder/up/logs.db"; do
+    explains 3 "" "cannot open $name" "$name is missing: *" check "$name"
+done
+explains 3 "" "cannot open $folder/gone/logs.db" "$folder/gone/logs.db is missing, and can't be made: *" \
     collect "$folder/gone/logs.db" "$folder/up"
 explains 3 "" "cannot open $folder/sub" "$folder/sub is a folder: *" collect "$folder/sub" "$folder/up"
 explains 3 "" "cannot open /dev/null" "/dev/null is not a regular file: *" show /dev/null
@@ -53,8 +52,10 @@ explains 3 "" "cannot open $folder/none.db" "$folder/none.db is a database witho
 for name in "$folder/twice.db" "$folder/sub/second.db"; do
     explains 3 "" "cannot open $name" "$name has a second name *" check "$name"
 done
-explains 3 "" "cannot open $folder/played.db" "$folder/played.db has SQLite's rollback journal *" \
+explains 3 "" "cannot open $folder/played.db" "$folder/played.db can't be opened to be written: *rollback journal*" \
     check "$folder/played.db"
+mkfifo "$folder/pipe"
+explains 3 "" "cannot open $folder/pipe" "$folder/pipe is not a regular file: *" collect "$folder/pipe" "$folder/up"
 
 # one that another program has open: this one holds it while it waits for the name of an upload
 mkfifo "$folder/names"
@@ -74,13 +75,13 @@ if as_user "$folder/program" --version > "$folder/told" 2>&1; then
     chmod 000 "$folder/secret.db"
     chmod 444 "$folder/kept.db" "$folder/shut/kept.db"
     chmod 555 "$folder/shut"
-    for row in "secret.db may not be read" "kept.db may not be written" "shut/kept.db may not be written"; do
+    for row in "secret.db may not be read" "kept.db can't be opened to be" "shut/kept.db can't be opened to be"; do
         read -r name told <<< "$row"
         expect 3 "" "~cannot open $folder/$name"$'\n'"explain: $folder/$name $told *" \
             as_user "$folder/program" --explain check "$folder/$name"
     done
     chmod 777 "$folder/shut/kept.db"
-    expect 3 "" "~*$folder/shut/kept.db is in use by another program, or no file may be made in its folder: *" \
+    expect 3 "" "~*$folder/shut/kept.db can't be opened to be written: *" \
         as_user "$folder/program" --explain check "$folder/shut/kept.db"
     expect 3 "" "~*$folder/shut/new.db is missing, and can't be made: *" \
         as_user "$folder/program" --explain collect "$folder/shut/new.db" "$folder/up"
@@ -91,7 +92,7 @@ else
 fi
 
 # what is no journal's database
-explains 1 "bad 64 0" "" "64 NotAJournal *: $folder/garbage is no SQLite database, by its first 16 bytes: *" \
+explains 1 "bad 64 0" "" "64 NotAJournal *: $folder/garbage is no SQLite database, *" \
     check "$folder/garbage"
 explains 1 "bad 64 0" "" "64 NotAJournal *: $folder/other.db is an SQLite database with other tables *" \
     check "$folder/other.db"
@@ -99,7 +100,7 @@ explains 1 "" "bad 64 0" "64 NotAJournal *: $folder/garbage is no SQLite databas
 
 # files that are read
 explains 3 "" "cannot open $folder/gone" "$folder/gone is missing: *" verify export "$folder/gone"
-explains 3 "" "read failed" "$folder/sub is a folder: *" verify export "$folder/sub"
+explains 3 "" "read failed" "a file or standard input gave no more bytes: is it a folder, *" verify export "$folder/sub"
 explains 0 "ok 0 8" "" "no entry is complete: the 8 bytes *" verify export "$folder/prose"
 explains 0 "ok 0 0" "" "there was nothing to read: *" verify export "$folder/empty"
 explains 0 "ok 2 0" "" "" verify export "$folder/in"
@@ -123,6 +124,18 @@ expect 1 "no - - 2 0"$'\n'"no $id 0 60 0"$'\n'"no - - 2 0" "~explain: 2 BadMagic
 # what is on standard output of the others is no answer, whatever is in it
 "$PROGRAM" show --explain "$db" > "$folder/told" 2> "$folder/why" || differs "show"
 [[ ! -s $folder/why ]] || differs "what show lists is explained"
+
+# a cause is what was seen as the file was asked for: one of these is there before the run ends
+mkfifo "$folder/more"
+"$PROGRAM" collect --explain --files-from "$folder/more" "$db" > "$folder/told" 2> "$folder/why" &
+exec 9> "$folder/more"
+printf '%s\n' "$folder/late" "$folder/gone" >&9
+while (($(wc -l < "$folder/told") < 2)); do sleep 0.1; done
+cp "$folder/up" "$folder/late"
+exec 9>&-
+wait
+matches "$(< "$folder/why")" "~*explain: $folder/late is missing: *explain: $folder/gone is missing: *" \
+    || differs "a file that is mended before the run ends: $(< "$folder/why")"
 
 # failures that name no file
 source=(--source "$id" --resume "$folder/resume" export "$folder/in")

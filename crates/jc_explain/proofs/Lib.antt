@@ -1,4 +1,5 @@
 mod GoingOut
+mod NotedFiles
 mod PlainLines
 mod WordParts
 mod WordPlaces

@@ -1,7 +1,7 @@
 -- What is said of a line, and what goes out of it.
-use Rattle.std.specs.Prelude.{◌≡◌, ◌≢◌, ◌⊎◌, ◌++◌, ◌∷◌, [], ℕ, List, Option, Some, IsSome, codes, decimal, bytes_eq, if◌then◌else◌, map, option_map, take, Contains}
+use Rattle.std.specs.Prelude.{◌≡◌, ◌≢◌, ◌⊎◌, ◌++◌, ◌∷◌, [], ℕ, List, Option, Some, None, IsSome, codes, decimal, bytes_eq, if◌then◌else◌, map, option_map, string_bytes, take, Contains}
 use Rattle.std.specs.Io.KnownBytes.{Appends, Keeps}
-use Rattle.std.specs.List.{flat_map}
+use Rattle.std.specs.List.{find, flat_map}
 use Rattle.std.specs.Str.Lines.{lines}
 use Rattle.jc_codes.specs.Rows.{IsRow}
 use Rattle.jc_codes.specs.declared.table.Coded.{Coded}
@@ -9,12 +9,12 @@ use Rattle.jc_command_shared.specs.Failure.{line_of}
 use Rattle.jc_command_shared.specs.declared.failure.Failure.{Failure}
 use Rattle.jc_command_shared.specs.declared.failure.Failure.TheVariants as failure
 use Rattle.jc_explain.specs.Answers.{HasCode, LeavesAlone}
-use Rattle.jc_explain.specs.Causes.{IsOfClosed, IsOfNoFolder, IsOfNoJournal, IsOfUnread}
 use Rattle.jc_explain.specs.Subjects.{IsSubjectOf}
 use Rattle.jc_explain.specs.Texts.{IsPlain, advice_of, text_of}
 use Rattle.jc_explain.specs.declared.cause.Cause.{Cause}
 use Rattle.jc_explain.specs.declared.cause.Cause.TheVariants as cause
 use Rattle.jc_explain.specs.declared.subject.Subject.{Subject}
+use Rattle.jc_explain.specs.declared.witness.Noted.{Noted}
 
 -- a file's name, and what is told of it
 abbrev pub file_text : (path : List ℕ) → Cause → List ℕ
@@ -36,6 +36,15 @@ nothing_text left =
     if bytes_eq left (codes "0") then codes "there was nothing to read: it has no entries"
     else codes "no entry is complete: the " ++ (left ++ codes " bytes end within the first one, or are no journal's")
 
+-- what was noted last of a file: the latest notes stand first
+abbrev pub noted_cause : (notes : List Noted) (path : List ℕ) → Option Cause
+noted_cause notes path = option_map (λ noted. noted.cause) (find (λ noted. bytes_eq (string_bytes noted.path) path) notes)
+
+-- why a file is taken for no journal's database, by what was noted of it: it was opened, or it wasn't
+abbrev pub no_journal_cause : Cause → Cause
+no_journal_cause cause.NoTables = cause.OtherTables
+no_journal_cause _ = cause.NotDatabase
+
 -- the line of an explanation
 abbrev pub told_line : List ℕ → List ℕ
 told_line text = codes "explain: " ++ (text ++ 10 ∷ [])
@@ -52,26 +61,28 @@ module _ (subject : Subject) where
   abbrev pub sequences_of : Option (List ℕ)
   sequences_of = option_map (λ path. path.now) subject.sequences
 
-  -- why this file can't be opened: as the database, as the folder of notes, or to be read
+  -- why this file can't be opened, as was noted when the run asked for it; of the folder of notes nothing is
   pub data IsWhy (path : List ℕ) (told : Cause) : Type 0 where
-    closed_database : database_of ≡ Some path → IsOfClosed subject.makes told → IsWhy path told
-    unusable_folder : database_of ≢ Some path → sequences_of ≡ Some path → IsOfNoFolder told → IsWhy path told
-    unread_file : database_of ≢ Some path → sequences_of ≢ Some path → IsOfUnread told → IsWhy path told
+    seen : noted_cause subject.noted.items path ≡ Some told → IsWhy path told
+    folder : noted_cause subject.noted.items path ≡ None → sequences_of ≡ Some path → told ≡ cause.NotFolder → IsWhy path told
+    unseen : noted_cause subject.noted.items path ≡ None → sequences_of ≢ Some path → told ≡ cause.Unknown → IsWhy path told
 
-  -- Why a command failed: of a file that can't be opened a cause, of a read that failed that it was of a folder, if one of
-  -- the files is one, and of the others what the failure means.
+  -- why this file is taken for no journal's database
+  pub record IsNoJournal (path : List ℕ) (told : Cause) : Type 0 where
+    pub noted : Cause
+    pub why : IsWhy path noted
+    pub tells : told ≡ no_journal_cause noted
+
+  -- Why a command failed: of a file that can't be opened a cause, and of the others what the failure means.
   abbrev pub SaysFailure : Failure → (text : List ℕ) → Type 0
   SaysFailure (failure.CannotOpen path) text = (told : Cause) × IsWhy path.now told × (text ≡ file_text path.now told)
-  SaysFailure failure.ReadFailed text =
-      (text ≡ advice_of failure.ReadFailed)
-      ⊎ ((path : List ℕ) × Contains (map (λ name. name.now) subject.files.items) path × (text ≡ file_text path cause.Folder))
   SaysFailure other text = text ≡ advice_of other
 
   -- What a code means by the table, and what to do or, of a database that has no journal, why it is taken for none.
   abbrev pub SaysCode : (table : List ℕ) (code : ℕ) (text : List ℕ) → Type 0
   SaysCode table code text = (row : Coded) × IsRow code table row
       × (((¬ ((code ≡ 64) × IsSome subject.database)) × (text ≡ code_text code row row.advice.now))
-      ⊎ ((path : List ℕ) × (told : Cause) × (code ≡ 64) × (database_of ≡ Some path) × IsOfNoJournal told × (text ≡ code_text code row (file_text path told))))
+      ⊎ ((path : List ℕ) × (told : Cause) × (code ≡ 64) × (database_of ≡ Some path) × IsNoJournal path told × (text ≡ code_text code row (file_text path told))))
 
   -- An entry of the database isn't the one that is noted in the folder: the line has code 60, and the two are named.
   pub record Differs (line : List ℕ) (path folder : List ℕ) : Type 0 where

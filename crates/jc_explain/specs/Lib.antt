@@ -1,5 +1,4 @@
 pub mod Answers
-pub mod Causes
 pub mod Explanations
 pub mod Subjects
 pub mod Texts

@@ -8,9 +8,9 @@ ghost use Rattle.jc_explain.specs.Explanations.{TellsOn};
 
 use crate::Watched;
 use crate::telling::tell;
+use crate::witness::Witness;
 use jc_command::{Begun, Sequences, command};
 use jc_command_args::CODES;
-use jc_command_shared::Host;
 use jc_database::OpenFromFiles;
 use jc_ledger::Ledger;
 use jc_sequences::Folders;
@@ -35,9 +35,9 @@ pub fn explained<'a, F: OpenFromFiles, S: Begun, I: Read, O: Write + Drop, E: Wr
         × TellsOn (map string_bytes words.items) CODES.now told (E.contents errors.new.inner) }
 {
     let asked: Result<_, _> = words.clone();
-    let mut host = Host::new(rt);
+    let mut system = Witness::new(rt);
     let status = command::<_, F, S, _, _, _>(
-        &mut host,
+        &mut system,
         Folders::new(rt),
         start,
         words,
@@ -49,7 +49,14 @@ pub fn explained<'a, F: OpenFromFiles, S: Begun, I: Read, O: Write + Drop, E: Wr
         let answers = output.take_kept(rt.alloc());
         let failures = errors.take_kept(rt.alloc());
         // An explanation is beside the run: where it can't be made or written, the run has ended as it has.
-        let _ = tell(rt, &asked, &answers, &failures, &mut errors.inner);
+        let _ = tell(
+            rt.alloc(),
+            &asked,
+            system.take_notes(),
+            &answers,
+            &failures,
+            &mut errors.inner,
+        );
     }
     status
 }

@@ -5,14 +5,12 @@
 mod answers;
 mod cause;
 mod explain;
-mod looking;
 mod said;
-mod seen;
 mod subject;
 mod telling;
-mod texts;
 mod watched;
 mod why;
+mod witness;
 mod words;
 
 pub use cause::Cause;

@@ -61,12 +61,13 @@ pub fn advice(failure: &Failure<'_>) -> &'static str
             "the export would take the place of the database or of its log: choose another name"
         }
         Failure::CannotOpen(_) => "the file can't be opened",
-        Failure::ReadFailed => "a file or standard input gave no more bytes: look at its disk",
+        Failure::ReadFailed =>
+            "a file or standard input gave no more bytes: is it a folder, or does its disk fail?",
         Failure::WriteFailed => {
             "standard output or a file took no more bytes: is the disk full, or was a pipe closed?"
         }
         Failure::StoreFailed => {
-            "the database failed while it was read or written: look at the space on its disk, and at the disk"
+            "the database, or what is noted beside it, failed while it was read or written: look at the space on its disk, and at the disk"
         }
         Failure::OutOfMemory => {
             "memory was refused: give the command more, or begin another database"

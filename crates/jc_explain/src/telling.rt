@@ -9,6 +9,7 @@ ghost use Rattle.jc_explain.specs.declared.subject.Subject.{Subject as Concern};
 
 use crate::subject::{Subject, subject_of};
 use crate::why::explanation;
+use crate::witness::Noted;
 use jc_command_args::CODES;
 use jc_command_shared::{Failure, write_front};
 use std::alloc::Global;
@@ -17,8 +18,9 @@ use std::str;
 
 /// Writes an explanation of each line that needs one, and none twice.
 pub(crate) fn tell<W: Write>(
-    rt: &HostRuntime,
+    alloc: Global,
     words: &[String],
+    noted: Vec<Noted>,
     answers: &[u8],
     failures: &[u8],
     to: &mut W,
@@ -28,15 +30,15 @@ pub(crate) fn tell<W: Write>(
     ensures err { OnErr result (TellsPart (map string_bytes words.now) CODES.now answers.now failures.now (W.contents to.old) (W.contents to.new)) }
     ensures why { IfErr result (λ failure. (failure ≡ Failure.WriteFailed) ⊎ (failure ≡ Failure.OutOfMemory)) }
 {
-    let subject = subject_of(rt.alloc(), words)?;
-    let mut told = Vec::new(rt.alloc());
-    tell_answers(rt, &subject, answers, &mut told, to)?;
-    tell_lines(rt, &subject, failures, &mut told, to)
+    let subject = subject_of(alloc, words, noted);
+    let mut told = Vec::new(alloc);
+    tell_answers(alloc, &subject, answers, &mut told, to)?;
+    tell_lines(alloc, &subject, failures, &mut told, to)
 }
 
 /// Explains the lines of what went out, if these say how something was found.
 fn tell_answers<W: Write>(
-    rt: &HostRuntime,
+    alloc: Global,
     subject: &Subject<'_>,
     text: &[u8],
     told: &mut Vec<String>,
@@ -51,12 +53,12 @@ fn tell_answers<W: Write>(
     if !subject.answers {
         return Ok(());
     }
-    tell_lines(rt, subject, text, told, to)
+    tell_lines(alloc, subject, text, told, to)
 }
 
 /// Explains the lines of a text; one that isn't UTF-8 has none.
 fn tell_lines<W: Write>(
-    rt: &HostRuntime,
+    alloc: Global,
     subject: &Subject<'_>,
     text: &[u8],
     told: &mut Vec<String>,
@@ -70,9 +72,9 @@ fn tell_lines<W: Write>(
     let Ok(text) = str::from_utf8(text) else {
         return Ok(());
     };
-    let lines: Vec<&str> = text.lines().collect(rt.alloc())?;
+    let lines: Vec<&str> = text.lines().collect(alloc)?;
     for line in &lines {
-        tell_line(rt, subject, line, told, to)?;
+        tell_line(alloc, subject, line, told, to)?;
     }
     match to.flush() {
         Ok(()) => Ok(()),
@@ -82,7 +84,7 @@ fn tell_lines<W: Write>(
 
 /// Explains a line, if it needs that and the same wasn't told before.
 fn tell_line<W: Write>(
-    rt: &HostRuntime,
+    alloc: Global,
     subject: &Subject<'_>,
     line: &str,
     told: &mut Vec<String>,
@@ -93,13 +95,13 @@ fn tell_line<W: Write>(
     ensures err { OnErr result (BreaksOff subject.now CODES.now (line.now ∷ []) (map string_bytes told.old.items) (W.contents to.old) (W.contents to.new)) }
     ensures why { IfErr result (λ failure. (failure ≡ Failure.WriteFailed) ⊎ (failure ≡ Failure.OutOfMemory)) }
 {
-    let Some(explanation) = explanation(rt, subject, line)? else {
+    let Some(explanation) = explanation(alloc, subject, line)? else {
         return Ok(());
     };
     if told.contains(&explanation) {
         return Ok(());
     }
-    put_line(rt.alloc(), explanation.as_str(), to)?;
+    put_line(alloc, explanation.as_str(), to)?;
     told.push(explanation)?;
     Ok(())
 }

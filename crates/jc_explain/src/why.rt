@@ -1,13 +1,13 @@
 //! Why what a line says is so.
 
 ghost use Rattle.std.specs.Prelude.{◌≡◌, ℕ, List, IfOk, IfSome, MatchOption, string_bytes};
-ghost use Rattle.jc_explain.specs.Explanations.{Differs, Explains, IsWhy, SaysCode, SaysFailure, differs_text, nothing_text};
+ghost use Rattle.jc_explain.specs.Explanations.{Differs, Explains, IsNoJournal, IsWhy, SaysCode, SaysFailure, differs_text, noted_cause, nothing_text};
 
 use crate::Cause;
 use crate::answers::{code_in, left_alone};
-use crate::looking::{folder_among, why_closed, why_no_folder, why_no_journal, why_unread};
 use crate::said::{advice, failure_of};
 use crate::subject::Subject;
+use crate::witness::Noted;
 use jc_codes::row_about;
 use jc_command_args::CODES;
 use jc_command_shared::Failure;
@@ -27,31 +27,31 @@ const BAD_LINE: &str = "bad line ";
 
 /// What is to be said about a line, if anything is.
 pub(crate) fn explanation(
-    rt: &HostRuntime,
+    alloc: Global,
     subject: &Subject<'_>,
     line: &str,
 ) -> Result<Option<String>, AllocError>
     ensures { IfOk result (λ found. IfSome found (λ text. Explains subject.now CODES.now line.now (string_bytes text))) }
 {
     if let Some(failure) = failure_of(line) {
-        return Ok(Some(why_failed(rt, subject, &failure)?));
+        return Ok(Some(why_failed(alloc, subject, &failure)?));
     }
     if line.starts_with(BAD_ANSWER) {
         let told = advice(&Failure::BadAnswer(0));
-        return Ok(Some(String::from_str(rt.alloc(), told)?));
+        return Ok(Some(String::from_str(alloc, told)?));
     }
     if line.starts_with(BAD_LINE) {
         let told = advice(&Failure::BadLine(0));
-        return Ok(Some(String::from_str(rt.alloc(), told)?));
+        return Ok(Some(String::from_str(alloc, told)?));
     }
     if let Some((database, folder)) = noted_beside(subject, line) {
-        return Ok(Some(why_differs(rt.alloc(), database, folder)?));
+        return Ok(Some(why_differs(alloc, database, folder)?));
     }
     if let Some(code) = code_in(line) {
-        return why_refused(rt, subject, code);
+        return why_refused(alloc, subject, code);
     }
     match left_alone(line) {
-        Some(left) => Ok(Some(why_nothing(rt.alloc(), left)?)),
+        Some(left) => Ok(Some(why_nothing(alloc, left)?)),
         None => Ok(None),
     }
 }
@@ -70,57 +70,71 @@ fn noted_beside<'a>(subject: &Subject<'a>, line: &str) -> Option<(&'a str, &'a s
     }
 }
 
-/// Why a command failed: what the system says of its file, or else what the line means.
+/// Why a command failed: what was seen of its file, or else what the line means.
 fn why_failed(
-    rt: &HostRuntime,
+    alloc: Global,
     subject: &Subject<'_>,
     failure: &Failure<'_>,
 ) -> Result<String, AllocError>
     ensures { IfOk result (λ text. SaysFailure subject.now failure.now (string_bytes text)) }
 {
-    let alloc = rt.alloc();
     match failure {
         Failure::CannotOpen(path) => {
-            let cause = why_of(rt, subject, path);
+            let cause = why_of(subject, path);
             format!(in alloc; "{path} {}", cause.text())
         }
-        Failure::ReadFailed => match folder_among(rt, &subject.files) {
-            Some(path) => format!(in alloc; "{path} {}", Cause::Folder.text()),
-            None => String::from_str(alloc, advice(failure)),
-        },
         _ => String::from_str(alloc, advice(failure)),
     }
 }
 
 /// Why this file of a command can't be opened.
-fn why_of(rt: &HostRuntime, subject: &Subject<'_>, path: &str) -> Cause
+fn why_of(subject: &Subject<'_>, path: &str) -> Cause
     ensures { IsWhy subject.now path.now result }
 {
-    if subject.database == Some(path) {
-        return why_closed(rt, path, subject.makes);
+    match noted_of(&subject.noted, path) {
+        Some(cause) => cause,
+        None if subject.sequences == Some(path) => Cause::NotFolder,
+        None => Cause::Unknown,
     }
-    if subject.sequences == Some(path) {
-        return why_no_folder(rt, path);
+}
+
+/// What was noted last of this file.
+fn noted_of(notes: &[Noted], path: &str) -> Option<Cause>
+    ensures { result ≡ noted_cause notes.now path.now }
+{
+    for noted in notes {
+        if noted.path.as_str() == path {
+            return Some(noted.cause);
+        }
     }
-    why_unread(rt, path)
+    None
+}
+
+/// Why this file is taken for no journal's database.
+fn why_no_journal(subject: &Subject<'_>, path: &str) -> Cause
+    ensures { IsNoJournal subject.now path.now result }
+{
+    match why_of(subject, path) {
+        Cause::NoTables => Cause::OtherTables,
+        _ => Cause::NotDatabase,
+    }
 }
 
 /// What a code means and what to do about it: none if the table doesn't have it.
 fn why_refused(
-    rt: &HostRuntime,
+    alloc: Global,
     subject: &Subject<'_>,
     code: u64,
 ) -> Result<Option<String>, AllocError>
     ensures { IfOk result (λ found. IfSome found (λ text. SaysCode subject.now CODES.now code (string_bytes text))) }
 {
-    let alloc = rt.alloc();
     let Some(row) = row_about(alloc, code)? else {
         return Ok(None);
     };
     let (name, meaning, advice) = (row.name, row.meaning, row.advice);
     let told = match subject.database {
         Some(path) if code == NOT_A_JOURNAL => {
-            let cause = why_no_journal(rt, path);
+            let cause = why_no_journal(subject, path);
             format!(in alloc; "{code} {name} ({meaning}): {path} {}", cause.text())?
         }
         _ => format!(in alloc; "{code} {name} ({meaning}): {advice}")?,
