@@ -1,5 +1,5 @@
 -- What is said of a line, and what goes out of it.
-use Rattle.std.specs.Prelude.{◌≡◌, ◌≢◌, ◌⊎◌, ◌++◌, ◌∷◌, [], ℕ, List, Option, Some, None, IsSome, codes, decimal, bytes_eq, if◌then◌else◌, map, option_map, string_bytes, take, Contains}
+use Rattle.std.specs.Prelude.{◌≡◌, ◌≢◌, ◌⊎◌, ◌++◌, ◌∷◌, [], ℕ, List, Option, Some, None, IsSome, codes, decimal, bytes_eq, if◌then◌else◌, option_map, string_bytes, take, Contains}
 use Rattle.std.specs.Io.KnownBytes.{Appends, Keeps}
 use Rattle.std.specs.List.{find, flat_map}
 use Rattle.std.specs.Str.Lines.{lines}

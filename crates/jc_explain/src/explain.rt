@@ -45,18 +45,20 @@ pub fn explained<'a, F: OpenFromFiles, S: Begun, I: Read, O: Write + Drop, E: Wr
         output,
         errors,
     );
-    if let Ok(asked) = asked {
-        let answers = output.take_kept(rt.alloc());
-        let failures = errors.take_kept(rt.alloc());
-        // An explanation is beside the run: where it can't be made or written, the run has ended as it has.
-        let _ = tell(
-            rt.alloc(),
-            &asked,
-            system.take_notes(),
-            &answers,
-            &failures,
-            &mut errors.inner,
-        );
-    }
+    let notes = system.into_notes();
+    let Ok(asked) = asked else {
+        return status;
+    };
+    let answers = output.take_kept(rt.alloc());
+    let failures = errors.take_kept(rt.alloc());
+    // An explanation is beside the run: where it can't be made or written, the run has ended as it has.
+    let _ = tell(
+        rt.alloc(),
+        &asked,
+        notes,
+        &answers,
+        &failures,
+        &mut errors.inner,
+    );
     status
 }

@@ -38,7 +38,11 @@ impl<'a> Witness<'a> {
     }
 
     /// What is noted, the latest first.
-    pub(crate) fn take_notes(&self) -> Vec<Noted> {
+    pub(crate) fn into_notes(self) -> Vec<Noted> {
+        self.take_notes()
+    }
+
+    fn take_notes(&self) -> Vec<Noted> {
         self.notes.replace(Vec::new(self.alloc()))
     }
 

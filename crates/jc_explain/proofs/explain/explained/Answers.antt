@@ -5,20 +5,20 @@ use Rattle.jc_explain.proofs.GoingOut.{keeps_same, part_of_copies, same_words, t
 use Rattle.jc_explain.proofs.Within.{within_as}
 use Rattle.jc_explain.proofs.explain.explained.Goals as goal
 
-pub returns-in-Ok-clause-ended : goal.returns-in-Ok-clause-ended
-returns-in-Ok-clause-ended g c = λ status other number.
+pub returns-clause-ended : goal.returns-clause-ended
+returns-clause-ended g c = λ status other number.
     let copies : map string_bytes c.deref.result.now ≡ map string_bytes c.args.words.items =
     ap (λ xs. map string_bytes xs) c.deref.ensures.value ∙ same_words string_bytes c.args.words.items c.in-Ok.asked.items c.in-Ok.ensures.cases.0 in
     let stays : g.E.Write.contents c.take_kept-failures.new.self.inner ≡ g.E.Write.contents c.command-status.new.errors.inner =
     ap g.E.Write.contents c.take_kept-failures.ensures.inner in
-    let part = tells_part (map string_bytes c.deref.result.now) CODES.now c.deref-in-Ok.result.now c.deref-in-Ok-2.result.now
+    let part = tells_part (map string_bytes c.deref.result.now) CODES.now c.deref-2.result.now c.deref-3.result.now
     (g.E.Write.contents c.take_kept-failures.new.self.inner) (g.E.Write.contents c.tell.new.to) c.tell.result c.tell.ensures.ok c.tell.ensures.err in (
       g.E.Write.contents c.command-status.new.errors.inner,
       within_as _ _ _ _ _ _ _ _ _ _ _ (ap g.O.Write.contents c.take_kept-answers.ensures.inner) (c.command-status.ensures.ended status other number),
       (
-        c.deref-in-Ok.result.now,
-        c.deref-in-Ok-2.result.now,
-        part_of_copies CODES.now c.deref-in-Ok.result.now c.deref-in-Ok-2.result.now (map string_bytes c.deref.result.now) (map string_bytes c.args.words.items)
+        c.deref-2.result.now,
+        c.deref-3.result.now,
+        part_of_copies CODES.now c.deref-2.result.now c.deref-3.result.now (map string_bytes c.deref.result.now) (map string_bytes c.args.words.items)
             (g.E.Write.contents c.take_kept-failures.new.self.inner) (g.E.Write.contents c.command-status.new.errors.inner) (g.E.Write.contents c.tell.new.to)
             copies stays part,
       ),
