@@ -1,7 +1,7 @@
 //! Output of which a terminal obeys nothing.
 
-ghost use Rattle.std.specs.Prelude.{◌≡◌, ◌≤◌, None, if◌then◌else◌, false, length};
-ghost use Rattle.jc_progress.specs.Obeyed.{is_obeyed};
+ghost use Rattle.std.specs.Prelude.{◌≡◌, None, if◌then◌else◌, length, min, take};
+ghost use Rattle.jc_progress.specs.Obeyed.{IsMasked, Masks};
 
 use std::io;
 use std::io::Write;
@@ -59,15 +59,16 @@ struct Ahead {
 impl Ahead {
     /// What a terminal gets of as many bytes as there is room for, and how many these are.
     fn mask(&mut self, bytes: &[u8], piece: &mut [u8; PIECE]) -> usize
-        ensures room { result ≤ PIECE }
-        ensures within { result ≤ length bytes.now }
+        ensures count { result ≡ min (length bytes.now) PIECE }
+        ensures masked { Masks self.old (take result bytes.now) (take result piece.new) self.new }
     {
         let count = bytes.len().min(PIECE);
-        for (to, byte) in piece.iter_mut().zip(bytes) {
-            *to = self.masked(*byte);
+        for at in 0..count {
+            let shown = self.masked(bytes[at]);
+            piece[at] = shown;
             *self = Ahead {
                 first: self.last,
-                last: *to,
+                last: shown,
             };
         }
         count
@@ -75,8 +76,7 @@ impl Ahead {
 
     /// What a terminal gets of a byte: another one if it would be the end of a character that isn't shown.
     fn masked(self, byte: u8) -> u8
-        ensures obeyed { is_obeyed self.first self.last result ≡ false }
-        ensures same { is_obeyed self.first self.last byte ≡ false → result ≡ byte }
+        ensures { IsMasked self byte result }
     {
         match (self.first, self.last, byte) {
             (_, _, 0..=8 | 11..=31 | 127) => b'?',
