@@ -20,9 +20,8 @@ use Rattle.jc_sender.specs.Acknowledged.{AcknowledgesAll, HasAnswer, TellsOfUplo
 use Rattle.jc_upload.specs.Answer.{IsAnswer, answer_text}
 use Rattle.jc_upload.specs.declared.answer.Answer.{Answer}
 use Rattle.jc_upload.specs.declared.answer.Answer.TheVariants.{Ack, No}
-use Rattle.jc_upload.specs.declared.head.UploadHead.{UploadHead}
-use Rattle.jc_upload.specs.Says.{HasHead, Says as SaysIn}
-use Rattle.jc_runs.specs.Acknowledged.{AreAcknowledged, HaveNoOther, HoldsOfAll, IsAcknowledged, ReadsAs}
+use Rattle.jc_upload.specs.Says.{Says as SaysIn}
+use Rattle.jc_runs.specs.Acknowledged.{AcknowledgeNoOther, AreAcknowledged, HoldsOfAll, IsAcknowledged, ReadsAs}
 use Rattle.jc_runs.specs.Between.{Between, IsInOne, journals}
 use Rattle.jc_runs.specs.Safe.{AcknowledgeAll, IsPrinted, MayDelete}
 use Rattle.jc_runs.specs.Stands.{Keeps}
@@ -153,12 +152,13 @@ module _ (c : Collecting) where
 
 module _ (P : LogEntry → Type 0) (upload : List ℕ) (source : Id128) (count new : ℕ) where
   -- The answer at a place acknowledges all of the upload.
-  of_one : (uploads : List (Option (List ℕ))) (answers : List Answer) → AreAcknowledged P uploads answers → HaveNoOther source upload uploads
+  of_one : (uploads : List (Option (List ℕ))) (answers : List Answer) → AreAcknowledged P uploads answers
+      → AcknowledgeNoOther source count upload uploads answers
       → (i : ℕ) → slice_get answers i ≡ Some (Ack source 0 count new 0) → HoldsOfAll P upload
   of_one uploads answers are alone i at = record {
     source = source;
     reading = it.reading;
-    reads = subst (λ (bytes : List ℕ). ReadsAs bytes source 0 0 it.reading) own reads;
+    reads = subst (λ (k : Option (List ℕ)). IfSome k (λ bytes. ReadsAs bytes source 0 0 it.reading)) (alone i new at ack.0 ack.1) it.reads;
     holds = it.holds;
   }
     where
@@ -168,18 +168,8 @@ module _ (P : LogEntry → Type 0) (upload : List ℕ) (source : Id128) (count n
       it : IsAcknowledged P ack.0 source 0 count 0
       it = ack.2
 
-      other : (bytes : List ℕ) × (ack.0 ≡ Some bytes)
-          × ((head : UploadHead) (body : List ℕ) → HasHead bytes head body → head.source ≡ source → bytes ≡ upload)
-      other = alone i ack.0 ack.1
-
-      reads : ReadsAs other.0 source 0 0 it.reading
-      reads = subst (λ (k : Option (List ℕ)). IfSome k (λ bytes. ReadsAs bytes source 0 0 it.reading)) other.1 it.reads
-
-      own : other.0 ≡ upload
-      own = other.2 reads.head reads.says.body reads.says.has (sym (ap (λ (p : Id128 × ℕ). p.0) reads.named))
-
   of_steps : (steps : List Step) → AllByRecursion (λ step. AreAcknowledged P (answered_in step) (answers_of step)) steps
-      → AllByRecursion (λ step. HaveNoOther source upload (answered_in step)) steps → IsPrinted steps (Ack source 0 count new 0) → HoldsOfAll P upload
+      → AllByRecursion (λ step. AcknowledgeNoOther source count upload (answered_in step) (answers_of step)) steps → IsPrinted steps (Ack source 0 count new 0) → HoldsOfAll P upload
   of_steps [] are alone none = absurd none
   of_steps (step ∷ steps) are alone (inl here) =
       of_one (answered_in step) (answers_of step) are.0 alone.0 here.0

@@ -1,5 +1,5 @@
 -- The upload of the worked list that its machine may delete.
-use Rattle.std.proofs.Common.{◌≡◌, ◌⊎◌, ◌∙◌, ◌+◌, ◌*◌, ◌++◌, arith, ℕ, zero, suc, List, [], ◌∷◌, Some, get_or, refl, sym, ap, subst, inl, inr}
+use Rattle.std.proofs.Common.{◌≡◌, ◌⊎◌, ◌++◌, arith, ℕ, zero, suc, Bool, true, false, List, [], ◌∷◌, Some, None, get_or, refl, sym, ap, subst, inl, inr}
 use Rattle.std.specs.List.{Contains}
 use Rattle.std.proofs.lemmas.List.Elements.{Contains-push_cases}
 use Rattle.std.proofs.lemmas.Option.{none-some, same_Some}
@@ -10,13 +10,13 @@ use Rattle.jc_command_shared.specs.Lines.{lines_of}
 use Rattle.jc_export.specs.Cut.{joined}
 use Rattle.jc_upload.specs.Answer.{IsAnswer, answer_text}
 use Rattle.jc_upload.specs.declared.answer.Answer.{Answer}
+use Rattle.jc_upload.specs.declared.answer.Answer.TheVariants.{Ack, No}
 use Rattle.jc_upload.specs.declared.head.UploadHead.{UploadHead}
 use Rattle.jc_upload.specs.Head.{IsHead, head_text}
-use Rattle.jc_upload.specs.Says.{HasHead}
-use Rattle.jc_runs.specs.Acknowledged.{HaveNoOther}
+use Rattle.jc_runs.specs.Acknowledged.{AcknowledgeNoOther}
 use Rattle.jc_runs.specs.Safe.{AcknowledgeAll, IsPrinted, MayDelete}
-use Rattle.jc_runs.specs.Worked.{ack_of, alone, head_of, numbered, of_one, of_other, upload_of, worked}
-use Rattle.jc_runs.proofs.OneMore.{lawful_head, lawful_id, small_one, small_other}
+use Rattle.jc_runs.specs.Worked.{ack_of, acks, alone, numbered, of_one, of_other, unread, upload_of, worked}
+use Rattle.jc_runs.proofs.OneMore.{lawful_head, lawful_id, small_one}
 
 -- no two headers begin one upload, and no two answers have one line
 pub record OneEach : Type 0 where
@@ -59,33 +59,41 @@ was_printed one answer lawful inside =
     subst (λ (a : Answer). IsPrinted worked a) (one.answer (ack_of 1 1) answer lawful_ack lawful (only_line (answer_text answer) inside))
     (inl (0, omega arith, refl))
 
--- Of the uploads that came no other has the first machine's source.
-its_own : HaveNoOther (numbered 1) (upload_of 1 of_one) (alone 1 of_one)
-its_own zero known at = (upload_of 1 of_one, sym (same_Some (Some (upload_of 1 of_one)) known at), λ head body has same. refl)
-its_own (suc i) known at = absurd (none-some known at)
+-- Of the uploads that came no other one is acknowledged so.
+its_own : (new : ℕ) → AcknowledgeNoOther (numbered 1) 1 (upload_of 1 of_one) (alone 1 of_one) (acks 1 new)
+its_own new zero more at known is = sym (same_Some (Some (upload_of 1 of_one)) known is)
+its_own new (suc i) more at known is = absurd (none-some (Ack (numbered 1) 0 1 more 0) at)
 
-of_another : OneEach → HaveNoOther (numbered 1) (upload_of 1 of_one) (alone 2 of_other)
-of_another one zero known at = (
-  upload_of 2 of_other,
-  sym (same_Some (Some (upload_of 2 of_other)) known at),
-  λ head body has same. absurd (apart head body has same),
-)
-  where
-    apart : (head : UploadHead) (body : List ℕ) → HasHead (upload_of 2 of_other) head body → head.source ≡ numbered 1 → ⊥
-    apart head body has same =
-        let heads : head_of 2 ≡ head = (one.head (head_of 2) head (joined (of_other ∷ [])) body (lawful_head 2 (64 * 4096 + 1) small_other) has.lawful has.whole).0 in
-        let ids : numbered 2 ≡ numbered 1 = ap (λ (h : UploadHead). h.source) heads ∙ same in
-        let bytes : 2 ≡ 1 = ap (λ (id : Id128). get_or id.0 0 0) ids in
-        omega (arith, bytes)
-of_another one (suc i) known at = absurd (none-some known at)
+source_in : Answer → Id128
+source_in (Ack source start count new left) = source
+source_in (No of code place) = numbered 1
+
+of_another : AcknowledgeNoOther (numbered 1) 1 (upload_of 1 of_one) (alone 2 of_other) (acks 2 1)
+unfolding source_in
+of_another zero more at known is =
+    let ids : numbered 2 ≡ numbered 1 = ap source_in (same_Some (ack_of 2 1) (Ack (numbered 1) 0 1 more 0) at) in
+    let bytes : 2 ≡ 1 = ap (λ (id : Id128). get_or id.0 0 0) ids in
+    absurd (omega (arith, bytes))
+of_another (suc i) more at known is = absurd (none-some (Ack (numbered 1) 0 1 more 0) at)
+
+is_refused : Answer → Bool
+is_refused (Ack source start count new left) = false
+is_refused (No of code place) = true
+
+-- An upload that can't be read stands before it once.
+behind_unread : AcknowledgeNoOther (numbered 1) 1 (upload_of 1 of_one) (None ∷ alone 1 of_one) (unread ∷ acks 1 0)
+unfolding is_refused
+behind_unread zero more at known is =
+    let refused : true ≡ false = ap is_refused (same_Some unread (Ack (numbered 1) 0 1 more 0) at) in absurd cc
+behind_unread (suc i) more at known is = its_own 0 i more at known is
 
 pub may_delete : OneEach → MayDelete (upload_of 1 of_one) line worked
 unfolding acknowledge
 may_delete one = record {
   acknowledge = acknowledge;
   printed = was_printed one;
-  alone = (its_own, (none, (of_another one, (its_own, (none, (none, (its_own, (none, tt))))))));
+  alone = (its_own 1, (none, (of_another, (behind_unread, (none, (none, (its_own 1, (none, tt))))))));
 }
   where
-    none : HaveNoOther (numbered 1) (upload_of 1 of_one) []
-    none i known at = absurd (none-some known at)
+    none : AcknowledgeNoOther (numbered 1) 1 (upload_of 1 of_one) [] []
+    none i more at known is = absurd (none-some known is)

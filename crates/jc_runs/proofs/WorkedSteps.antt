@@ -21,7 +21,7 @@ use Rattle.jc_ledger_files.specs.Owned.{owner_window}
 use Rattle.jc_ledger_files.specs.Windows.{window_of}
 use Rattle.jc_runs.specs.Between.{Between, Expired, Kept, database, nothing}
 use Rattle.jc_runs.specs.Steps.{EndsRun, Expiry, Forgetting, LeadsOn, StopsRun, Turn}
-use Rattle.jc_runs.specs.Worked.{IsWorked, acks, alone, numbered, of_its_window, of_one, of_other, worked}
+use Rattle.jc_runs.specs.Worked.{IsWorked, acks, alone, numbered, of_its_window, of_one, of_other, unread, worked}
 use Rattle.jc_runs.proofs.Course.{keeps_on, stands_at_first}
 use Rattle.jc_runs.proofs.OneMore.{Reads, has_it, it_is, only, small_one, small_other, stores_new, stores_same}
 use Rattle.jc_runs.proofs.Stepping.{Laws}
@@ -270,12 +270,15 @@ step3 reads = record {
 pub kept_both : IsKept (known_of (union p1 m2)) p1 m2 (Contains came)
 kept_both = kept_as_known p1 m2 came apart_p1 (λ e stored. of_m1 e (in_p1 e stored)) of_m2
 
-step4 : Reads → EndsRun (alone 1 of_one) (acks 1 0) s3 s4
+step4 : Reads → EndsRun (None ∷ alone 1 of_one) (unread ∷ acks 1 0) s3 s4
 step4 reads = record {
   leaves = record { earlier = refl; past = refl; forgotten = refl; released = refl; comes = λ e inside. inside; owners = λ s machine owns. owns };
   kept = λ begins apart. kept_both;
-  stored = λ begins apart limits defaults.
-      stores_same reads (union p1 m2) 1 1 small_one (in_past p1 m2 of_one no_one (in_now empty m1 of_one (has_one of_one))) limits;
+  stored = λ begins apart limits defaults. (
+    union p1 m2,
+    refl,
+    stores_same reads (union p1 m2) 1 1 small_one (in_past p1 m2 of_one no_one (in_now empty m1 of_one (has_one of_one))) limits,
+  );
 }
 
 step5 : Turn Kept s4 s5

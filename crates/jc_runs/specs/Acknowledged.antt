@@ -11,7 +11,7 @@ use Rattle.jc_collect.specs.Answer.{named_by}
 use Rattle.jc_upload.specs.declared.answer.Answer.{Answer}
 use Rattle.jc_upload.specs.declared.answer.Answer.TheVariants.{Ack}
 use Rattle.jc_upload.specs.declared.head.UploadHead.{UploadHead}
-use Rattle.jc_upload.specs.Says.{HasHead, SaysBehind}
+use Rattle.jc_upload.specs.Says.{SaysBehind}
 
 -- An upload with these bytes names this source and start in its header, and reads so under the default limits: all of it but
 -- so many bytes, which are left.
@@ -39,12 +39,12 @@ AreAcknowledged Holds uploads answers =
 
 -- ---- one upload, all of which is acknowledged
 
--- Of each of the uploads the bytes are known, and those with a header of this source are these.
-abbrev pub HaveNoOther : (source : Id128) (upload : List ℕ) → List (Option (List ℕ)) → Type 0
-HaveNoOther source upload uploads =
-    (i : ℕ) (known : Option (List ℕ)) → slice_get uploads i ≡ Some known
-    → (bytes : List ℕ) × (known ≡ Some bytes)
-    × ((head : UploadHead) (body : List ℕ) → HasHead bytes head body → head.source ≡ source → bytes ≡ upload)
+-- Of the uploads each one whose answer acknowledges so many entries of this source, from the first one on, and nothing left, has
+-- these bytes, which are known. Of any other nothing is asked.
+abbrev pub AcknowledgeNoOther : (source : Id128) (count : ℕ) (upload : List ℕ) → List (Option (List ℕ)) → List Answer → Type 0
+AcknowledgeNoOther source count upload uploads answers =
+    (i new : ℕ) → slice_get answers i ≡ Some (Ack source 0 count new 0) → (known : Option (List ℕ)) → slice_get uploads i ≡ Some known
+    → known ≡ Some upload
 
 -- Of all that the upload reads as this holds: nothing of it is left.
 pub record HoldsOfAll (Holds : LogEntry → Type 0) (upload : List ℕ) : Type 0 where

@@ -12,7 +12,7 @@ use Rattle.jc_upload.specs.declared.head.Kind.TheVariants.{Export}
 use Rattle.jc_upload.specs.declared.head.UploadHead.{UploadHead}
 use Rattle.jc_upload.specs.declared.head.Version.TheVariants.{V2}
 use Rattle.jc_upload.specs.Says.{HasHead}
-use Rattle.jc_runs.specs.Acknowledged.{HaveNoOther, HoldsOfAll}
+use Rattle.jc_runs.specs.Acknowledged.{AcknowledgeNoOther, HoldsOfAll}
 use Rattle.jc_runs.specs.Between.{Between, IsInOne, journals}
 use Rattle.jc_runs.specs.Stands.{Keeps}
 use Rattle.jc_runs.specs.Steps.{Step, answered_in, answers_of}
@@ -37,11 +37,11 @@ IsPrinted [] answer = ⊥
 IsPrinted (step ∷ steps) answer = Contains (answers_of step) answer ⊎ IsPrinted steps answer
 
 -- Lines acknowledge all of an upload, those of them that are answers' are lines that these runs printed, and none of these
--- answered another upload with a header of its source.
+-- acknowledged so another upload.
 pub record MayDelete (upload lines : List ℕ) (steps : List Step) : Type 0 where
   pub acknowledge : AcknowledgeAll upload lines
   pub printed : (answer : Answer) → IsAnswer answer → Contains (lines_of lines) (answer_text answer) → IsPrinted steps answer
-  pub alone : AllByRecursion (λ step. HaveNoOther acknowledge.source upload (answered_in step)) steps
+  pub alone : AllByRecursion (λ step. AcknowledgeNoOther acknowledge.source acknowledge.count upload (answered_in step) (answers_of step)) steps
 
 -- That `acknowledged` ends with 0 says so of the lines that it read.
 abbrev pub TellsAll : Type 0

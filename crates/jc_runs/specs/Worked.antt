@@ -1,11 +1,13 @@
--- A worked list of steps: two machines, three databases, a stop, an entry that comes again, a window of notes that goes, and an
--- upload that its machine may delete. (own)
-use Rattle.std.specs.Prelude.{ℕ, ◌+◌, ◌*◌, ◌≡◌, Bool, true, false, List, [], ◌∷◌, ◌++◌, Option, Some, take}
+-- A worked list of steps: two machines, three databases, a stop, an entry that comes again, an upload that can't be read, a window
+-- of notes that goes, and an upload that its machine may delete. (own)
+use Rattle.std.specs.Prelude.{ℕ, ◌+◌, ◌*◌, ◌≡◌, Bool, true, false, List, [], ◌∷◌, ◌++◌, Option, Some, None, take}
 use Rattle.std.specs.List.{Contains}
 use Rattle.std.specs.FinMap.{empty}
 use Rattle.sqlite.specs.Files.{IsNothing}
 use Rattle.sqlite.specs.Recovery.{Image}
+use Rattle.jc_base.specs.declared.fault.Code.TheVariants.{ReadFailed}
 use Rattle.jc_base.specs.declared.id.Id128.{Id128}
+use Rattle.jc_base.specs.Fault.{number_of}
 use Rattle.jc_base.specs.Journal.{Journal}
 use Rattle.jc_base.specs.LogEntry.{LogEntry}
 use Rattle.jc_command.specs.Run.{Begins, begins_with, stored_before}
@@ -22,7 +24,7 @@ use Rattle.jc_ledger_files.specs.Windows.{same_window, window_of}
 use Rattle.jc_upload.specs.Answer.{answer_text}
 use Rattle.jc_upload.specs.Head.{head_text}
 use Rattle.jc_upload.specs.declared.answer.Answer.{Answer}
-use Rattle.jc_upload.specs.declared.answer.Answer.TheVariants.{Ack}
+use Rattle.jc_upload.specs.declared.answer.Answer.TheVariants.{Ack, No}
 use Rattle.jc_upload.specs.declared.head.UploadHead.{UploadHead}
 use Rattle.jc_runs.specs.Between.{Between, IsInOne, Kept, journals_of, nothing}
 use Rattle.jc_runs.specs.Next.{BeganWith}
@@ -64,13 +66,17 @@ ack_of source new = Ack (numbered source) 0 1 new 0
 abbrev pub acks : (source new : ℕ) → List Answer
 acks source new = ack_of source new ∷ []
 
+-- how an upload is answered whose file can't be read
+abbrev pub unread : Answer
+unread = No None (number_of ReadFailed) 0
+
 -- the window of the first machine's entry
 abbrev pub of_its_window : WindowName → Bool
 of_its_window w = same_window (window_of of_one.key) w
 
 abbrev pub worked : List Step
 worked =
-    Ends (alone 1 of_one) (acks 1 1) ∷ Turns Kept ∷ Stops (alone 2 of_other) (acks 2 1) ∷ Ends (alone 1 of_one) (acks 1 0)
+    Ends (alone 1 of_one) (acks 1 1) ∷ Turns Kept ∷ Stops (alone 2 of_other) (acks 2 1) ∷ Ends (None ∷ alone 1 of_one) (unread ∷ acks 1 0)
     ∷ Turns Kept ∷ Forgets of_its_window ∷ Ends (alone 1 of_one) (acks 1 1) ∷ Expires ∷ []
 
 -- what a run supposes of the notes that it begins with, and of the journal that its database has

@@ -1,5 +1,6 @@
 //! The list of runs that jc_runs works out (`worked` in its `specs/Worked.antt`), over databases and notes in memory: two
-//! machines, three databases, a stop, and a window of notes that goes. The answers are those that stand there.
+//! machines, three databases, a stop, an upload that can't be read, and a window of notes that goes. The answers and the
+//! owners are those that stand there.
 
 use crate::machines::OTHER;
 use crate::{Machines, Memory};
@@ -8,7 +9,9 @@ use jc_collector_answers::{NameLines, answer_names};
 use jc_command_shared::Status;
 use jc_export::read_all;
 use jc_keeper::{KeepStop, Keeper, MapKeeper};
-use jc_ledger::{Behind, CaughtUp, EmptyShelf, Ledger, MapLedger, Shelf, UnionKeeper};
+use jc_ledger::{
+    Behind, CaughtUp, EmptyShelf, Ledger, MachineDigest, MapLedger, Shelf, UnionKeeper, catch_up,
+};
 use jc_sender::acknowledged;
 use std::alloc::Global;
 use std::collections::VecDeque;
@@ -20,14 +23,25 @@ const IDS: [&str; 2] = [
     "02000000000000000000000000000000",
 ];
 
-/// What is answered to the upload that a line names, behind the machine that brings it.
-fn answered<K: Keeper>(alloc: Global, keeper: &mut K, line: &str) -> Option<Vec<u8>> {
+/// The key of the first machine's entry, and of the other's.
+const OF_ONE: Key = Key {
+    seqnum_id: Id128([1, 0, 0, 0, 0, 0, 0, 0, 0, 0, 0, 0, 0, 0, 0, 0]),
+    seqnum: 1,
+};
+
+const OF_OTHER: Key = Key {
+    seqnum_id: Id128([2, 0, 0, 0, 0, 0, 0, 0, 0, 0, 0, 0, 0, 0, 0, 0]),
+    seqnum: 262_145,
+};
+
+/// What is answered to the uploads that lines name, behind the machine that brings each.
+fn answered<K: Keeper>(alloc: Global, keeper: &mut K, lines: &str) -> Option<Vec<u8>> {
     let mut output = Vec::new(alloc);
     let mut errors = Vec::new(alloc);
     answer_names(
         &Memory::<Machines>::new(alloc),
         keeper,
-        &mut line.as_bytes(),
+        &mut lines.as_bytes(),
         NameLines::MachinesAndUploads,
         &mut output,
         &mut errors,
@@ -36,16 +50,12 @@ fn answered<K: Keeper>(alloc: Global, keeper: &mut K, line: &str) -> Option<Vec<
     Some(output)
 }
 
-/// The first machine's upload is acknowledged, and so many of its entries are new. Then it may be deleted.
-fn run_of_one<K: Keeper>(
-    rt: &(impl Abort + AllocGlobal),
-    keeper: &mut K,
-    new: u64,
-) -> Result<(), Fail> {
+/// The first machine's upload is acknowledged, and its entry is new. Then it may be deleted.
+fn run_of_one<K: Keeper>(rt: &(impl Abort + AllocGlobal), keeper: &mut K) -> Result<(), Fail> {
     let alloc = rt.alloc();
     let id = IDS[0];
-    let line = format!(in alloc; "ack {id} 0 1 {new} 0\n")?;
-    let answers = answered(alloc, keeper, "one\t1");
+    let line = format!(in alloc; "ack {id} 0 1 1 0\n")?;
+    let answers = answered(alloc, keeper, "\u{1}\t1");
     assert!(rt; answers.is_some_and(|it| it.as_slice() == line.as_bytes()));
     assert!(rt; may_delete(alloc, "1", line.as_bytes()));
     assert!(rt; !may_delete(alloc, "2", line.as_bytes()));
@@ -59,16 +69,31 @@ fn may_delete(alloc: Global, upload: &str, mut lines: &[u8]) -> bool {
     matches!(told, Ok(Status::Success))
 }
 
-/// A run stores the other machine's upload, and is stopped before it has a note.
-fn stopped_run<K: Keeper, L: Ledger, S: Shelf>(
+/// A run stores the other machine's upload, and is stopped before it has a note. The sequence is already that machine's.
+fn stopped_run<K: Keeper, S: Shelf>(
     rt: &(impl Abort + AllocGlobal),
-    union: &mut UnionKeeper<K, L, S>,
+    union: &mut UnionKeeper<K, MapLedger, S>,
 ) -> Result<(), Fail> {
     let alloc = rt.alloc();
     let id = IDS[1];
     let line = format!(in alloc; "ack {id} 0 1 1 0\n")?;
-    let answers = answered(alloc, &mut union.present, "other\t2");
+    let answers = answered(alloc, union, "\u{2}\t2");
     assert!(rt; answers.is_some_and(|it| it.as_slice() == line.as_bytes()));
+    assert!(rt; forget(&mut union.ledger, &OF_OTHER));
+    Ok(())
+}
+
+/// The first machine's upload comes again, behind the name of one that can't be read.
+fn run_behind_unread<K: Keeper>(
+    rt: &(impl Abort + AllocGlobal),
+    keeper: &mut K,
+) -> Result<(), Fail> {
+    let alloc = rt.alloc();
+    let id = IDS[0];
+    let lines = format!(in alloc; "no - - 61 0\nack {id} 0 1 0 0\n")?;
+    let answers = answered(alloc, keeper, "\u{1}\tgone\n\u{1}\t1\n");
+    assert!(rt; answers.is_some_and(|it| it.as_slice() == lines.as_bytes()));
+    assert!(rt; may_delete(alloc, "1", lines.as_bytes()));
     Ok(())
 }
 
@@ -79,7 +104,7 @@ fn caught_up<K: Keeper, L: Ledger, S: Shelf>(
 ) -> Option<CaughtUp> {
     let reading = read_all(alloc, &OTHER[48..], &Limits::default()).ok()?;
     let mut source = ListSource::new(VecDeque::from(reading.entries), Ending::End { left: 0 });
-    union.recover(&mut source).ok()
+    catch_up(alloc, &mut union.ledger, &mut source).ok()
 }
 
 fn turned<K: Keeper, L: Ledger, S: Shelf>(
@@ -89,36 +114,35 @@ fn turned<K: Keeper, L: Ledger, S: Shelf>(
     union.turn(MapKeeper::new(alloc))
 }
 
-fn key_of(sequence: u8, seqnum: u64) -> Key {
-    let mut id = [0; 16];
-    id[0] = sequence;
-    Key {
-        seqnum_id: Id128(id),
-        seqnum,
-    }
-}
-
 fn has<K: Keeper>(keeper: &mut K, key: &Key) -> bool {
     matches!(keeper.get(key), Ok(Some(_)))
 }
 
-/// The window of the first machine's entry goes.
-fn forget(ledger: &mut MapLedger) -> bool {
-    ledger.notes.remove(&key_of(1, 1)).is_some()
+/// The note of an entry goes.
+fn forget(ledger: &mut MapLedger, key: &Key) -> bool {
+    ledger.notes.remove(key).is_some()
 }
 
-/// At last the first machine's entry is in the first and in the third database, and the other's in the second.
+/// Whether a key's sequence belongs to the machine whose name is this byte.
+fn owns<L: Ledger>(ledger: &mut L, key: &Key, name: u8) -> bool {
+    let owner = ledger.owner_of(key.seqnum_id);
+    matches!(owner, Ok(Some(machine)) if machine == MachineDigest::of(&[name]))
+}
+
+/// At last the first machine's entry is in the first and in the third database, and the other's in the second. The
+/// sequences are the machines' own.
 fn check_databases<K: Keeper, L: Ledger, S: Shelf, A: Keeper, B: Keeper>(
     rt: &impl Abort,
     union: &mut UnionKeeper<K, L, Behind<Behind<S, A>, B>>,
 ) {
-    let (one, other) = (key_of(1, 1), key_of(2, 262_145));
-    assert!(rt; has(&mut union.shelf.shelf.last, &one));
-    assert!(rt; !has(&mut union.shelf.shelf.last, &other));
-    assert!(rt; !has(&mut union.shelf.last, &one));
-    assert!(rt; has(&mut union.shelf.last, &other));
-    assert!(rt; has(&mut union.present, &one));
-    assert!(rt; !has(&mut union.present, &other));
+    assert!(rt; has(&mut union.shelf.shelf.last, &OF_ONE));
+    assert!(rt; !has(&mut union.shelf.shelf.last, &OF_OTHER));
+    assert!(rt; !has(&mut union.shelf.last, &OF_ONE));
+    assert!(rt; has(&mut union.shelf.last, &OF_OTHER));
+    assert!(rt; has(&mut union.present, &OF_ONE));
+    assert!(rt; !has(&mut union.present, &OF_OTHER));
+    assert!(rt; owns(&mut union.ledger, &OF_ONE, 1));
+    assert!(rt; owns(&mut union.ledger, &OF_OTHER, 2));
 }
 
 #[test]
@@ -126,14 +150,14 @@ fn worked_runs_are_answered_so(rt: HostRuntime) -> Result<(), Fail> {
     let alloc = rt.alloc();
     let maps = MapKeeper::new(alloc);
     let mut first = UnionKeeper::new(alloc, maps, MapLedger::new(alloc), EmptyShelf);
-    run_of_one(&rt, &mut first, 1)?;
+    run_of_one(&rt, &mut first)?;
     let mut second = turned(alloc, first);
     stopped_run(&rt, &mut second)?;
     assert!(rt; matches!(caught_up(alloc, &mut second), Some(CaughtUp::Done)));
-    run_of_one(&rt, &mut second, 0)?;
+    run_behind_unread(&rt, &mut second)?;
     let mut third = turned(alloc, second);
-    assert!(rt; forget(&mut third.ledger));
-    run_of_one(&rt, &mut third, 1)?;
+    assert!(rt; forget(&mut third.ledger, &OF_ONE));
+    run_of_one(&rt, &mut third)?;
     check_databases(&rt, &mut third);
     Ok(())
 }
