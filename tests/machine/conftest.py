@@ -11,8 +11,9 @@ import pytest
 
 ROOT = Path(__file__).resolve().parents[2]
 os.environ.setdefault("JOURNAL_COLLECT", str(ROOT / "crates/jc_cli/out/jc_cli"))
-sys.path[:0] = [str(Path(__file__).parent), str(Path(__file__).parents[1])]
+sys.path[:0] = [str(Path(__file__).parent), str(Path(__file__).parents[1]), str(Path(__file__).parents[1] / "world")]
 from collector import Collector  # noqa: E402
+from disks import Disk, can_mount  # noqa: E402
 from journals import MACHINE_ID  # noqa: E402
 from sshd import Sshd  # noqa: E402
 from waiting import PATIENCE  # noqa: E402
@@ -85,3 +86,15 @@ def sshd(machine: Machine, collector: Collector) -> Iterator[Sshd]:
     server = Sshd(machine, collector.socket)
     yield server
     server.end()
+
+
+@pytest.fixture
+def disk(machine: Machine, tmp_path: Path) -> Iterator[Disk]:
+    """The machine's folder is on a disk of its own."""
+    if os.geteuid() or not can_mount(tmp_path):
+        pytest.skip("no disk can be mounted here")
+    disk = Disk(tmp_path / "disk")
+    machine.folder = disk.at / "send"
+    machine.set(FOLDER=machine.folder)
+    yield disk
+    disk.remove()

@@ -10,7 +10,9 @@ from pathlib import Path
 import pytest
 from collector import Collector
 from conftest import ROOT, Machine
+from disks import Disk
 from journals import BEGIN, Entry, entries, offsets, write
+from test_sending import rest
 from test_stops import settle
 
 REAL = shutil.which("journalctl")
@@ -209,3 +211,28 @@ def test_a_folder_that_is_damaged(machine: Machine, collector: Collector) -> Non
     assert machine.send("--again", "@0", "--once") in (0, 1), machine.said
     settle(machine)
     assert set(collector.messages()) >= {each.message for each in logged}, f"SEED={seed}"
+
+
+@pytest.mark.parametrize("name", ["upload", "had", "stream"])
+def test_what_the_disk_cannot_read_any_more(machine: Machine, collector: Collector, disk: Disk, name: str) -> None:
+    """A file of the outbox can neither be read nor moved. It is put aside, told once, and holds nothing up; what it had
+    comes again from the journal."""
+    machine.set(UPLOAD_BYTES=1500)
+    write(machine.journal / "system.journal", entries("one", 2))
+    assert machine.send() == 0, machine.said
+    write(machine.journal / "system.journal", entries("two", 12, BEGIN + 60_000_000, pad=200))
+    waiting = machine.gather()
+    assert len(waiting) > 2
+    disk.damage(waiting[1] if name == "upload" else machine.folder / "outbox" / name)
+    write(machine.journal / "system.journal", entries("three", 2, BEGIN + 120_000_000))
+    told = ""
+    for _ in range(3):
+        machine.send()
+        told += machine.said
+        rest(machine)
+    assert machine.send() == 0 and machine.outbox() == [], machine.said
+    assert told.count("is put aside in") == 1
+    assert collector.messages() == sorted(each.message.strip() for each in [
+        *entries("one", 2), *entries("two", 12, pad=200), *entries("three", 2)])
+    aside = list((machine.folder / "refused").glob("outbox-*"))
+    assert [sum(path.suffix == ".upload" for path in each.iterdir()) for each in aside] == [name == "upload"]

@@ -1,4 +1,5 @@
 """Answers, refusals and links: what is logged comes in the end, and nothing waits behind what can't be sent."""
+import os
 import re
 import sqlite3
 import threading
@@ -225,6 +226,25 @@ def test_a_collector_that_was_restored_behind_a_lost_answer(machine: Machine, co
     assert any(b"MESSAGE=two 0" in data for data in collector.uploads[before:])
 
 
+def test_power_that_is_lost_behind_an_acknowledgement(machine: Machine, collector: Collector) -> None:
+    """What was noted since isn't on the disk, and the upload is out of the way: it is asked for nevertheless."""
+    write(machine.journal / "system.journal", entries("one", 2))
+    assert machine.send() == 0, machine.said
+    write(machine.journal / "system.journal", entries("two", 1, begin=BEGIN + 1_000_000_000))
+    machine.gather()
+    noted = {path: path.read_bytes() for path in machine.folder.glob("places.sqlite*")}
+    assert machine.send() == 0, machine.said
+    for path in machine.folder.glob("places.sqlite*"):
+        path.unlink()
+    for path, data in noted.items():
+        path.write_bytes(data)
+    asked: list[int] = []
+    collector.knows = lambda sequence, number: asked.append(number) or number < 3  # type: ignore[func-returns-value]
+    write(machine.journal / "system.journal", entries("three", 1, begin=BEGIN + 2_000_000_000))
+    assert machine.send() == 1 and "lost" in machine.said
+    assert asked == [3]
+
+
 def test_a_clock_that_is_wrong(machine: Machine, collector: Collector) -> None:
     write(machine.journal / "system.journal", entries("one", 1))
     collector.greeting = lambda: f"journal-collect 1 {time.time_ns() // 1000 + 3 * 86_400_000_000} {'ab' * 32}"
@@ -316,17 +336,14 @@ def test_a_repeat_says_nothing_of_a_collector_that_was_restored(machine: Machine
     collector.knows = knows
     write(machine.journal / "user-1.journal", entries("two", 1))
     assert machine.send() == 0, machine.said
-    assert asked == [4]
+    assert set(asked) == {4}
 
 
 def test_a_clock_that_goes_back(machine: Machine, collector: Collector) -> None:
     """The last key was acknowledged a day ahead by this clock: it is asked for nevertheless."""
     write(machine.journal / "system.journal", entries("one", 2))
     assert machine.send() == 0, machine.said
-    with sqlite3.connect(machine.folder / "places.sqlite") as rows:
-        had = str(rows.execute("SELECT value FROM value WHERE name = 'had'").fetchone()[0]).split()
-        rows.execute("UPDATE value SET value = ? WHERE name = 'had'", [f"{had[0]} {had[1]} {int(had[2]) + 86_400}"])
-    rows.close()
+    os.utime(machine.folder / "outbox" / "had", (time.time() + 86_400, time.time() + 86_400))
     collector.knows = lambda sequence, number: False
     write(machine.journal / "system.journal", entries("two", 1, BEGIN + 60_000_000))
     assert machine.send() == 1 and "lost" in machine.said

@@ -5,6 +5,7 @@ from __future__ import annotations
 import contextlib
 import filecmp
 import os
+import re
 import shutil
 import subprocess
 import time
@@ -106,6 +107,18 @@ class Disk:
             shutil.copy(self.image, left)
         self.unmount()
         left.replace(self.image)
+        self.mount()
+
+    def damage(self, path: Path) -> None:
+        """The computer stops, and its disk can't read any more what a file is: it has no length, and can't be moved."""
+        self.kill()
+        node, size = path.stat().st_ino, os.statvfs(self.at).f_bsize
+        self.unmount()
+        told = subprocess.run(["debugfs", "-R", f"imap <{node}>", self.image], capture_output=True, check=True).stdout
+        block, offset = re.findall(rb"block (\d+), offset 0x([0-9a-f]+)", told)[0]
+        with self.image.open("r+b") as file:
+            file.seek(int(block) * size + int(offset, 16) + 8)
+            file.write(b"\xff" * 4)                 # its sum isn't that of these bytes
         self.mount()
 
     def sync(self) -> None:

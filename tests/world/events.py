@@ -149,6 +149,11 @@ class World:
         machine.stop(signal.SIGKILL)
         self.take_away(machine.data, "places.sqlite")
 
+    def machine_upload_damaged(self) -> None:
+        machine = self.any()
+        if found := [each for each in sorted((machine.data / "outbox").glob("*.upload")) if each.is_file()]:
+            machine.disk.damage(self.dice.choice(found))
+
     def machine_rotates(self) -> None:
         self.any().journal.rotate()
 

@@ -47,7 +47,11 @@ class Gathering:
 
     def look(self) -> dict[str, Place]:
         """Lists the files; the places of those that have one. All of the first list begin at the time of SINCE."""
-        known, machines = self.places.all(), self.places.machines(journal.MACHINE_ID.read_text().strip())
+        known, machines, now = self.places.all(), self.places.machines(), journal.MACHINE_ID.read_text().strip()
+        if now not in machines:                     # perhaps a clone: it doesn't ask for what the other sent
+            self.outbox.forget()
+            self.places.become(now)
+            machines.append(now)
         self.journal.list_files(machines)
         if self.journal.unread or self.gone(known):
             # while folders were looked through one may have been made, or got another name

@@ -2,21 +2,33 @@
 
 outbox/N.upload, where N is when the last of its entries was logged, in microseconds, or the next number that is free.
 The program writes them, so it alone decides what an upload looks like, and none gets here that it couldn't read. One is
-on the disk before it has its name, and has its name on the disk before `put` returns.
+on the disk before it has its name, and has its name on the disk before `put` returns. The last one that was
+acknowledged as new stays as `had`, and the last that was stored before as `repeated`: so a loss of power leaves it to be
+sent, or to be asked for.
 """
+import errno
 import os
 import re
 import time
-from collections.abc import Iterable
+from collections.abc import Iterable, Iterator
+from contextlib import contextmanager, suppress
 from dataclasses import dataclass
 from itertools import accumulate, groupby
 from pathlib import Path
 
-from journalcollect.common import files, program
+from journalcollect.common import files, program, protocol
 from journalcollect.common.export_stream import Unfit, buffered
 from journalcollect.common.fit import Entry, entries
+from journalcollect.common.report import LOOK
 from journalcollect.common.uploads import HEADER, MOST_WINDOWS, WINDOW
+from journalcollect.machine.places import Places
 from journalcollect.machine.refused import Refused
+
+# What a disk says of what it can't read any more, as a loss of power may leave it.
+UNREADABLE = errno.EIO, errno.EBADMSG, errno.EUCLEAN
+KEPT = "had", "repeated"
+# The collector notes for longer than this what it stored, whatever it keeps.
+HAD_SECONDS = 7 * 86_400
 
 
 @dataclass
@@ -72,17 +84,70 @@ def at_byte(pieces: list[Piece], place: int) -> int:
 
 
 class Outbox:
-    def __init__(self, folder: Path, refused: Refused) -> None:
-        self.folder, self.refused = folder / "outbox", refused
+    def __init__(self, folder: Path, refused: Refused, places: Places) -> None:
+        self.folder, self.refused, self.places = folder / "outbox", refused, places
+        self.open()
+
+    def open(self) -> None:
+        """Makes the folder. Of what was put aside with an earlier one, all that can be read is in this one again."""
         self.folder.mkdir(exist_ok=True)
-        files.sync(folder)
+        for path in self.refused.folder.glob("outbox-*/*.upload"):
+            with suppress(OSError):
+                path.read_bytes()
+                os.link(path, self.folder / path.name)
+                path.unlink()
+        files.sync(self.folder.parent)
         self.look()
 
     def look(self) -> None:
         """Which uploads there are."""
-        self.sizes: dict[int, int] = {
-            int(each.stem): files.size(each) for each in self.folder.iterdir()
-            if re.fullmatch(r"[0-9]{1,18}\.upload", each.name, re.ASCII)}
+        self.sizes: dict[int, int] = {}
+        for each in self.folder.iterdir():
+            if re.fullmatch(r"[0-9]{1,18}\.upload", each.name, re.ASCII):
+                self.sizes[int(each.stem)] = 0
+                with suppress(OSError):             # whoever wants to read it is told
+                    self.sizes[int(each.stem)] = each.stat().st_size
+
+    @contextmanager
+    def reading(self) -> Iterator[None]:
+        """If something can't be read any more, it is put aside with the folder, since such a file can't be moved by
+        itself. What can be read comes back, and what the journal has goes out once more."""
+        try:
+            yield
+        except OSError as error:
+            if error.errno in UNREADABLE:
+                aside = self.refused.folder / f"outbox-{time.time_ns()}"
+                self.places.forget_all()
+                files.move(self.folder, aside)
+                self.open()
+                self.refused.report.say(LOOK, f"{error}: what can't be read any more of the outbox is put aside in "
+                                        f"{aside}, and what the journal has goes out once more")
+            raise
+
+    def read(self, number: int) -> bytes:
+        with self.reading():
+            return self.path(number).read_bytes()
+
+    def acknowledged(self, number: int, is_new: bool) -> None:
+        """An upload is done with. A collector that was set back may know what was stored before, or not if its answer
+        was lost: so both are asked for next."""
+        with self.reading():
+            os.utime(self.path(number), (time.time(), time.time()))
+            os.rename(self.path(number), self.folder / KEPT[not is_new])
+        self.sizes.pop(number, None)
+
+    def keys(self) -> Iterator[protocol.Had | protocol.Upload]:
+        """What was acknowledged last, if that was within the last days."""
+        for path in (self.folder / name for name in KEPT):
+            with suppress(OSError, protocol.NotALine):
+                if time.time() - path.stat().st_mtime < HAD_SECONDS and (pieces := pieces_in(path.read_bytes())[0]):
+                    yield protocol.request(f"had {pieces[-1].sequence} {pieces[-1].number}")
+
+    def forget(self) -> None:
+        """Nothing is asked for until something else is acknowledged."""
+        with self.reading():
+            for name in KEPT:
+                (self.folder / name).unlink(missing_ok=True)
 
     def path(self, number: int) -> Path:
         return self.folder / f"{number}.upload"
@@ -97,10 +162,10 @@ class Outbox:
         stream, new = self.folder / "stream", self.folder / "new"
         pieces = list(pieces)
         while pieces:
-            with open(stream, "wb") as file:
+            with self.reading(), open(stream, "wb") as file:
                 file.writelines(piece.text for piece in pieces)
             try:
-                with open(new, "wb") as out:
+                with self.reading(), open(new, "wb") as out:
                     program.upload(stream, os.urandom(16).hex(), out.fileno())
                     os.fsync(out.fileno())
             except program.Bad as bad:
@@ -117,7 +182,7 @@ class Outbox:
 
     def pieces(self, number: int) -> list[Piece]:
         """The entries of an upload. What can't be followed of it, as after damage, is kept for a person."""
-        pieces, rest = pieces_in(self.path(number).read_bytes())
+        pieces, rest = pieces_in(self.read(number))
         if rest:
             self.refused.put(f"{number}.damaged", rest, f"the end of {self.path(number)} is damaged, and `--again` "
                              "sends what the journal has of it")

@@ -1,15 +1,15 @@
 """How far each journal file went, forks, and what else a machine keeps: the file places.sqlite.
 
 All of it may be lost: then everything that the journal has goes out once more, which changes nothing at the collector.
-So places needn't be on the disk at once; only forks are, before an entry goes out in one.
+So places needn't be on the disk at once; only forks are, before an entry goes out in one, and that all goes once more.
 
 The table `place` has each journal file, `fork` the sequences that go on as others, and since which number; `try` how
 often an upload went out in vain, and until when it rests; `machine` the machine-ids that this machine had; `head` the
 collector's daily heads, and when each was first told; `told` what somebody has to look at; `value`, by name, the time
 that SINCE was (`since`) and that a first list of files was seen (`begun`); what was asked for by hand (`again`,
-`answers`); how many bytes of an upload the link carries and how often in a row it was cut (`bound`, `cuts`); SEQUENCE
-NUMBER TIME of what was acknowledged last, new (`had`) or not (`repeated`); how far the collector's clock was ahead
-(`skew`); when it answered and acknowledged last (`answered`, `acknowledged`), and why nothing goes out (`trouble`).
+`answers`); how many bytes of an upload the link carries and how often in a row it was cut (`bound`, `cuts`); how far
+the collector's clock was ahead (`skew`); when it answered and acknowledged last (`answered`, `acknowledged`), and why
+nothing goes out (`trouble`).
 """
 import os
 import sqlite3
@@ -88,7 +88,7 @@ class Places:
 
     def open(self) -> None:
         self.database = sqlite3.connect(self.path)
-        self.database.executescript("PRAGMA journal_mode=WAL; PRAGMA synchronous=NORMAL")
+        self.database.execute("PRAGMA journal_mode=WAL")
         version = self.database.execute("PRAGMA user_version").fetchone()[0]
         if version == 0:
             self.database.executescript(TABLES)
@@ -114,7 +114,8 @@ class Places:
                         "goes out once more, and is stored once")
         return True
 
-    def do(self, statement: str, rows: Iterable[Sequence[object]] = ((),)) -> None:
+    def do(self, statement: str, rows: Iterable[Sequence[object]] = ((),), is_synced: bool = False) -> None:
+        self.database.execute(f"PRAGMA synchronous={'FULL' if is_synced else 'NORMAL'}")
         with self.database:
             self.database.executemany(statement, rows)
 
@@ -130,7 +131,7 @@ class Places:
     def forget_all(self) -> None:
         """What the journal has goes out once more."""
         self.do("DELETE FROM place")
-        self.do("DELETE FROM value WHERE name IN ('begun', 'had', 'repeated')")
+        self.do("DELETE FROM value WHERE name = 'begun'", is_synced=True)
 
     def go_back(self, since: str) -> None:
         """What the journal has since a time goes out once more."""
@@ -151,9 +152,7 @@ class Places:
         The disk has that before anything goes out under it."""
         later = [new for own, first, new in self.forks if own == sequence and first > number]
         new = later[0] if later else os.urandom(16).hex()
-        self.database.execute("PRAGMA synchronous=FULL")
-        self.do("INSERT INTO fork VALUES(?, ?, ?, ?)", [[sequence, number, new, int(time.time())]])
-        self.database.execute("PRAGMA synchronous=NORMAL")
+        self.do("INSERT INTO fork VALUES(?, ?, ?, ?)", [[sequence, number, new, int(time.time())]], is_synced=True)
         self.forks = sorted([*self.forks, (sequence, number, new)], key=lambda fork: fork[1])
         return new
 
@@ -189,13 +188,12 @@ class Places:
         """Something is to be gathered once more, or answers came by hand."""
         return not self.value("begun") or bool(self.value("again") or self.value("answers"))
 
-    def machines(self, now: str) -> list[str]:
-        """The ids that this machine had. With a new one it may be a clone: it doesn't ask for what the other sent."""
-        known = [row[0] for row in self.database.execute("SELECT id FROM machine")]
-        if now not in known:
-            self.do("INSERT INTO machine VALUES(?)", [[now]])
-            self.set(had="", repeated="")
-        return [*known, now]
+    def machines(self) -> list[str]:
+        """The ids that this machine had."""
+        return [row[0] for row in self.database.execute("SELECT id FROM machine")]
+
+    def become(self, machine: str) -> None:
+        self.do("INSERT INTO machine VALUES(?)", [[machine]])
 
     def see_head(self, head: str) -> None:
         if head and self.database.execute("SELECT head FROM head ORDER BY rowid DESC").fetchone() != (head,):

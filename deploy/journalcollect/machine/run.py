@@ -39,7 +39,7 @@ class Machine:
         self.chosen, self.report, self.places = chosen, report, Places(folder, report)
         report.note = self.places.tell
         refused = Refused(folder, chosen.folder_bytes, report)
-        self.outbox = Outbox(folder, refused)
+        self.outbox = Outbox(folder, refused, self.places)
         self.gathering = Gathering(chosen, report, self.places, self.outbox, refused)
         refusals = Refusals(self.places, self.outbox, refused, report)
         self.sending = Sending(chosen, report, self.places, self.outbox, refusals)

@@ -10,11 +10,11 @@ import time
 
 from journalcollect.common import program
 from journalcollect.common.export_stream import Unfit
-from journalcollect.common.protocol import LONGEST_LINE, Answer, Greeting, Had, Known, Put, Reply, Upload, Verdict
+from journalcollect.common.protocol import LONGEST_LINE, Answer, Greeting, Known, Put, Reply, Upload, Verdict
 from journalcollect.common.report import FAILED, LOOK, Report
 from journalcollect.common.uploads import SOURCE
 from journalcollect.machine.link import Link, Lost
-from journalcollect.machine.outbox import Outbox, pieces_in
+from journalcollect.machine.outbox import Outbox
 from journalcollect.machine.places import LONGEST_REST, NEVER, Places
 from journalcollect.machine.refusals import Refusals
 from journalcollect.machine.settings import Settings
@@ -24,8 +24,6 @@ CUTS, LEAST_BYTES = 2, 1 << 10
 # One that is through in so many seconds is small enough for the link.
 FAST_SECONDS = 2.0
 FIRST_PAUSE, LONGEST_PAUSE = 5.0, 60.0
-# The collector notes for longer than this what it stored, whatever it keeps.
-HAD_SECONDS = 7 * 86_400
 SKEW_SECONDS = 60
 # What may pass, and is told and tried again.
 FAILURES = (OSError, program.Failed, Unfit, ValueError)
@@ -34,13 +32,12 @@ FAILURES = (OSError, program.Failed, Unfit, ValueError)
 class Sending:
     def __init__(self, settings: Settings, report: Report, places: Places, outbox: Outbox, refusals: Refusals) -> None:
         self.settings, self.report, self.places, self.outbox = settings, report, places, outbox
-        self.refusals, self.link = refusals, Link(settings)
+        self.refusals, self.link, self.has_link = refusals, Link(settings), bool(settings.collector or settings.connect)
         self.pause, self.resumes, self.is_turn_of_oldest = 0.0, 0.0, False
 
     def next(self) -> int | None:
         """The upload that goes out next, if one is to go out now."""
-        has_link = self.settings.collector or self.settings.connect
-        if not self.outbox.sizes or not has_link or time.monotonic() < self.resumes:
+        if not self.outbox.sizes or not self.has_link or time.monotonic() < self.resumes:
             return None
         tries, now, order = self.places.tries(), time.time(), 1 if self.is_turn_of_oldest else -1
         rested = [(tries.get(number, NEVER)[0] // CUTS, order * number, number) for number in self.outbox.sizes
@@ -62,7 +59,7 @@ class Sending:
 
     def send(self, number: int) -> None:
         bound = self.places.bound(self.settings.upload_bytes)
-        data = self.outbox.path(number).read_bytes()
+        data = self.outbox.read(number)
         if len(data) > bound and len(pieces := self.outbox.pieces(number)) > 1:
             self.outbox.cut(number, pieces, bound)
             return
@@ -89,15 +86,10 @@ class Sending:
         if abs(skew) > SKEW_SECONDS:
             self.report.say(LOOK, f"the collector's clock is {skew:+} s from this machine's: set the one that is wrong")
         self.places.see_head(greeting.head or "")
-        if any(self.link.ask(key) is Known.LOST for key in self.keys()):
+        if any(self.link.ask(key) is Known.LOST for key in self.outbox.keys()):
             self.report.say(LOOK, "the collector lost what it had acknowledged: what the journal still has goes out")
             self.places.forget_all()
-
-    def keys(self) -> dict[Had, str]:
-        """What was acknowledged last, if that was within the last days."""
-        said = [self.places.value(name).split() for name in ("had", "repeated")]
-        return {Had(each[0], int(each[1])): each[2] for each in said
-                if len(each) == 3 and all(map(str.isdigit, each[1:])) and time.time() - int(each[2]) < HAD_SECONDS}
+            self.outbox.forget()
 
     def take(self, number: int, data: bytes, reply: Reply) -> bool:
         """What an answer means to an upload; whether it is acknowledged."""
@@ -119,7 +111,9 @@ class Sending:
             raise
         if status == program.OK:
             acks = [line.split(" ") for line in lines.splitlines() if line.startswith(f"ack {data[SOURCE].hex()} ")]
-            self.acknowledge(number, data, any(words[4:5] not in ([], ["0"]) for words in acks))
+            self.outbox.acknowledged(number, any(words[4:5] not in ([], ["0"]) for words in acks))
+            self.places.set(acknowledged=int(time.time()), trouble="")
+            self.pause = 0.0
         elif status == program.REFUSED:
             answer = Answer(line)
             if not self.refusals.take(number, answer, self.places.tries().get(number, NEVER)[0] + 1):
@@ -132,17 +126,7 @@ class Sending:
     def take_answers(self, lines: str) -> None:
         """What answers that were brought by hand mean to what waits."""
         for number in sorted(self.outbox.sizes):
-            self.take_answer(number, self.outbox.path(number).read_bytes(), lines)
-
-    def acknowledge(self, number: int, data: bytes, is_new: bool) -> None:
-        """A collector that was set back may know what was stored before, or not if its answer was lost: so both are
-        asked for next."""
-        if pieces := pieces_in(data)[0]:
-            key = f"{pieces[-1].sequence} {pieces[-1].number} {int(time.time())}"
-            self.places.set(**{"had" if is_new else "repeated": key})
-        self.outbox.remove(number)
-        self.places.set(acknowledged=int(time.time()), trouble="")
-        self.pause = 0.0
+            self.take_answer(number, self.outbox.read(number), lines)
 
     def lost(self, number: int, size: int, lost: Lost) -> None:
         """No answer came. What the link didn't carry twice in a row has too many bytes for it, and comes in parts."""
