@@ -111,7 +111,7 @@ class Collector:
     def answer(self, words: list[str], came: BinaryIO) -> str:
         if words[0] == "had":
             return "had" if self.knows(words[1], int(words[2])) else "lost"
-        assert words[0] == "upload" and abs(int(words[3]) - time.time_ns() // 1000) < 86_400_000_000
+        assert words[0] == "upload" and abs(int(words[3]) - time.time_ns() // 1000) < 7 * 86_400_000_000
         size, data = int(words[1]), b""
         while len(data) < size:
             piece = came.read1(min(size - len(data), 1 << 14))  # type: ignore[attr-defined]

@@ -123,3 +123,21 @@ def test_a_collector_that_takes_nothing_for_an_hour(machine: Machine, collector:
     assert asked[held] < HOUR + 120 and asked[-1] < HOUR + 600      # a pause is a minute at most, and then it looks
     assert new < HOUR + 120
     assert len(collector.messages()) == 41
+
+
+def test_a_machine_that_has_nothing_to_send(machine: Machine, collector: Collector) -> None:
+    """It asks once a day, so it hears within that that the collector was restored."""
+    write(machine.journal / "system.journal", entries("one", 2))
+    assert machine.send() == 0, machine.said
+    collector.knows = lambda sequence, number: len(collector.heard) > 2
+    machine.environment["HURRY"] = "200"
+    process = machine.begin(command=HURRIED)
+    try:
+        wait_until(lambda: len(collector.heard) > 4)
+    finally:
+        process.kill()
+        said = process.communicate()[1]
+    asked = [line.split()[0] for line in collector.heard]
+    assert "the collector lost what it had acknowledged" in said
+    assert asked[:3] == ["upload", "had", "upload"] and set(asked[3:]) == {"had"}
+    assert collector.messages() == ["one 0", "one 1"]

@@ -53,6 +53,7 @@ class Machine:
             if is_due:
                 self.guarded(lambda: self.gather(self.chosen.every_seconds))
             elif not self.guarded(self.sending.send_next):
+                self.guarded(self.sending.ask_if_silent)
                 self.sending.link.close_if_idle()
                 time.sleep(max(LOOK_SECONDS, min(looked / LOOK_PART, self.chosen.every_seconds)))
 

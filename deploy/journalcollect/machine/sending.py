@@ -24,7 +24,8 @@ CUTS, LEAST_BYTES = 2, 1 << 10
 # One that is through in so many seconds is small enough for the link.
 FAST_SECONDS = 2.0
 FIRST_PAUSE, LONGEST_PAUSE = 5.0, 60.0
-SKEW_SECONDS = 60
+# Who has nothing to send asks once a day whether the collector lost something.
+SILENT_SECONDS, SKEW_SECONDS = 86_400.0, 60
 # What may pass, and is told and tried again.
 FAILURES = (OSError, program.Failed, Unfit, ValueError)
 
@@ -90,6 +91,18 @@ class Sending:
             self.report.say(LOOK, "the collector lost what it had acknowledged: what the journal still has goes out")
             self.places.forget_all()
             self.outbox.forget()
+
+    def ask_if_silent(self) -> bool:
+        """Greets, if nothing went out for long: whether it did."""
+        now = time.monotonic()
+        if not self.has_link or self.link.is_open or now < max(self.resumes, self.link.used + SILENT_SECONDS):
+            return False
+        try:
+            self.greet(self.link.open())
+            self.places.set(trouble="")
+        except Lost as lost:
+            self.wait(str(lost), FAILED)
+        return True
 
     def take(self, number: int, data: bytes, reply: Reply) -> bool:
         """What an answer means to an upload; whether it is acknowledged."""
