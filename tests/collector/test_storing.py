@@ -13,7 +13,7 @@ from journalcollect.collector.state import State
 from journalcollect.collector.store import Store
 from journalcollect.collector.turns import Waiting
 from journalcollect.common import files
-from journalcollect.common.protocol import Answer
+from journalcollect.common.protocol import answer
 from journalcollect.reading.present import Present
 from waiting import wait_until
 
@@ -111,9 +111,9 @@ def test_an_answer_comes_last_and_whatever_else_fails(collector: Collector, monk
 
         monkeypatch.setattr(store.state, "tell", tell)
         with pytest.raises(OSError):
-            store.answered(one, Answer(f"no {ID} 0 71 0"))
+            store.answered(one, answer(f"no {ID} 0 71 0"))
     assert told == [False] and store.state.machine("web").bytes == 5
-    assert one.reply.result(0) == Answer(f"no {ID} 0 71 0")
+    assert one.reply.result(0) == answer(f"no {ID} 0 71 0")
 
 
 def test_a_machine_comes_by_nc_alone_and_one_without_a_key_doesn_t(collector: Collector) -> None:

@@ -7,7 +7,7 @@ from io import BufferedReader
 from typing import cast
 
 from ..common import files, protocol
-from ..common.protocol import Answer, Had, Known, NotALine, Put, Upload, Verdict
+from ..common.protocol import Had, Known, NotALine, Put, Reply, Upload, Verdict
 from .gate import Gate
 from .state import log
 from .store import Store
@@ -32,29 +32,19 @@ class Connection(threading.Thread):
     def run(self) -> None:
         try:
             with self.one, self.input, self.gate.entered(self.machine, self.one):
-                self.one.settimeout(IDLE)
                 self.say(protocol.Greeting(time.time_ns() // 1000, self.store.head()))
-                while line := self.line():
-                    self.say(self.reply(protocol.request(line)))
+                while line := self.input.readline(protocol.LONGEST_LINE + 1):
+                    asked = protocol.question(protocol.decoded(line))
+                    self.say(self.known(asked) if isinstance(asked, Had) else self.upload(asked))
         except (OSError, NotALine):
             pass                                       # it was cut, or is no machine of ours: what it sent comes again
         except Exception as error:
             log(f"{self.machine}: {type(error).__name__}: {error}")
 
-    def say(self, line: protocol.Greeting | protocol.Reply) -> None:
+    def say(self, line: protocol.Greeting | Reply) -> None:
+        self.one.settimeout(IDLE)
         self.one.sendall(protocol.encoded(line))
-
-    def line(self) -> str | None:
-        """The next line; None at the end."""
         self.one.settimeout(REST)
-        line = self.input.readline(protocol.LONGEST_LINE + 1)
-        return protocol.decoded(line) if line else None
-
-    def reply(self, request: Had | Upload) -> protocol.Reply:
-        if isinstance(request, Had):
-            return self.known(request)
-        self.store.state.saw(self.machine).skew = request.realtime / 1e6 - time.time()
-        return self.upload(request)
 
     def known(self, key: Had) -> Known:
         """Whether an entry that was acknowledged is known still. Of another machine's sequence nothing is told."""
@@ -66,8 +56,9 @@ class Connection(threading.Thread):
                               "acknowledged, and isn't here: what its journal still has comes once more")
         return Known.LOST
 
-    def upload(self, told: Upload) -> Answer | Put:
+    def upload(self, told: Upload) -> Reply:
         """Takes an upload, and has it stored, if no bound is in the way."""
+        self.store.state.saw(self.machine).skew = told.realtime / 1e6 - time.time()
         if told.size > READ_TO_END:
             raise NotALine(str(told))
         refusal = self.gate.before(self.machine, told.size)

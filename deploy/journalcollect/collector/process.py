@@ -71,10 +71,10 @@ class Process:
     def answer(self) -> protocol.Answer:
         line = self.line()
         try:
-            answer = protocol.reply(line)
+            answer = protocol.answer(line)
         except protocol.NotALine:
             raise self.ended(f"said {line!r}") from None
-        if not isinstance(answer, protocol.Answer) or answer.code in (Code.STORE_FAILED, Code.OUT_OF_MEMORY):
+        if answer.code in (Code.STORE_FAILED, Code.OUT_OF_MEMORY):
             raise self.ended(line)
         return answer
 

@@ -66,7 +66,6 @@ class Store(threading.Thread):
         done.result()
 
     def knows(self, sequence: str, number: int) -> bool:
-        """Whether an entry is noted as stored."""
         self.is_begun.wait()
         with self.notes:
             return program.has_note(self.folder.sequences, sequence, number)
@@ -207,17 +206,13 @@ class Store(threading.Thread):
     def new(self) -> Process:
         """Begins a database, under a name that none had."""
         now = time.strftime("%Y-%m-%dT%H-%M-%S", time.gmtime())
-        name, number = now, 1
-        while self.is_taken(name):
-            number += 1
-            name = f"{now}-{number}"
+        names = itertools.chain([now], (f"{now}-{number}" for number in itertools.count(2)))
+        name = next(each for each in names if not (
+            each in self.over or self.state.is_known(each) or databases.path_of(self.folder, each).exists()
+            or (self.folder.recent / each).exists()))
         (self.folder.recent / name).mkdir()
         self.numbers, self.recent_bytes = itertools.count(1), 0
         return Process(self.folder, databases.path_of(self.folder, name), self.recovery.lock)
-
-    def is_taken(self, name: str) -> bool:
-        return (name in self.over or self.state.is_known(name) or databases.path_of(self.folder, name).exists()
-                or (self.folder.recent / name).exists())
 
     def give_name(self, upload: Waiting, database: str) -> bool:
         """Gives an upload a name that none had, as which it can be stored once more. Whether it has one."""
@@ -253,7 +248,7 @@ class Store(threading.Thread):
         else:
             upload.path.unlink(missing_ok=True)
             self.recent_bytes -= upload.size
-        if not answer.is_ack:
+        if answer.code:
             machine.refused += 1
             whose = self.whose(upload) if answer.code == Code.NOT_THE_OWNER else ""
             self.state.tell(f"refused {upload.machine}", f"{upload.machine}: refused: {answer.line}{whose}")

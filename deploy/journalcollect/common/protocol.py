@@ -6,44 +6,35 @@ that.
 """
 import enum
 import re
-from dataclasses import dataclass
 from typing import NamedTuple
 
-VERSION = 1
 LONGEST_LINE = 200
 # The greatest number and time that an entry may have.
 GREATEST = 2**63 - 1
 
 HEX_ID = re.compile(r"[0-9a-f]{32}")
-HEX_DIGEST = re.compile(r"[0-9a-f]{64}")
-PLAIN_DECIMAL = re.compile(r"0|[1-9][0-9]{0,18}")
+NUMBER, DIGEST = r"(0|[1-9][0-9]{0,18})", r"([0-9a-f]{64})"
+GREETING = re.compile(rf"journal-collect 1 {NUMBER} (?:{DIGEST}|-)")
+HAD = re.compile(rf"had ({HEX_ID.pattern}) {NUMBER}")
+UPLOAD = re.compile(rf"upload {NUMBER} {DIGEST} {NUMBER}")
+ACK = re.compile(rf"ack {HEX_ID.pattern} {NUMBER} {NUMBER} {NUMBER} {NUMBER}")
+NO = re.compile(rf"no (?:{HEX_ID.pattern} {NUMBER}|- -) {NUMBER} {NUMBER}")
 
 
 class NotALine(ValueError):
     """What came is no line of the protocol."""
 
 
-@dataclass(frozen=True)
-class Greeting:
+class Greeting(NamedTuple):
     """The service's first line: its clock, in microseconds since 1970, and its daily head, if it has one yet."""
     realtime: int
     head: str | None
 
     def __str__(self) -> str:
-        return f"journal-collect {VERSION} {self.realtime} {self.head or '-'}"
-
-    @classmethod
-    def parse(cls, line: str) -> "Greeting":
-        match line.split(" "):
-            case ["journal-collect", "1", realtime, "-"]:
-                return cls(number(realtime), None)
-            case ["journal-collect", "1", realtime, head]:
-                return cls(number(realtime), matching(HEX_DIGEST, head))
-        raise NotALine(line)
+        return f"journal-collect 1 {self.realtime} {self.head or '-'}"
 
 
-@dataclass(frozen=True)
-class Had:
+class Had(NamedTuple):
     """The key of an entry that was acknowledged: is it known still?"""
     sequence: str
     number: int
@@ -52,8 +43,7 @@ class Had:
         return f"had {self.sequence} {self.number}"
 
 
-@dataclass(frozen=True)
-class Upload:
+class Upload(NamedTuple):
     """An upload comes behind this line: its bytes, their digest, and the machine's clock in microseconds."""
     size: int
     sha256: str
@@ -61,16 +51,6 @@ class Upload:
 
     def __str__(self) -> str:
         return f"upload {self.size} {self.sha256} {self.realtime}"
-
-
-def request(line: str) -> Had | Upload:
-    """What a machine asks."""
-    match line.split(" "):
-        case ["had", sequence, key]:
-            return Had(matching(HEX_ID, sequence), number(key))
-        case ["upload", size, sha256, realtime]:
-            return Upload(number(size), matching(HEX_DIGEST, sha256), number(realtime))
-    raise NotALine(line)
 
 
 class Known(enum.StrEnum):
@@ -92,58 +72,63 @@ class Put(NamedTuple):
     why: str
 
     def __str__(self) -> str:
-        return f"{self.verdict} {plain(self.why)}"
+        """One line of ASCII, cut to what fits."""
+        why = " ".join(self.why.encode("ascii", "replace").decode("ascii").split())
+        return f"{self.verdict} {why[:LONGEST_LINE - 20]}"
 
 
 class Answer(NamedTuple):
-    """The program's line about an upload, `ack ..` or `no ..`: `journal-collect acknowledged` says what it means."""
+    """The program's line about an upload, which `journal-collect acknowledged` says the meaning of: how many entries
+    weren't stored before; or by which code it was refused, and the place of that."""
     line: str
+    new: int = 0
+    code: int = 0
+    place: int = 0
 
     def __str__(self) -> str:
         return self.line
 
-    @property
-    def words(self) -> list[str]:
-        return self.line.split(" ")
 
-    @property
-    def is_ack(self) -> bool:
-        return self.words[0] == "ack"
-
-    @property
-    def new(self) -> int:
-        """How many entries weren't stored before; 0 of a refusal."""
-        return int(self.words[4]) if self.is_ack else 0
-
-    @property
-    def code(self) -> int:
-        """Why it was refused; 0 of an acknowledgement, whose fourth word is a number of entries."""
-        return 0 if self.is_ack else int(self.words[3])
-
-    @property
-    def place(self) -> int:
-        """The place of what was refused; 0 of an acknowledgement."""
-        return 0 if self.is_ack else int(self.words[4])
-
-
+Question = Had | Upload
 Reply = Known | Put | Answer
-ANSWER = re.compile(r"ack [0-9a-f]{32}( (0|[1-9][0-9]*)){4}|no ([0-9a-f]{32} (0|[1-9][0-9]*)|- -)( (0|[1-9][0-9]*)){2}")
 
 
-def reply(line: str) -> Reply:
-    """What the service answers."""
-    word, _, rest = line.partition(" ")
-    match word:
-        case "had" | "lost" if not rest:
-            return Known(word)
-        case "later" | "smaller" | "never":
-            return Put(Verdict(word), rest)
-        case "ack" | "no" if ANSWER.fullmatch(line):
-            return Answer(line)
+def greeting(line: str) -> Greeting:
+    if not (found := GREETING.fullmatch(line)):
+        raise NotALine(line)
+    return Greeting(number(found[1]), found[2])
+
+
+def question(line: str) -> Question:
+    if found := HAD.fullmatch(line):
+        return Had(found[1], number(found[2]))
+    if found := UPLOAD.fullmatch(line):
+        return Upload(number(found[1]), found[2], number(found[3]))
     raise NotALine(line)
 
 
-def encoded(line: Greeting | Had | Upload | Reply) -> bytes:
+def reply(line: str) -> Reply:
+    word, _, why = line.partition(" ")
+    if line in list(Known):
+        return Known(line)
+    return Put(Verdict(word), why) if word in list(Verdict) else answer(line)
+
+
+def answer(line: str) -> Answer:
+    if found := ACK.fullmatch(line):
+        return Answer(line, new=int(found[3]))
+    if found := NO.fullmatch(line):
+        return Answer(line, code=int(found[2]), place=int(found[3]))
+    raise NotALine(line)
+
+
+def number(text: str) -> int:
+    if int(text) > GREATEST:
+        raise NotALine(text)
+    return int(text)
+
+
+def encoded(line: Greeting | Question | Reply) -> bytes:
     """A line as it is sent."""
     return f"{line}\n".encode("ascii")
 
@@ -153,21 +138,3 @@ def decoded(data: bytes) -> str:
     if not data.endswith(b"\n") or len(data) > LONGEST_LINE or not data.isascii():
         raise NotALine(repr(data[:LONGEST_LINE]))
     return data[:-1].decode("ascii")
-
-
-def plain(text: str) -> str:
-    """A text as a line can have it: one line of ASCII, cut to what fits."""
-    return " ".join(text.encode("ascii", "replace").decode("ascii").split())[:LONGEST_LINE - 20]
-
-
-def number(text: str) -> int:
-    value = int(matching(PLAIN_DECIMAL, text))
-    if value > GREATEST:
-        raise NotALine(text)
-    return value
-
-
-def matching(form: re.Pattern[str], text: str) -> str:
-    if not form.fullmatch(text):
-        raise NotALine(text)
-    return text

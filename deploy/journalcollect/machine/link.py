@@ -67,11 +67,11 @@ class Link:
             self.process = subprocess.Popen(command(self.settings), stdin=theirs.fileno(), stdout=theirs.fileno(),
                                             stderr=self.errors)
         try:
-            return protocol.Greeting.parse(self.line(b""))
+            return protocol.greeting(self.line(b""))
         except protocol.NotALine as error:
             raise self.lost(f"it greets with {error}") from None
 
-    def ask(self, question: protocol.Had | protocol.Upload, body: bytes = b"") -> protocol.Reply:
+    def ask(self, question: protocol.Question, body: bytes = b"") -> protocol.Reply:
         """What the collector answers."""
         try:
             return protocol.reply(self.line(protocol.encoded(question) + body))

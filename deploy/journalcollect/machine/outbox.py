@@ -2,9 +2,9 @@
 
 outbox/N.upload, where N is when the last of its entries was logged, in microseconds, or the next number that is free.
 The program writes them, so it alone decides what an upload looks like, and none gets here that it couldn't read. One is
-on the disk before it has its name, and has its name on the disk before `put` returns. The last one that was
-acknowledged as new stays as `had`, and the last that was stored before as `repeated`: so a loss of power leaves it to be
-sent, or to be asked for.
+on the disk before it has its name, and has its name on the disk before `put` returns. The last that was acknowledged
+as new stays as `had`, and the last that was stored before as `repeated`: so a loss of power leaves it to be sent or to
+be asked for.
 """
 import errno
 import os
@@ -124,10 +124,6 @@ class Outbox:
                                         f"{aside}, and what the journal has goes out once more")
             raise
 
-    def read(self, number: int) -> bytes:
-        with self.reading():
-            return self.path(number).read_bytes()
-
     def acknowledged(self, number: int, is_new: bool) -> None:
         """An upload is done with. A collector that was set back may know what was stored before, or not if its answer
         was lost: so both are asked for next."""
@@ -136,12 +132,12 @@ class Outbox:
             os.rename(self.path(number), self.folder / KEPT[not is_new])
         self.sizes.pop(number, None)
 
-    def keys(self) -> Iterator[protocol.Had | protocol.Upload]:
+    def keys(self) -> Iterator[protocol.Question]:
         """What was acknowledged last, if that was within the last days."""
         for path in (self.folder / name for name in KEPT):
             with suppress(OSError, protocol.NotALine):
                 if time.time() - path.stat().st_mtime < HAD_SECONDS and (pieces := pieces_in(path.read_bytes())[0]):
-                    yield protocol.request(f"had {pieces[-1].sequence} {pieces[-1].number}")
+                    yield protocol.question(f"had {pieces[-1].sequence} {pieces[-1].number}")
 
     def forget(self) -> None:
         """Nothing is asked for until something else is acknowledged."""
@@ -151,6 +147,10 @@ class Outbox:
 
     def path(self, number: int) -> Path:
         return self.folder / f"{number}.upload"
+
+    def read(self, number: int) -> bytes:
+        with self.reading():
+            return self.path(number).read_bytes()
 
     @property
     def bytes(self) -> int:

@@ -8,7 +8,7 @@ import hashlib
 import random
 import time
 
-from journalcollect.common import program
+from journalcollect.common import program, protocol
 from journalcollect.common.export_stream import Unfit
 from journalcollect.common.protocol import LONGEST_LINE, Answer, Greeting, Known, Put, Reply, Upload, Verdict
 from journalcollect.common.report import FAILED, LOOK, Report
@@ -107,8 +107,8 @@ class Sending:
     def take(self, number: int, data: bytes, reply: Reply) -> bool:
         """What an answer means to an upload; whether it is acknowledged."""
         match reply:
-            case Answer(line):
-                return self.take_answer(number, data, f"{line}\n")
+            case Answer():
+                return self.take_answer(number, data, f"{reply.line}\n")
             case Put(Verdict.LATER, why):
                 self.rest(number, f"the collector takes nothing now: {why}")
             case Put(_, why):
@@ -128,7 +128,7 @@ class Sending:
             self.places.set(acknowledged=int(time.time()), trouble="")
             self.pause = 0.0
         elif status == program.REFUSED:
-            answer = Answer(line)
+            answer = protocol.answer(line)
             if not self.refusals.take(number, answer, self.places.tries().get(number, NEVER)[0] + 1):
                 self.rest(number, f"the collector refuses an upload (code {answer.code})")
         elif self.link.is_open:
