@@ -19,23 +19,19 @@ def path() -> Path:
     return Path(named) if named else Path(__file__).resolve().parents[4] / "bin" / "journal-collect"
 
 
-def run(*words: str | Path, given: bytes = b"") -> subprocess.CompletedProcess[bytes]:
-    """Calls the program with some words and an input; its status and what it said."""
-    return subprocess.run([path(), *words], input=given, capture_output=True, check=False)
-
-
-def told(*words: str | Path, given: bytes = b"", allowed: Iterable[int] = (OK,)) -> tuple[int, str]:
-    """With which status the program ends, and what it says on its output, if the status is allowed."""
-    ended = run(*words, given=given)
+def run(*words: str | Path, given: bytes = b"", allowed: Iterable[int] = (OK,),
+        out: int = subprocess.PIPE) -> subprocess.CompletedProcess[bytes]:
+    """Calls the program with some words and an input; how it ended, if the status is allowed."""
+    ended = subprocess.run([path(), *words], input=given, stdout=out, stderr=subprocess.PIPE, check=False)
     if ended.returncode not in allowed:
         raise Failed(f"journal-collect {' '.join(map(str, words))}: status {ended.returncode}: "
                      f"{ended.stderr.decode(errors='replace').strip()}")
-    return ended.returncode, ended.stdout.decode(errors="replace").strip()
+    return ended
 
 
 def said(*words: str | Path, given: bytes = b"", allowed: Iterable[int] = (OK,)) -> str:
     """What the program says on its output."""
-    return told(*words, given=given, allowed=allowed)[1]
+    return run(*words, given=given, allowed=allowed).stdout.decode(errors="replace").strip()
 
 
 def version() -> str:
@@ -45,10 +41,8 @@ def version() -> str:
 def acknowledged(upload: Path, answers: str) -> tuple[int, str]:
     """What some answers, a line each, mean to an upload that is to be whole: OK, all of it is acknowledged; REFUSED,
     and the line that refuses it; NONE is about it."""
-    return told("acknowledged", upload, given=answers.encode(), allowed=(OK, REFUSED, NONE))
-
-
-# What the collector asks ----------------------------------------------------------------------------------------------
+    ended = run("acknowledged", upload, given=answers.encode(), allowed=(OK, REFUSED, NONE))
+    return ended.returncode, ended.stdout.decode(errors="replace").strip()
 
 
 def collecting(sequences: Path, database: Path, names: str = "-") -> list[str | Path]:
@@ -85,7 +79,7 @@ def release(sequences: Path, sequence: str) -> None:
 
 def differs(sequences: Path, database: Path) -> str | None:
     """How a database differs from its notes; None if each of its entries is noted as it is."""
-    ended = run("check", "--sequences", sequences, database)
+    ended = run("check", "--sequences", sequences, database, allowed=range(-64, 256))
     told = ended.stdout.decode(errors="replace").strip()
     if ended.returncode == OK and told.endswith(" 0"):
         return None
@@ -94,9 +88,7 @@ def differs(sequences: Path, database: Path) -> str | None:
 
 def export(database: Path, out: int) -> None:
     """Writes all entries of a database to an open file."""
-    ended = subprocess.run([path(), "export", database], stdout=out, stderr=subprocess.PIPE, check=False)
-    if ended.returncode:
-        raise Failed(ended.stderr.decode(errors="replace").strip())
+    run("export", database, out=out)
 
 
 def touched(upload: int) -> int:
@@ -104,8 +96,7 @@ def touched(upload: int) -> int:
     ended = subprocess.run([path(), "inspect", "/dev/stdin"], stdin=upload, capture_output=True, check=False)
     if ended.returncode not in (OK, REFUSED):
         raise Failed(f"journal-collect inspect: status {ended.returncode}")
-    words = ended.stdout.split()
-    return int(words[7]) if ended.returncode == OK else 0
+    return int(ended.stdout.split()[7]) if ended.returncode == OK else 0
 
 
 class Bad(Exception):
@@ -118,22 +109,20 @@ class Bad(Exception):
 
 def upload(stream: Path, source: str, out: int) -> None:
     """Writes all of an export stream to an open file, as an upload that is to be whole; a Bad if it has a fault."""
-    nothing = stream.with_name(stream.name + ".resume")
-    bounds = ["--resume", str(nothing), "--limit", str(2**63 - 1), "--whole"]
-    ended = subprocess.run([path(), "upload", "--source", source, *bounds, "export", stream], stdout=out,
-                           stderr=subprocess.PIPE, check=False)
-    raise_if_bad(ended.stderr, ended.returncode)
+    bounds = ["--resume", str(stream.with_name(stream.name + ".resume")), "--limit", str(2**63 - 1), "--whole"]
+    ended = run("upload", "--source", source, *bounds, "export", stream, out=out, allowed=(OK, REFUSED))
+    raise_if_bad(ended.returncode, ended.stderr)
 
 
 def look_at(upload: Path) -> None:
     """Returns if the program can take an upload as far as that doesn't depend on what is stored; otherwise a Bad."""
-    ended = run("inspect", upload)
-    raise_if_bad(ended.stdout, ended.returncode)
+    ended = run("inspect", upload, allowed=(OK, REFUSED))
+    raise_if_bad(ended.returncode, ended.stdout)
 
 
-def raise_if_bad(said: bytes, status: int) -> None:
-    word, code, place, *_ = said.split() + [b""] * 3
-    if status == REFUSED and word == b"bad" and code.isdigit() and place.isdigit():
-        raise Bad(int(code), int(place))
+def raise_if_bad(status: int, said: bytes) -> None:
+    match said.split():
+        case [b"bad", code, place, *_] if status:
+            raise Bad(int(code), int(place))
     if status:
         raise Failed(f"journal-collect: status {status}: {said.decode(errors='replace').strip()}")
