@@ -48,22 +48,19 @@ def path_of(folder: Folder, name: str) -> Path:
     return folder.databases / f"{name}.db"
 
 
-def beside(path: Path, end: str) -> Path:
+def beside(path: Path, end: str = "-wal") -> Path:
+    """What belongs to a database: its log, if nothing else is said."""
     return path.with_name(path.name + end)
-
-
-def log_of(path: Path) -> Path:
-    return beside(path, "-wal")
 
 
 def bytes_of(path: Path) -> int:
     """How many bytes a database that is being stored in has, with its log."""
-    return files.size(path) + files.size(log_of(path))
+    return files.size(path) + files.size(beside(path))
 
 
 def has_nothing(path: Path) -> bool:
     """Whether its program was stopped before it had tables."""
-    return files.size(path) <= NO_TABLES and files.size(log_of(path)) <= EMPTY_LOG
+    return files.size(path) <= NO_TABLES and files.size(beside(path)) <= EMPTY_LOG
 
 
 def digest_of(path: Path) -> str:
@@ -86,7 +83,7 @@ def finished(folder: Folder) -> list[str]:
 
 def own(path: Path) -> None:
     """What somebody linked elsewhere, as a backup by hard links does, isn't written to: a copy takes its name."""
-    for each in (path, log_of(path)):
+    for each in (path, beside(path)):
         if each.exists() and each.stat().st_nlink > 1:
             copy = beside(each, ".new")
             shutil.copy2(each, copy)
@@ -96,10 +93,10 @@ def own(path: Path) -> None:
 
 def finish(path: Path) -> str:
     """A closed database doesn't change any more: its log, which is empty, goes, and its digest is beside it."""
-    if files.size(log_of(path)) > EMPTY_LOG:
-        raise OSError(f"{log_of(path)} has pages")
+    if files.size(beside(path)) > EMPTY_LOG:
+        raise OSError(f"{beside(path)} has pages")
     files.sync(path)
-    log_of(path).unlink(missing_ok=True)
+    beside(path).unlink(missing_ok=True)
     digest = digest_of(path)
     files.replace(beside(path, ".sha256"), f"{digest}  {path.name}\n".encode("ascii"), 0o640)
     return digest
@@ -174,4 +171,4 @@ def unpacked(folder: Folder, name: str) -> Iterator[Path]:
         yield copy
     finally:
         copy.unlink(missing_ok=True)
-        log_of(copy).unlink(missing_ok=True)
+        beside(copy).unlink(missing_ok=True)

@@ -28,8 +28,6 @@ class Gate:
         self.lock = threading.Lock()
         self.connections: dict[str, collections.deque[socket.socket]] = {}
 
-    # Connections ------------------------------------------------------------------------------------------------------
-
     @contextlib.contextmanager
     def entered(self, machine: str, one: socket.socket) -> Iterator[None]:
         """A connection is there meanwhile. The newest one ends the oldest if there are too many."""
@@ -57,8 +55,6 @@ class Gate:
     def count(self) -> dict[str, int]:
         with self.lock:
             return {machine: len(there) for machine, there in self.connections.items() if there}
-
-    # Uploads ----------------------------------------------------------------------------------------------------------
 
     def before(self, machine: str, size: int) -> Put | None:
         """Why an upload of so many bytes isn't taken now; None if it is."""

@@ -52,8 +52,6 @@ class Keeping(threading.Thread):
             self.mend_notes(REST)
         self.check_databases(age.days - 1)
 
-    # What goes --------------------------------------------------------------------------------------------------------
-
     def delete_old(self, age: float) -> None:
         """Databases go KEEP_DAYS after they were finished, and the oldest if all have over KEEP_BYTES."""
         for name, since in self.state.ask("SELECT name, age FROM database WHERE standing = 'finished' AND age < ? "
@@ -87,8 +85,6 @@ class Keeping(threading.Thread):
                 self.state.tell(f"damaged {name}", f"{error}: restore it from a backup")
                 continue
             self.state.ask("UPDATE database SET packed = ? WHERE name = ?", size, name)
-
-    # What is looked at ------------------------------------------------------------------------------------------------
 
     def mend_notes(self, rest: float = 0.0) -> list[str]:
         """Makes notes anew that aren't what they were; which. Done once a day of the collector."""

@@ -11,12 +11,13 @@ import stat
 import threading
 import time
 from collections.abc import Iterable, Iterator
+from dataclasses import astuple
 from pathlib import Path
 
 from ..common import files, program
 from ..common.uploads import WINDOW
 from . import databases
-from .databases import Damaged, Summary, Unrecovered
+from .databases import Damaged, Unrecovered
 from .process import Process
 from .state import State, Window, log
 
@@ -37,10 +38,6 @@ class Notes:
     def path(self, sequence: str, window: int) -> Path:
         return self.folder.sequences / sequence / str(window)
 
-    def after(self, had: Summary) -> list[Window]:
-        """How the windows of a database are once it is finished."""
-        return [self.measured(*name, self.state.notes_of(*name) + count) for name, count in had.windows.items()]
-
     def measured(self, sequence: str, window: int, notes: int) -> Window:
         """A window that ought to have so many notes of finished databases, as it is. It has no digest if it has less,
         or if a gate is closed before the last one."""
@@ -60,8 +57,6 @@ class Notes:
             return -1
         return told.st_size if stat.S_ISREG(told.st_mode) else -1
 
-    # What is wrong ----------------------------------------------------------------------------------------------------
-
     def unlike(self, windows: Iterable[Window]) -> list[Name]:
         """The windows whose files have other notes than finished databases have entries. Asked while no other database
         is there."""
@@ -78,13 +73,13 @@ class Notes:
         found = []
         for each in self.state.windows():
             begun = time.monotonic()
-            if self.measured(each.sequence, each.window, each.notes) != each and self.state.is_so(each):
+            # it may have gone for its age meanwhile, or have been made anew
+            if self.measured(each.sequence, each.window, each.notes) != each and self.state.ask(
+                    "SELECT 1 FROM noted WHERE sequence = ? AND window = ? AND notes = ? AND sum = ?", *astuple(each)):
                 found.append((each.sequence, each.window))
             if self.stops.wait(rest * (time.monotonic() - begun)):
                 return []
         return found
-
-    # What is done -----------------------------------------------------------------------------------------------------
 
     def forget(self) -> None:
         """Only notes of finished databases stay, which stand first in each file."""
@@ -109,7 +104,9 @@ class Notes:
             self.state.tell(f"notes {first}", f"{first}: {why}: it is put aside, and made anew of databases{others}")
         self.unmake(names)
         for name in names:
-            self.put_aside(self.path(*name))
+            path = self.path(*name)
+            if path.is_symlink() or path.exists():
+                files.move(path, self.folder.quarantine / f"notes-{name[0]}-{name[1]}-{time.time_ns()}")
             for number, database in self.state.ask(
                     "SELECT database.id, name FROM noted JOIN database ON database.id BETWEEN noted.first AND "
                     "noted.last WHERE sequence = ? AND window = ? AND standing = 'finished'", *name):
@@ -126,10 +123,6 @@ class Notes:
         with self.state.transaction():
             for name in names:
                 self.state.ask("UPDATE noted SET sum = ? WHERE sequence = ? AND window = ?", UNMADE, *name)
-
-    def put_aside(self, path: Path) -> None:
-        if path.is_symlink() or path.exists():
-            files.move(path, self.folder.quarantine / f"notes-{path.parent.name}-{path.name}-{time.time_ns()}")
 
     def note(self, database: str) -> None:
         """Notes what a finished database has, and isn't noted."""

@@ -29,8 +29,6 @@ class Recovery:
         self.folder, self.stops = state.folder, threading.Event()
         self.notes = Notes(state, lock, self.stops)
 
-    # Sealing ----------------------------------------------------------------------------------------------------------
-
     def seal(self, path: Path) -> None:
         """A closed database gets its digest; its uploads needn't be kept any more. One with nothing goes."""
         if databases.has_nothing(path):
@@ -50,7 +48,7 @@ class Recovery:
             return
         if not had.entries:
             return databases.delete(self.folder, name)
-        windows = self.notes.after(had)
+        windows = [self.notes.measured(*each, self.state.notes_of(*each) + new) for each, new in had.windows.items()]
         sequences = {each.sequence for each in windows}
         is_lacking = any("" in (known := self.state.came_with(each)) or not known for each in sequences)
         owners = self.owners() if is_lacking else {}
@@ -65,8 +63,6 @@ class Recovery:
         digests = {hashlib.sha256(name.encode("ascii")).hexdigest(): name for name in known}
         found = program.owners(self.folder.sequences)
         return {sequence: digests[digest] for sequence, digest in found.items() if digest in digests}
-
-    # What a start finds -----------------------------------------------------------------------------------------------
 
     def start(self) -> None:
         """What is there, and what is known, are made to agree: databases, and how long files of notes are."""
@@ -104,8 +100,6 @@ class Recovery:
             self.notes.note(name)
             self.adopt(name, databases.told_digest(databases.path_of(self.folder, name)) or "")
 
-    # What isn't finished ----------------------------------------------------------------------------------------------
-
     def left(self) -> list[Path]:
         """The databases that aren't finished."""
         return sorted(path for path in self.folder.databases.glob("*.db") if databases.told_digest(path) is None)
@@ -142,7 +136,7 @@ class Recovery:
 
     def quarantine(self, path: Path, why: str) -> list[tuple[str, Path]]:
         """A database that can't be opened is set aside, and the notes forget what it had. Its uploads come again."""
-        for each in (databases.log_of(path), path):
+        for each in (databases.beside(path), path):
             if each.exists():
                 files.move(each, self.folder.quarantine / each.name)
         self.state.stands(path.stem, "quarantined")

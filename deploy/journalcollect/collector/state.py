@@ -101,7 +101,7 @@ class State:
             raise sqlite3.DatabaseError("it is damaged")
         self.machines = {row[0]: Machine(*row) for row in self.rows.execute("SELECT * FROM machine")}
         self.told = {row[0]: Told(*row) for row in self.rows.execute("SELECT * FROM told")}
-        self.changed, self.is_changed = set[str](), False
+        self.is_changed = False
         found = self.rows.execute("SELECT days, boot, running, wall, uncounted FROM clock").fetchone()
         self.age = Age(*found) if found else Age.now()
 
@@ -129,8 +129,7 @@ class State:
             if not self.is_changed and age.days - self.age.days < IDLE_DAYS:
                 return
             self.age, self.is_changed = age, False
-            machines = [astuple(self.machines[name]) for name in self.changed if name in self.machines]
-            self.changed.clear()
+            machines = [astuple(each) for each in list(self.machines.values())]
             self.told = {cause: each for cause, each in self.told.items() if time.time() - each.last < TOLD_SECONDS}
             told = [astuple(each) for each in self.told.values()]
         try:
@@ -142,7 +141,6 @@ class State:
                 self.ask("INSERT OR REPLACE INTO clock VALUES(1, ?, ?, ?, ?, ?)", *astuple(age))
             self.over("state")
         except sqlite3.Error as error:
-            self.changed.update(row[0] for row in machines)
             self.tell("state", f"{self.folder.state} can't be written: {error}: look at its disk")
 
     # What people are told ---------------------------------------------------------------------------------------------
@@ -179,7 +177,6 @@ class State:
         with self.lock:
             found = self.machine(name)
             found.seen, self.is_changed = time.time(), True
-            self.changed.add(name)
             return found
 
     def rename(self, old: str, new: str) -> None:
@@ -189,8 +186,7 @@ class State:
             self.ask("DELETE FROM sequence WHERE machine = ?", old)
         with self.lock:
             if found := self.machines.pop(old, None):
-                found.name, self.machines[new] = new, found
-                self.changed.add(new)
+                found.name, self.machines[new], self.is_changed = new, found, True
 
     # Databases --------------------------------------------------------------------------------------------------------
 
@@ -247,11 +243,6 @@ class State:
                                "ORDER BY sequence, window LIMIT 1000", *last):
             yield from (Window(*row) for row in rows)
             last = rows[-1][:2]
-
-    def is_so(self, window: Window) -> bool:
-        """Whether a window is known to be so still: it may have gone for its age, or have been made anew."""
-        return bool(self.ask("SELECT 1 FROM noted WHERE sequence = ? AND window = ? AND notes = ? AND sum = ?",
-                             *astuple(window)))
 
     def notes_of(self, sequence: str, window: int) -> int:
         """How many notes of finished databases a window has."""

@@ -6,6 +6,7 @@ message, so memory is bounded whatever the stream has. A field says what isn't t
 journald drops names that begin with `_`, and whatever somebody logs beside message, unit and user hides none of these.
 """
 import argparse
+import codecs
 import re
 import sys
 from collections.abc import Callable, Iterator
@@ -78,27 +79,23 @@ class Entry:
             if len(self.held) < 2 * FIELDS:
                 self.held.append(Field(name, bytearray()))      # the last of so many stands for those behind it
         field = self.held[-1]
-        is_metadata = field.name.startswith(b"__")
-        if is_metadata and text.endswith(b"\n"):
+        # metadata aren't counted, but they take memory as all else does
+        self.value += len(value)
+        self.bytes += len(name) + len(value)
+        if not field.name.startswith(b"__"):
+            self.fields += bool(name)
+            self.counted += len(name) + len(value)
+        elif text.endswith(b"\n"):
             self.known[field.name] = value
-        self.count(is_metadata, len(name), len(value))
+        if not self.is_large and (len(name) > NAME or self.value > VALUE or self.fields > FIELDS
+                                  or self.counted > ENTRY or self.bytes > ENTRY + VALUE):
+            self.shorten()
         if self.is_large and self.overflow:
             self.overflow(text)
         field.text += text
         field.length += len(text)
         if self.is_large:
             field.cut()
-
-    def count(self, is_metadata: bool, name: int, value: int) -> None:
-        """Metadata aren't counted, but they take memory as all else does."""
-        self.value += value
-        self.bytes += name + value
-        if not is_metadata:
-            self.fields += name > 0
-            self.counted += name + value
-        if not self.is_large and (name > NAME or self.value > VALUE or self.fields > FIELDS or self.counted > ENTRY
-                                  or self.bytes > ENTRY + VALUE):
-            self.shorten()
 
     def shorten(self) -> None:
         """It goes out with less."""
@@ -128,12 +125,8 @@ class Entry:
     def missing(self, sequence: bytes | None = None) -> bytes:
         """The lines of its key that its text lacks, perhaps under another sequence id, and its end."""
         own, number = self.key()
-        lines = b""
-        if sequence or b"__SEQNUM_ID" not in self.known:
-            lines = b"__SEQNUM_ID=%s\n" % (sequence or own)
-        if b"__SEQNUM" not in self.known:
-            lines += b"__SEQNUM=%s\n" % number
-        return lines + b"\n"
+        of = b"__SEQNUM_ID=%s\n" % (sequence or own) if sequence or b"__SEQNUM_ID" not in self.known else b""
+        return of + (b"" if b"__SEQNUM" in self.known else b"__SEQNUM=%s\n" % number) + b"\n"
 
     def text(self, sequence: bytes | None = None) -> bytes:
         """Its text with its key, perhaps under another sequence id; of a large one what is left of it."""
@@ -149,10 +142,6 @@ class Entry:
         """Something was left out of it before."""
         self.unfold()
         return any(field.name == LEFT_OUT for field in self.held)
-
-    def named(self) -> str:
-        sequence, number = self.key()
-        return f"__SEQNUM={number.decode(errors='replace')} __SEQNUM_ID={sequence.decode(errors='replace')}"
 
 
 def rest(fields: list[Field]) -> list[bytes]:
@@ -181,11 +170,10 @@ def beginning(text: bytes) -> bytes:
     is_binary = text.startswith(b"MESSAGE\n")
     value = text[len(b"MESSAGE\n") + 8:] if is_binary else text[len(b"MESSAGE="):]
     try:
-        value.decode()
-        is_text = True
-    except UnicodeDecodeError as fault:
-        is_text = fault.start >= len(value) - 3
-    value = value[:BEGINNING].decode("utf-8", "ignore").encode() if is_text else value[:BEGINNING]
+        codecs.utf_8_decode(value)                  # a character may be cut at its end
+        value = value[:BEGINNING].decode("utf-8", "ignore").encode()
+    except UnicodeDecodeError:
+        value = value[:BEGINNING]
     return b"MESSAGE\n%s%s\n" % (len(value).to_bytes(8, "little"), value) if is_binary else b"MESSAGE=%s\n" % value
 
 
@@ -211,7 +199,8 @@ def main() -> None:
                 if not entry.is_large:
                     out.write(entry.text())
                 elif leave_out_large:
-                    print("left out:", entry.named(), file=sys.stderr)
+                    of, number = (each.decode(errors="replace") for each in entry.key())
+                    print(f"left out: __SEQNUM={number} __SEQNUM_ID={of}", file=sys.stderr)
                 else:
                     out.write(entry.missing())
     except Unfit as fault:

@@ -47,11 +47,7 @@ class Gathering:
 
     def look(self) -> dict[str, Place]:
         """Lists the files; the places of those that have one. All of the first list begin at the time of SINCE."""
-        known, machines, now = self.places.all(), self.places.machines(), journal.MACHINE_ID.read_text().strip()
-        if now not in machines:                     # perhaps a clone: it doesn't ask for what the other sent
-            self.outbox.forget()
-            self.places.become(now)
-            machines.append(now)
+        known, machines = self.places.all(), self.machines()
         self.journal.list_files(machines)
         if self.journal.unread or self.gone(known):
             # while folders were looked through one may have been made, or got another name
@@ -68,6 +64,14 @@ class Gathering:
             self.places.set(begun="yes", since=self.since)
             known = self.places.all()
         return known
+
+    def machines(self) -> list[str]:
+        """The ids that this machine had. With a new one it may be a clone: it doesn't ask for what the other sent."""
+        known, now = self.places.machines(), journal.MACHINE_ID.read_text().strip()
+        if now not in known:
+            self.outbox.forget()
+            self.places.become(now)
+        return [*known, now]
 
     def gone(self, known: dict[str, Place]) -> list[Place]:
         ids = {file.id for file in self.journal.files}
@@ -132,7 +136,7 @@ class Gathering:
 
     def gather_anew(self, file: JournalFile, place: Place) -> None:
         self.report.say(LOOK, f"{file.path} was set back, and is gathered anew; it was gathered up to {place.cursor}")
-        place.begin_anew()
+        place.number, place.cursor, place.count, place.tail, place.since = 0, "", 0, 0, ""
 
     def tell_unseen(self, place: Place, file: JournalFile, first: str) -> None:
         """journalctl may pass over a damaged entry without a word. The file's header knows how many there are."""

@@ -72,10 +72,6 @@ class Place:
     def realtime(self) -> int:
         return cursor_parts(self.cursor)[1]
 
-    def begin_anew(self) -> None:
-        """The file is gathered from its first entry on."""
-        self.number, self.cursor, self.count, self.tail, self.since = 0, "", 0, 0, ""
-
 
 class Places:
     def __init__(self, folder: Path, report: Report) -> None:

@@ -4,6 +4,8 @@ journalctl breaks off within an entry that has a damaged field. It shows nothing
 damaged entry, though it shows what follows when it reads the file from its beginning. And it shows nothing of what it
 can't find, without a word: that there is more is seen by the file's header.
 """
+import bisect
+
 from journalcollect.common.export_stream import Unfit
 from journalcollect.machine.journal import JournalFile, Reading, cursor_of, cursor_parts
 
@@ -46,13 +48,9 @@ class Search:
             tried += step
             if tried > self.file.tail:
                 return None
-        while tried - fails > 1:
-            middle = (tried + fails) // 2
-            if self.shows(self.from_number(middle)):
-                tried = middle
-            else:
-                fails = middle
-        return self.from_number(tried)
+        between = range(fails + 1, tried)
+        return self.from_number(between.start + bisect.bisect_left(
+            between, True, key=lambda number: self.shows(self.from_number(number))))
 
 
 def next_readable(handle: int, file: JournalFile, number: int, broken: dict[bytes, bytes] | None) -> list[str] | None:
