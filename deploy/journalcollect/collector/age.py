@@ -4,15 +4,14 @@ The age grows by the clock that counts while the computer runs, within one start
 only the clock of the day tells, which may be wrong: it doesn't count until a person says that it went by.
 """
 import time
-from dataclasses import dataclass, replace
 from pathlib import Path
+from typing import NamedTuple
 
 DAY = 86400.0
 BOOT_ID = Path("/proc/sys/kernel/random/boot_id")
 
 
-@dataclass(frozen=True)
-class Age:
+class Age(NamedTuple):
     """How old the collector is in days, at which moment; by so many days more the clock of the day went on."""
     days: float
     boot: str
@@ -29,9 +28,9 @@ class Age:
         """The age now."""
         now = Age.now()
         ran = max(0.0, now.running - self.running) if now.boot == self.boot else 0.0
-        return replace(now, days=self.days + ran / DAY,
-                       uncounted=max(0.0, self.uncounted + (now.wall - self.wall - ran) / DAY))
+        return now._replace(days=self.days + ran / DAY,
+                            uncounted=max(0.0, self.uncounted + (now.wall - self.wall - ran) / DAY))
 
     def passed(self, days: float) -> "Age":
         """The age, if a person says that days went by that weren't counted."""
-        return replace(self, days=self.days + days, uncounted=self.uncounted - days)
+        return self._replace(days=self.days + days, uncounted=self.uncounted - days)

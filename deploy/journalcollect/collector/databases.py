@@ -11,8 +11,8 @@ import sqlite3
 import subprocess
 import uuid
 from collections.abc import Iterator
-from dataclasses import dataclass
 from pathlib import Path
+from typing import NamedTuple
 
 from ..common import files
 from ..common.uploads import WINDOW
@@ -32,8 +32,7 @@ class Unrecovered(Exception):
     """A database can't be taken up now, or notes can't be made anew: nothing is stored until they are."""
 
 
-@dataclass(frozen=True)
-class Summary:
+class Summary(NamedTuple):
     """What a finished database has: its entries, the first and last of their times in microseconds, its bytes, its
     digest, and how many entries each window of a sequence has."""
     entries: int

@@ -11,7 +11,6 @@ import stat
 import threading
 import time
 from collections.abc import Iterable, Iterator
-from dataclasses import astuple
 from pathlib import Path
 
 from ..common import files, program
@@ -75,7 +74,7 @@ class Notes:
             begun = time.monotonic()
             # it may have gone for its age meanwhile, or have been made anew
             if self.measured(each.sequence, each.window, each.notes) != each and self.state.ask(
-                    "SELECT 1 FROM noted WHERE sequence = ? AND window = ? AND notes = ? AND sum = ?", *astuple(each)):
+                    "SELECT 1 FROM noted WHERE sequence = ? AND window = ? AND notes = ? AND sum = ?", *each):
                 found.append((each.sequence, each.window))
             if self.stops.wait(rest * (time.monotonic() - begun)):
                 return []

@@ -10,7 +10,7 @@ import threading
 import time
 from collections.abc import Iterator
 from dataclasses import astuple, dataclass, fields
-from typing import Any
+from typing import Any, NamedTuple
 
 from ..common import files
 from ..common.damage import is_damage
@@ -69,8 +69,7 @@ class Told:
     count: int
 
 
-@dataclass(frozen=True)
-class Window:
+class Window(NamedTuple):
     """How many notes of finished databases a window of a sequence has, and the digest of their bytes."""
     sequence: str
     window: int
@@ -138,7 +137,7 @@ class State:
                 for table, rows, kind in (("machine", machines, Machine), ("told", told, Told)):
                     marks = ", ".join("?" for _ in fields(kind))
                     self.rows.executemany(f"INSERT OR REPLACE INTO {table} VALUES({marks})", rows)
-                self.ask("INSERT OR REPLACE INTO clock VALUES(1, ?, ?, ?, ?, ?)", *astuple(age))
+                self.ask("INSERT OR REPLACE INTO clock VALUES(1, ?, ?, ?, ?, ?)", *age)
             self.over("state")
         except sqlite3.Error as error:
             self.tell("state", f"{self.folder.state} can't be written: {error}: look at its disk")
@@ -214,7 +213,7 @@ class State:
             number, = self.ask("SELECT id FROM database WHERE name = ?", name)[0]
             for each in windows:
                 self.ask("INSERT INTO noted VALUES(?1, ?2, ?3, ?4, ?5, ?6, ?6) ON CONFLICT DO UPDATE SET notes = ?3, "
-                         "sum = ?4, age = ?5, last = ?6", *astuple(each), age, number)
+                         "sum = ?4, age = ?5, last = ?6", *each, age, number)
             for sequence in {each.sequence for each in windows} & owners.keys():
                 self.ask("INSERT OR IGNORE INTO sequence VALUES(?, ?)", sequence, owners[sequence])
                 self.ask("DELETE FROM sequence WHERE id = ? AND machine = ''", sequence)

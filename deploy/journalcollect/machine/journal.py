@@ -10,10 +10,9 @@ import re
 import subprocess
 import time
 from collections.abc import Callable, Iterator
-from dataclasses import dataclass
 from io import BufferedReader
 from pathlib import Path
-from typing import cast
+from typing import NamedTuple, cast
 
 from journalcollect.common.export_stream import BLOCK, CutOff
 from journalcollect.common.fit import Entry, entries
@@ -25,8 +24,7 @@ SIGNATURE, HEADER_BYTES, ARCHIVED = b"LPKSHHRH", 208, 2
 LISTED_SECONDS, UNREAD_SECONDS = 60.0, 5.0
 
 
-@dataclass(frozen=True)
-class JournalFile:
+class JournalFile(NamedTuple):
     """What the header of a journal file says."""
     path: Path
     id: str

@@ -12,9 +12,9 @@ import re
 import time
 from collections.abc import Iterable, Iterator
 from contextlib import contextmanager, suppress
-from dataclasses import dataclass
 from itertools import accumulate, groupby
 from pathlib import Path
+from typing import NamedTuple
 
 from journalcollect.common import files, program, protocol
 from journalcollect.common.export_stream import Unfit, buffered
@@ -31,8 +31,7 @@ KEPT = "had", "repeated"
 HAD_SECONDS = 7 * 86_400
 
 
-@dataclass
-class Piece:
+class Piece(NamedTuple):
     """An entry as it goes out."""
     sequence: str
     number: int
