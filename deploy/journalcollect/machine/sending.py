@@ -100,6 +100,7 @@ class Sending:
         try:
             self.greet(self.link.open())
             self.places.set(trouble="")
+            self.pause = 0.0
         except Lost as lost:
             self.wait(str(lost), FAILED)
         return True
