@@ -79,7 +79,8 @@ def test_what_mends_each_trouble(computer: Computer, trouble: str, mends: str) -
     ("the collector lost what it had acknowledged: what the journal still has goes out", "nothing: it goes out"),
     ("the collector's clock is +259200 s from this machine's: set the one that is wrong", "timedatectl"),
     ("a gap: journald removed a file that wasn't gathered to its end", "SystemMaxUse="),
-    ("failed, and is tried again: [Errno 28] No space left on device", "make room on this machine's disk")])
+    ("failed, and is tried again: [Errno 28] No space left on device", "make room on this machine's disk"),
+    ("[Errno 74] Bad message: 'x': what can't be read any more of the outbox is put aside in y", "fsck")])
 def test_what_mends_what_a_machine_told(computer: Computer, told: str, mends: str) -> None:
     machine(computer, ("acknowledged", NOW), told=told)
     finding = computer.told()["findings"][0]

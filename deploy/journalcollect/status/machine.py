@@ -21,6 +21,7 @@ REMEDIES = (
     (r"'s clock is", CLOCK),
     (r"^a gap: ", "raise SystemMaxUse= of journald, so that it keeps more"),
     (r"no space left", "make room on this machine's disk"),
+    (r"can't be read any more", "let fsck look at this machine's disk; then remove what was put aside"),
     (r"host key verification failed|host identification has changed",
      "somebody else answers, or the collector has new host keys: compare them, then journal-collect-join "
      "{host} --host-keys FILE"),
@@ -90,7 +91,7 @@ def look(now: float, findings: Findings) -> Machine:
 
 def look_at_folder(found: Machine, folder: Path, now: float, findings: Findings) -> None:
     for path in (folder / "outbox").glob("*.upload"):
-        with suppress(FileNotFoundError):
+        with suppress(OSError):
             told = path.lstat()
             found.waiting, found.waiting_bytes = found.waiting + 1, found.waiting_bytes + told.st_size
             found.waiting_since = min(found.waiting_since or told.st_mtime, told.st_mtime)
