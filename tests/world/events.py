@@ -151,7 +151,7 @@ class World:
 
     def machine_upload_damaged(self) -> None:
         machine = self.any()
-        if found := [each for each in sorted((machine.data / "outbox").glob("*.upload")) if each.is_file()]:
+        if found := [each for each in sorted((machine.data / "outbox").glob("*.upload")) if os.path.isfile(each)]:
             machine.disk.damage(self.dice.choice(found))
 
     def machine_rotates(self) -> None:
