@@ -159,12 +159,15 @@ class Outbox:
         """Makes an upload of some entries of one sequence. One that the program can't take is kept for a person, and
         the others go out. The numbers of what was made: none, or one."""
         stream, new = self.folder / "stream", self.folder / "new"
+        with self.reading():
+            for path in (stream, new):
+                path.unlink(missing_ok=True)
         pieces = list(pieces)
         while pieces:
-            with self.reading(), open(stream, "wb") as file:
+            with open(stream, "wb") as file:
                 file.writelines(piece.text for piece in pieces)
             try:
-                with self.reading(), open(new, "wb") as out:
+                with open(new, "wb") as out:
                     program.upload(stream, os.urandom(16).hex(), out.fileno())
                     os.fsync(out.fileno())
             except program.Bad as bad:
