@@ -38,6 +38,7 @@ def calm(world: World) -> list[str]:
     for computer in world.computers():
         computer.disk.free()
         world.set_clock(computer, 0)
+    world.collector.rests()
     wrong = []
     for machine in world.machines:
         machine.heal()

@@ -86,9 +86,16 @@ class Collector(Computer):
     def __init__(self, folder: Path, disk: Disk, environment: dict[str, str]) -> None:
         self.keys = folder / "etc" / "keys"
         self.keys.mkdir(parents=True)
-        super().__init__(folder, disk, {
-            "FOLDER": disk.at / "data", "DATABASE_SECONDS": 5, "DATABASE_BYTES": 300_000,
-            "FREE_BYTES": 1_000_000}, environment)
+        super().__init__(folder, disk, self.settings(disk, 5), environment)
+
+    def settings(self, disk: Disk, seconds: int) -> dict[str, object]:
+        return {"FOLDER": disk.at / "data", "DATABASE_SECONDS": seconds, "DATABASE_BYTES": 300_000,
+                "FREE_BYTES": 1_000_000}
+
+    def rests(self) -> None:
+        """Databases are few from now on: each has journal files for an hour, which fill the disk of a slow computer."""
+        self.write(self.settings(self.disk, 60))
+        self.stop()
 
     def admit(self, name: str) -> None:
         (self.keys / f"{name}.pub").write_text(f"ssh-ed25519 AAAAC3NzaC1lZDI1NTE5AAAAI{name} {name}\n")
