@@ -146,7 +146,6 @@ def pack(path: Path, digest: str) -> int:
 
 
 def unpacked_digest(path: Path) -> str:
-    """The digest of what is packed in a file."""
     with subprocess.Popen(["zstd", "-dcq", path], stdout=subprocess.PIPE) as unpacking:
         assert unpacking.stdout
         digest = hashlib.sha256()

@@ -17,8 +17,6 @@ REST = 3.0
 
 
 class Keeping(threading.Thread):
-    """One thread, which takes its time."""
-
     def __init__(self, settings: Settings, store: Store) -> None:
         super().__init__(name="keeping", daemon=True)
         self.settings, self.store = settings, store

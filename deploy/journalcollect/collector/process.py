@@ -79,7 +79,6 @@ class Process:
         return answer
 
     def line(self) -> str:
-        """The next line that it says."""
         assert self.process.stdout
         end, poll = time.monotonic() + PATIENCE, select.poll()
         poll.register(self.process.stdout, select.POLLIN)
@@ -101,7 +100,6 @@ class Process:
         return Ended(f"{self.path.name}: {why}: {self.said() or f'status {status}'}", max(0, -(status or 0)))
 
     def said(self) -> str:
-        """What it said of its failure."""
         self.errors.seek(0)
         return " ".join(self.errors.read(4096).decode(errors="replace").split())
 

@@ -29,8 +29,6 @@ FLUSH_SECONDS = 5.0
 
 
 class Service:
-    """All that runs."""
-
     def __init__(self, chosen: Settings, folder: Folder, lock: int) -> None:
         folder.make()
         self.state = State(folder)

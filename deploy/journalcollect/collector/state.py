@@ -40,7 +40,6 @@ IDLE_DAYS = 60 / 86400
 
 
 def log(text: str) -> None:
-    """Says something in the service's log."""
     print(text, file=sys.stderr, flush=True)
 
 
@@ -142,8 +141,6 @@ class State:
         except sqlite3.Error as error:
             self.tell("state", f"{self.folder.state} can't be written: {error}: look at its disk")
 
-    # What people are told ---------------------------------------------------------------------------------------------
-
     def tell(self, cause: str, text: str) -> None:
         """Tells people of a cause once a day; it is in the table as long as it is so, and a week longer."""
         now = time.time()
@@ -161,8 +158,6 @@ class State:
                 self.is_changed = True
                 log(f"over: {cause}")
 
-    # Machines ---------------------------------------------------------------------------------------------------------
-
     def machine(self, name: str) -> Machine:
         """What is known of a machine, of today; whoever changes it says so by `saw`."""
         today = time.strftime("%Y-%m-%d", time.gmtime())
@@ -172,7 +167,6 @@ class State:
         return found
 
     def saw(self, name: str) -> Machine:
-        """A machine was seen now."""
         with self.lock:
             found = self.machine(name)
             found.seen, self.is_changed = time.time(), True
@@ -187,8 +181,6 @@ class State:
             if found := self.machines.pop(old, None):
                 found.name, self.machines[new], self.is_changed = new, found, True
 
-    # Databases --------------------------------------------------------------------------------------------------------
-
     def is_known(self, name: str) -> bool:
         return bool(self.ask("SELECT 1 FROM database WHERE name = ?", name))
 
@@ -197,7 +189,6 @@ class State:
         return [name for name, in self.ask("SELECT name FROM database WHERE standing = ? ORDER BY id", standing)]
 
     def stands(self, name: str, standing: str) -> None:
-        """How a database stands from now on."""
         self.ask("INSERT INTO database(name, standing) VALUES(?1, ?2) "
                  "ON CONFLICT(name) DO UPDATE SET standing = ?2", name, standing)
 

@@ -47,8 +47,6 @@ class Store(threading.Thread):
         # Whoever reads notes has this, and whoever changes what isn't only added.
         self.notes = threading.Lock()
 
-    # What others ask for ----------------------------------------------------------------------------------------------
-
     def ask(self, upload: Waiting) -> Answer | Put:
         """Has an upload stored, and waits for what becomes of it. It comes again if its turn doesn't come for long."""
         self.turns.put(upload)
@@ -75,8 +73,6 @@ class Store(threading.Thread):
         self.stops.set()
         self.turns.wake()
         self.join(LAST_SECONDS)
-
-    # The thread -------------------------------------------------------------------------------------------------------
 
     def run(self) -> None:
         """Whatever fails, the thread goes on: what waits is told `later`."""
@@ -154,8 +150,6 @@ class Store(threading.Thread):
         process, self.present = self.present, None
         if process:
             process.kill()
-
-    # Storing ----------------------------------------------------------------------------------------------------------
 
     def store(self, group: list[Waiting]) -> None:
         """Stores a group; if it ends the process, one by one."""
@@ -259,8 +253,6 @@ class Store(threading.Thread):
         known = {each: self.state.came_with(each) - {upload.machine, ""} for each in sorted(ids)[:MOST_WINDOWS]}
         return "".join(f": {each} came with {' and '.join(sorted(others))}" for each, others in known.items() if others)
 
-    # Turning ----------------------------------------------------------------------------------------------------------
-
     def turn(self) -> None:
         """Finishes the present database, if it is time or somebody wants to be alone."""
         if self.tasks or self.is_asked_to_finish.is_set() or self.is_full():
@@ -300,7 +292,6 @@ class Store(threading.Thread):
         return self.state.head(day)
 
     def status(self) -> dict[str, object]:
-        """What is so at the moment."""
         process = self.present
         return {"database": process.path.name if process else None,
                 "database_bytes": databases.bytes_of(process.path) if process else 0, "waiting": self.turns.length(),

@@ -35,7 +35,6 @@ class Waiting:
 
     @property
     def seconds(self) -> float:
-        """So long it is likely to take."""
         return OF_AN_UPLOAD + OF_A_BYTE * self.size + OF_A_LINE * self.lines + OF_A_FILE * self.files
 
     def put(self, verdict: Verdict, why: str) -> None:

@@ -30,7 +30,6 @@ def run(*words: str | Path, given: bytes = b"", allowed: Iterable[int] = (OK,),
 
 
 def said(*words: str | Path, given: bytes = b"", allowed: Iterable[int] = (OK,)) -> str:
-    """What the program says on its output."""
     return run(*words, given=given, allowed=allowed).stdout.decode(errors="replace").strip()
 
 
@@ -51,7 +50,6 @@ def collecting(sequences: Path, database: Path, names: str = "-") -> list[str | 
 
 
 def has_note(sequences: Path, sequence: str, number: int) -> bool:
-    """Whether an entry is noted as stored."""
     return said("notes", "--sequences", sequences, "has", given=f"{sequence} {number}\n".encode()) == "noted"
 
 

@@ -180,7 +180,6 @@ class Gathering:
         return False
 
     def piece(self, entry: Entry, sequence: str, number: int) -> Piece:
-        """The entry as it goes out."""
         new = self.places.forked(sequence, number)
         piece = Piece.of(entry, new if new != sequence else None)
         if entry.is_large:

@@ -72,7 +72,6 @@ class Link:
             raise self.lost(f"it greets with {error}") from None
 
     def ask(self, question: protocol.Question, body: bytes = b"") -> protocol.Reply:
-        """What the collector answers."""
         try:
             return protocol.reply(self.line(protocol.encoded(question) + body))
         except protocol.NotALine as error:

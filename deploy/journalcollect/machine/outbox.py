@@ -99,7 +99,6 @@ class Outbox:
         self.look()
 
     def look(self) -> None:
-        """Which uploads there are."""
         self.sizes: dict[int, int] = {}
         for each in self.folder.iterdir():
             if re.fullmatch(r"[0-9]{1,18}\.upload", each.name, re.ASCII):

@@ -185,7 +185,6 @@ class Places:
         return not self.value("begun") or bool(self.value("again") or self.value("answers"))
 
     def machines(self) -> list[str]:
-        """The ids that this machine had."""
         return [row[0] for row in self.database.execute("SELECT id FROM machine")]
 
     def become(self, machine: str) -> None:
