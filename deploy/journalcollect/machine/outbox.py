@@ -174,7 +174,7 @@ class Outbox:
                 self.refused.put(piece.name, piece.text, f"an entry can't be taken (code {bad.code})")
                 continue
             number = min(max(piece.realtime for piece in pieces), time.time_ns() // 1_000)
-            while self.path(number).exists():
+            while number in self.sizes or os.path.exists(self.path(number)):
                 number += 1
             files.move(new, self.path(number))
             self.sizes[number] = files.size(self.path(number))
