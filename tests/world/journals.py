@@ -83,10 +83,11 @@ class Journal:
         self.time = max(10**15, self.time + by)
 
     def messages(self) -> set[str]:
-        """What systemd's own reader finds in it."""
+        """What systemd's own reader finds in it. A loss of power may leave an entry without its message."""
         told = subprocess.run(["journalctl", "-D", self.folder, "--output=json", "--output-fields=MESSAGE", "--quiet",
                                "--all"], capture_output=True, check=False)
-        return {message_of(json.loads(line)["MESSAGE"]) for line in told.stdout.splitlines()}
+        found = map(json.loads, told.stdout.splitlines())
+        return {message_of(each["MESSAGE"]) for each in found if "MESSAGE" in each}
 
 
 def message_of(value: str | list[int]) -> str:
