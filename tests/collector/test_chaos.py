@@ -129,6 +129,7 @@ def test_what_was_acknowledged_is_stored(collector: Collector, round: int) -> No
         sender.stops.set()
     for sender in senders:
         sender.join(2 * PATIENCE)
+    stop(collector)                                    # a database whose program was killed last is taken up then
     wait_until(collector.is_begun)
     assert collector.stop() == 0
     stored = [(of, number) for of, number, _ in collector.stored()]
