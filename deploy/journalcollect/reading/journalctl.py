@@ -12,7 +12,7 @@ from itertools import product
 from typing import IO, Any, NamedTuple
 
 from ..common import times
-from .places import FOREVER, File, Standing
+from .places import FOREVER, File
 from .words import Call
 
 PROCESSORS = os.cpu_count() or 1
@@ -39,19 +39,21 @@ class Window(NamedTuple):
         return [file.handle for file in self.files]
 
 
-def windows(standing: Standing, since: int, until: int, many: int) -> list[Window]:
+def windows(files: list[File], since: int, until: int, many: int) -> list[Window]:
     """About so many windows with as many entries each, the oldest first. The present has one of its own, since its
     entries aren't in the order of their times."""
-    each = sum(file.head.entries for file in standing.finished) // many + 1
+    present, finished = ([file for file in files if file.is_present is kind] for kind in (True, False))
+    each = sum(file.header.entries for file in finished) // many + 1
     bounds, held = [since], 0
-    for file in standing.finished:
-        if held >= each and file.head.first > bounds[-1]:
-            bounds.append(file.head.first)
+    for file in finished:
+        if held >= each and file.header.head_realtime > bounds[-1]:
+            bounds.append(file.header.head_realtime)
             held = 0
-        held += file.head.entries
+        held += file.header.entries
     ends = [*(bound - 1 for bound in bounds[1:]), until]
-    found = [Window(standing.since(begin, end).finished, begin, end) for begin, end in zip(bounds, ends)]
-    return [window for window in [*found, Window(standing.present, since, until)] if window.files]
+    found = [Window([file for file in finished if file.has(begin, end)], begin, end)
+             for begin, end in zip(bounds, ends)]
+    return [window for window in [*found, Window(present, since, until)] if window.files]
 
 
 def become(window: Window, call: Call) -> None:
@@ -127,7 +129,5 @@ def texts(value: Any) -> list[str]:
 def count(found: list[Window], call: Call, *names: str) -> Counts:
     """The same of all windows, on all processors."""
     from concurrent.futures import ProcessPoolExecutor
-    for handle in {each for window in found for each in window.handles}:
-        os.set_inheritable(handle, True)
     with ProcessPoolExecutor(PROCESSORS) as pool:
         return sum(pool.map(count_one, found, [call] * len(found), [list(names)] * len(found)), Counter())

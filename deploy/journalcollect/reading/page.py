@@ -78,8 +78,8 @@ class Asked:
 
     def windows(self, opened: ExitStack, since: int = 0, until: int = FOREVER, many: int = 0) -> list[Window]:
         """Spans of a time, the oldest first."""
-        chosen = self.places.standing(opened).since(since, until)
-        return journalctl.windows(chosen, since, until, many or len(chosen.files) // 32 + 1)
+        files = [file for file in self.places.standing(opened) if file.has(since, until)]
+        return journalctl.windows(files, since, until, many or len(files) // 32 + 1)
 
     def entries(self) -> Any:
         """The newest entries, the newest first."""
@@ -104,7 +104,8 @@ class Asked:
         since, until = self.number("since", 0), self.number("until", time.time_ns() // 1000)
         with ExitStack() as opened, ThreadPoolExecutor(journalctl.PROCESSORS) as pool:
             windows = self.windows(opened, since, until, 16)[::-1]
-            since = since or min((file.head.first for window in windows for file in window.files), default=until)
+            since = since or min((file.header.head_realtime for window in windows for file in window.files),
+                                 default=until)
             step, bars, counted_from = max((until - since) // BARS, 1), [[0, 0, 0] for _ in range(BARS)], since
             counted = pool.map(lambda window: self.count(window, since, step), windows)
             for window, (counts, is_whole) in zip(windows, counted):

@@ -20,8 +20,8 @@ from pathlib import Path
 from typing import Any, NamedTuple
 
 from ..common import files
+from ..machine.journal import JournalFile, read_header
 from . import remote
-from .remote import Header
 
 DAY = re.compile(r"\d{4}-\d\d-\d\d(\.\d+)?", re.ASCII)
 ALL, ABOUT = "all", "about.json"
@@ -67,23 +67,19 @@ def about(path: Path) -> About:
 
 
 class File(NamedTuple):
-    """An open journal file, and what it has."""
+    """An open journal file, and what its header says."""
     handle: int
-    head: Header
-
-
-class Standing(NamedTuple):
-    """What stands now: the present's files, which aren't in the order of times, and those by time, the oldest first."""
-    present: list[File]
-    finished: list[File]
-
-    def since(self, since: int, until: int = FOREVER) -> "Standing":
-        return Standing([file for file in self.present if min(file.head.first, file.head.last) <= until],
-                        [file for file in self.finished if file.head.last >= since and file.head.first <= until])
+    header: JournalFile
 
     @property
-    def files(self) -> list[File]:
-        return self.present + self.finished
+    def is_present(self) -> bool:
+        """Whether its entries are in the order of their coming, and not in that of their times."""
+        return self.header.path.parent.name == "present"
+
+    def has(self, since: int, until: int) -> bool:
+        """Whether entries of this time may be in it."""
+        first, last = self.header.head_realtime, self.header.tail_realtime
+        return min(first, last) <= until and (last >= since or self.is_present)
 
 
 class Places:
@@ -122,9 +118,10 @@ class Places:
             joined.join(about(path))
         return joined
 
-    def standing(self, opened: ExitStack) -> Standing:
-        """The files that stand now, each database in one of its places. They are opened as they are chosen, so that
-        none is missing when a database gets its place in a day meanwhile."""
+    def standing(self, opened: ExitStack) -> list[File]:
+        """The files that stand now, each database in one of its places: the present's, and those by time, the oldest
+        first. They are opened as they are chosen, so that none is missing when a database gets its place in a day
+        meanwhile."""
         _, hard = resource.getrlimit(resource.RLIMIT_NOFILE)
         resource.setrlimit(resource.RLIMIT_NOFILE, (hard, hard))
         for _ in range(20):
@@ -133,7 +130,7 @@ class Places:
             opened.close()
         raise OSError(f"the files in {self.journals} change all the time")
 
-    def look(self, opened: ExitStack) -> Standing:
+    def look(self, opened: ExitStack) -> list[File]:
         """The present is listed first, then what takes its place, then what takes that one's: none is passed over."""
         live, told = self.live(), self.made()
         days = {path.parent for path in told.values()} - {self.today}
@@ -141,7 +138,7 @@ class Places:
         by_time += [path for path in self.today.glob("*.journal")
                     if told.get(remote.stem(path), self.today).parent == self.today]
         present = open_all((path for path in live if remote.stem(path) not in told), opened)
-        return Standing(present, sorted(open_all(by_time, opened), key=lambda file: file.head.first))
+        return present + sorted(open_all(by_time, opened), key=lambda file: file.header.head_realtime)
 
     def live(self) -> list[Path]:
         """The present's files."""
@@ -149,13 +146,17 @@ class Places:
 
     def tail(self) -> int:
         """The number of the present's last entry."""
-        return max((head.last_number for head in remote.headers(self.live())), default=0)
+        return max((header.tail for header in remote.headers(self.live())), default=0)
 
 
 def open_all(paths: Iterable[Path], opened: ExitStack) -> list[File]:
     """Those that have entries."""
-    handles = [opened.enter_context(open(path, "rb", buffering=0)).fileno() for path in paths]
-    return [File(handle, head) for handle in handles if (head := remote.header(handle)) and head.entries]
+    found = []
+    for path in paths:
+        handle = opened.enter_context(open(path, "rb", buffering=0)).fileno()
+        with suppress(ValueError):
+            found.append(File(handle, read_header(path, handle)))
+    return [file for file in found if file.header.entries]
 
 
 def known(folder: Path, query: str) -> list[Any]:

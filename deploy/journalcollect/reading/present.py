@@ -73,7 +73,7 @@ class Live(Remote):
 def before(places: Places, name: str) -> int:
     """The number before the first one: as it was if the database has a present, and else one that nothing had."""
     if heads := remote.headers(remote.parts(places.present, name)):
-        return min(head.first_number - 1 if head.entries else head.last_number for head in heads)
+        return min(each.head - 1 if each.entries else each.tail for each in heads)
     return max(time.time_ns() // 1000, places.tail())
 
 

@@ -1,15 +1,15 @@
 """Journal files: systemd-journal-remote writes them, and their headers say what they have."""
 import re
-import struct
 import subprocess
 from collections.abc import Iterable
+from contextlib import suppress
 from pathlib import Path
-from typing import NamedTuple
+
+from ..machine.journal import JournalFile, looked_at
 
 REMOTE = Path("/lib/systemd/systemd-journal-remote")
-SIGNATURE, HEADER, SEQUENCE_AT, LAST_AT = b"LPKSHHRH", 208, 72, 160
-# Where a header says how many entries there are, their last and first number, their first and last time.
-COUNTS_AT, COUNTS = 152, struct.Struct("<3Q8x2Q")
+# Where a header has the sequence, and the last entry's number.
+SEQUENCE_AT, LAST_AT = 72, 160
 # How it names a file that was full: of NAME.journal it is NAME@SEQUENCE-NUMBER-TIME.journal.
 PART = re.compile(r"(.+?)(?:@[0-9a-f]{32}-[0-9a-f]{16}-[0-9a-f]{16})?\.journal")
 
@@ -18,29 +18,13 @@ class Failed(Exception):
     """systemd-journal-remote ended before its time."""
 
 
-class Header(NamedTuple):
-    """What the header of a journal file says; times in microseconds."""
-    entries: int
-    last_number: int
-    first_number: int
-    first: int
-    last: int
-
-
-def header(file: Path | int) -> Header | None:
-    """What a journal file has, of a path or an open file; nothing if it is none."""
-    try:
-        with open(file, "rb", buffering=0, closefd=not isinstance(file, int)) as opened:
-            head = opened.read(HEADER)
-    except OSError:
-        return None
-    is_one = len(head) == HEADER and head.startswith(SIGNATURE)
-    return Header(*COUNTS.unpack_from(head, COUNTS_AT)) if is_one else None
-
-
-def headers(paths: Iterable[Path]) -> list[Header]:
-    """Those of the journal files among some files."""
-    return [head for path in paths if (head := header(path))]
+def headers(paths: Iterable[Path]) -> list[JournalFile]:
+    """What the headers of the journal files among some files say."""
+    found = []
+    for path in paths:
+        with suppress(OSError, ValueError):
+            found.append(looked_at(path))
+    return found
 
 
 def stem(path: Path) -> str:
@@ -64,7 +48,7 @@ def begin(path: Path, sequence: str, last_number: int) -> None:
         file.seek(SEQUENCE_AT)
         file.write(bytes.fromhex(sequence))
         file.seek(LAST_AT)
-        file.write(struct.pack("<Q", last_number))
+        file.write(last_number.to_bytes(8, "little"))
     new.rename(path)
     for part in path.parent.glob(f"{path.stem}@*.journal*"):
         part.unlink()

@@ -20,7 +20,7 @@ from ..common import times
 from ..common.settings import Wrong
 from . import journalctl, places, words
 from .journalctl import Counts, Values, Window
-from .places import FOREVER, About, Places, Standing
+from .places import FOREVER, About, File, Places
 from .words import BEHIND, Call
 
 HELP = """\
@@ -112,15 +112,16 @@ class Search:
         self.since = max(self.since, min(found.values()))
         return self.call.of([f"_BOOT_ID={each}" for each in found])
 
-    def standing(self) -> Standing:
-        return self.at.standing(self.opened).since(self.since, self.until)
+    def files(self) -> list[File]:
+        """Those that may have something of the time that is asked for."""
+        return [file for file in self.at.standing(self.opened) if file.has(self.since, self.until)]
 
-    def windows(self, standing: Standing) -> list[Window]:
+    def windows(self, files: list[File]) -> list[Window]:
         """Spans for all processors, some for each."""
-        return journalctl.windows(standing, self.since, self.until, 4 * journalctl.PROCESSORS)
+        return journalctl.windows(files, self.since, self.until, 4 * journalctl.PROCESSORS)
 
     def counted(self, call: Call, *names: str) -> Counts:
-        return journalctl.count(self.windows(self.standing()), call, *names)
+        return journalctl.count(self.windows(self.files()), call, *names)
 
     def run(self) -> int:
         """What this front says itself, or journalctl."""
@@ -134,16 +135,16 @@ class Search:
 
     def show(self) -> int:
         """journalctl itself; on all processors, if a word is looked for."""
-        call, standing = self.call, self.standing()
+        call, files = self.call, self.files()
         is_plain = call.has(*PLAIN)
         if call.has("grep") and not is_plain and call.lines is None:
-            return journalctl.side_by_side(self.windows(standing), call)
-        if call.lines and not is_plain and (call.has("grep") or len(standing.files) > MANY_FILES):
-            windows = journalctl.windows(standing, self.since, self.until, len(standing.files) + 1)
+            return journalctl.side_by_side(self.windows(files), call)
+        if call.lines and not is_plain and (call.has("grep") or len(files) > MANY_FILES):
+            windows = journalctl.windows(files, self.since, self.until, len(files) + 1)
             newest = journalctl.newest(windows, call, call.lines, "_BOOT_ID")
             if len(newest) == call.lines:
-                standing = standing.since(int(newest[-1]["__REALTIME_TIMESTAMP"]), self.until)
-        if files := standing.files or self.at.standing(self.opened).files[:1]:
+                files = [file for file in files if file.has(int(newest[-1]["__REALTIME_TIMESTAMP"]), self.until)]
+        if files := files or self.at.standing(self.opened)[:1]:
             journalctl.become(Window(files), call)
         print("-- No entries --")
         return 0
