@@ -126,7 +126,9 @@ class Joining:
             if REFUSED in why and not self.via or time.monotonic() > end:
                 return self.tell_what_to_do(why)
             time.sleep(1.0)
-        while not machine.look(time.time(), Findings()).acknowledged and time.monotonic() < end:
+        while time.monotonic() < end:
+            if (found := machine.look(time.time(), Findings())) and found.acknowledged:
+                break
             time.sleep(0.5)
         if not self.deeds.count:
             print("nothing was to do")

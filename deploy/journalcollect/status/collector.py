@@ -55,11 +55,10 @@ class Collector:
                    f"{each.entries} entries") for each in self.machines)]
 
 
-def is_set_up() -> bool:
-    return (settings.FOLDER / "authorized_keys").exists() or Path(Settings().folder, "state.sqlite").exists()
-
-
-def look(now: float, findings: Findings) -> Collector:
+def look(now: float, findings: Findings) -> Collector | None:
+    """None of a computer that is no collector."""
+    if not (settings.FOLDER / "authorized_keys").exists() and not Path(Settings().folder, "state.sqlite").exists():
+        return None
     try:
         chosen = read_settings()
     except settings.Wrong as fault:
@@ -67,9 +66,8 @@ def look(now: float, findings: Findings) -> Collector:
         return Collector()
     found, folder = Collector(chosen.folder), Path(chosen.folder)
     look_at_service(found, folder, findings)
-    look_at_machines(found, folder, settings.FOLDER, now, findings)
+    look_at_machines(found, folder, now, findings)
     look_at_databases(found, folder, chosen.read_days * DAY, now, findings)
-    look_at_what_is_in_databases_alone(folder, findings)
     look_at_disk(found, folder, chosen, findings)
     look_at_what_was_told(found, folder, now, findings)
     return found
@@ -89,10 +87,11 @@ def look_at_service(found: Collector, folder: Path, findings: Findings) -> None:
                         "systemctl enable --now ssh.service")
 
 
-def look_at_machines(found: Collector, folder: Path, etc: Path, now: float, findings: Findings) -> None:
+def look_at_machines(found: Collector, folder: Path, now: float, findings: Findings) -> None:
     """Those that have a key: a retired one is none."""
     known = {row[0]: Machine(*row) for row in looking.rows(
         folder / "state.sqlite", "SELECT name, seen, stored, entries, refused, skew FROM machine")}
+    etc = settings.FOLDER
     found.machines = [known.get(name, Machine(name)) for name in keys.machines(etc)]
     path = etc / "authorized_keys"
     admitted = path.read_text(errors="replace") if path.exists() else ""
@@ -135,21 +134,15 @@ def look_at_databases(found: Collector, folder: Path, shown: float, now: float, 
     recent = [(at, size) for at, _, size in finished.values() if now - 7 * DAY < at <= now]
     if recent and (days := (now - min(recent)[0]) / DAY) > 0.25:
         found.bytes_a_day = sum(size for _, size in recent) / days
-    done = places.Places(folder).made()
+    journals = places.Places(folder)
+    done = journals.made()
     waiting = [at for name, (at, *_) in finished.items() if name not in done and now - at < shown]
     found.waiting_for_files = len(waiting)
     if waiting and now - min(waiting) > BEHIND_SECONDS:
         findings.look("behind", "collector", f"{len(waiting)} databases wait for their journal files, the oldest for "
                       f"{words.span(now - min(waiting))}",
                       f"journalctl -u {SERVICE} says why; is systemd-journal-remote installed?")
-
-
-def look_at_what_is_in_databases_alone(folder: Path, findings: Findings) -> None:
-    """What systemd-journal-remote doesn't take, by the reason."""
-    counts: Counter[str] = Counter()
-    for path in set(places.Places(folder).made().values()):
-        counts.update(places.about(path).untaken)
-    for reason, count in counts.items():
+    for reason, count in journals.about().untaken.items():
         findings.look("untaken", "collector", f"{count} entries aren't in journal files, since {reason}",
                       "databases have them: journal-collect export DATABASE")
 

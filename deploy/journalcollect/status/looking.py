@@ -2,7 +2,7 @@
 import sqlite3
 import subprocess
 import tempfile
-from contextlib import closing
+from contextlib import closing, suppress
 from pathlib import Path
 from typing import Any
 
@@ -46,14 +46,10 @@ def rows(path: Path, query: str) -> list[Any]:
     nobody has it open, its log can't be read there, and a copy is read."""
     if not path.exists():
         return []
-    try:
+    with suppress(sqlite3.DatabaseError):
         return answer(path, "ro", query)
-    except sqlite3.DatabaseError:
-        pass
-    with tempfile.TemporaryDirectory() as folder:
+    with tempfile.TemporaryDirectory() as folder, suppress(sqlite3.DatabaseError):
         for each in path.parent.glob(f"{path.name}*"):
             (Path(folder) / each.name).write_bytes(each.read_bytes())
-        try:
-            return answer(Path(folder) / path.name, "rw", query)
-        except sqlite3.DatabaseError:
-            return []
+        return answer(Path(folder) / path.name, "rw", query)
+    return []

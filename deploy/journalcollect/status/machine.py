@@ -65,19 +65,15 @@ class Machine:
                 ("acknowledged", words.ago(self.acknowledged, now)), ("waiting", waits if self.waiting else "nothing")]
 
 
-def is_set_up() -> bool:
-    try:
-        return bool(settings.read(settings.FOLDER / FILES, machine_settings.Settings).collector)
-    except settings.Wrong:
-        return True
-
-
-def look(now: float, findings: Findings) -> Machine:
+def look(now: float, findings: Findings) -> Machine | None:
+    """None of a computer that sends to no collector."""
     try:
         chosen = machine_settings.read()
     except settings.Wrong as fault:
         findings.wrong("settings", "machine", str(fault), f"change it below {settings.FOLDER}/{FILES}")
         return Machine()
+    if not chosen.collector:
+        return None
     found = Machine(chosen.collector, chosen.folder, folder_bytes=chosen.folder_bytes)
     for name in ("key", "known_hosts"):
         if not (settings.FOLDER / name).exists() and not chosen.connect:

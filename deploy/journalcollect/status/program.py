@@ -24,8 +24,8 @@ class Sides:
 
     def __init__(self) -> None:
         self.now, self.findings = time.time(), Findings()
-        self.collector = collector.look(self.now, self.findings) if collector.is_set_up() else None
-        self.machine = machine.look(self.now, self.findings) if machine.is_set_up() else None
+        self.collector = collector.look(self.now, self.findings)
+        self.machine = machine.look(self.now, self.findings)
         if not self.collector and not self.machine:
             self.findings.wrong("settings", "status", "this is neither a collector nor a machine",
                                 "journal-collect-admin setup makes it a collector, journal-collect-join HOST a machine")

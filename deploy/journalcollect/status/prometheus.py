@@ -1,8 +1,7 @@
 """Figures for node_exporter's textfile collector."""
-from collections.abc import Callable, Iterator
+from collections.abc import Iterator
 
 from journalcollect.status.collector import Collector
-from journalcollect.status.collector import Machine as Sender
 from journalcollect.status.findings import Findings
 from journalcollect.status.machine import Machine
 
@@ -10,54 +9,48 @@ PREFIX = "journal_collect_"
 ESCAPED = str.maketrans({"\\": r"\\", '"': r'\"', "\n": r"\n"})
 # A name with its help, and the values with what each is of.
 Figure = tuple[str, str, dict[str, float]]
+# Of each machine: a name, its help, and what of the machine it is.
+OF_MACHINES = (
+    ("seen_timestamp_seconds", "When a machine called last", "seen"),
+    ("stored_timestamp_seconds", "When something new of a machine was stored last", "stored"),
+    ("entries_total", "Entries of a machine that were stored", "entries"),
+    ("refused_total", "Uploads of a machine that were refused", "refused"),
+    ("clock_skew_seconds", "By how much a machine's clock is ahead of the collector's", "skew"))
 
 
 def text(collector: Collector | None, machine: Machine | None, findings: Findings) -> str:
     """All figures, each name with its help once, as the format asks."""
     lines = []
-    for name, words, values in [*of_findings(findings), *(of_collector(collector) if collector else ()),
-                                *(of_machine(machine) if machine else ())]:
+    for name, words, values in figures(collector, machine, findings):
         if values:
             kind = "counter" if name.endswith("_total") else "gauge"
             lines += [f"# HELP {PREFIX}{name} {words}", f"# TYPE {PREFIX}{name} {kind}"]
-            lines += [f"{PREFIX}{name}{marks} {plain(value)}" for marks, value in values.items()]
+            lines += [f"{PREFIX}{name}{marks} {value:.15g}" for marks, value in values.items()]
     return "\n".join(lines)
 
 
-def of_findings(findings: Findings) -> Iterator[Figure]:
+def figures(collector: Collector | None, machine: Machine | None, findings: Findings) -> Iterator[Figure]:
     yield "status", "The worst of all findings: 0 well, 1 look, 2 wrong settings, 3 failed", {"": findings.status}
     # the last of a name and what it is about stands, so the worst does
     found = sorted(findings, key=lambda each: each.status)
     yield "finding", "Something that isn't as it should be; its value is its status", {
         labels(name=each.name, about=each.about): each.status for each in found}
-
-
-def of_collector(collector: Collector) -> Iterator[Figure]:
-    def each(name: str, words: str, value: Callable[[Sender], float]) -> Figure:
-        return f"machine_{name}", words, {labels(machine=it.name): value(it) for it in collector.machines}
-
-    yield each("seen_timestamp_seconds", "When a machine called last", lambda it: it.seen)
-    yield each("stored_timestamp_seconds", "When something new of a machine was stored last", lambda it: it.stored)
-    yield each("entries_total", "Entries of a machine that were stored", lambda it: it.entries)
-    yield each("refused_total", "Uploads of a machine that were refused", lambda it: it.refused)
-    yield each("clock_skew_seconds", "By how much a machine's clock is ahead of the collector's", lambda it: it.skew)
-    yield "databases", "Databases by how they stand", {
-        labels(standing=standing): count for standing, count in collector.databases.items()}
-    yield "stored_bytes", "What finished databases take", {"": collector.bytes}
-    yield "free_bytes", "What the collector's disk has left", {"": collector.free_bytes}
-    yield "databases_waiting_for_files", "Finished databases without journal files", {"": collector.waiting_for_files}
-
-
-def of_machine(machine: Machine) -> Iterator[Figure]:
-    yield ("acknowledged_timestamp_seconds", "When something of this machine was acknowledged last",
-           {"": machine.acknowledged})
-    yield "outbox_uploads", "Uploads of this machine that wait", {"": machine.waiting}
-    yield "outbox_bytes", "What they take", {"": machine.waiting_bytes}
-    yield "refused_files", "Entries of this machine that no collector takes", {"": machine.refused}
-
-
-def plain(value: float) -> str:
-    return f"{value:g}" if abs(value) < 1e6 else f"{value:.0f}"
+    if collector:
+        for name, words, value in OF_MACHINES:
+            yield f"machine_{name}", words, {
+                labels(machine=each.name): getattr(each, value) for each in collector.machines}
+        yield "databases", "Databases by how they stand", {
+            labels(standing=standing): count for standing, count in collector.databases.items()}
+        yield "stored_bytes", "What finished databases take", {"": collector.bytes}
+        yield "free_bytes", "What the collector's disk has left", {"": collector.free_bytes}
+        yield "databases_waiting_for_files", "Finished databases without journal files", {
+            "": collector.waiting_for_files}
+    if machine:
+        yield "acknowledged_timestamp_seconds", "When something of this machine was acknowledged last", {
+            "": machine.acknowledged}
+        yield "outbox_uploads", "Uploads of this machine that wait", {"": machine.waiting}
+        yield "outbox_bytes", "What they take", {"": machine.waiting_bytes}
+        yield "refused_files", "Entries of this machine that no collector takes", {"": machine.refused}
 
 
 def labels(**marks: str) -> str:
