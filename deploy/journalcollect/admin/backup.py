@@ -55,11 +55,9 @@ def forms(folder: Path, name: str) -> list[Path]:
 
 def is_whole(path: Path, digest: str) -> bool:
     """Whether a database, packed or not, is what it was when it was finished."""
-    try:
-        found = databases.unpacked_digest(path) if ".zst" in path.suffixes else databases.digest_of(path)
-    except databases.Damaged:
-        return False
-    return found == digest
+    with contextlib.suppress(databases.Damaged):
+        return digest == (databases.unpacked_digest(path) if ".zst" in path.suffixes else databases.digest_of(path))
+    return False
 
 
 def copied(folder: Folder, name: str, digest: str, to: Folder) -> bool:

@@ -10,8 +10,7 @@ from collections.abc import Iterator
 from pathlib import Path
 from typing import Any
 
-from ..collector.settings import Folder
-from ..collector.settings import read as read_settings
+from ..collector.settings import Folder, read as read_settings
 from ..common import program, settings
 from ..machine.journal import looked_at
 from ..reading import making

@@ -8,7 +8,6 @@ from urllib.parse import urlencode
 
 from . import settings
 from .rows import COLUMNS, OWN
-from .settings import Settings
 
 MOST_BYTES, LONGEST_REASON = 1 << 20, 400
 # A row that isn't taken is an error that is told: none may be left out without a word. What a Distributed table answers
@@ -33,7 +32,7 @@ class Refused(Exception):
 class ClickHouse:
     """One table."""
 
-    def __init__(self, chosen: Settings, seconds: float) -> None:
+    def __init__(self, chosen: settings.Settings, seconds: float) -> None:
         parts, context, self.seconds = chosen.parts, settings.encryption(chosen), seconds
         self.table, self.path, self.headers = chosen.table, parts.path.rstrip("/"), settings.headers(chosen)
         host, port = parts.hostname or "", parts.port

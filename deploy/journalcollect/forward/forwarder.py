@@ -13,19 +13,16 @@ from datetime import date
 from pathlib import Path
 from typing import Any
 
-from ..collector import databases
-from ..collector import settings as collector_settings
-from ..collector.settings import Folder
+from ..collector import databases, settings as collector_settings
 from ..common import files, program
-from ..common.report import BUSY, FAILED, LOOK, WRONG
-from ..common.settings import Wrong
 from ..common.entries import spans
 from ..common.export_stream import Unfit
+from ..common.report import BUSY, FAILED, LOOK, WRONG
+from ..common.settings import Wrong
 from ..reading import making
 from . import settings
 from .clickhouse import ClickHouse, Refused, Unavailable
 from .rows import row
-from .settings import Settings
 
 STATUSES = """\
 Status: 0 all went well; 1 something to look at: entries that were put aside, databases that are damaged or went before
@@ -66,8 +63,9 @@ class Forwarder:
     """One run. How far it has come is in one file, which is replaced whole once the engine has what it says; what the
     engine doesn't take is in another one, a line for each entry."""
 
-    def __init__(self, chosen: Settings, folder: Path, once: bool) -> None:
-        self.chosen, self.folder, self.once, self.state = chosen, Folder(folder), once, folder / "forward"
+    def __init__(self, chosen: settings.Settings, folder: Path, once: bool) -> None:
+        self.chosen, self.once, self.state = chosen, once, folder / "forward"
+        self.folder = collector_settings.Folder(folder)
         self.folder.scratch = self.state / "scratch"
         self.path, self.aside, self.status = self.state / "place.json", self.state / "aside.json", 0
         try:
@@ -205,7 +203,7 @@ def batches(rows: Iterator[bytes]) -> Iterator[list[bytes]]:
         yield batch
 
 
-def arguments() -> argparse.Namespace:
+def main() -> int:
     parser = argparse.ArgumentParser(prog="journal-collect-forward", description=__doc__, epilog=STATUSES,
                                      formatter_class=argparse.RawDescriptionHelpFormatter, allow_abbrev=False)
     parser.add_argument("--once", action="store_true", help="end when nothing waits any more")
@@ -216,11 +214,7 @@ def arguments() -> argparse.Namespace:
     parser.add_argument("--timeout", metavar="SECONDS", type=float, default=60.0,
                         help="a request with its answer takes at most so long (60)")
     parser.add_argument("--keep-place", action="store_true", help="go on with another engine as with the last one")
-    return parser.parse_args()
-
-
-def main() -> int:
-    asked = arguments()
+    asked = parser.parse_args()
     os.umask(0o077)
     try:
         chosen = settings.read()

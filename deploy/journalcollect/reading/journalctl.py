@@ -8,6 +8,7 @@ import sys
 import time
 from collections import Counter
 from collections.abc import Iterator
+from functools import partial
 from itertools import product
 from typing import IO, Any, NamedTuple
 
@@ -111,12 +112,13 @@ def newest(found: list[Window], call: Call, lines: int, *fields: str, end: float
     return sorted(latest, key=lambda entry: int(entry["__REALTIME_TIMESTAMP"]), reverse=True)[:lines]
 
 
-def count_one(window: Window, call: Call, names: list[str]) -> Counts:
-    """How many entries each second has, by the values of some fields. Of several values of a field each counts."""
+def count_one(window: Window, call: Call, names: tuple[str, ...], since: int = 0, step: int = 1_000_000,
+              end: float = math.inf) -> Counts:
+    """How many entries each step of time has, by the values of some fields; of several values of one each counts."""
     found = Counts()
-    for entry in entries(window, call, *(names or ["_BOOT_ID"])):
-        second = int(entry["__REALTIME_TIMESTAMP"]) // 1_000_000
-        found.update((second, each) for each in product(*(texts(entry.get(name, "-")) for name in names)))
+    for entry in entries(window, call, *(names or ["_BOOT_ID"]), end=end):
+        place = (int(entry["__REALTIME_TIMESTAMP"]) - since) // step
+        found.update((place, each) for each in product(*(texts(entry.get(name, "-")) for name in names)))
     return found
 
 
@@ -127,7 +129,7 @@ def texts(value: Any) -> list[str]:
 
 
 def count(found: list[Window], call: Call, *names: str) -> Counts:
-    """The same of all windows, on all processors."""
+    """The same of each second of all windows, on all processors."""
     from concurrent.futures import ProcessPoolExecutor
     with ProcessPoolExecutor(PROCESSORS) as pool:
-        return sum(pool.map(count_one, found, [call] * len(found), [list(names)] * len(found)), Counter())
+        return sum(pool.map(partial(count_one, call=call, names=names), found), Counter())

@@ -20,11 +20,9 @@ from pathlib import Path
 from ..collector import databases, settings
 from ..collector.settings import Folder
 from ..common import entries, files, program
-from ..common.entries import Data, Untaken
 from ..common.export_stream import Unfit
 from . import places, remote
 from .places import ABOUT, ALL, DAY, About, Places
-from .remote import Remote
 
 UNKNOWN = "systemd-journal-remote didn't write them"
 # One of them costs the files of a database or of a day, until the next run.
@@ -32,7 +30,7 @@ FAILURES = (OSError, EOFError, ValueError, program.Failed, databases.Damaged, re
 
 
 @contextlib.contextmanager
-def exported(folder: Folder, name: str) -> Iterator[Data]:
+def exported(folder: Folder, name: str) -> Iterator[entries.Data]:
     """All entries of a database, as a canonical stream."""
     with databases.unpacked(folder, name) as copy, files.unnamed(folder.scratch) as stream:
         program.export(copy, stream)
@@ -49,7 +47,7 @@ def spooled(path: Path) -> Iterator[tuple[int, bytes]]:
 
 def write(texts: Iterable[bytes], folder: Path, name: str, about: About) -> None:
     """Makes journal files of entries that come by time. What systemd-journal-remote leaves out is told."""
-    writer = Remote(folder / f"{name}.journal")
+    writer = remote.Remote(folder / f"{name}.journal")
     writer.write(texts)
     writer.finish()
     written = sum(head.entries for head in remote.headers(remote.parts(folder, name)))
@@ -117,14 +115,14 @@ class Maker:
             path.rename(self.places.today / path.name)
         about.write(self.places.today / f"{name}.json")
 
-    def by_time(self, data: Data, about: About, spool: gzip.GzipFile) -> Iterator[bytes]:
+    def by_time(self, data: entries.Data, about: About, spool: gzip.GzipFile) -> Iterator[bytes]:
         """The entries of an export in the order of their times. What can't be in a journal file is told."""
         found = sorted((int(data[span.begin + len("__REALTIME_TIMESTAMP="):data.find(b"\n", span.begin)]), span)
                        for span in entries.spans(data))
         for realtime, span in found:
             try:
                 entry = entries.entry(data, span)
-            except Untaken as reason:
+            except entries.Untaken as reason:
                 about.untaken[str(reason)] += 1
                 continue
             machine = self.owners.get(entry.sequence, "")

@@ -16,7 +16,6 @@ import socketserver
 import subprocess
 import threading
 import time
-from collections import Counter
 from concurrent.futures import ThreadPoolExecutor
 from contextlib import ExitStack
 from http import HTTPStatus
@@ -33,6 +32,8 @@ from .present import sequence_id
 from .words import Call
 
 SECONDS, LINES, BARS, AT_ONCE = 10.0, 500, 60, 4
+# Of which kind a bar's entries are by their priority: 2, errors; 1, warnings; and else 0.
+KINDS = {**dict.fromkeys("0123", 2), "4": 1}
 HOSTS = re.compile(r"(localhost|127\.0\.0\.1|\[::1\])(:\d{1,5})?", re.ASCII)
 WHOLE, NUMBER = re.compile("[0-9]{1,19}"), re.compile(r"i=([0-9a-f]+)")
 MATCH = re.compile(r"[A-Z_][A-Z0-9_]{0,63}=.*", re.DOTALL | re.ASCII)
@@ -107,21 +108,15 @@ class Asked:
             since = since or min((file.header.head_realtime for window in windows for file in window.files),
                                  default=until)
             step, bars, counted_from = max((until - since) // BARS, 1), [[0, 0, 0] for _ in range(BARS)], since
-            counted = pool.map(lambda window: self.count(window, since, step), windows)
+            counted = pool.map(lambda window: (
+                journalctl.count_one(window, self.call(), ("PRIORITY",), since, step, self.end),
+                time.monotonic() < self.end), windows)
             for window, (counts, is_whole) in zip(windows, counted):
-                for (bar, kind), many in counts.items():
-                    bars[bar][kind] += many
+                for (place, (priority,)), many in counts.items():
+                    bars[min(max(place, 0), BARS - 1)][KINDS.get(priority, 0)] += many
                 if not is_whole:
                     counted_from = max(counted_from, min(window.until, until))
         return {"since": since, "step": step, "bars": bars, "counted_from": counted_from}
-
-    def count(self, window: Window, since: int, step: int) -> tuple[Counter[tuple[int, int]], bool]:
-        """How many entries each bar has of each kind: others, warnings, errors. Whether all were counted."""
-        bars = Counter[tuple[int, int]]()
-        for entry in journalctl.entries(window, self.call(), "PRIORITY", end=self.end):
-            place, priority = (int(entry["__REALTIME_TIMESTAMP"]) - since) // step, str(entry.get("PRIORITY", "6"))
-            bars[min(max(place, 0), BARS - 1), 2 if priority <= "3" else 1 if priority == "4" else 0] += 1
-        return bars, time.monotonic() < self.end
 
     def names(self) -> Any:
         """The machines, and the units of the newest files, to complete what is typed."""

@@ -15,12 +15,10 @@ from collections.abc import Callable, Iterator
 from pathlib import Path
 
 from ..common import entries
-from ..common.entries import Untaken
 from ..common.export_stream import Unfit
 from ..common.uploads import HEADER, KIND, STREAM
 from . import remote
 from .places import About, Places
-from .remote import Failed, Remote
 
 # So long the present of a finished database stays, for who follows it; nothing waits for what fails so often in a row.
 SECONDS_STANDING = 3600.0
@@ -33,7 +31,7 @@ def sequence_id() -> str:
     return hashlib.sha256(b"journal-collect present " + Path("/etc/machine-id").read_bytes()).hexdigest()[:32]
 
 
-class Live(Remote):
+class Live(remote.Remote):
     """The present of one database."""
 
     def __init__(self, places: Places, name: str, with_keys: bool) -> None:
@@ -53,7 +51,7 @@ class Live(Remote):
             for span in entries.spans(data, HEADER) if data[KIND] == STREAM else ():
                 try:
                     entry = entries.entry(data, span)
-                except Untaken as reason:
+                except entries.Untaken as reason:
                     self.about.untaken[str(reason)] += 1
                     continue
                 if (entry.sequence, entry.number) not in self.keys:
@@ -112,7 +110,7 @@ class Present(threading.Thread):
                 failures = 0
                 self.follow()
                 break
-            except (Failed, OSError) as error:
+            except (remote.Failed, OSError) as error:
                 failures += 1
                 if failures in (1, MOST_FAILURES):
                     self.tell(f"the present in journal files is made anew: {error}")
@@ -177,7 +175,7 @@ class Present(threading.Thread):
         for live in self.lives.values():
             live.say()
             if live.process.poll() is not None:
-                raise Failed("systemd-journal-remote ended")
+                raise remote.Failed("systemd-journal-remote ended")
         if self.makes_again and (self.maker is None or self.maker.poll() is not None):
             self.makes_again = False
             self.clean()

@@ -3,8 +3,7 @@ from collections import Counter
 from dataclasses import dataclass, field
 from pathlib import Path
 
-from journalcollect.collector.settings import FREE_FILES, Settings
-from journalcollect.collector.settings import read as read_settings
+from journalcollect.collector.settings import FREE_FILES, Settings, read as read_settings
 from journalcollect.common import files, settings
 from journalcollect.reading import places
 from journalcollect.setup import keys
