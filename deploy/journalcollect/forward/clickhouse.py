@@ -30,8 +30,6 @@ class Refused(Exception):
 
 
 class ClickHouse:
-    """One table."""
-
     def __init__(self, chosen: settings.Settings, seconds: float) -> None:
         parts, context, self.seconds = chosen.parts, settings.encryption(chosen), seconds
         self.table, self.path, self.headers = chosen.table, parts.path.rstrip("/"), settings.headers(chosen)

@@ -18,7 +18,6 @@ from collections.abc import Callable, Iterable, Iterator
 from pathlib import Path
 
 from ..collector import databases, settings
-from ..collector.settings import Folder
 from ..common import entries, files, program
 from ..common.export_stream import Unfit
 from . import places, remote
@@ -30,7 +29,7 @@ FAILURES = (OSError, EOFError, ValueError, program.Failed, databases.Damaged, re
 
 
 @contextlib.contextmanager
-def exported(folder: Folder, name: str) -> Iterator[entries.Data]:
+def exported(folder: settings.Folder, name: str) -> Iterator[entries.Data]:
     """All entries of a database, as a canonical stream."""
     with databases.unpacked(folder, name) as copy, files.unnamed(folder.scratch) as stream:
         program.export(copy, stream)
@@ -59,7 +58,7 @@ class Maker:
     """One run: everything that waits is made, the newest first."""
 
     def __init__(self, folder: Path, chosen: settings.Settings) -> None:
-        self.places, self.folder, self.chosen = Places(folder), Folder(folder), chosen
+        self.places, self.folder, self.chosen = Places(folder), settings.Folder(folder), chosen
         # The machine of each sequence; of what came by hand there may be none.
         self.owners: dict[str, str] = dict(places.known(folder, "SELECT id, machine FROM sequence"))
 

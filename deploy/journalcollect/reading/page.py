@@ -46,9 +46,7 @@ class Refused(Exception):
 
 def policy(page: bytes) -> str:
     """What a browser is to run of the page: its own script and style, and nothing else."""
-    own = OWN.search(page)
-    assert own
-    style, script = (base64.b64encode(hashlib.sha256(each).digest()).decode() for each in own.groups())
+    style, script = (base64.b64encode(hashlib.sha256(each).digest()).decode() for each in OWN.findall(page)[0])
     return (f"default-src 'none'; script-src 'sha256-{script}'; style-src 'sha256-{style}'; connect-src 'self'; "
             "img-src data:; base-uri 'none'; form-action 'none'; frame-ancestors 'none'")
 

@@ -56,8 +56,6 @@ SECOND = 1_000_000
 
 
 class Search:
-    """One call."""
-
     def __init__(self, call: Call, at: Places) -> None:
         self.asked, self.at, self.opened = call, at, ExitStack()
         if call.has("utc"):

@@ -94,7 +94,9 @@ class Joining:
             return False
         else:
             found = self.compared(output("ssh-keyscan", "-p", str(self.port), self.host))
-        lines = [f"{where} {text}" for text in sorted(map(key_of, found.splitlines())) if text]
+        # ssh-keygen writes a key's kind and bytes first, and ssh-keyscan behind the host
+        texts = {keys.of_text(line) or keys.of_text(line.strip().partition(" ")[2]) for line in found.splitlines()}
+        lines = [f"{where} {text}" for text in sorted(texts - {""})]
         if not lines:
             raise Stopped(f"{self.host_keys or self.via or self.host} has no host keys")
         return self.deeds.write(self.known, "\n".join(lines) + "\n")
@@ -150,8 +152,3 @@ def told_by_login(via: str) -> str:
     except Stopped as error:
         raise Stopped(f"{error}\nlog in there by `ssh {via}` once, and call this again; "
                       "or leave --via out, and compare the host keys") from None
-
-
-def key_of(line: str) -> str:
-    """The kind and the bytes of a public key, whether ssh-keygen wrote the line or ssh-keyscan."""
-    return keys.of_text(line) or keys.of_text(line.strip().partition(" ")[2])

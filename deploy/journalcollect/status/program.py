@@ -32,10 +32,8 @@ class Sides:
 
     def as_json(self) -> str:
         return json.dumps({
-            "version": VERSION, "status": int(self.findings.status), "time": int(self.now),
-            "collector": asdict(self.collector) if self.collector else None,
-            "machine": asdict(self.machine) if self.machine else None,
-            "findings": [asdict(finding) for finding in self.findings]}, indent=2, sort_keys=True)
+            "version": VERSION, "status": self.findings.status, "time": int(self.now), "collector": self.collector,
+            "machine": self.machine, "findings": self.findings}, default=asdict, indent=2, sort_keys=True)
 
     def as_text(self, is_quiet: bool) -> str:
         parts = [table(side.lines(self.now)) for side in (self.collector, self.machine) if side and not is_quiet]
