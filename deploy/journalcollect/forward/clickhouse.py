@@ -4,7 +4,7 @@ import contextlib
 import http.client
 import re
 import signal
-from urllib.parse import urlencode
+from urllib.parse import urlencode, urlsplit
 
 from . import settings
 from .rows import COLUMNS, OWN
@@ -31,7 +31,7 @@ class Refused(Exception):
 
 class ClickHouse:
     def __init__(self, chosen: settings.Settings, seconds: float) -> None:
-        parts, context, self.seconds = chosen.parts, settings.encryption(chosen), seconds
+        parts, context, self.seconds = urlsplit(chosen.url), settings.encryption(chosen), seconds
         self.table, self.path, self.headers = chosen.table, parts.path.rstrip("/"), settings.headers(chosen)
         host, port = parts.hostname or "", parts.port
         self.connection = http.client.HTTPSConnection(host, port, context=context) if context \

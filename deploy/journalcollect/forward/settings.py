@@ -4,7 +4,7 @@ import re
 import ssl
 import stat
 from dataclasses import dataclass
-from urllib.parse import SplitResult, urlsplit
+from urllib.parse import urlsplit
 
 from ..common import settings
 from ..common.settings import Wrong
@@ -29,10 +29,6 @@ class Settings:
         """What is forwarded to: another one has none of what this one has."""
         return f"{self.url} {self.table}"
 
-    @property
-    def parts(self) -> SplitResult:
-        return urlsplit(self.url)
-
 
 def read() -> Settings:
     """The settings as they are; a Wrong if they can't be."""
@@ -40,7 +36,8 @@ def read() -> Settings:
     if not TABLE.fullmatch(chosen.table):
         raise Wrong(f"TABLE can't be {chosen.table}: it is NAME or DATABASE.NAME")
     try:
-        parts, port = chosen.parts, chosen.parts.port
+        parts = urlsplit(chosen.url)
+        port = parts.port
     except ValueError as error:
         raise Wrong(f"URL can't be {chosen.url}: {error}") from None
     if not URL.fullmatch(chosen.url) or port == 0:
@@ -75,7 +72,7 @@ def headers(chosen: Settings) -> dict[str, str]:
 
 def encryption(chosen: Settings) -> ssl.SSLContext | None:
     """How connections are encrypted, if they are."""
-    if chosen.parts.scheme != "https":
+    if not chosen.url.startswith("https:"):
         return None
     try:
         context = ssl.create_default_context(cafile=chosen.ca_file or None)

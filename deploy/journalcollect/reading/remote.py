@@ -1,4 +1,5 @@
 """Journal files: systemd-journal-remote writes them, and their headers say what they have."""
+import os
 import re
 import subprocess
 from collections.abc import Iterable
@@ -45,10 +46,8 @@ def begin(path: Path, sequence: str, last_number: int) -> None:
     if started(new, subprocess.DEVNULL).wait():
         raise Failed(f"systemd-journal-remote can't make {path}")
     with open(new, "r+b") as file:
-        file.seek(SEQUENCE_AT)
-        file.write(bytes.fromhex(sequence))
-        file.seek(LAST_AT)
-        file.write(last_number.to_bytes(8, "little"))
+        os.pwrite(file.fileno(), bytes.fromhex(sequence), SEQUENCE_AT)
+        os.pwrite(file.fileno(), last_number.to_bytes(8, "little"), LAST_AT)
     new.rename(path)
     for part in path.parent.glob(f"{path.stem}@*.journal*"):
         part.unlink()
