@@ -18,6 +18,7 @@ from ..collector.notes import Notes
 from ..collector.settings import Folder
 from ..collector.state import State
 from ..common import files
+from ..status import looking
 from .operations import No
 
 
@@ -31,8 +32,7 @@ def make(folder: Folder, to: Path) -> Iterator[str]:
         new.unlink(missing_ok=True)
         with contextlib.closing(sqlite3.connect(f"file:{folder.state}?mode=ro", uri=True, timeout=60.0)) as rows:
             rows.execute("VACUUM INTO ?", (str(new),))
-        with contextlib.closing(sqlite3.connect(new)) as rows:
-            known = rows.execute("SELECT name, standing, digest FROM database").fetchall()
+        known = looking.answer(new, "ro", "SELECT name, standing, digest FROM database")
         finished = {name: digest for name, standing, digest in known if standing == "finished"}
         bad = [name for name, digest in finished.items() if not copied(folder, name, digest, there)]
         for name, standing, _ in known:
@@ -98,8 +98,7 @@ def restore(folder: Folder, backup: Path, lock: int) -> Iterator[str]:
     if not kept.state.is_file():
         raise No(f"{kept.state} isn't there: no backup was finished")
     folder.make()
-    with contextlib.closing(sqlite3.connect(f"file:{kept.state}?mode=ro", uri=True)) as rows:
-        known = rows.execute("SELECT name, digest FROM database WHERE standing = 'finished'").fetchall()
+    known = looking.answer(kept.state, "ro", "SELECT name, digest FROM database WHERE standing = 'finished'")
     is_empty = not any(folder.databases.iterdir()) and not any(folder.sequences.iterdir())
     count = 0
     for name, digest in known:

@@ -9,7 +9,7 @@ from journalcollect.machine import settings as machine_settings
 from journalcollect.status import looking, words
 from journalcollect.status.findings import CLOCK, DAY, HOUR, Findings
 
-SERVICE, FILES = "journal-collect-send.service", "machine.conf.d"
+SERVICE = "journal-collect-send.service"
 # As few files as these are made in seconds.
 FREE_FILES = 16
 JOIN = "journal-collect-join HOST, as the guide has it"
@@ -70,7 +70,7 @@ def look(now: float, findings: Findings) -> Machine | None:
     try:
         chosen = machine_settings.read()
     except settings.Wrong as fault:
-        findings.wrong("settings", "machine", str(fault), f"change it below {settings.FOLDER}/{FILES}")
+        findings.wrong("settings", "machine", str(fault), f"change it below {settings.FOLDER}/machine.conf.d")
         return Machine()
     if not chosen.collector:
         return None
