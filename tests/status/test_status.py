@@ -82,7 +82,7 @@ def test_what_mends_each_trouble(computer: Computer, trouble: str, mends: str) -
     ("failed, and is tried again: [Errno 28] No space left on device", "make room on this machine's disk"),
     ("[Errno 74] Bad message: 'x': what can't be read any more of the outbox is put aside in y", "fsck")])
 def test_what_mends_what_a_machine_told(computer: Computer, told: str, mends: str) -> None:
-    machine(computer, ("acknowledged", NOW), told=told)
+    machine(computer, ("acknowledged", NOW - 1), told=told)
     finding = computer.told()["findings"][0]
     assert (finding["name"], mends in finding["remedy"]) == ("told", True)
 
