@@ -18,7 +18,7 @@ PLAIN = re.compile(rb"(?:[A-Z_][A-Z0-9_]{0,63}+=[^\n]*+\n)+\n")
 Part = tuple[bytes, bytes, bytes]
 
 
-class Unfit(Exception):
+class Unfit(ValueError):
     """The stream can't be followed any more."""
 
 

@@ -10,6 +10,7 @@ import codecs
 import re
 import sys
 from collections.abc import Callable, Iterator
+from contextlib import suppress
 from dataclasses import dataclass
 from io import BufferedReader
 
@@ -35,9 +36,6 @@ class Field:
     name: bytes
     text: bytearray
     length: int = 0
-
-    def cut(self) -> None:
-        del self.text[SHORT:]
 
 
 class Entry:
@@ -95,7 +93,7 @@ class Entry:
         field.text += text
         field.length += len(text)
         if self.is_large:
-            field.cut()
+            del field.text[SHORT:]
 
     def shorten(self) -> None:
         """It goes out with less."""
@@ -104,15 +102,15 @@ class Entry:
         for field in self.held:
             if self.overflow:
                 self.overflow(field.text)
-            field.cut()
+            del field.text[SHORT:]
 
-    def key(self) -> tuple[bytes, bytes]:
-        """The sequence id and the sequence number, as text."""
-        if b"__SEQNUM" in self.known and b"__SEQNUM_ID" in self.known:
-            return self.known[b"__SEQNUM_ID"], self.known[b"__SEQNUM"]
-        parts = dict(part.partition(b"=")[::2] for part in self.known.get(b"__CURSOR", b"").split(b";"))
+    def key(self) -> tuple[str, int]:
+        """The sequence id and the sequence number."""
         try:
-            return parts[b"s"], b"%d" % int(parts[b"i"], 16)
+            if b"__SEQNUM" in self.known and b"__SEQNUM_ID" in self.known:
+                return self.known[b"__SEQNUM_ID"].decode("ascii"), int(self.known[b"__SEQNUM"])
+            parts = dict(part.partition(b"=")[::2] for part in self.known.get(b"__CURSOR", b"").split(b";"))
+            return parts[b"s"].decode("ascii"), int(parts[b"i"], 16)
         except (KeyError, ValueError):
             raise Unfit("an entry has neither a sequence number nor a cursor that has it") from None
 
@@ -122,13 +120,16 @@ class Entry:
         text = self.known.get(b"__REALTIME_TIMESTAMP", b"")
         return int(text) if text.isdigit() and len(text) <= 20 else 0
 
-    def missing(self, sequence: bytes | None = None) -> bytes:
+    def missing(self, sequence: str = "") -> bytes:
         """The lines of its key that its text lacks, perhaps under another sequence id, and its end."""
-        own, number = self.key()
-        of = b"__SEQNUM_ID=%s\n" % (sequence or own) if sequence or b"__SEQNUM_ID" not in self.known else b""
-        return of + (b"" if b"__SEQNUM" in self.known else b"__SEQNUM=%s\n" % number) + b"\n"
+        text = ""
+        if sequence or b"__SEQNUM_ID" not in self.known:
+            text = f"__SEQNUM_ID={sequence or self.key()[0]}\n"
+        if b"__SEQNUM" not in self.known:
+            text += f"__SEQNUM={self.key()[1]}\n"
+        return text.encode() + b"\n"
 
-    def text(self, sequence: bytes | None = None) -> bytes:
+    def text(self, sequence: str = "") -> bytes:
         """Its text with its key, perhaps under another sequence id; of a large one what is left of it."""
         if self.whole and not sequence:
             return self.whole[:-1] + self.missing()
@@ -168,12 +169,9 @@ def rest(fields: list[Field]) -> list[bytes]:
 def beginning(text: bytes) -> bytes:
     """A message of which so much is there, cut where a character ends."""
     is_binary = text.startswith(b"MESSAGE\n")
-    value = text[len(b"MESSAGE\n") + 8:] if is_binary else text[len(b"MESSAGE="):]
-    try:
-        codecs.utf_8_decode(value)                  # a character may be cut at its end
-        value = value[:BEGINNING].decode("utf-8", "ignore").encode()
-    except UnicodeDecodeError:
-        value = value[:BEGINNING]
+    value = text[len(b"MESSAGE\n") + 8 * is_binary:][:BEGINNING]
+    with suppress(UnicodeDecodeError):
+        value = value[:codecs.utf_8_decode(value)[1]]
     return b"MESSAGE\n%s%s\n" % (len(value).to_bytes(8, "little"), value) if is_binary else b"MESSAGE=%s\n" % value
 
 
@@ -199,8 +197,7 @@ def main() -> None:
                 if not entry.is_large:
                     out.write(entry.text())
                 elif leave_out_large:
-                    of, number = (each.decode(errors="replace") for each in entry.key())
-                    print(f"left out: __SEQNUM={number} __SEQNUM_ID={of}", file=sys.stderr)
+                    print("left out: __SEQNUM={1} __SEQNUM_ID={0}".format(*entry.key()), file=sys.stderr)
                 else:
                     out.write(entry.missing())
     except Unfit as fault:

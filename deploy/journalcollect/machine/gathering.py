@@ -15,7 +15,7 @@ from journalcollect.machine import journal
 from journalcollect.machine.journal import Journal, JournalFile, Reading
 from journalcollect.machine.outbox import Making, Outbox, Piece
 from journalcollect.machine.places import Place, Places
-from journalcollect.machine.refused import Refused, Whole
+from journalcollect.machine.refused import Refused
 from journalcollect.machine.settings import Settings, seconds
 from journalcollect.machine.unreadable import Unreadable, next_readable
 
@@ -23,7 +23,8 @@ from journalcollect.machine.unreadable import Unreadable, next_readable
 class Gathering:
     def __init__(self, settings: Settings, report: Report, places: Places, outbox: Outbox, refused: Refused) -> None:
         self.settings, self.report, self.places, self.outbox = settings, report, places, outbox
-        self.whole = None if settings.leave_out_large else Whole(refused)
+        # Who gets the whole text of an entry over a limit, if anybody does.
+        self.whole = None if settings.leave_out_large else refused
         self.journal = Journal(settings.journals.split())
         self.since = places.value("since") or (seconds(settings.since) if settings.since else "")
 
@@ -161,7 +162,7 @@ class Gathering:
             self.whole.begin()
         try:
             for entry in reading.entries():
-                sequence, number = entry.key()[0].decode("ascii"), int(entry.key()[1])
+                number = entry.key()[1]
                 cursor = entry.known.get(b"__CURSOR", b"").decode("ascii", "replace")
                 if number <= place.number:
                     if number == place.number and cursor != place.cursor:
@@ -171,19 +172,21 @@ class Gathering:
                     self.report.say(LOOK, f"left out, for journalctl can't read it: what is behind "
                                     f"{place.cursor or '-'} and before {cursor}")
                 self.is_stepping = False
-                if not self.add(self.piece(entry, sequence, number)):
+                if not self.add(self.piece(entry)):
                     break
                 place.number, place.cursor = number, cursor
                 place.see(1)
-        except (Unfit, ValueError) as fault:
+        except Unfit as fault:
             self.report.say(LOOK, f"journalctl shows what can't be followed: {fault}")
         return False
 
-    def piece(self, entry: Entry, sequence: str, number: int) -> Piece:
-        new = self.places.forked(sequence, number)
-        piece = Piece.of(entry, new if new != sequence else None)
+    def piece(self, entry: Entry) -> Piece:
+        piece = Piece.of(entry, self.places.forked(*entry.key()))
         if entry.is_large:
-            kept = self.whole.keep(piece.name) if self.whole else ""
+            kept = ""
+            if self.whole:
+                self.whole.write(b"\n")
+                kept = f"; {self.whole.keep(piece.name)}"
             self.report.say(FINE, f"over a limit, and goes out without what makes it so: {piece.name}{kept}")
         return piece
 
@@ -204,8 +207,8 @@ class Gathering:
         try:
             self.places.move(self.moves.values())
         except sqlite3.Error:
-            for number in made:                     # else it would be made again and again, until the disk is full
-                self.outbox.remove(number)
+            if made is not None:                    # else it would be made again and again, until the disk is full
+                self.outbox.remove(made)
             raise
         self.moves = {self.place.file: self.place}
         self.is_late = time.monotonic() >= self.until or self.is_full()

@@ -7,12 +7,13 @@ as new stays as `had`, and the last that was stored before as `repeated`: so a l
 be asked for.
 """
 import errno
+import math
 import os
 import re
 import time
-from collections.abc import Iterable, Iterator
+from collections.abc import Iterator
 from contextlib import contextmanager, suppress
-from itertools import accumulate, groupby
+from itertools import accumulate
 from pathlib import Path
 from typing import NamedTuple
 
@@ -39,11 +40,10 @@ class Piece(NamedTuple):
     text: bytes
 
     @classmethod
-    def of(cls, entry: Entry, sequence: str | None = None) -> "Piece":
-        """The entry, perhaps in another sequence."""
+    def of(cls, entry: Entry, sequence: str) -> "Piece":
+        """The entry in a sequence: its own or another one."""
         own, number = entry.key()
-        text = entry.text(sequence.encode() if sequence else None)
-        return cls(sequence or own.decode("ascii"), int(number), entry.realtime, text)
+        return cls(sequence, number, entry.realtime, entry.text("" if sequence == own else sequence))
 
     @property
     def name(self) -> str:
@@ -58,7 +58,7 @@ class Piece(NamedTuple):
         if entry.was_shortened:
             return None
         entry.shorten()
-        return self.of(entry)
+        return self.of(entry, self.sequence)
 
 
 def pieces_in(data: bytes) -> tuple[list[Piece], bytes]:
@@ -68,10 +68,10 @@ def pieces_in(data: bytes) -> tuple[list[Piece], bytes]:
     body.seek(end)
     try:
         for entry in entries(body):
-            (sequence, number), text = entry.key(), data[end:body.tell()]
-            pieces.append(Piece(sequence.decode("ascii"), int(number), entry.realtime, text))
+            text = data[end:body.tell()]
+            pieces.append(Piece(*entry.key(), entry.realtime, text))
             end += len(text)
-    except (Unfit, ValueError):
+    except Unfit:
         pass
     return pieces, data[end:]
 
@@ -154,9 +154,9 @@ class Outbox:
     def bytes(self) -> int:
         return sum(self.sizes.values())
 
-    def put(self, pieces: list[Piece]) -> list[int]:
+    def put(self, pieces: list[Piece]) -> int | None:
         """Makes an upload of some entries of one sequence. One that the program can't take is kept for a person, and
-        the others go out. The numbers of what was made: none, or one."""
+        the others go out. The number of what was made, if any do."""
         stream, new = self.folder / "stream", self.folder / "new"
         with self.reading():
             for path in (stream, new):
@@ -178,8 +178,8 @@ class Outbox:
                 number += 1
             files.move(new, self.path(number))
             self.sizes[number] = files.size(self.path(number))
-            return [number]
-        return []
+            return number
+        return None
 
     def pieces(self, number: int) -> list[Piece]:
         """The entries of an upload. What can't be followed of it, as after damage, is kept for a person."""
@@ -189,21 +189,18 @@ class Outbox:
                              "sends what the journal has of it")
         return pieces
 
-    def replace(self, number: int, groups: Iterable[list[Piece]]) -> None:
-        """Others take an upload's place, one for each group and sequence: whatever stops it, it or they are there."""
+    def replace(self, number: int, *groups: list[Piece], most: float = math.inf) -> None:
+        """Others take an upload's place: of each group's entries, and of at most so many bytes or of one entry.
+        Whatever stops it, it or they are there."""
         for group in groups:
-            for _, pieces in groupby(group, lambda piece: piece.sequence):
-                self.put(list(pieces))
+            making = Making(most)
+            for piece in group:
+                if not making.fits(piece):
+                    self.put(making.pieces)
+                    making = Making(most)
+                making.add(piece)
+            self.put(making.pieces)
         self.remove(number)
-
-    def cut(self, number: int, pieces: list[Piece], most: int) -> None:
-        """Uploads of at most so many bytes, or of one entry, take its place."""
-        parts = [Making(most)]
-        for piece in pieces:
-            if not parts[-1].fits(piece):
-                parts.append(Making(most))
-            parts[-1].add(piece)
-        self.replace(number, [part.pieces for part in parts])
 
     def remove(self, number: int) -> None:
         self.path(number).unlink(missing_ok=True)
@@ -213,7 +210,7 @@ class Outbox:
 class Making:
     """The entries of an upload that is being made: one sequence, within a size and a number of files of notes."""
 
-    def __init__(self, most: int) -> None:
+    def __init__(self, most: float) -> None:
         self.most = most
         self.pieces: list[Piece] = []
         self.windows: set[int] = set()

@@ -30,7 +30,7 @@ class Refusals:
             return False
         pieces = self.outbox.pieces(number)
         if answer.code == Code.OVER_BOUNDS and 0 < answer.place < len(pieces):
-            self.outbox.replace(number, [pieces[:answer.place], pieces[answer.place:]])
+            self.outbox.replace(number, pieces[:answer.place], pieces[answer.place:])
         elif answer.code == Code.OVER_BOUNDS:
             self.halve(number, pieces, "it passes a bound of the collector")
         elif answer.code in (Code.CONFLICT, Code.NOT_THE_OWNER) and answer.place < len(pieces):
@@ -44,7 +44,7 @@ class Refusals:
         is another machine's nothing is taken. Two entries with one number part first."""
         piece, code = pieces[answer.place], answer.code
         if any(each.number == piece.number for each in pieces[:answer.place]):
-            self.outbox.replace(number, [pieces[:answer.place], pieces[answer.place:]])
+            self.outbox.replace(number, pieces[:answer.place], pieces[answer.place:])
         elif self.places.forked(piece.sequence, piece.number) == piece.sequence:
             first = piece.number if code == Code.CONFLICT else 0
             new = self.places.fork(piece.sequence, first)
@@ -59,7 +59,7 @@ class Refusals:
         news = [self.places.forked(piece.sequence, piece.number) for piece in pieces]
         if news == [piece.sequence for piece in pieces]:
             return False
-        self.outbox.replace(number, [[Piece.of(piece.entry(), new) for piece, new in zip(pieces, news)]])
+        self.outbox.replace(number, [Piece.of(piece.entry(), new) for piece, new in zip(pieces, news)])
         return True
 
     def take_byte(self, number: int, answer: Answer, pieces: list[Piece], tries: int) -> bool:
@@ -74,7 +74,7 @@ class Refusals:
         if pieces and code > Code.OVER_BOUNDS:
             at = at_byte(pieces, place)
             pieces[at:at + 1] = self.without(pieces[at], f"code {code}", code in TOO_LARGE)
-        self.outbox.replace(number, [pieces])
+        self.outbox.replace(number, pieces)
         return True
 
     def without(self, piece: Piece, why: str, may_shorten: bool) -> list[Piece]:
@@ -88,4 +88,4 @@ class Refusals:
         """It goes on in parts of half its size; a single entry goes out with less, and then not at all."""
         if len(pieces) == 1:
             pieces = self.without(pieces[0], why, True)
-        self.outbox.cut(number, pieces, sum(len(piece.text) for piece in pieces) // 2)
+        self.outbox.replace(number, pieces, most=sum(len(piece.text) for piece in pieces) // 2)

@@ -9,7 +9,6 @@ import random
 import time
 
 from journalcollect.common import program, protocol
-from journalcollect.common.export_stream import Unfit
 from journalcollect.common.protocol import LONGEST_LINE, Answer, Greeting, Known, Put, Reply, Upload, Verdict
 from journalcollect.common.report import FAILED, LOOK, Report
 from journalcollect.common.uploads import SOURCE
@@ -27,7 +26,7 @@ FIRST_PAUSE, LONGEST_PAUSE = 5.0, 60.0
 # Who has nothing to send asks once a day whether the collector lost something.
 SILENT_SECONDS, SKEW_SECONDS = 86_400.0, 60
 # What may pass, and is told and tried again.
-FAILURES = (OSError, program.Failed, Unfit, ValueError)
+FAILURES = (OSError, program.Failed, ValueError)
 
 
 class Sending:
@@ -62,7 +61,7 @@ class Sending:
         bound = self.places.bound(self.settings.upload_bytes)
         data = self.outbox.read(number)
         if len(data) > bound and len(pieces := self.outbox.pieces(number)) > 1:
-            self.outbox.cut(number, pieces, bound)
+            self.outbox.replace(number, pieces, most=bound)
             return
         if self.refusals.go_on_forked(number):
             return
@@ -121,7 +120,7 @@ class Sending:
         try:
             status, line = program.acknowledged(self.outbox.path(number), lines)
         except program.Failed:
-            self.outbox.replace(number, [self.outbox.pieces(number)])    # damaged: what can be followed of it goes on
+            self.outbox.replace(number, self.outbox.pieces(number))     # damaged: what can be followed of it goes on
             raise
         if status == program.OK:
             acks = [line.split(" ") for line in lines.splitlines() if line.startswith(f"ack {data[SOURCE].hex()} ")]

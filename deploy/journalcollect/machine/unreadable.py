@@ -32,8 +32,8 @@ class Search:
         """With these options journalctl shows an entry that is behind."""
         reading, is_shown = Reading(self.handle, options), False
         try:
-            is_shown = any(int(entry.key()[1]) > self.after for entry in reading.entries())
-        except (Unfit, ValueError):
+            is_shown = any(entry.key()[1] > self.after for entry in reading.entries())
+        except Unfit:
             pass
         reading.end(not is_shown)
         self.works = self.works or is_shown or reading.status == 0 or reading.broken is not None
