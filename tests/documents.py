@@ -92,10 +92,10 @@ def printed_codes(program: str) -> Iterator[str]:
 def python() -> Iterator[str]:
     """Codes and limits of deploy/ that aren't those of the tables."""
     named = re.compile(r"^    ([A-Z_, ]+) = ([\d, ]+)$", re.MULTILINE)
-    for names, numbers in named.findall(text_of("deploy/journalcollect/common/codes.py")):
+    for names, numbers in named.findall(text_of("deploy/journalcollect/common/program.py")):
         for name, number in zip(names.split(", "), map(int, numbers.split(", "))):
             if (number, name.title().replace("_", "")) not in codes_of_table():
-                yield f"deploy/journalcollect/common/codes.py: {number} isn't {name} in docs/FORMATS.md"
+                yield f"deploy/journalcollect/common/program.py: {number} isn't {name} in docs/FORMATS.md"
     rows = dict(re.findall(r"^\| (\w+) \| .* \| [\d,]+ \| ([\d,]+) \|$", text_of("docs/FORMATS.md"), re.MULTILINE))
     limits = found(r"^NAME, VALUE, FIELDS, ENTRY = (.*)$", "deploy/journalcollect/common/fit.py")
     if limits is None or limits.replace("_", "").split(", ") != [

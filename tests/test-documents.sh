@@ -61,6 +61,6 @@ changed crates/jc_base/refused/limit-off-by-one.edit '/^goal:/d' \
 changed docs/FORMATS.md 's/^\| 60 \|/| 59 |/' "~code (59, *code (60, *"
 changed docs/FORMATS.md 's/^(\| value \| .* )[0-9,]+ \|$/\17 |/' \
     "deploy/journalcollect/common/fit.py has other limits than docs/FORMATS.md"
-changed deploy/journalcollect/common/codes.py 's/OVER_BOUNDS = 6/OVER_BOUNDS = 7/' \
-    "deploy/journalcollect/common/codes.py: 7 isn't OVER_BOUNDS in docs/FORMATS.md"
+changed deploy/journalcollect/common/program.py 's/OVER_BOUNDS = 6/OVER_BOUNDS = 7/' \
+    "deploy/journalcollect/common/program.py: 7 isn't OVER_BOUNDS in docs/FORMATS.md"
 finish

@@ -11,8 +11,9 @@ import sqlite3
 import subprocess
 import uuid
 from collections.abc import Iterator
+from io import BufferedReader
 from pathlib import Path
-from typing import NamedTuple
+from typing import NamedTuple, cast
 
 from ..common import files
 from ..common.uploads import WINDOW
@@ -33,12 +34,13 @@ class Unrecovered(Exception):
 
 
 class Summary(NamedTuple):
-    """What a finished database has: its entries, the first and last of their times in microseconds, its bytes, its
-    digest, and how many entries each window of a sequence has."""
+    """What a finished database has: its entries, the first and last of their times in microseconds, its bytes, also
+    packed if it is, its digest, and how many entries each window of a sequence has."""
     entries: int
     first: int | None
     last: int | None
     bytes: int
+    packed: int | None
     digest: str
     windows: dict[tuple[str, int], int]
 
@@ -101,25 +103,20 @@ def finish(path: Path) -> str:
     return digest
 
 
-def summary(folder: Folder, name: str, digest: str) -> tuple[Summary, int | None]:
-    """What a finished database has, by its tables; and how many bytes it takes if it is packed."""
+def summary(folder: Folder, name: str, digest: str) -> Summary:
+    """What a finished database has, by its tables."""
     path = path_of(folder, name)
-    if path.exists():
-        return tables_of(path, digest), None
-    with unpacked(folder, name) as copy:
-        return tables_of(copy, digest), files.size(beside(path, ".zst"))
-
-
-def tables_of(path: Path, digest: str) -> Summary:
-    try:
-        with contextlib.closing(sqlite3.connect(f"file:{path}?immutable=1", uri=True)) as tables:
-            entries, first, last = tables.execute(
-                "SELECT count(*), min(realtime), max(realtime) FROM entry").fetchone()
-            windows = {(sequence, window): count for sequence, window, count in tables.execute(
-                f"SELECT lower(hex(seqid)), seqnum / {WINDOW}, count(*) FROM entry GROUP BY 1, 2")}
-    except sqlite3.Error as error:
-        raise Damaged(f"{path}: {error}") from error
-    return Summary(entries, first, last, path.stat().st_size, digest, windows)
+    packed = None if path.exists() else files.size(beside(path, ".zst"))
+    with contextlib.nullcontext(path) if packed is None else unpacked(folder, name) as there:
+        try:
+            with contextlib.closing(sqlite3.connect(f"file:{there}?immutable=1", uri=True)) as tables:
+                entries, first, last = tables.execute(
+                    "SELECT count(*), min(realtime), max(realtime) FROM entry").fetchone()
+                windows = {(sequence, window): count for sequence, window, count in tables.execute(
+                    f"SELECT lower(hex(seqid)), seqnum / {WINDOW}, count(*) FROM entry GROUP BY 1, 2")}
+        except sqlite3.Error as error:
+            raise Damaged(f"{there}: {error}") from error
+        return Summary(entries, first, last, there.stat().st_size, packed, digest, windows)
 
 
 def delete(folder: Folder, name: str) -> None:
@@ -147,13 +144,10 @@ def pack(path: Path, digest: str) -> int:
 
 def unpacked_digest(path: Path) -> str:
     with subprocess.Popen(["zstd", "-dcq", path], stdout=subprocess.PIPE) as unpacking:
-        assert unpacking.stdout
-        digest = hashlib.sha256()
-        while piece := unpacking.stdout.read(1 << 20):
-            digest.update(piece)
+        digest = hashlib.file_digest(cast(BufferedReader, unpacking.stdout), "sha256").hexdigest()
     if unpacking.returncode:
         raise Damaged(f"{path} can't be unpacked")
-    return digest.hexdigest()
+    return digest
 
 
 @contextlib.contextmanager

@@ -7,6 +7,7 @@ import time
 from collections.abc import Iterator
 from pathlib import Path
 
+from ..common import files
 from ..common.settings import FOLDER
 from ..setup import keys
 from .gate import Gate
@@ -73,8 +74,5 @@ class Doors:
 
 def bind(listening: socket.socket, path: Path) -> None:
     """Gives a socket its name. A name over 107 bytes, which no socket may have, is reached by its open folder."""
-    folder = os.open(path.parent, os.O_PATH | os.O_DIRECTORY)
-    try:
+    with files.opened(path.parent, os.O_PATH | os.O_DIRECTORY) as folder:
         listening.bind(f"/proc/self/fd/{folder}/{path.name}")
-    finally:
-        os.close(folder)

@@ -95,21 +95,19 @@ class Notes:
     def make_anew(self, names: Iterable[Name], why: str) -> None:
         """Windows that aren't as they were are put aside, and made anew of the databases that were noted in them. If
         that is stopped, nothing is stored until it is done: they have no digest until then."""
-        wanted: dict[int, str] = {}
-        names = sorted(names)
-        if names:
-            others = f", and so are {len(names) - 1} others" if len(names) > 1 else ""
-            first = self.path(*names[0])
-            self.state.tell(f"notes {first}", f"{first}: {why}: it is put aside, and made anew of databases{others}")
+        if not (names := sorted(names)):
+            return
+        others = f", and so are {len(names) - 1} others" if len(names) > 1 else ""
+        first, wanted = self.path(*names[0]), dict[int, str]()
+        self.state.tell(f"notes {first}", f"{first}: {why}: it is put aside, and made anew of databases{others}")
         self.unmake(names)
         for name in names:
             path = self.path(*name)
             if path.is_symlink() or path.exists():
                 files.move(path, self.folder.quarantine / f"notes-{name[0]}-{name[1]}-{time.time_ns()}")
-            for number, database in self.state.ask(
-                    "SELECT database.id, name FROM noted JOIN database ON database.id BETWEEN noted.first AND "
-                    "noted.last WHERE sequence = ? AND window = ? AND standing = 'finished'", *name):
-                wanted[number] = database
+            wanted |= self.state.ask("SELECT database.id, name FROM noted JOIN database ON database.id BETWEEN "
+                                     "noted.first AND noted.last WHERE sequence = ? AND window = ? "
+                                     "AND standing = 'finished'", *name)
         for _, database in sorted(wanted.items()):
             self.note(database)
         for name in names:

@@ -13,7 +13,7 @@ from collections.abc import Iterator, Sequence
 from pathlib import Path
 
 from ..common import program, protocol
-from ..common.codes import Code
+from ..common.program import Code
 from .settings import CPU_SECONDS, MEMORY, Folder
 
 # So long it may take for its next answer, and to note what a database has.

@@ -41,7 +41,7 @@ class Recovery:
         """A database that has its digest is known from now on. If no other one is there that isn't finished, the notes
         have to be just those of finished ones."""
         try:
-            had, packed = databases.summary(self.folder, name, digest)
+            had = databases.summary(self.folder, name, digest)
         except Damaged as error:
             self.state.stands(name, "damaged")
             self.state.tell(f"damaged {name}", f"{error}: restore it from a backup")
@@ -52,10 +52,10 @@ class Recovery:
         sequences = {each.sequence for each in windows}
         is_lacking = any("" in (known := self.state.came_with(each)) or not known for each in sequences)
         owners = self.owners() if is_lacking else {}
-        self.state.finished(name, had, windows, owners, packed)
+        self.state.finished(name, had, windows, owners)
         log(f"finished: {name} with {had.entries} entries")
-        if is_alone and (unlike := self.notes.unlike(windows)):
-            self.notes.make_anew(unlike, "it has other notes than databases have entries")
+        if is_alone:
+            self.notes.make_anew(self.notes.unlike(windows), "it has other notes than databases have entries")
 
     def owners(self) -> dict[str, str]:
         """Whose each sequence is, by name, as far as the machine is known."""
@@ -78,8 +78,7 @@ class Recovery:
                 self.adopt(name, digest, is_alone=False)
         for name in sorted(finished - there):
             self.missing(name)
-        if short := self.notes.short():
-            self.notes.make_anew(short, "notes are lacking")
+        self.notes.make_anew(self.notes.short(), "notes are lacking")
 
     def missing(self, name: str) -> None:
         """A database is gone that nobody deleted or moved: what it had isn't acknowledged any more."""
@@ -130,8 +129,7 @@ class Recovery:
     def mend(self, said: str) -> bool:
         """What failed may be a file of notes, and no fault of the database: whether one was made anew."""
         bad = {(sequence, int(window)) for sequence, window in WINDOW.findall(said)}.union(self.notes.short())
-        if bad:
-            self.notes.make_anew(bad, "it can't be read, or has less than it had")
+        self.notes.make_anew(bad, "it can't be read, or has less than it had")
         return bool(bad)
 
     def quarantine(self, path: Path, why: str) -> list[tuple[str, Path]]:

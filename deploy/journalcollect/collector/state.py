@@ -9,7 +9,7 @@ import sys
 import threading
 import time
 from collections.abc import Iterator
-from dataclasses import astuple, dataclass, fields
+from dataclasses import astuple, dataclass
 from typing import Any, NamedTuple
 
 from ..common import files
@@ -133,9 +133,8 @@ class State:
         try:
             with self.transaction():
                 self.ask("DELETE FROM told")
-                for table, rows, kind in (("machine", machines, Machine), ("told", told, Told)):
-                    marks = ", ".join("?" for _ in fields(kind))
-                    self.rows.executemany(f"INSERT OR REPLACE INTO {table} VALUES({marks})", rows)
+                self.rows.executemany("INSERT OR REPLACE INTO machine VALUES(?, ?, ?, ?, ?, ?, ?, ?, ?)", machines)
+                self.rows.executemany("INSERT INTO told VALUES(?, ?, ?, ?, ?)", told)
                 self.ask("INSERT OR REPLACE INTO clock VALUES(1, ?, ?, ?, ?, ?)", *age)
             self.over("state")
         except sqlite3.Error as error:
@@ -192,15 +191,14 @@ class State:
         self.ask("INSERT INTO database(name, standing) VALUES(?1, ?2) "
                  "ON CONFLICT(name) DO UPDATE SET standing = ?2", name, standing)
 
-    def finished(self, name: str, had: Summary, windows: list[Window], owners: dict[str, str],
-                 packed: int | None) -> None:
+    def finished(self, name: str, had: Summary, windows: list[Window], owners: dict[str, str]) -> None:
         """A database was finished: what it has, how its windows are now, and whose its sequences are."""
         age = self.age.grown().days
         with self.transaction():
             self.ask("DELETE FROM database WHERE name = ?", name)
             self.ask("INSERT INTO database(name, standing, finished, age, checked, first, last, entries, bytes, "
                      "digest, packed) VALUES(?1, 'finished', ?2, ?3, ?3, ?4, ?5, ?6, ?7, ?8, ?9)", name, time.time(),
-                     age, had.first, had.last, had.entries, had.bytes, had.digest, packed)
+                     age, had.first, had.last, had.entries, had.bytes, had.digest, had.packed)
             number, = self.ask("SELECT id FROM database WHERE name = ?", name)[0]
             for each in windows:
                 self.ask("INSERT INTO noted VALUES(?1, ?2, ?3, ?4, ?5, ?6, ?6) ON CONFLICT DO UPDATE SET notes = ?3, "

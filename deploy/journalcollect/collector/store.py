@@ -11,7 +11,7 @@ from concurrent.futures import Future
 from pathlib import Path
 
 from ..common import files, program
-from ..common.codes import Code
+from ..common.program import Code
 from ..common.protocol import Answer, Put, Verdict
 from ..common.uploads import HEADER, MOST_WINDOWS
 from . import databases

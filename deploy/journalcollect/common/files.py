@@ -1,17 +1,24 @@
 """Files that are on the disk when a call returns, files without a name, and what is in a folder."""
 import os
 from collections.abc import Iterator
-from contextlib import contextmanager
+from contextlib import AbstractContextManager, contextmanager
 from pathlib import Path
+
+
+@contextmanager
+def opened(path: Path, flags: int = os.O_RDONLY) -> Iterator[int]:
+    """A file or a folder, open meanwhile."""
+    handle = os.open(path, flags, 0o600)
+    try:
+        yield handle
+    finally:
+        os.close(handle)
 
 
 def sync(path: Path) -> None:
     """What was written to a file, or which names a folder has, is on the disk afterwards."""
-    handle = os.open(path, os.O_RDONLY | os.O_CLOEXEC)
-    try:
+    with opened(path) as handle:
         os.fsync(handle)
-    finally:
-        os.close(handle)
 
 
 def move(path: Path, to: Path) -> None:
@@ -24,7 +31,7 @@ def replace(path: Path, data: bytes, mode: int = 0o600) -> None:
     """Gives a file other bytes: whatever stops it, the old ones are there or the new ones."""
     new = path.with_name(path.name + ".new")
     new.unlink(missing_ok=True)
-    with open(os.open(new, os.O_WRONLY | os.O_CREAT | os.O_EXCL | os.O_CLOEXEC, 0o600), "wb") as file:
+    with open(os.open(new, os.O_WRONLY | os.O_CREAT | os.O_EXCL, 0o600), "wb") as file:
         os.fchmod(file.fileno(), mode)
         file.write(data)
         file.flush()
@@ -32,14 +39,9 @@ def replace(path: Path, data: bytes, mode: int = 0o600) -> None:
     move(new, path)
 
 
-@contextmanager
-def unnamed(folder: Path) -> Iterator[int]:
-    """A file without a name on the disk of a folder, open for reading and writing. It is gone when it is closed."""
-    handle = os.open(folder, os.O_TMPFILE | os.O_RDWR | os.O_CLOEXEC, 0o600)
-    try:
-        yield handle
-    finally:
-        os.close(handle)
+def unnamed(folder: Path) -> AbstractContextManager[int]:
+    """A file without a name on the disk of a folder, for reading and writing. It is gone when it is closed."""
+    return opened(folder, os.O_TMPFILE | os.O_RDWR)
 
 
 def link(handle: int, path: Path) -> None:

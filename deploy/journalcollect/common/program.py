@@ -1,4 +1,5 @@
 """The program journal-collect: every call of it is made here."""
+import enum
 import os
 import subprocess
 from collections.abc import Iterable
@@ -7,6 +8,19 @@ from pathlib import Path
 # The environment variable that names another program than the installed one, as tests do.
 VARIABLE = "JOURNAL_COLLECT"
 OK, REFUSED, USAGE, FAILED, NONE = range(5)
+
+
+class Code(enum.IntEnum):
+    """Why an upload isn't taken, as far as it is told apart here, by the names that docs/FORMATS.md gives them."""
+    OVER_BOUNDS = 6
+    NAME_TOO_LONG, VALUE_TOO_LONG = 11, 12
+    TOO_MANY_FIELDS, ENTRY_TOO_LONG = 14, 15
+    CONFLICT, READ_FAILED, STORE_FAILED, OUT_OF_MEMORY, NOT_THE_OWNER = 60, 61, 62, 63, 71
+
+
+# What failed at the collector, and may be taken when it comes again; and what an entry with less may be taken for.
+FAILURES = Code.READ_FAILED, Code.STORE_FAILED, Code.OUT_OF_MEMORY
+TOO_LARGE = Code.NAME_TOO_LONG, Code.VALUE_TOO_LONG, Code.TOO_MANY_FIELDS, Code.ENTRY_TOO_LONG
 
 
 class Failed(Exception):

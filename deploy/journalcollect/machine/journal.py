@@ -58,16 +58,13 @@ def read_header(path: Path, handle: int) -> JournalFile:
 
 
 def opened(path: Path) -> int:
-    return os.open(path, os.O_RDONLY | os.O_CLOEXEC | os.O_NONBLOCK)
+    return os.open(path, os.O_RDONLY | os.O_NONBLOCK)
 
 
 def looked_at(path: Path) -> JournalFile:
     """The file of this path as it is now; an OSError or a ValueError if it can't be read."""
-    handle = opened(path)
-    try:
-        return read_header(path, handle)
-    finally:
-        os.close(handle)
+    with open(opened(path), "rb", 0) as file:
+        return read_header(path, file.fileno())
 
 
 class Reading:

@@ -9,7 +9,7 @@
 - `smaller`, `never`: it is halved, down to the entry that is meant.
 """
 from journalcollect.common import program
-from journalcollect.common.codes import FAILURES, TOO_LARGE, Code
+from journalcollect.common.program import FAILURES, TOO_LARGE, Code
 from journalcollect.common.protocol import Answer
 from journalcollect.common.report import LOOK, Report
 from journalcollect.machine.outbox import Outbox, Piece, at_byte
