@@ -10,30 +10,29 @@ import time
 
 from journalcollect.common.export_stream import Unfit
 from journalcollect.common.fit import Entry
-from journalcollect.common.report import FINE, LOOK, Report
+from journalcollect.common.report import FINE, LOOK
 from journalcollect.machine import journal
 from journalcollect.machine.journal import Journal, JournalFile, Reading
 from journalcollect.machine.outbox import Making, Outbox, Piece
-from journalcollect.machine.places import Place, Places
-from journalcollect.machine.refused import Refused
+from journalcollect.machine.places import Place
 from journalcollect.machine.settings import Settings, seconds
 from journalcollect.machine.unreadable import Unreadable, next_readable
 
 
 class Gathering:
-    def __init__(self, settings: Settings, report: Report, places: Places, outbox: Outbox, refused: Refused) -> None:
-        self.settings, self.report, self.places, self.outbox = settings, report, places, outbox
+    def __init__(self, settings: Settings, outbox: Outbox) -> None:
+        self.settings, self.outbox, self.places, self.report = settings, outbox, outbox.places, outbox.report
         # Who gets the whole text of an entry over a limit, if anybody does.
-        self.whole = None if settings.leave_out_large else refused
+        self.whole = None if settings.leave_out_large else outbox.refused
         self.journal = Journal(settings.journals.split())
-        self.since = places.value("since") or (seconds(settings.since) if settings.since else "")
+        self.since = self.places.value("since") or (seconds(settings.since) if settings.since else "")
 
     def gather(self, until: float) -> bool:
         """Gathers what is new, up to a time; whether there is more."""
         self.until, self.is_late = until, self.is_full()
         self.making = Making(self.places.bound(self.settings.upload_bytes))
         # The places that move when what is made is in the outbox.
-        self.moves: dict[str, Place] = {}
+        self.moves: list[Place] = []
         if again := self.places.value("again"):
             self.places.go_back(again)
         known = self.look()
@@ -41,7 +40,7 @@ class Gathering:
             if self.is_late:
                 break
             place = known.get(file.id) or Place.first(file, "")
-            if (place.tail, place.is_archived) != (file.tail, file.is_archived) or self.is_other(file, place):
+            if (place.tail, place.is_archived) != (file.tail, file.is_archived) or place.is_other(file):
                 self.gather_path(file, place)
         self.put()
         return self.is_late
@@ -96,7 +95,7 @@ class Gathering:
         try:
             now = journal.read_header(file.path, handle)
             if now.id == file.id:
-                self.moves[file.id] = self.place = place
+                self.moves.append(place)
                 self.gather_file(now, handle, place)
         except Unreadable:
             if not journal.is_removed(handle):
@@ -104,13 +103,8 @@ class Gathering:
         finally:
             os.close(handle)
 
-    @staticmethod
-    def is_other(file: JournalFile, place: Place) -> bool:
-        """The file has other entries than were gathered: it was set back."""
-        return place.number > file.tail or (place.number == file.tail and place.realtime != file.tail_realtime)
-
     def gather_file(self, file: JournalFile, handle: int, place: Place) -> None:
-        if self.is_other(file, place):
+        if place.is_other(file):
             self.gather_anew(file, place)
         options: list[str] | None = place.options()
         first, self.is_stepping = place.cursor, False
@@ -124,7 +118,7 @@ class Gathering:
             if is_other:
                 self.gather_anew(file, place)
                 first, options = "", []
-            elif self.is_at_end(place, file, reading) or journal.is_removed(handle):
+            elif place.is_at_end(file, reading.status == 0 and reading.broken is None) or journal.is_removed(handle):
                 break
             elif reading.status < 0 and place.number > before:
                 options = place.options()           # a signal ended it
@@ -146,14 +140,6 @@ class Gathering:
             self.report.say(LOOK, f"left out, for journalctl doesn't show them: {unseen} of the entries of "
                             f"{file.path}, after {first or 'its beginning'} and up to {place.cursor or 'its end'}")
             place.see(unseen)
-
-    @staticmethod
-    def is_at_end(place: Place, file: JournalFile, reading: Reading) -> bool:
-        """All that the file had when it was opened was shown. Its last number may be one that no entry got, and of a
-        time since which nothing was logged nothing is shown."""
-        is_whole = reading.status == 0 and reading.broken is None
-        is_nothing = not place.number and bool(place.since)
-        return place.number >= file.tail or (is_whole and (is_nothing or place.realtime == file.tail_realtime))
 
     def take(self, reading: Reading, place: Place) -> bool:
         """Takes a reading's entries, up to where no more are wanted; whether the file has other ones than were gathered
@@ -205,12 +191,12 @@ class Gathering:
         made = self.outbox.put(self.making.pieces)
         self.making = Making(self.making.most)
         try:
-            self.places.move(self.moves.values())
+            self.places.move(self.moves)
         except sqlite3.Error:
             if made is not None:                    # else it would be made again and again, until the disk is full
                 self.outbox.remove(made)
             raise
-        self.moves = {self.place.file: self.place}
+        self.moves = self.moves[-1:]
         self.is_late = time.monotonic() >= self.until or self.is_full()
 
     def is_full(self) -> bool:

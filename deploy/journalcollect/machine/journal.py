@@ -167,9 +167,9 @@ def is_removed(handle: int) -> bool:
     return os.fstat(handle).st_nlink == 0
 
 
-def cursor_of(sequence: str, number: int) -> str:
-    """A cursor that journalctl takes for the first entry that has at least this number."""
-    return f"s={sequence};i={number:x}"
+def from_number(sequence: str, number: int) -> list[str]:
+    """The options with which journalctl begins at the first entry that has at least this number."""
+    return [f"--cursor=s={sequence};i={number:x}"]
 
 
 def cursor_parts(cursor: str) -> tuple[int, int]:

@@ -20,10 +20,9 @@ from typing import NamedTuple
 from journalcollect.common import files, program, protocol
 from journalcollect.common.export_stream import Unfit, buffered
 from journalcollect.common.fit import Entry, entries
-from journalcollect.common.report import LOOK
+from journalcollect.common.report import LOOK, Report
 from journalcollect.common.uploads import HEADER, MOST_WINDOWS, WINDOW
 from journalcollect.machine.places import Places
-from journalcollect.machine.refused import Refused
 
 # What a disk says of what it can't read any more, as a loss of power may leave it.
 UNREADABLE = errno.EIO, errno.EBADMSG, errno.EUCLEAN
@@ -82,9 +81,47 @@ def at_byte(pieces: list[Piece], place: int) -> int:
     return min(sum(end <= place for end in ends), len(pieces) - 1)
 
 
+class Refused:
+    """What a person may want to look at: the texts of entries that weren't stored as they are, each in a file
+    refused/SEQUENCE-NUMBER.export, in an eighth of what the machine's folder may take."""
+
+    def __init__(self, folder: Path, folder_bytes: int, report: Report) -> None:
+        self.folder, self.most, self.report = folder / "refused", folder_bytes // 8, report
+        self.folder.mkdir(exist_ok=True)
+        self.new = self.folder / "new"
+
+    def begin(self) -> None:
+        """Nothing is kept of a text yet."""
+        self.new.unlink(missing_ok=True)
+        self.room = self.most - sum(map(files.size, self.folder.iterdir()))
+
+    def write(self, text: bytes) -> None:
+        """Some more of it comes."""
+        self.room -= len(text)
+        if self.room >= 0:
+            with open(self.new, "ab") as file:
+                file.write(text)
+
+    def keep(self, name: str) -> str:
+        """It is whole, and the next one begins; what is said of it."""
+        has_room = self.room >= 0
+        if has_room:
+            files.sync(self.new)
+            files.move(self.new, self.folder / name)
+        self.begin()
+        return f"its text is in {self.folder}/{name}" if has_room else f"its text isn't kept, for {self.folder} is full"
+
+    def put(self, name: str, text: bytes, why: str) -> None:
+        """Keeps a text for a person, and says why."""
+        self.begin()
+        self.write(text)
+        self.report.say(LOOK, f"{why}; {self.keep(name)}, and the others go on")
+
+
 class Outbox:
-    def __init__(self, folder: Path, refused: Refused, places: Places) -> None:
-        self.folder, self.refused, self.places = folder / "outbox", refused, places
+    def __init__(self, folder: Path, folder_bytes: int, places: Places) -> None:
+        self.folder, self.places, self.report = folder / "outbox", places, places.report
+        self.refused = Refused(folder, folder_bytes, self.report)
         self.open()
 
     def open(self) -> None:
@@ -118,8 +155,8 @@ class Outbox:
                 self.places.forget_all()
                 files.move(self.folder, aside)
                 self.open()
-                self.refused.report.say(LOOK, f"{error}: what can't be read any more of the outbox is put aside in "
-                                        f"{aside}, and what the journal has goes out once more")
+                self.report.say(LOOK, f"{error}: what can't be read any more of the outbox is put aside in "
+                                f"{aside}, and what the journal has goes out once more")
             raise
 
     def acknowledged(self, number: int, is_new: bool) -> None:

@@ -20,7 +20,7 @@ from pathlib import Path
 
 from journalcollect.common.damage import is_damage
 from journalcollect.common.report import LOOK, Report
-from journalcollect.machine.journal import JournalFile, cursor_of, cursor_parts
+from journalcollect.machine.journal import JournalFile, cursor_parts, from_number
 
 VERSION = 1
 TABLES = f"""
@@ -62,8 +62,18 @@ class Place:
     def options(self) -> list[str]:
         """What journalctl takes to show what comes from this place on, and perhaps the entry before it."""
         if self.number:
-            return [f"--cursor={cursor_of(self.sequence, self.number)}"]
+            return from_number(self.sequence, self.number)
         return [f"--since={self.since}"] if self.since else []
+
+    def is_other(self, file: JournalFile) -> bool:
+        """The file has other entries than were gathered: it was set back."""
+        return self.number > file.tail or (self.number == file.tail and self.realtime != file.tail_realtime)
+
+    def is_at_end(self, file: JournalFile, is_whole: bool) -> bool:
+        """All that the file had when it was opened was shown. Its last number may be one that no entry got, and of a
+        time since which nothing was logged nothing is shown."""
+        is_nothing = not self.number and bool(self.since)
+        return self.number >= file.tail or (is_whole and (is_nothing or self.realtime == file.tail_realtime))
 
     def see(self, count: int) -> None:
         self.count += count if self.count >= 0 else 0

@@ -11,18 +11,16 @@
 from journalcollect.common import program
 from journalcollect.common.program import FAILURES, TOO_LARGE, Code
 from journalcollect.common.protocol import Answer
-from journalcollect.common.report import LOOK, Report
+from journalcollect.common.report import LOOK
 from journalcollect.machine.outbox import Outbox, Piece, at_byte
-from journalcollect.machine.places import Places
-from journalcollect.machine.refused import Refused
 
 # An entry whose text is whole here is believed to be at fault once the collector said so as often.
 BELIEVED = 2
 
 
 class Refusals:
-    def __init__(self, places: Places, outbox: Outbox, refused: Refused, report: Report) -> None:
-        self.places, self.outbox, self.refused, self.report = places, outbox, refused, report
+    def __init__(self, outbox: Outbox) -> None:
+        self.outbox, self.places, self.report = outbox, outbox.places, outbox.report
 
     def take(self, number: int, answer: Answer, tries: int) -> bool:
         """An upload was refused, for so many times; whether something was done about it that lets it go out again."""
@@ -81,7 +79,7 @@ class Refusals:
         """What goes out of an entry that can't be taken as it is."""
         less = piece.shortened() if may_shorten else None
         goes = ", and goes out with less" if less else ""
-        self.refused.put(piece.name, piece.text, f"an entry isn't taken{goes}: {why}")
+        self.outbox.refused.put(piece.name, piece.text, f"an entry isn't taken{goes}: {why}")
         return [less] if less else []
 
     def halve(self, number: int, pieces: list[Piece], why: str) -> None:

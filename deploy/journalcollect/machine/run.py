@@ -22,8 +22,6 @@ from journalcollect.machine.gathering import Gathering
 from journalcollect.machine.link import Link
 from journalcollect.machine.outbox import Outbox
 from journalcollect.machine.places import Places
-from journalcollect.machine.refusals import Refusals
-from journalcollect.machine.refused import Refused
 from journalcollect.machine.sending import FAILURES, FIRST_PAUSE, Sending
 from journalcollect.machine.settings import Settings
 
@@ -38,11 +36,8 @@ class Machine:
         folder = Path(chosen.folder)
         self.chosen, self.report, self.places = chosen, report, Places(folder, report)
         report.note = self.places.tell
-        refused = Refused(folder, chosen.folder_bytes, report)
-        self.outbox = Outbox(folder, refused, self.places)
-        self.gathering = Gathering(chosen, report, self.places, self.outbox, refused)
-        refusals = Refusals(self.places, self.outbox, refused, report)
-        self.sending = Sending(chosen, report, self.places, self.outbox, refusals)
+        self.outbox = Outbox(folder, chosen.folder_bytes, self.places)
+        self.gathering, self.sending = Gathering(chosen, self.outbox), Sending(chosen, self.outbox)
         self.has_more, self.gathers_at = True, 0.0
 
     def stay(self) -> None:

@@ -10,11 +10,11 @@ import time
 
 from journalcollect.common import program, protocol
 from journalcollect.common.protocol import LONGEST_LINE, Answer, Greeting, Known, Put, Reply, Upload, Verdict
-from journalcollect.common.report import FAILED, LOOK, Report
+from journalcollect.common.report import FAILED, LOOK
 from journalcollect.common.uploads import SOURCE
 from journalcollect.machine.link import Link, Lost
 from journalcollect.machine.outbox import Outbox
-from journalcollect.machine.places import LONGEST_REST, NEVER, Places
+from journalcollect.machine.places import LONGEST_REST, NEVER
 from journalcollect.machine.refusals import Refusals
 from journalcollect.machine.settings import Settings
 
@@ -30,9 +30,10 @@ FAILURES = (OSError, program.Failed, ValueError)
 
 
 class Sending:
-    def __init__(self, settings: Settings, report: Report, places: Places, outbox: Outbox, refusals: Refusals) -> None:
-        self.settings, self.report, self.places, self.outbox = settings, report, places, outbox
-        self.refusals, self.link, self.has_link = refusals, Link(settings), bool(settings.collector or settings.connect)
+    def __init__(self, settings: Settings, outbox: Outbox) -> None:
+        self.settings, self.outbox, self.places, self.report = settings, outbox, outbox.places, outbox.report
+        self.refusals, self.link = Refusals(outbox), Link(settings)
+        self.has_link = bool(settings.collector or settings.connect)
         self.pause, self.resumes, self.is_turn_of_oldest = 0.0, 0.0, False
 
     def next(self) -> int | None:
