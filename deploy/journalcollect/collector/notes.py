@@ -57,8 +57,7 @@ class Notes:
         return told.st_size if stat.S_ISREG(told.st_mode) else -1
 
     def unlike(self, windows: Iterable[Window]) -> list[Name]:
-        """The windows whose files have other notes than finished databases have entries. Asked while no other database
-        is there."""
+        """The windows with other notes than finished databases have entries, asked while no other one is there."""
         return [(each.sequence, each.window) for each in windows
                 if each.sum == UNMADE or self.size(each.sequence, each.window) != NOTE * each.notes + 1]
 

@@ -55,8 +55,7 @@ class Process:
         return (int(words[11]) + int(words[12])) / os.sysconf("SC_CLK_TCK")
 
     def ask(self, uploads: Sequence[tuple[str, Path]]) -> Iterator[protocol.Answer]:
-        """Has uploads of machines stored, all handed over at once; the answer to each, in order. An answer says what is
-        on the disk."""
+        """Has uploads stored, all handed over at once; the answer to each, in order, which says what is on the disk."""
         assert self.process.stdin
         self.bound(resource.RLIMIT_CPU, int(self.processor_seconds()) + 1 + CPU_SECONDS)
         data = "".join(f"{machine}\t{path}\n" for machine, path in uploads).encode()

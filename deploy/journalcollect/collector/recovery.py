@@ -104,8 +104,7 @@ class Recovery:
         return sorted(path for path in self.folder.databases.glob("*.db") if databases.told_digest(path) is None)
 
     def recover(self, path: Path) -> list[tuple[str, Path]]:
-        """Takes up a database. If it has to be set aside, the uploads that are to be stored again, with their
-        machines."""
+        """Takes up a database; if it has to be set aside, the uploads to be stored again, with their machines."""
         if databases.has_nothing(path):
             self.seal(path)
             return []

@@ -10,11 +10,11 @@ import threading
 import time
 from collections.abc import Iterator
 from dataclasses import astuple, dataclass
+from pathlib import Path
 from typing import Any, NamedTuple
 
 from ..common import files
 from ..common.damage import is_damage
-from .age import Age
 from .databases import Summary
 from .settings import Folder
 
@@ -34,9 +34,11 @@ CREATE TABLE IF NOT EXISTS told(cause TEXT PRIMARY KEY, text TEXT, first REAL, l
 CREATE TABLE IF NOT EXISTS clock(one INTEGER PRIMARY KEY CHECK(one = 1), days REAL, boot TEXT, running REAL, wall REAL,
     uncounted REAL);
 """
-TOLD_AGAIN, TOLD_SECONDS = 86400.0, 7 * 86400.0
+DAY = 86400.0
+TOLD_AGAIN, TOLD_SECONDS = DAY, 7 * DAY
 # While nothing comes, the age is written so often.
-IDLE_DAYS = 60 / 86400
+IDLE_DAYS = 60 / DAY
+BOOT_ID = Path("/proc/sys/kernel/random/boot_id")
 
 
 def log(text: str) -> None:
@@ -76,6 +78,33 @@ class Window(NamedTuple):
     sum: str
 
 
+class Age(NamedTuple):
+    """For how many days the collector ran, at which moment: what is deleted in time goes by these, so that no clock
+    deletes anything. They grow by the clock that counts while the computer runs, within one start of it. By so many
+    more the clock of the day went on, which may be wrong: they don't count until a person says that they went by."""
+    days: float
+    boot: str
+    running: float
+    wall: float
+    uncounted: float = 0.0
+
+    @classmethod
+    def now(cls) -> "Age":
+        """The age of a collector that begins now."""
+        return cls(0.0, BOOT_ID.read_text().strip(), time.clock_gettime(time.CLOCK_MONOTONIC_RAW), time.time())
+
+    def grown(self) -> "Age":
+        """The age now."""
+        now = Age.now()
+        ran = max(0.0, now.running - self.running) if now.boot == self.boot else 0.0
+        return now._replace(days=self.days + ran / DAY,
+                            uncounted=max(0.0, self.uncounted + (now.wall - self.wall - ran) / DAY))
+
+    def passed(self, days: float) -> "Age":
+        """The age, if a person says that days went by that weren't counted."""
+        return self._replace(days=self.days + days, uncounted=self.uncounted - days)
+
+
 class State:
     """The file, and what is kept in memory of it. Every thread may ask."""
 
@@ -110,15 +139,9 @@ class State:
     @contextlib.contextmanager
     def transaction(self) -> Iterator[None]:
         """What is changed meanwhile is changed at once, or not at all."""
-        with self.rows_lock:
+        with self.rows_lock, self.rows:
             self.rows.execute("BEGIN IMMEDIATE")
-            try:
-                yield
-            except BaseException:
-                if self.rows.in_transaction:           # a full disk has ended it already
-                    self.rows.execute("ROLLBACK")
-                raise
-            self.rows.execute("COMMIT")
+            yield
 
     def flush(self) -> None:
         """Writes what is in memory alone, if it changed, and the age. That it can't be written costs no answer."""

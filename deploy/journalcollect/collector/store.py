@@ -147,9 +147,9 @@ class Store(threading.Thread):
             group = self.turns.group(0.5)
 
     def end_present(self) -> None:
-        process, self.present = self.present, None
-        if process:
-            process.kill()
+        if self.present:
+            self.present.kill()
+        self.present = None
 
     def store(self, group: list[Waiting]) -> None:
         """Stores a group; if it ends the process, one by one."""
@@ -163,8 +163,7 @@ class Store(threading.Thread):
         self.turns.charge(group, time.monotonic() - begun)
 
     def store_alone(self, upload: Waiting, ended: Ended | None) -> None:
-        """Stores one after a failure. What ends the process by itself, or is there each time that it is killed, is
-        too much."""
+        """Stores one after a failure. One that ends the process by itself, or is there at each kill, is too much."""
         for _ in range(KILLS):
             ended = ended or self.hand_over([upload])
             if ended is None or upload.reply.done():

@@ -51,16 +51,11 @@ def parts(source: BufferedReader, line: bytes) -> Iterator[Part]:
     name, equals, value = line.partition(b"=")
     if not name:
         raise Damaged("a field has no name")
-    if not equals:
-        yield from binary(source, line)
+    if equals:
+        yield name, line, value.removesuffix(b"\n")
+        while not line.endswith(b"\n") and (line := source.readline(BLOCK)):
+            yield b"", line, line.removesuffix(b"\n")
         return
-    yield name, line, value.removesuffix(b"\n")
-    while not line.endswith(b"\n") and (line := source.readline(BLOCK)):
-        yield b"", line, line.removesuffix(b"\n")
-
-
-def binary(source: BufferedReader, line: bytes) -> Iterator[Part]:
-    """The field whose name is in this line, and whose value has its length before it."""
     if len(line) == BLOCK and not line.endswith(b"\n"):
         raise Damaged("a name is too long")
     length = source.read(8)
