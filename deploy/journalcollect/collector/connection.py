@@ -1,5 +1,6 @@
 """One connection of a machine: what it asks is answered, one after the other."""
 import hashlib
+import os
 import socket
 import threading
 import time
@@ -83,8 +84,8 @@ class Connection(threading.Thread):
             digest.update(piece)
             lines += piece.count(b"\n")
             try:
-                if not refusal:
-                    files.write_all(handle, piece)
+                while piece and not refusal:
+                    piece = piece[os.write(handle, piece):]
             except OSError as error:
                 refusal = Put(Verdict.LATER, f"the disk of the collector: {error.strerror}")
         return digest.hexdigest(), lines, refusal

@@ -49,13 +49,6 @@ def link(handle: int, path: Path) -> None:
     os.link(f"/proc/self/fd/{handle}", path, src_dir_fd=handle, follow_symlinks=True)
 
 
-def write_all(handle: int, data: bytes) -> None:
-    """Writes all of some bytes to an open file."""
-    view = memoryview(data)
-    while view:
-        view = view[os.write(handle, view):]
-
-
 def size(path: Path) -> int:
     """How many bytes a file has; 0 if there is none."""
     try:

@@ -39,8 +39,7 @@ class Field:
 
 
 class Entry:
-    """One entry: its metadata, and its text while it is within the limits. The text of a larger one is handed to
-    `overflow`, if there is one."""
+    """One entry: its metadata, and its text within the limits. That of a larger one is handed to `overflow`, if any."""
 
     def __init__(self, overflow: Callable[[bytes], object] | None = None, whole: bytes = b"") -> None:
         self.overflow = overflow

@@ -12,11 +12,10 @@ from journalcollect.common.export_stream import Unfit
 from journalcollect.common.fit import Entry
 from journalcollect.common.report import FINE, LOOK
 from journalcollect.machine import journal
-from journalcollect.machine.journal import Journal, JournalFile, Reading
+from journalcollect.machine.journal import Journal, JournalFile, Reading, Unreadable, next_readable
 from journalcollect.machine.outbox import Making, Outbox, Piece
 from journalcollect.machine.places import Place
 from journalcollect.machine.settings import Settings, seconds
-from journalcollect.machine.unreadable import Unreadable, next_readable
 
 
 class Gathering:
@@ -142,8 +141,7 @@ class Gathering:
             place.see(unseen)
 
     def take(self, reading: Reading, place: Place) -> bool:
-        """Takes a reading's entries, up to where no more are wanted; whether the file has other ones than were gathered
-        of it."""
+        """Takes a reading's entries while more are wanted; whether the file has other ones than were gathered of it."""
         if self.whole:
             self.whole.begin()
         try:

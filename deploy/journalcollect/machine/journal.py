@@ -5,16 +5,18 @@ and what journald does to other files meanwhile changes nothing. A file is hande
 that was looked at, also if journald has renamed or removed it since. journald writes to files that it has mapped, so
 their headers say at once what is new, and reading some bytes of each once a second costs less than being told would.
 """
+import bisect
 import os
 import re
 import subprocess
 import time
 from collections.abc import Callable, Iterator
+from contextlib import suppress
 from io import BufferedReader
 from pathlib import Path
 from typing import NamedTuple, cast
 
-from journalcollect.common.export_stream import BLOCK, CutOff
+from journalcollect.common.export_stream import BLOCK, CutOff, Unfit
 from journalcollect.common.fit import Entry, entries
 
 MACHINE_ID = Path("/etc/machine-id")
@@ -22,6 +24,8 @@ MACHINE_ID = Path("/etc/machine-id")
 SIGNATURE, HEADER_BYTES, ARCHIVED = b"LPKSHHRH", 208, 2
 # Files are listed anew after so long, whatever has changed; sooner if one couldn't be read.
 LISTED_SECONDS, UNREAD_SECONDS = 60.0, 5.0
+# Behind what can't be read so many numbers are tried one by one, and then each at twice the distance.
+ONE_BY_ONE = 32
 
 
 class JournalFile(NamedTuple):
@@ -99,8 +103,7 @@ class Reading:
 
 
 class Journal:
-    """The files, those that are written to first and then the oldest, as they were listed last; the list isn't whole if
-    some are `unread`."""
+    """The files as they were listed last, those that are written to first, then the oldest; some may be `unread`."""
 
     def __init__(self, journals: list[str]) -> None:
         self.journals = [Path(each) for each in journals]
@@ -179,3 +182,62 @@ def cursor_parts(cursor: str) -> tuple[int, int]:
         return int(parts.get("i", "0"), 16), int(parts.get("t", "0"), 16)
     except ValueError:
         return 0, 0
+
+
+# What journalctl can't read of a file is stepped over -----------------------------------------------------------------
+
+
+class Unreadable(Exception):
+    """journalctl shows nothing of a file, and fails."""
+
+
+class Search:
+    """Looks for what journalctl shows of an open file behind the entry of a number.
+
+    journalctl breaks off within an entry that has a damaged field. It shows nothing from a number on that stands beside
+    a damaged entry, though it shows what follows when it reads the file from its beginning. And it shows nothing of
+    what it can't find, without a word: that there is more is seen by the file's header."""
+
+    def __init__(self, handle: int, file: JournalFile, after: int) -> None:
+        self.handle, self.file, self.after = handle, file, after
+        # journalctl did something other than fail.
+        self.works = False
+
+    def shows(self, options: list[str]) -> bool:
+        """With these options journalctl shows an entry that is behind."""
+        reading, is_shown = Reading(self.handle, options), False
+        with suppress(Unfit):
+            is_shown = any(entry.key()[1] > self.after for entry in reading.entries())
+        reading.end(not is_shown)
+        self.works = self.works or is_shown or reading.status == 0 or reading.broken is not None
+        return is_shown
+
+    def shows_from(self, number: int) -> bool:
+        return self.shows(from_number(self.file.sequence, number))
+
+    def first_shown(self) -> list[str] | None:
+        """The options that show the most of what is shown from some number on."""
+        fails, tried, step = self.after, self.after + 1, 1
+        while not self.shows_from(tried):
+            fails = tried
+            step = step if tried - self.after < ONE_BY_ONE else 2 * step
+            tried += step
+            if tried > self.file.tail:
+                return None
+        between = range(fails + 1, tried)
+        first = between.start + bisect.bisect_left(between, True, key=self.shows_from)
+        return from_number(self.file.sequence, first)
+
+
+def next_readable(handle: int, file: JournalFile, number: int, broken: dict[bytes, bytes] | None) -> list[str] | None:
+    """The options that show more of a file after an entry, if any do; an Unreadable if nothing works at all."""
+    at = max(number, cursor_parts((broken or {}).get(b"__CURSOR", b"").decode("ascii", "replace"))[0])
+    before, search = Search(handle, file, number), Search(handle, file, at)
+    if broken and before.shows_from(at):
+        return from_number(file.sequence, at)       # it was only stopped there
+    found = search.first_shown() if broken else None
+    if found is None:
+        found = [] if search.shows([]) else None if broken else search.first_shown()
+    if found is None and not search.works:
+        raise Unreadable
+    return found

@@ -65,13 +65,11 @@ def pieces_in(data: bytes) -> tuple[list[Piece], bytes]:
     pieces, end = list[Piece](), HEADER
     body = buffered(data)
     body.seek(end)
-    try:
+    with suppress(Unfit):
         for entry in entries(body):
             text = data[end:body.tell()]
             pieces.append(Piece(*entry.key(), entry.realtime, text))
             end += len(text)
-    except Unfit:
-        pass
     return pieces, data[end:]
 
 

@@ -15,6 +15,7 @@ import os
 import sqlite3
 import time
 from collections.abc import Iterable, Sequence
+from contextlib import suppress
 from dataclasses import astuple, dataclass
 from pathlib import Path
 
@@ -207,8 +208,6 @@ class Places:
 
     def tell(self, status: int, text: str) -> None:
         """Notes what is said, for `journal-collect-status`; nothing comes of it if it can't be."""
-        try:
+        with suppress(sqlite3.Error):
             self.do("INSERT INTO told VALUES(?, ?, ?)", [[int(time.time()), status, text]])
             self.do("DELETE FROM told WHERE rowid <= (SELECT max(rowid) FROM told) - 50")
-        except sqlite3.Error:
-            pass

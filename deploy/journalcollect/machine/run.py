@@ -23,7 +23,6 @@ from journalcollect.machine.link import Link
 from journalcollect.machine.outbox import Outbox
 from journalcollect.machine.places import Places
 from journalcollect.machine.sending import FAILURES, FIRST_PAUSE, Sending
-from journalcollect.machine.settings import Settings
 
 DESCRIPTION = "Sends what is new in this machine's journal to the collector, until it is told to stop."
 STATUS = "Status: 0 all is well; 1 something to look at; 2 the settings are wrong; 3 something failed; 75 another runs."
@@ -32,7 +31,7 @@ LOOK_SECONDS, LOOK_PART = 1.0, 0.0005
 
 
 class Machine:
-    def __init__(self, chosen: Settings, report: Report) -> None:
+    def __init__(self, chosen: settings.Settings, report: Report) -> None:
         folder = Path(chosen.folder)
         self.chosen, self.report, self.places = chosen, report, Places(folder, report)
         report.note = self.places.tell
@@ -107,7 +106,7 @@ def locked(folder: Path) -> bool:
     return True
 
 
-def note(chosen: Settings, report: Report, again: str, answers: str) -> None:
+def note(chosen: settings.Settings, report: Report, again: str, answers: str) -> None:
     """Notes what is asked for: who has the folder does it, or the next one."""
     places = Places(Path(chosen.folder), report)
     if again:

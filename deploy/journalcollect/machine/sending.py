@@ -157,8 +157,7 @@ class Sending:
         self.wait(why, status)
 
     def wait(self, why: str, status: int) -> None:
-        """Nothing goes out for a while, each time for twice as long; machines that wait for one collector don't all
-        come back at once."""
+        """Nothing goes out for a while, each time for twice as long, and machines don't all come back at once."""
         self.report.say(status, why)
         self.places.set(trouble=why)
         self.pause = min(max(2 * self.pause, FIRST_PAUSE), LONGEST_PAUSE)
