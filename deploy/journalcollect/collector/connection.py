@@ -23,8 +23,6 @@ READ_TO_END = 256 << 20
 
 
 class Connection(threading.Thread):
-    """A thread for each connection, which ends with it."""
-
     def __init__(self, one: socket.socket, machine: str, store: Store, gate: Gate) -> None:
         super().__init__(name=machine, daemon=True)
         self.one, self.machine, self.store, self.gate = one, machine, store, gate

@@ -19,8 +19,6 @@ LOOK_SECONDS = 10.0
 
 
 class Doors:
-    """The sockets that are listened on. The keys' folder says whose they are, and is looked at once a second."""
-
     def __init__(self, folder: Folder, gate: Gate) -> None:
         self.folder, self.gate = folder, gate
         self.there = selectors.DefaultSelector()

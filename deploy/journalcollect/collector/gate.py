@@ -21,8 +21,6 @@ LOOKED_UP = 2
 
 
 class Gate:
-    """How much of all that a machine may have is used."""
-
     def __init__(self, settings: Settings, state: State) -> None:
         self.settings, self.folder, self.state = settings, state.folder, state
         self.lock = threading.Lock()

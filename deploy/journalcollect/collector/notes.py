@@ -7,6 +7,7 @@ opening databases.
 """
 import contextlib
 import hashlib
+import shutil
 import stat
 import threading
 import time
@@ -99,7 +100,9 @@ class Notes:
         others = f", and so are {len(names) - 1} others" if len(names) > 1 else ""
         first, wanted = self.path(*names[0]), dict[int, str]()
         self.state.tell(f"notes {first}", f"{first}: {why}: it is put aside, and made anew of databases{others}")
-        self.unmake(names)
+        with self.state.transaction():
+            for name in names:
+                self.state.ask("UPDATE noted SET sum = ? WHERE sequence = ? AND window = ?", UNMADE, *name)
         for name in names:
             path = self.path(*name)
             if path.is_symlink() or path.exists():
@@ -113,12 +116,6 @@ class Notes:
             notes = max(0, self.size(*name) // NOTE)
             self.state.ask("UPDATE noted SET notes = ?, sum = ? WHERE sequence = ? AND window = ?", notes,
                            self.measured(*name, notes).sum, *name)
-
-    def unmake(self, names: Iterable[Name]) -> None:
-        """Whatever stops what comes now, these windows are made anew."""
-        with self.state.transaction():
-            for name in names:
-                self.state.ask("UPDATE noted SET sum = ? WHERE sequence = ? AND window = ?", UNMADE, *name)
 
     def note(self, database: str) -> None:
         """Notes what a finished database has, and isn't noted."""
@@ -144,9 +141,7 @@ class Notes:
         for sequence in {sequence for sequence, _ in old}:
             folder = self.folder.sequences / sequence
             if [path.name for path in folder.glob("*") if path.name.isdigit()] == [OWNED]:
-                for path in folder.iterdir():
-                    path.unlink()
-                folder.rmdir()
+                shutil.rmtree(folder)
                 self.state.ask("DELETE FROM sequence WHERE id = ?", sequence)
         if old:
             log(f"notes of {len(old)} windows went, their days are over")

@@ -32,8 +32,6 @@ class Ended(Exception):
 
 
 class Process:
-    """A database that is being stored in."""
-
     def __init__(self, folder: Folder, path: Path, lock: int, names: str = "-") -> None:
         self.path, self.begun, self.output = path, time.monotonic(), b""
         self.errors = tempfile.TemporaryFile()

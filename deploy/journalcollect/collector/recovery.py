@@ -13,7 +13,7 @@ from ..reading.present import Present
 from ..setup import keys
 from . import databases
 from .databases import Damaged, Unrecovered
-from .notes import Notes
+from .notes import UNMADE, Notes
 from .process import WINDOW, Process
 from .settings import Settings
 from .state import State, log
@@ -22,8 +22,6 @@ TRIES, REFUSED = 5, 1
 
 
 class Recovery:
-    """Seals, takes up, and sets aside."""
-
     def __init__(self, settings: Settings, state: State, lock: int, present: Present) -> None:
         self.settings, self.state, self.lock, self.present = settings, state, lock, present
         self.folder, self.stops = state.folder, threading.Event()
@@ -84,9 +82,8 @@ class Recovery:
         """A database is gone that nobody deleted or moved: what it had isn't acknowledged any more."""
         self.state.tell(f"missing {name}", f"{name} is missing: what it had isn't acknowledged any more, and is stored "
                         "if its machine has it still; restore it from a backup")
-        windows = self.state.ask("SELECT sequence, window FROM noted JOIN database ON database.id BETWEEN noted.first "
-                                 "AND noted.last WHERE name = ?", name)
-        self.notes.unmake(windows)
+        windows = self.state.ask("UPDATE noted SET sum = ? FROM database WHERE name = ? AND database.id BETWEEN "
+                                 "noted.first AND noted.last RETURNING sequence, window", UNMADE, name)
         self.state.stands(name, "missing")
         self.notes.make_anew(windows, f"{name}, which it notes, is missing")
 

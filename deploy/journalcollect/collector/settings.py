@@ -23,7 +23,6 @@ NOTES_DAYS = 8
 
 @dataclass(frozen=True)
 class Settings:
-    """Each setting under its name in small letters, with its default."""
     folder: str = "/var/lib/journal-collect"
     database_seconds: int = 600
     database_bytes: int = 32 * MIB
@@ -47,8 +46,6 @@ def read() -> Settings:
 
 
 class Folder:
-    """Where things are. Nothing here changes the process's own folder."""
-
     def __init__(self, path: Path) -> None:
         self.path = path
         self.databases = path / "databases"

@@ -94,7 +94,6 @@ class Age(NamedTuple):
         return cls(0.0, BOOT_ID.read_text().strip(), time.clock_gettime(time.CLOCK_MONOTONIC_RAW), time.time())
 
     def grown(self) -> "Age":
-        """The age now."""
         now = Age.now()
         ran = max(0.0, now.running - self.running) if now.boot == self.boot else 0.0
         return now._replace(days=self.days + ran / DAY,

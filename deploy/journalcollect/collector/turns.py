@@ -45,8 +45,6 @@ class Waiting:
 
 
 class Turns:
-    """A queue for each machine."""
-
     def __init__(self) -> None:
         self.changed = threading.Condition()
         self.waiting: dict[str, collections.deque[Waiting]] = {}

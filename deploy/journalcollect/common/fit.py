@@ -84,15 +84,15 @@ class Entry:
             self.counted += len(name) + len(value)
         elif text.endswith(b"\n"):
             self.known[field.name] = value
-        if not self.is_large and (len(name) > NAME or self.value > VALUE or self.fields > FIELDS
-                                  or self.counted > ENTRY or self.bytes > ENTRY + VALUE):
-            self.shorten()
-        if self.is_large and self.overflow:
-            self.overflow(text)
         field.text += text
         field.length += len(text)
         if self.is_large:
+            if self.overflow:
+                self.overflow(text)
             del field.text[SHORT:]
+        elif (len(name) > NAME or self.value > VALUE or self.fields > FIELDS or self.counted > ENTRY
+              or self.bytes > ENTRY + VALUE):
+            self.shorten()
 
     def shorten(self) -> None:
         """It goes out with less."""

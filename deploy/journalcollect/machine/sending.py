@@ -46,7 +46,6 @@ class Sending:
         return min(rested)[2] if rested else None
 
     def send_next(self) -> bool:
-        """Sends an upload, if one is to go out now."""
         number = self.next()
         if number is None:
             return False
