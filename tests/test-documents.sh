@@ -23,7 +23,7 @@ changed() {
     mkdir -p "$folder/tree/crates/jc_base/specs" "$folder/tree/tests" "$folder/tree/tools" "$folder/tree/deploy"
     cp -r README.md CHANGELOG.md CONTRIBUTING.md crates.txt docs "$folder/tree/"
     cp -r deploy/settings "$folder/tree/deploy/"
-    cp --parents deploy/journalcollect/common/{codes,fit}.py "$folder/tree/"
+    cp --parents deploy/journalcollect/common/{program,fit}.py "$folder/tree/"
     cp --parents crates/*/refused/*.edit "$folder/tree/"
     cp crates/jc_base/specs/Fault.antt "$folder/tree/crates/jc_base/specs/"
     cp --parents crates/jc_collector/specs/Inspected.antt "$folder/tree/"

@@ -71,10 +71,9 @@ def digest_of(path: Path) -> str:
 
 def told_digest(path: Path) -> str | None:
     """The digest that lies beside a database; None if it isn't finished."""
-    try:
+    with contextlib.suppress(FileNotFoundError):
         return beside(path, ".sha256").read_text(encoding="ascii", errors="replace").partition(" ")[0]
-    except FileNotFoundError:
-        return None
+    return None
 
 
 def finished(folder: Folder) -> list[str]:
@@ -123,9 +122,6 @@ def delete(folder: Folder, name: str) -> None:
     for end in (".db", ".db.zst", ".db-wal", ".db.sha256"):
         (folder.databases / f"{name}{end}").unlink(missing_ok=True)
     files.sync(folder.databases)
-
-
-# Packed ones ----------------------------------------------------------------------------------------------------------
 
 
 def pack(path: Path, digest: str) -> int:

@@ -6,7 +6,6 @@ import time
 from ..common import program
 from ..reading.places import Places
 from . import databases
-from .databases import Damaged
 from .settings import Settings
 from .state import log
 from .store import Store
@@ -79,7 +78,7 @@ class Keeping(threading.Thread):
                 continue
             try:
                 size = databases.pack(databases.path_of(self.folder, name), digest)
-            except Damaged as error:
+            except databases.Damaged as error:
                 self.state.tell(f"damaged {name}", f"{error}: restore it from a backup")
                 continue
             self.state.ask("UPDATE database SET packed = ? WHERE name = ?", size, name)
@@ -134,6 +133,6 @@ class Keeping(threading.Thread):
                     return f"{databases.beside(path, '.sha256')} isn't as it was finished"
                 if differs := program.differs(self.folder.sequences, copy):
                     return f"{path} differs from what is noted of it: {differs}"
-        except (OSError, Damaged) as error:
+        except (OSError, databases.Damaged) as error:
             return str(error)
         return None

@@ -17,7 +17,6 @@ from pathlib import Path
 from ..common import files, program
 from ..common.uploads import WINDOW
 from . import databases
-from .databases import Damaged, Unrecovered
 from .process import Process
 from .state import State, Window, log
 
@@ -51,11 +50,10 @@ class Notes:
 
     def size(self, sequence: str, window: int) -> int:
         """How many bytes the file of a window has; -1 if it is none."""
-        try:
+        with contextlib.suppress(OSError):
             told = self.path(sequence, window).lstat()
-        except OSError:
-            return -1
-        return told.st_size if stat.S_ISREG(told.st_mode) else -1
+            return told.st_size if stat.S_ISREG(told.st_mode) else -1
+        return -1
 
     def unlike(self, windows: Iterable[Window]) -> list[Name]:
         """The windows with other notes than finished databases have entries, asked while no other one is there."""
@@ -123,11 +121,11 @@ class Notes:
             with databases.unpacked(self.folder, database) as copy:
                 process = Process(self.folder, copy, self.lock, "/dev/null")
                 status, said = process.finish(self.stops), process.said()
-        except Damaged as error:
+        except databases.Damaged as error:
             status, said = program.REFUSED, str(error)
         if status not in (program.OK, program.REFUSED):
             why = "the service stops" if self.stops.is_set() else said or f"status {status}"
-            raise Unrecovered(f"{database} isn't noted: {why}")
+            raise databases.Unrecovered(f"{database} isn't noted: {why}")
         if status:
             self.state.stands(database, "damaged")
             self.state.tell(f"damaged {database}", f"{database} can't be noted: {said}: restore it from a backup")

@@ -13,7 +13,6 @@ from collections.abc import Iterator, Sequence
 from pathlib import Path
 
 from ..common import program, protocol
-from ..common.program import Code
 from .settings import CPU_SECONDS, MEMORY, Folder
 
 # So long it may take for its next answer, and to note what a database has.
@@ -46,11 +45,10 @@ class Process:
             resource.prlimit(self.process.pid, kind, (most, resource.prlimit(self.process.pid, kind)[1]))
 
     def processor_seconds(self) -> float:
-        try:
+        with contextlib.suppress(FileNotFoundError, ProcessLookupError):
             words = Path(f"/proc/{self.process.pid}/stat").read_text().rpartition(")")[2].split()
-        except (FileNotFoundError, ProcessLookupError):
-            return 0.0
-        return (int(words[11]) + int(words[12])) / os.sysconf("SC_CLK_TCK")
+            return (int(words[11]) + int(words[12])) / os.sysconf("SC_CLK_TCK")
+        return 0.0
 
     def ask(self, uploads: Sequence[tuple[str, Path]]) -> Iterator[protocol.Answer]:
         """Has uploads stored, all handed over at once; the answer to each, in order, which says what is on the disk."""
@@ -71,7 +69,7 @@ class Process:
             answer = protocol.answer(line)
         except protocol.NotALine:
             raise self.ended(f"said {line!r}") from None
-        if answer.code in (Code.STORE_FAILED, Code.OUT_OF_MEMORY):
+        if answer.code in (program.Code.STORE_FAILED, program.Code.OUT_OF_MEMORY):
             raise self.ended(line)
         return answer
 

@@ -12,7 +12,6 @@ from ..common.settings import FOLDER
 from ..reading.present import Present
 from ..setup import keys
 from . import databases
-from .databases import Damaged, Unrecovered
 from .notes import UNMADE, Notes
 from .process import WINDOW, Process
 from .settings import Settings
@@ -36,11 +35,10 @@ class Recovery:
         self.present.turn(path.stem)
 
     def adopt(self, name: str, digest: str, is_alone: bool = True) -> None:
-        """A database that has its digest is known from now on. If no other one is there that isn't finished, the notes
-        have to be just those of finished ones."""
+        """A database that has its digest is known from now on. If it is alone, no unfinished one has notes, too."""
         try:
             had = databases.summary(self.folder, name, digest)
-        except Damaged as error:
+        except databases.Damaged as error:
             self.state.stands(name, "damaged")
             self.state.tell(f"damaged {name}", f"{error}: restore it from a backup")
             return
@@ -113,13 +111,13 @@ class Recovery:
                 self.seal(path)
                 return []
             if self.stops.is_set():
-                raise Unrecovered("the service stops")
+                raise databases.Unrecovered("the service stops")
             is_mended = self.mend(process.said())
             if status == REFUSED and not is_mended:
                 break
             time.sleep(0.0 if is_mended else 1.0)
         if status != REFUSED and (why := self.folder.room(self.settings)):
-            raise Unrecovered(why)
+            raise databases.Unrecovered(why)
         return self.quarantine(path, process.said() or f"status {status}")
 
     def mend(self, said: str) -> bool:

@@ -20,7 +20,6 @@ from .doors import Doors
 from .gate import Gate
 from .keeping import Keeping
 from .recovery import Recovery
-from .settings import Folder, Settings
 from .state import State, log
 from .store import Store
 
@@ -29,7 +28,7 @@ FLUSH_SECONDS = 5.0
 
 
 class Service:
-    def __init__(self, chosen: Settings, folder: Folder, lock: int) -> None:
+    def __init__(self, chosen: settings.Settings, folder: settings.Folder, lock: int) -> None:
         folder.make()
         self.state = State(folder)
         self.present = Present(folder.path, log, chosen.read_keys)
@@ -83,11 +82,11 @@ def main() -> int:
     return 0
 
 
-def serve(chosen: Settings) -> None:
+def serve(chosen: settings.Settings) -> None:
     """With as many open files as it may have: each connection has up to two."""
     _, hard = resource.getrlimit(resource.RLIMIT_NOFILE)
     resource.setrlimit(resource.RLIMIT_NOFILE, (hard, hard))
-    folder = Folder(Path(chosen.folder))
+    folder = settings.Folder(Path(chosen.folder))
     if (lock := folder.locked()) is None:
         log(f"another service, or a process that it began, stores in {folder.path}: this one waits for its end")
         lock = folder.locked(is_waiting=True)

@@ -64,9 +64,8 @@ class Folder:
             each.mkdir(mode=0o700, exist_ok=True)
 
     def locked(self, name: str = "lock", is_waiting: bool = False) -> int | None:
-        """A lock of the folder, which goes when the answer is closed; None if another has it, and this isn't to wait.
-
-        A service has `lock`, and each process of the program that it began: so it waits until what an earlier one began
+        """A lock of the folder, which goes when the answer is closed; None if another has it, and this isn't to wait. A
+        service has `lock`, and each process of the program that it began: so it waits until what an earlier one began
         has ended. Nothing is deleted or packed while somebody has `backup.lock`."""
         handle = os.open(self.path / name, os.O_RDWR | os.O_CREAT | os.O_CLOEXEC, 0o600)
         try:

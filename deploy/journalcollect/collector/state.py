@@ -14,7 +14,6 @@ from pathlib import Path
 from typing import Any, NamedTuple
 
 from ..common import files
-from ..common.damage import is_damage
 from .databases import Summary
 from .settings import Folder
 
@@ -112,7 +111,7 @@ class State:
         try:
             self.open()
         except sqlite3.DatabaseError as error:
-            if not is_damage(error):
+            if not files.is_damaged(error):
                 raise
             log(f"{folder.state}: {error}: it is put aside, and made anew")
             self.rows.close()
@@ -218,10 +217,10 @@ class State:
         age = self.age.grown().days
         with self.transaction():
             self.ask("DELETE FROM database WHERE name = ?", name)
-            self.ask("INSERT INTO database(name, standing, finished, age, checked, first, last, entries, bytes, "
-                     "digest, packed) VALUES(?1, 'finished', ?2, ?3, ?3, ?4, ?5, ?6, ?7, ?8, ?9)", name, time.time(),
-                     age, had.first, had.last, had.entries, had.bytes, had.digest, had.packed)
-            number, = self.ask("SELECT id FROM database WHERE name = ?", name)[0]
+            (number,), = self.ask(
+                "INSERT INTO database(name, standing, finished, age, checked, first, last, entries, bytes, digest, "
+                "packed) VALUES(?1, 'finished', ?2, ?3, ?3, ?4, ?5, ?6, ?7, ?8, ?9) RETURNING id", name, time.time(),
+                age, had.first, had.last, had.entries, had.bytes, had.digest, had.packed)
             for each in windows:
                 self.ask("INSERT INTO noted VALUES(?1, ?2, ?3, ?4, ?5, ?6, ?6) ON CONFLICT DO UPDATE SET notes = ?3, "
                          "sum = ?4, age = ?5, last = ?6", *each, age, number)

@@ -11,11 +11,9 @@ from concurrent.futures import Future
 from pathlib import Path
 
 from ..common import files, program
-from ..common.program import Code
 from ..common.protocol import Answer, Put, Verdict
 from ..common.uploads import HEADER, MOST_WINDOWS
 from . import databases
-from .databases import Unrecovered
 from .gate import IDS
 from .process import OWN, Ended, Process
 from .recovery import Recovery
@@ -85,13 +83,13 @@ class Store(threading.Thread):
                 self.store(group)
                 self.turn()
                 self.state.over("store")
-            except Unrecovered as error:
+            except databases.Unrecovered as error:
                 self.fail(group, f"nothing can be stored: {error}")
             except Exception as error:
                 self.fail(group, f"{type(error).__name__}: {error}")
         try:
             self.close()
-        except (OSError, Unrecovered) as error:
+        except (OSError, databases.Unrecovered) as error:
             log(f"the present database isn't finished: {error}")
 
     def begin(self) -> None:
@@ -119,7 +117,7 @@ class Store(threading.Thread):
             if isinstance(put := upload.reply.result(), Put):
                 why = f"{path} can't be stored again: {put.why}"
                 if put.verdict is Verdict.LATER and put.why != UNREADABLE:
-                    raise Unrecovered(why)
+                    raise databases.Unrecovered(why)
                 self.state.tell(f"again {path}", f"{why}: it is in {self.folder.quarantine}")
                 files.move(path, self.folder.quarantine / f"{path.parent.name}-{path.name}")
         if uploads:
@@ -136,7 +134,7 @@ class Store(threading.Thread):
         self.is_taken_up = False
         self.end_present()
         while self.tasks:
-            self.tasks.popleft()[1].set_exception(Unrecovered(why))
+            self.tasks.popleft()[1].set_exception(databases.Unrecovered(why))
         end = time.monotonic() + REST_SECONDS
         while True:
             for each in group:
@@ -214,7 +212,8 @@ class Store(threading.Thread):
             if upload.path:
                 upload.path.rename(path)
             else:
-                files.link(upload.handle, path)
+                handle = upload.handle                 # with it named, the link is followed
+                os.link(f"/proc/self/fd/{handle}", path, src_dir_fd=handle)
             upload.path = path
         except OSError as error:
             upload.put(Verdict.LATER, f"the disk of the collector: {error.strerror}")
@@ -227,7 +226,8 @@ class Store(threading.Thread):
         try:
             self.account(upload, answer)
         finally:
-            upload.reply.set_result(Put(Verdict.LATER, UNREADABLE) if answer.code == Code.READ_FAILED else answer)
+            is_unread = answer.code == program.Code.READ_FAILED
+            upload.reply.set_result(Put(Verdict.LATER, UNREADABLE) if is_unread else answer)
 
     def account(self, upload: Waiting, answer: Answer) -> None:
         """What an answer means to the present, to the bounds of a machine, and to people."""
@@ -243,7 +243,7 @@ class Store(threading.Thread):
             self.recent_bytes -= upload.size
         if answer.code:
             machine.refused += 1
-            whose = self.whose(upload) if answer.code == Code.NOT_THE_OWNER else ""
+            whose = self.whose(upload) if answer.code == program.Code.NOT_THE_OWNER else ""
             self.state.tell(f"refused {upload.machine}", f"{upload.machine}: refused: {answer.line}{whose}")
 
     def whose(self, upload: Waiting) -> str:

@@ -73,7 +73,14 @@ def entry(data: Data, span: Span) -> Entry:
     if head and span.is_plain and b"\n__" not in own and OWN not in own:
         about, boots, count = dict(ABOUT.findall(head[0])), BOOT.findall(b"\n" + own), own.count(b"\n")
     else:
-        about, kept = by_fields(text)
+        about, kept = {}, list[bytes]()
+        for name, value, spelled in fields(text):
+            if name.startswith((b"__", OWN)):
+                about[name] = value
+            elif not NAME.fullmatch(name):
+                raise Untaken("a field's name is none of journald's")
+            else:
+                kept.append(spelled)
         own, boots, count = b"".join(kept), [each[9:-1] for each in kept if each[:9] == b"_BOOT_ID="], len(kept)
     try:
         realtime, monotonic = int(about[b"__REALTIME_TIMESTAMP"]), int(about[b"__MONOTONIC_TIMESTAMP"])
@@ -103,17 +110,3 @@ def fields(data: Data, at: int = 0) -> Iterator[tuple[bytes, bytes, bytes]]:
                 raise Unfit("no newline after a value")
         yield name, value, data[at:end + 1]
         at = end + 1
-
-
-def by_fields(text: bytes) -> tuple[dict[bytes, bytes], list[bytes]]:
-    """What is said about an entry that has values with newlines in them, and its fields as the stream spells them."""
-    about: dict[bytes, bytes] = {}
-    kept: list[bytes] = []
-    for name, value, spelled in fields(text):
-        if name.startswith((b"__", OWN)):
-            about[name] = value
-        elif not NAME.fullmatch(name):
-            raise Untaken("a field's name is none of journald's")
-        else:
-            kept.append(spelled)
-    return about, kept

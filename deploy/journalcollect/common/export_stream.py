@@ -40,12 +40,6 @@ def buffered(data: bytes) -> BufferedReader:
     return BufferedReader(cast(RawIOBase, BytesIO(data)))
 
 
-def plain(source: BufferedReader) -> bytes:
-    """The next entry, if it is short and plain and was read already; otherwise nothing."""
-    found = PLAIN.match(source.peek())
-    return source.read(found.end()) if found else b""
-
-
 def parts(source: BufferedReader, line: bytes) -> Iterator[Part]:
     """The parts of the field that begins with this line, as far as the stream goes."""
     name, equals, value = line.partition(b"=")

@@ -1,7 +1,8 @@
-"""Files that are on the disk when a call returns, files without a name, and what is in a folder."""
+"""Files that are on the disk when a call returns, files without a name, what is in a folder, and what is damaged."""
 import os
+import sqlite3
 from collections.abc import Iterator
-from contextlib import AbstractContextManager, contextmanager
+from contextlib import AbstractContextManager, contextmanager, suppress
 from pathlib import Path
 
 
@@ -44,20 +45,21 @@ def unnamed(folder: Path) -> AbstractContextManager[int]:
     return opened(folder, os.O_TMPFILE | os.O_RDWR)
 
 
-def link(handle: int, path: Path) -> None:
-    """Gives a file without a name one that nobody has."""
-    os.link(f"/proc/self/fd/{handle}", path, src_dir_fd=handle, follow_symlinks=True)
-
-
 def size(path: Path) -> int:
     """How many bytes a file has; 0 if there is none."""
-    try:
+    with suppress(FileNotFoundError):
         return path.stat().st_size
-    except FileNotFoundError:
-        return 0
+    return 0
 
 
 def free(folder: Path) -> tuple[int, int]:
     """How many bytes and how many files the disk of a folder has left for this user."""
     told = os.statvfs(folder)
     return told.f_bavail * told.f_frsize, told.f_favail if told.f_files else 1 << 62
+
+
+def is_damaged(error: sqlite3.Error) -> bool:
+    """An error of SQLite says that a file isn't what was made here. Others, as of a full disk, may pass."""
+    damage = sqlite3.SQLITE_CORRUPT, sqlite3.SQLITE_NOTADB, sqlite3.SQLITE_ERROR
+    # what was found here, without SQLite's word, is damage, too
+    return getattr(error, "sqlite_errorcode", damage[0]) & 0xff in damage

@@ -14,7 +14,7 @@ from contextlib import suppress
 from dataclasses import dataclass
 from io import BufferedReader
 
-from journalcollect.common.export_stream import BLOCK, CutOff, Unfit, buffered, parts, plain
+from journalcollect.common.export_stream import BLOCK, PLAIN, CutOff, Unfit, buffered, parts
 
 NAME, VALUE, FIELDS, ENTRY = 1_024, 16_777_216, 4_096, 33_554_432
 ABOUT = re.compile(rb"^(__[^=\n]*)=(.*)$", re.MULTILINE)
@@ -22,12 +22,11 @@ LEFT_OUT = b"_JOURNAL_COLLECT_LEFT_OUT"
 # The bytes of a field that is short, and of a message's beginning; how many fields are kept of each sort.
 SHORT, BEGINNING = 4_096, 2_048
 METADATA, TRUSTED, KNOWN, OTHERS = 16, 128, 64, 64
-KNOWN_NAMES = frozenset((b"MESSAGE", b"MESSAGE_ID", b"PRIORITY", b"SYSLOG_IDENTIFIER", b"SYSLOG_FACILITY",
-                         b"SYSLOG_PID", b"CODE_FILE", b"CODE_LINE", b"CODE_FUNC", b"ERRNO", b"UNIT", b"USER_UNIT",
-                         b"COREDUMP_EXE", b"COREDUMP_PID", b"COREDUMP_UID", b"COREDUMP_SIGNAL", b"COREDUMP_COMM",
-                         b"COREDUMP_UNIT"))
+KNOWN_NAMES = frozenset(b"MESSAGE MESSAGE_ID PRIORITY SYSLOG_IDENTIFIER SYSLOG_FACILITY SYSLOG_PID CODE_FILE CODE_LINE "
+                        b"CODE_FUNC ERRNO UNIT USER_UNIT COREDUMP_EXE COREDUMP_PID COREDUMP_UID COREDUMP_SIGNAL "
+                        b"COREDUMP_COMM COREDUMP_UNIT".split())
 # So many names are told of those that are left out.
-PLAIN, MOST_NAMES = frozenset(b"ABCDEFGHIJKLMNOPQRSTUVWXYZ0123456789_"), 8
+LETTERS, MOST_NAMES = frozenset(b"ABCDEFGHIJKLMNOPQRSTUVWXYZ0123456789_"), 8
 
 
 @dataclass
@@ -154,7 +153,7 @@ def rest(fields: list[Field]) -> list[bytes]:
         text = bytes(field.text)
         if field.length > SHORT or not room[sort]:
             count, length = count + 1, length + field.length
-            if PLAIN.issuperset(field.name) and len(field.name) <= 64 and len(names) < MOST_NAMES:
+            if LETTERS.issuperset(field.name) and len(field.name) <= 64 and len(names) < MOST_NAMES:
                 names.append(field.name)
             if field.name != b"MESSAGE" or not room[sort]:
                 continue
@@ -177,7 +176,8 @@ def beginning(text: bytes) -> bytes:
 def entries(source: BufferedReader, overflow: Callable[[bytes], object] | None = None) -> Iterator[Entry]:
     """Each entry of a stream, once it is read whole."""
     while True:
-        entry = Entry(overflow, plain(source))
+        found = PLAIN.match(source.peek())
+        entry = Entry(overflow, source.read(found.end()) if found else b"")
         if not entry.whole and not entry.held and not entry.read(source):
             return
         yield entry

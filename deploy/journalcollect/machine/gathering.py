@@ -12,7 +12,6 @@ from journalcollect.common.export_stream import Unfit
 from journalcollect.common.fit import Entry
 from journalcollect.common.report import FINE, LOOK
 from journalcollect.machine import journal
-from journalcollect.machine.journal import Journal, JournalFile, Reading, Unreadable, next_readable
 from journalcollect.machine.outbox import Making, Outbox, Piece
 from journalcollect.machine.places import Place
 from journalcollect.machine.settings import Settings, seconds
@@ -23,7 +22,7 @@ class Gathering:
         self.settings, self.outbox, self.places, self.report = settings, outbox, outbox.places, outbox.report
         # Who gets the whole text of an entry over a limit, if anybody does.
         self.whole = None if settings.leave_out_large else outbox.refused
-        self.journal = Journal(settings.journals.split())
+        self.journal = journal.Journal(settings.journals.split())
         self.since = self.places.value("since") or (seconds(settings.since) if settings.since else "")
 
     def gather(self, until: float) -> bool:
@@ -86,7 +85,7 @@ class Gathering:
                                 f"others after it: {place.kind}, cursor {place.cursor or '-'}")
         self.places.forget(gone)
 
-    def gather_path(self, file: JournalFile, place: Place) -> None:
+    def gather_path(self, file: journal.JournalFile, place: Place) -> None:
         try:
             handle = journal.opened(file.path)
         except OSError:
@@ -96,20 +95,20 @@ class Gathering:
             if now.id == file.id:
                 self.moves.append(place)
                 self.gather_file(now, handle, place)
-        except Unreadable:
+        except journal.Unreadable:
             if not journal.is_removed(handle):
                 self.report.say(LOOK, f"journalctl can't read {file.path}: it is looked at again later")
         finally:
             os.close(handle)
 
-    def gather_file(self, file: JournalFile, handle: int, place: Place) -> None:
+    def gather_file(self, file: journal.JournalFile, handle: int, place: Place) -> None:
         if place.is_other(file):
             self.gather_anew(file, place)
         options: list[str] | None = place.options()
         first, self.is_stepping = place.cursor, False
         while options is not None and place.number < file.tail and file.entries:
             before = place.number
-            reading = Reading(handle, options, self.whole.write if self.whole else None)
+            reading = journal.Reading(handle, options, self.whole.write if self.whole else None)
             is_other = self.take(reading, place)
             reading.end(not is_other and not self.is_late)
             if self.is_late:
@@ -123,24 +122,23 @@ class Gathering:
                 options = place.options()           # a signal ended it
             else:
                 self.report.say(FINE, f"{file.path}: journalctl: {reading.said or reading.status}")
-                options, self.is_stepping = next_readable(handle, file, place.number, reading.broken), True
+                options, self.is_stepping = journal.next_readable(handle, file, place.number, reading.broken), True
         if place.number >= file.tail or not journal.is_removed(handle):
             self.tell_unseen(place, file, first)
             place.tail, place.is_archived = file.tail, file.is_archived
 
-    def gather_anew(self, file: JournalFile, place: Place) -> None:
+    def gather_anew(self, file: journal.JournalFile, place: Place) -> None:
         self.report.say(LOOK, f"{file.path} was set back, and is gathered anew; it was gathered up to {place.cursor}")
         place.number, place.cursor, place.count, place.tail, place.since = 0, "", 0, 0, ""
 
-    def tell_unseen(self, place: Place, file: JournalFile, first: str) -> None:
+    def tell_unseen(self, place: Place, file: journal.JournalFile, first: str) -> None:
         """journalctl may pass over a damaged entry without a word. The file's header knows how many there are."""
-        unseen = file.entries - place.count if place.count >= 0 else 0
-        if unseen > 0:
+        if place.count >= 0 and (unseen := file.entries - place.count) > 0:
             self.report.say(LOOK, f"left out, for journalctl doesn't show them: {unseen} of the entries of "
                             f"{file.path}, after {first or 'its beginning'} and up to {place.cursor or 'its end'}")
             place.see(unseen)
 
-    def take(self, reading: Reading, place: Place) -> bool:
+    def take(self, reading: journal.Reading, place: Place) -> bool:
         """Takes a reading's entries while more are wanted; whether the file has other ones than were gathered of it."""
         if self.whole:
             self.whole.begin()

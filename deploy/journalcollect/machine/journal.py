@@ -8,6 +8,7 @@ their headers say at once what is new, and reading some bytes of each once a sec
 import bisect
 import os
 import re
+import struct
 import subprocess
 import time
 from collections.abc import Callable, Iterator
@@ -51,14 +52,11 @@ def read_header(path: Path, handle: int) -> JournalFile:
     header = os.pread(handle, HEADER_BYTES, 0)
     if len(header) < HEADER_BYTES or header[:8] != SIGNATURE:
         raise ValueError("it has no header of a journal file")
-
-    def number(offset: int) -> int:
-        return int.from_bytes(header[offset:offset + 8], "little")
-
+    entries, tail, head, _, head_realtime, tail_realtime = struct.unpack_from("<6Q", header, 152)
     # journald renames a file before it begins the next one, and writes nothing more to it.
     is_archived = header[16] == ARCHIVED or "@" in path.name or path.name.endswith("~")
-    return JournalFile(path, header[24:40].hex(), header[72:88].hex(), number(168), number(160), number(184),
-                       number(192), number(152), is_archived)
+    return JournalFile(path, header[24:40].hex(), header[72:88].hex(), head, tail, head_realtime, tail_realtime,
+                       entries, is_archived)
 
 
 def opened(path: Path) -> int:
@@ -152,17 +150,15 @@ class Journal:
 
 
 def has_changed(file: JournalFile) -> bool:
-    try:
+    with suppress(OSError, ValueError):
         return looked_at(file.path) != file
-    except (OSError, ValueError):
-        return True
+    return True
 
 
 def changed_at(path: Path) -> int:
-    try:
+    with suppress(OSError):
         return path.stat().st_mtime_ns
-    except OSError:
-        return 0
+    return 0
 
 
 def is_removed(handle: int) -> bool:
@@ -178,13 +174,9 @@ def from_number(sequence: str, number: int) -> list[str]:
 def cursor_parts(cursor: str) -> tuple[int, int]:
     """The number and the time that a cursor names; 0 for what it doesn't."""
     parts = dict(part.partition("=")[::2] for part in cursor.split(";"))
-    try:
+    with suppress(ValueError):
         return int(parts.get("i", "0"), 16), int(parts.get("t", "0"), 16)
-    except ValueError:
-        return 0, 0
-
-
-# What journalctl can't read of a file is stepped over -----------------------------------------------------------------
+    return 0, 0
 
 
 class Unreadable(Exception):

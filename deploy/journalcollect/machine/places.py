@@ -19,7 +19,7 @@ from contextlib import suppress
 from dataclasses import astuple, dataclass
 from pathlib import Path
 
-from journalcollect.common.damage import is_damage
+from journalcollect.common import files
 from journalcollect.common.report import LOOK, Report
 from journalcollect.machine.journal import JournalFile, cursor_parts, from_number
 
@@ -108,7 +108,7 @@ class Places:
 
     def mend(self, error: sqlite3.DatabaseError) -> bool:
         """Puts aside a file that isn't what was made here, and begins another; whether the error says that."""
-        if not is_damage(error):
+        if not files.is_damaged(error):
             return False
         self.database.close()
         aside = self.path.with_name("places.damaged")

@@ -9,7 +9,6 @@
 - `smaller`, `never`: it is halved, down to the entry that is meant.
 """
 from journalcollect.common import program
-from journalcollect.common.program import FAILURES, TOO_LARGE, Code
 from journalcollect.common.protocol import Answer
 from journalcollect.common.report import LOOK
 from journalcollect.machine.outbox import Outbox, Piece, at_byte
@@ -24,14 +23,14 @@ class Refusals:
 
     def take(self, number: int, answer: Answer, tries: int) -> bool:
         """An upload was refused, for so many times; whether something was done about it that lets it go out again."""
-        if answer.code in FAILURES:
+        if answer.code in program.FAILURES:
             return False
         pieces = self.outbox.pieces(number)
-        if answer.code == Code.OVER_BOUNDS and 0 < answer.place < len(pieces):
+        if answer.code == program.Code.OVER_BOUNDS and 0 < answer.place < len(pieces):
             self.outbox.replace(number, pieces[:answer.place], pieces[answer.place:])
-        elif answer.code == Code.OVER_BOUNDS:
+        elif answer.code == program.Code.OVER_BOUNDS:
             self.halve(number, pieces, "it passes a bound of the collector")
-        elif answer.code in (Code.CONFLICT, Code.NOT_THE_OWNER) and answer.place < len(pieces):
+        elif answer.code in (program.Code.CONFLICT, program.Code.NOT_THE_OWNER) and answer.place < len(pieces):
             self.take_conflict(number, pieces, answer)
         else:
             return self.take_byte(number, answer, pieces, tries)
@@ -44,7 +43,7 @@ class Refusals:
         if any(each.number == piece.number for each in pieces[:answer.place]):
             self.outbox.replace(number, pieces[:answer.place], pieces[answer.place:])
         elif self.places.forked(piece.sequence, piece.number) == piece.sequence:
-            first = piece.number if code == Code.CONFLICT else 0
+            first = piece.number if code == program.Code.CONFLICT else 0
             new = self.places.fork(piece.sequence, first)
             self.report.say(LOOK, f"forked: {piece.sequence} goes on as {new} from entry {first} (code {code}): this "
                             "machine was set back or cloned, or another one has its journal")
@@ -69,9 +68,9 @@ class Refusals:
                 return False
         except program.Bad as bad:
             code, place = bad.code, bad.place
-        if pieces and code > Code.OVER_BOUNDS:
+        if pieces and code > program.Code.OVER_BOUNDS:
             at = at_byte(pieces, place)
-            pieces[at:at + 1] = self.without(pieces[at], f"code {code}", code in TOO_LARGE)
+            pieces[at:at + 1] = self.without(pieces[at], f"code {code}", code in program.TOO_LARGE)
         self.outbox.replace(number, pieces)
         return True
 

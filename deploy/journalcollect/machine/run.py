@@ -99,11 +99,10 @@ def locked(folder: Path) -> bool:
     files.sync(folder.parent)
     if folder.stat().st_uid != os.geteuid():
         raise Wrong(f"{folder} is {folder.owner()}'s: runuser -u {folder.owner()} -G systemd-journal -- {sys.argv[0]}")
-    try:
-        fcntl.flock(os.open(folder, os.O_RDONLY | os.O_DIRECTORY | os.O_CLOEXEC), fcntl.LOCK_EX | fcntl.LOCK_NB)
-    except BlockingIOError:
-        return False
-    return True
+    with suppress(BlockingIOError):
+        fcntl.flock(os.open(folder, os.O_RDONLY | os.O_DIRECTORY), fcntl.LOCK_EX | fcntl.LOCK_NB)
+        return True
+    return False
 
 
 def note(chosen: settings.Settings, report: Report, again: str, answers: str) -> None:

@@ -9,7 +9,6 @@ import random
 import time
 
 from journalcollect.common import program, protocol
-from journalcollect.common.protocol import LONGEST_LINE, Answer, Greeting, Known, Put, Reply, Upload, Verdict
 from journalcollect.common.report import FAILED, LOOK
 from journalcollect.common.uploads import SOURCE
 from journalcollect.machine.link import Link, Lost
@@ -69,7 +68,8 @@ class Sending:
         try:
             if not self.link.is_open:
                 self.greet(self.link.open())
-            reply = self.link.ask(Upload(len(data), hashlib.sha256(data).hexdigest(), time.time_ns() // 1_000), data)
+            digest = hashlib.sha256(data).hexdigest()
+            reply = self.link.ask(protocol.Upload(len(data), digest, time.time_ns() // 1_000), data)
         except Lost as lost:
             self.lost(number, len(data), lost)
             return
@@ -79,14 +79,14 @@ class Sending:
         if self.take(number, data, reply) and is_fast and bound < min(2 * len(data), self.settings.upload_bytes):
             self.places.set(bound=2 * bound)
 
-    def greet(self, greeting: Greeting) -> None:
+    def greet(self, greeting: protocol.Greeting) -> None:
         """Takes what the collector says first, and asks whether it has what it acknowledged last."""
         skew = (greeting.realtime - time.time_ns() // 1_000) // 1_000_000
         self.places.set(skew=skew, answered=int(time.time()))
         if abs(skew) > SKEW_SECONDS:
             self.report.say(LOOK, f"the collector's clock is {skew:+} s from this machine's: set the one that is wrong")
         self.places.see_head(greeting.head or "")
-        if any(self.link.ask(key) is Known.LOST for key in self.outbox.keys()):
+        if any(self.link.ask(key) is protocol.Known.LOST for key in self.outbox.keys()):
             self.report.say(LOOK, "the collector lost what it had acknowledged: what the journal still has goes out")
             self.places.forget_all()
             self.outbox.forget()
@@ -104,14 +104,14 @@ class Sending:
             self.wait(str(lost), FAILED)
         return True
 
-    def take(self, number: int, data: bytes, reply: Reply) -> bool:
+    def take(self, number: int, data: bytes, reply: protocol.Reply) -> bool:
         """What an answer means to an upload; whether it is acknowledged."""
         match reply:
-            case Answer():
+            case protocol.Answer():
                 return self.take_answer(number, data, f"{reply.line}\n")
-            case Put(Verdict.LATER, why):
+            case protocol.Put(protocol.Verdict.LATER, why):
                 self.rest(number, f"the collector takes nothing now: {why}")
-            case Put(_, why):
+            case protocol.Put(_, why):
                 self.refusals.halve(number, self.outbox.pieces(number), why)
         return False
 
@@ -143,7 +143,7 @@ class Sending:
 
     def lost(self, number: int, size: int, lost: Lost) -> None:
         """No answer came. What the link didn't carry twice in a row has too many bytes for it, and comes in parts."""
-        if lost.went_out > LONGEST_LINE:
+        if lost.went_out > protocol.LONGEST_LINE:
             cuts = self.places.number("cuts") + 1
             self.places.set(cuts=cuts % CUTS)
             if cuts >= CUTS:

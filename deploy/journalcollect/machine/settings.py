@@ -2,7 +2,6 @@
 from dataclasses import dataclass
 
 from journalcollect.common import settings, times
-from journalcollect.common.settings import Wrong
 
 
 @dataclass(frozen=True)
@@ -26,9 +25,9 @@ def read() -> Settings:
     chosen = settings.read(settings.FOLDER / "machine.conf.d", Settings)
     for path in (chosen.folder, *chosen.journals.split()):
         if not path.startswith("/"):
-            raise Wrong(f"FOLDER and JOURNALS begin with a slash, and this doesn't: {path}")
+            raise settings.Wrong(f"FOLDER and JOURNALS begin with a slash, and this doesn't: {path}")
     if not 0 < chosen.upload_bytes <= chosen.folder_bytes:
-        raise Wrong(f"UPLOAD_BYTES={chosen.upload_bytes} is 0, or over FOLDER_BYTES={chosen.folder_bytes}")
+        raise settings.Wrong(f"UPLOAD_BYTES={chosen.upload_bytes} is 0, or over FOLDER_BYTES={chosen.folder_bytes}")
     return chosen
 
 
@@ -37,5 +36,5 @@ def seconds(since: str) -> str:
     is moves on, and what was gathered so far mustn't."""
     found = times.read(since)
     if found is None:
-        raise Wrong(f"this isn't a time: {since}")
+        raise settings.Wrong(f"this isn't a time: {since}")
     return times.spelled(found)
