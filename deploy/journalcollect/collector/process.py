@@ -61,17 +61,14 @@ class Process:
         except OSError as error:
             raise self.ended(str(error), PATIENCE) from error
         for _ in uploads:
-            yield self.answer()
-
-    def answer(self) -> protocol.Answer:
-        line = self.line()
-        try:
-            answer = protocol.answer(line)
-        except protocol.NotALine:
-            raise self.ended(f"said {line!r}") from None
-        if answer.code in (program.Code.STORE_FAILED, program.Code.OUT_OF_MEMORY):
-            raise self.ended(line)
-        return answer
+            line = self.line()
+            try:
+                answer = protocol.answer(line)
+            except protocol.NotALine:
+                raise self.ended(f"said {line!r}") from None
+            if answer.code in (program.Code.STORE_FAILED, program.Code.OUT_OF_MEMORY):
+                raise self.ended(line)
+            yield answer
 
     def line(self) -> str:
         assert self.process.stdout

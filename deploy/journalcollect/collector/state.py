@@ -89,7 +89,6 @@ class Age(NamedTuple):
 
     @classmethod
     def now(cls) -> "Age":
-        """The age of a collector that begins now."""
         return cls(0.0, BOOT_ID.read_text().strip(), time.clock_gettime(time.CLOCK_MONOTONIC_RAW), time.time())
 
     def grown(self) -> "Age":

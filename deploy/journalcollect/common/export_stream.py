@@ -36,7 +36,6 @@ class CutOff(Unfit):
 
 
 def buffered(data: bytes) -> BufferedReader:
-    """Some bytes, which are read as a file is."""
     return BufferedReader(cast(RawIOBase, BytesIO(data)))
 
 

@@ -94,7 +94,6 @@ class Entry:
             self.shorten()
 
     def shorten(self) -> None:
-        """It goes out with less."""
         self.unfold()
         self.is_large = True
         for field in self.held:

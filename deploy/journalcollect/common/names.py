@@ -5,5 +5,4 @@ MACHINE = re.compile(r"[A-Za-z0-9][A-Za-z0-9._-]{0,63}", re.ASCII)
 
 
 def is_machine(name: str) -> bool:
-    """Whether it has letters, digits, `.`, `_` and `-`, at most 64, and begins with a letter or a digit."""
     return MACHINE.fullmatch(name) is not None

@@ -129,7 +129,6 @@ def number(text: str) -> int:
 
 
 def encoded(line: Greeting | Question | Reply) -> bytes:
-    """A line as it is sent."""
     return f"{line}\n".encode("ascii")
 
 

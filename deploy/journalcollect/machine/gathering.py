@@ -87,7 +87,7 @@ class Gathering:
 
     def gather_path(self, file: journal.JournalFile, place: Place) -> None:
         try:
-            handle = journal.opened(file.path)
+            handle = os.open(file.path, os.O_NONBLOCK)
         except OSError:
             return                                  # the next list has it under another name, or not at all
         try:
@@ -108,7 +108,7 @@ class Gathering:
         first, self.is_stepping = place.cursor, False
         while options is not None and place.number < file.tail and file.entries:
             before = place.number
-            reading = journal.Reading(handle, options, self.whole.write if self.whole else None)
+            reading = journal.Reading(handle, options)
             is_other = self.take(reading, place)
             reading.end(not is_other and not self.is_late)
             if self.is_late:
@@ -143,7 +143,7 @@ class Gathering:
         if self.whole:
             self.whole.begin()
         try:
-            for entry in reading.entries():
+            for entry in reading.entries(self.whole.write if self.whole else None):
                 number = entry.key()[1]
                 cursor = entry.known.get(b"__CURSOR", b"").decode("ascii", "replace")
                 if number <= place.number:

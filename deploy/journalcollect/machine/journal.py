@@ -17,6 +17,7 @@ from io import BufferedReader
 from pathlib import Path
 from typing import NamedTuple, cast
 
+from journalcollect.common import files
 from journalcollect.common.export_stream import BLOCK, CutOff, Unfit
 from journalcollect.common.fit import Entry, entries
 
@@ -59,33 +60,28 @@ def read_header(path: Path, handle: int) -> JournalFile:
                        entries, is_archived)
 
 
-def opened(path: Path) -> int:
-    return os.open(path, os.O_RDONLY | os.O_NONBLOCK)
-
-
 def looked_at(path: Path) -> JournalFile:
     """The file of this path as it is now; an OSError or a ValueError if it can't be read."""
-    with open(opened(path), "rb", 0) as file:
-        return read_header(path, file.fileno())
+    with files.opened(path, os.O_NONBLOCK) as handle:
+        return read_header(path, handle)
 
 
 class Reading:
     """The entries of one file from some place on, and how their reading ended."""
 
-    def __init__(self, handle: int, options: list[str], whole: Callable[[bytes], object] | None = None) -> None:
+    def __init__(self, handle: int, options: list[str]) -> None:
         self.errors = open(os.memfd_create("errors"), "w+b")
         command = ["journalctl", "--quiet", "--output=export", f"--file=/proc/self/fd/{handle}", *options]
         self.process = subprocess.Popen(command, stdin=subprocess.DEVNULL, stdout=subprocess.PIPE, stderr=self.errors,
                                         bufsize=BLOCK, pass_fds=[handle])
         self.output = cast(BufferedReader, self.process.stdout)
-        self.whole = whole
         # The metadata of the entry at which journalctl broke off, if it began to write one.
         self.broken: dict[bytes, bytes] | None = None
         self.said, self.status = "", 0
 
-    def entries(self) -> Iterator[Entry]:
+    def entries(self, overflow: Callable[[bytes], object] | None = None) -> Iterator[Entry]:
         try:
-            yield from entries(self.output, self.whole)
+            yield from entries(self.output, overflow)
         except CutOff as fault:
             self.broken = fault.known
 

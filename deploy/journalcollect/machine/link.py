@@ -36,7 +36,6 @@ class Lost(OSError):
 
 
 def command(settings: Settings) -> list[str]:
-    """The words that reach the collector."""
     if settings.connect:
         return shlex.split(settings.connect)
     user, at, rest = settings.collector.rpartition("@")

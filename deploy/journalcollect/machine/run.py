@@ -56,7 +56,7 @@ class Machine:
         is_new = self.has_more or self.places.is_asked() or self.gathering.journal.has_news()
         return is_new and time.monotonic() >= self.gathers_at
 
-    def gather(self, seconds: float) -> bool:
+    def gather(self, seconds: float) -> None:
         """Gathers for so long at most, and takes answers that came by hand."""
         self.has_more, self.gathers_at = True, time.monotonic() + FIRST_PAUSE
         if answers := self.places.value("answers"):
@@ -65,12 +65,11 @@ class Machine:
         self.has_more = self.gathering.gather(time.monotonic() + seconds)
         is_idle = self.has_more and self.sending.next() is None and not self.gathering.is_full()
         self.gathers_at = time.monotonic() + (0 if is_idle else self.chosen.every_seconds)
-        return True
 
-    def guarded(self, step: Callable[[], bool]) -> bool:
+    def guarded(self, step: Callable[[], object]) -> bool:
         """Whether a step did something. One that fails is tried again after a while."""
         try:
-            return step()
+            return bool(step())
         except (*FAILURES, sqlite3.Error) as error:
             self.report.say(FAILED, f"failed, and is tried again: {error}")
             self.sending.resumes = time.monotonic() + FIRST_PAUSE
