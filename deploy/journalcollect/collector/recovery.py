@@ -35,7 +35,7 @@ class Recovery:
         self.present.turn(path.stem)
 
     def adopt(self, name: str, digest: str, is_alone: bool = True) -> None:
-        """A database that has its digest is known from now on. If it is alone, no unfinished one has notes, too."""
+        """A database that has its digest is known from now on. If it is alone, all notes are those of finished ones."""
         try:
             had = databases.summary(self.folder, name, digest)
         except databases.Damaged as error:

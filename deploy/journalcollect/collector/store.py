@@ -212,8 +212,8 @@ class Store(threading.Thread):
             if upload.path:
                 upload.path.rename(path)
             else:
-                handle = upload.handle                 # with it named, the link is followed
-                os.link(f"/proc/self/fd/{handle}", path, src_dir_fd=handle)
+                # src_dir_fd has the link be of the file itself
+                os.link(f"/proc/self/fd/{upload.handle}", path, src_dir_fd=upload.handle)
             upload.path = path
         except OSError as error:
             upload.put(Verdict.LATER, f"the disk of the collector: {error.strerror}")
