@@ -57,11 +57,14 @@ def test_the_notes_of_a_window_are_made_anew_whatever_became_of_it(collector: Co
     def cut() -> None:
         os.truncate(window, 60)
 
+    def overwritten() -> None:
+        window.write_bytes(bytes(len(before)))
+
     def folder() -> None:
         window.unlink()
         window.mkdir()
 
-    for damage in (window.unlink, emptied, cut, folder):
+    for damage in (window.unlink, emptied, cut, overwritten, folder):
         damage()
         collector.start()
         assert collector.send("web", upload(entries(A, range(1, 7)), 6)) == f"ack {ID} 0 6 0 0", damage
@@ -91,11 +94,12 @@ def test_a_window_that_is_damaged_while_the_service_runs_sets_no_database_aside(
     assert collector.stored() == [*texts(range(1, 5)), (B, 1, b"m1")]
 
 
-def test_a_changed_byte_of_a_note_is_found_by_the_check(collector: Collector) -> None:
+def test_a_byte_of_a_note_that_changed_by_itself_is_found_by_the_check(collector: Collector) -> None:
     store_and_stop(collector, range(1, 4))
     window = collector.folder / "sequences" / A / "0"
-    before = window.read_bytes()
+    before, told = window.read_bytes(), window.stat()
     window.write_bytes(before[:41 + 1] + bytes([before[42] ^ 1]) + before[43:])
+    os.utime(window, ns=(told.st_atime_ns, told.st_mtime_ns))
     collector.start()
     collector.connect("web").close()
     said = collector.ask("check")

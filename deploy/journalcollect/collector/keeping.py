@@ -86,7 +86,7 @@ class Keeping(threading.Thread):
     def mend_notes(self, rest: float = 0.0) -> list[str]:
         """Makes notes anew that aren't what they were; which. Done once a day of the collector."""
         self.look_at_owners()
-        bad = sorted({*self.notes.short(), *self.notes.changed(rest)})
+        bad = sorted({*self.notes.lost(), *self.notes.changed(rest)})
         if bad:
             self.store.alone(lambda: self.notes.make_anew(bad, "it isn't as it was"))
         return [f"{sequence}/{window}" for sequence, window in bad]

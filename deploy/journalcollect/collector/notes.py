@@ -40,30 +40,43 @@ class Notes:
     def measured(self, sequence: str, window: int, notes: int) -> Window:
         """A window that ought to have so many notes of finished databases, as it is. It has no digest if it has less,
         or if a gate is closed before the last one."""
-        data = b""
+        data, (size, written) = b"", self.looked_at(sequence, window)
         with contextlib.suppress(OSError):
-            if self.size(sequence, window) >= 0:
+            if size >= 0:
                 with open(self.path(sequence, window), "rb") as file:
                     data = file.read(NOTE * notes)
         is_whole = len(data) == NOTE * notes and data[::NOTE] == OPEN * notes
-        return Window(sequence, window, notes, hashlib.sha256(data).hexdigest() if is_whole else UNMADE)
+        return Window(sequence, window, notes, hashlib.sha256(data).hexdigest() if is_whole else UNMADE, written)
 
-    def size(self, sequence: str, window: int) -> int:
-        """How many bytes the file of a window has; -1 if it is none."""
+    def looked_at(self, sequence: str, window: int) -> tuple[int, int]:
+        """How many bytes the file of a window has, and when it was written to; -1 if it is none."""
         with contextlib.suppress(OSError):
             told = self.path(sequence, window).lstat()
-            return told.st_size if stat.S_ISREG(told.st_mode) else -1
-        return -1
+            if stat.S_ISREG(told.st_mode):
+                return told.st_size, told.st_mtime_ns
+        return -1, -1
+
+    def size(self, sequence: str, window: int) -> int:
+        return self.looked_at(sequence, window)[0]
 
     def unlike(self, windows: Iterable[Window]) -> list[Name]:
         """The windows with other notes than finished databases have entries, asked while no other one is there."""
         return [(each.sequence, each.window) for each in windows
                 if each.sum == UNMADE or self.size(each.sequence, each.window) != NOTE * each.notes + 1]
 
-    def short(self) -> list[Name]:
-        """The windows that are gone, emptied or cut, or were being made anew when that was stopped."""
-        return [(each.sequence, each.window) for each in self.state.windows()
-                if each.sum == UNMADE or self.size(each.sequence, each.window) < NOTE * each.notes]
+    def lost(self) -> list[Name]:
+        """The windows that are gone, cut or overwritten, or were being made anew when that was stopped. Only those are
+        read that were written to since: what the program adds isn't in their digests yet."""
+        found = []
+        for each in self.state.windows():
+            size, written = self.looked_at(each.sequence, each.window)
+            if each.sum == UNMADE or size < NOTE * each.notes or written != each.written and self.is_changed(each):
+                found.append((each.sequence, each.window))
+        return found
+
+    def is_changed(self, window: Window) -> bool:
+        """Whether what finished databases were noted in isn't what it was."""
+        return self.measured(window.sequence, window.window, window.notes).sum != window.sum
 
     def changed(self, rest: float) -> list[Name]:
         """The windows whose bytes aren't what they were; after each there is so many times as long of rest."""
@@ -71,8 +84,8 @@ class Notes:
         for each in self.state.windows():
             begun = time.monotonic()
             # it may have gone for its age meanwhile, or have been made anew
-            if self.measured(each.sequence, each.window, each.notes) != each and self.state.ask(
-                    "SELECT 1 FROM noted WHERE sequence = ? AND window = ? AND notes = ? AND sum = ?", *each):
+            if self.is_changed(each) and self.state.ask(
+                    "SELECT 1 FROM noted WHERE sequence = ? AND window = ? AND notes = ? AND sum = ?", *each[:4]):
                 found.append((each.sequence, each.window))
             if self.stops.wait(rest * (time.monotonic() - begun)):
                 return []
@@ -112,8 +125,9 @@ class Notes:
             self.note(database)
         for name in names:
             notes = max(0, self.size(*name) // NOTE)
-            self.state.ask("UPDATE noted SET notes = ?, sum = ? WHERE sequence = ? AND window = ?", notes,
-                           self.measured(*name, notes).sum, *name)
+            made = self.measured(*name, notes)
+            self.state.ask("UPDATE noted SET notes = ?, sum = ?, written = ? WHERE sequence = ? AND window = ?",
+                           notes, made.sum, made.written, *name)
 
     def note(self, database: str) -> None:
         """Notes what a finished database has, and isn't noted."""

@@ -74,7 +74,7 @@ class Recovery:
                 self.adopt(name, digest, is_alone=False)
         for name in sorted(finished - there):
             self.missing(name)
-        self.notes.make_anew(self.notes.short(), "notes are lacking")
+        self.notes.make_anew(self.notes.lost(), "it isn't as it was")
 
     def missing(self, name: str) -> None:
         """A database is gone that nobody deleted or moved: what it had isn't acknowledged any more."""
@@ -122,8 +122,8 @@ class Recovery:
 
     def mend(self, said: str) -> bool:
         """What failed may be a file of notes, and no fault of the database: whether one was made anew."""
-        bad = {(sequence, int(window)) for sequence, window in WINDOW.findall(said)}.union(self.notes.short())
-        self.notes.make_anew(bad, "it can't be read, or has less than it had")
+        bad = {(sequence, int(window)) for sequence, window in WINDOW.findall(said)}.union(self.notes.lost())
+        self.notes.make_anew(bad, "it can't be read, or isn't as it was")
         return bool(bad)
 
     def quarantine(self, path: Path, why: str) -> list[tuple[str, Path]]:

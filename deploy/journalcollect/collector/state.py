@@ -27,8 +27,8 @@ CREATE INDEX IF NOT EXISTS unpacked ON database(standing, age) WHERE packed IS N
 CREATE TABLE IF NOT EXISTS machine(name TEXT PRIMARY KEY, seen REAL, stored REAL, entries INTEGER, refused INTEGER,
     skew REAL, day TEXT, bytes INTEGER, windows INTEGER) WITHOUT ROWID;
 CREATE TABLE IF NOT EXISTS sequence(id TEXT, machine TEXT, PRIMARY KEY(id, machine)) WITHOUT ROWID;
-CREATE TABLE IF NOT EXISTS noted(sequence TEXT, window INTEGER, notes INTEGER, sum TEXT, age REAL, first INTEGER,
-    last INTEGER, PRIMARY KEY(sequence, window)) WITHOUT ROWID;
+CREATE TABLE IF NOT EXISTS noted(sequence TEXT, window INTEGER, notes INTEGER, sum TEXT, written INTEGER, age REAL,
+    first INTEGER, last INTEGER, PRIMARY KEY(sequence, window)) WITHOUT ROWID;
 CREATE TABLE IF NOT EXISTS told(cause TEXT PRIMARY KEY, text TEXT, first REAL, last REAL, count INTEGER) WITHOUT ROWID;
 CREATE TABLE IF NOT EXISTS clock(one INTEGER PRIMARY KEY CHECK(one = 1), days REAL, boot TEXT, running REAL, wall REAL,
     uncounted REAL);
@@ -70,11 +70,13 @@ class Told:
 
 
 class Window(NamedTuple):
-    """How many notes of finished databases a window of a sequence has, and the digest of their bytes."""
+    """How many notes of finished databases a window of a sequence has, the digest of their bytes, and when its file was
+    written before that was taken."""
     sequence: str
     window: int
     notes: int
     sum: str
+    written: int
 
 
 class Age(NamedTuple):
@@ -221,8 +223,8 @@ class State:
                 "packed) VALUES(?1, 'finished', ?2, ?3, ?3, ?4, ?5, ?6, ?7, ?8, ?9) RETURNING id", name, time.time(),
                 age, had.first, had.last, had.entries, had.bytes, had.digest, had.packed)
             for each in windows:
-                self.ask("INSERT INTO noted VALUES(?1, ?2, ?3, ?4, ?5, ?6, ?6) ON CONFLICT DO UPDATE SET notes = ?3, "
-                         "sum = ?4, age = ?5, last = ?6", *each, age, number)
+                self.ask("INSERT INTO noted VALUES(?1, ?2, ?3, ?4, ?5, ?6, ?7, ?7) ON CONFLICT DO UPDATE SET "
+                         "notes = ?3, sum = ?4, written = ?5, age = ?6, last = ?7", *each, age, number)
             for sequence in {each.sequence for each in windows} & owners.keys():
                 self.ask("INSERT OR IGNORE INTO sequence VALUES(?, ?)", sequence, owners[sequence])
                 self.ask("DELETE FROM sequence WHERE id = ? AND machine = ''", sequence)
@@ -247,8 +249,8 @@ class State:
     def windows(self) -> Iterator[Window]:
         """All windows, some at a time: there may be many."""
         last = ("", -1)
-        while rows := self.ask("SELECT sequence, window, notes, sum FROM noted WHERE (sequence, window) > (?, ?) "
-                               "ORDER BY sequence, window LIMIT 1000", *last):
+        while rows := self.ask("SELECT sequence, window, notes, sum, written FROM noted "
+                               "WHERE (sequence, window) > (?, ?) ORDER BY sequence, window LIMIT 1000", *last):
             yield from (Window(*row) for row in rows)
             last = rows[-1][:2]
 
