@@ -86,15 +86,15 @@ class Collector(Computer):
     def __init__(self, folder: Path, disk: Disk, environment: dict[str, str]) -> None:
         self.keys = folder / "etc" / "keys"
         self.keys.mkdir(parents=True)
-        super().__init__(folder, disk, self.settings(disk, 5), environment)
+        super().__init__(folder, disk, self.settings(disk, 5, 300_000), environment)
 
-    def settings(self, disk: Disk, seconds: int) -> dict[str, object]:
-        return {"FOLDER": disk.at / "data", "DATABASE_SECONDS": seconds, "DATABASE_BYTES": 300_000,
+    def settings(self, disk: Disk, seconds: int, size: int) -> dict[str, object]:
+        return {"FOLDER": disk.at / "data", "DATABASE_SECONDS": seconds, "DATABASE_BYTES": size,
                 "FREE_BYTES": 1_000_000}
 
     def rests(self) -> None:
         """Databases are few from now on: each has journal files for an hour, which fill the disk of a slow computer."""
-        self.write(self.settings(self.disk, 60))
+        self.write(self.settings(self.disk, 60, 3_000_000))
         self.stop()
 
     def admit(self, name: str) -> None:
