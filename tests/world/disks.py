@@ -135,10 +135,13 @@ class Disk:
             (self.group / "cgroup.freeze").write_text("0")
 
     def set_back(self, snapshot: Path) -> None:
-        """The computer goes on as it was then."""
+        """The computer goes on as it was then. The image is another file: a mount takes the loop device of one that it
+        knows, if anybody has that open still, with what it keeps of blocks."""
         self.kill()
         self.unmount()
-        shutil.copy(snapshot, self.image)
+        left = self.folder / "left"
+        shutil.copy(snapshot, left)
+        left.replace(self.image)
         self.mount()
 
     def fill(self, left: int) -> None:
