@@ -5,8 +5,7 @@ import pytest
 from collecting import digits, plain
 
 from journalcollect.common import entries
-from journalcollect.common.entries import Untaken
-from journalcollect.common.export_stream import Unfit
+from journalcollect.common.entries import Unfit, Untaken
 
 BOOT = digits("boot", "web")
 

@@ -14,7 +14,7 @@ from contextlib import suppress
 from dataclasses import dataclass
 from io import BufferedReader
 
-from journalcollect.common.export_stream import BLOCK, PLAIN, CutOff, Unfit, buffered, parts
+from journalcollect.common.entries import BLOCK, PLAIN, CutOff, Unfit, buffered, parts
 
 NAME, VALUE, FIELDS, ENTRY = 1_024, 16_777_216, 4_096, 33_554_432
 ABOUT = re.compile(rb"^(__[^=\n]*)=(.*)$", re.MULTILINE)

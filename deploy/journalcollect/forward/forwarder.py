@@ -16,7 +16,6 @@ from typing import Any
 from ..collector import databases, settings as collector_settings
 from ..common import files, program
 from ..common.entries import spans
-from ..common.export_stream import Unfit
 from ..common.report import BUSY, FAILED, LOOK, WRONG
 from ..common.settings import Wrong
 from ..reading import making
@@ -119,7 +118,7 @@ class Forwarder:
             for batch in batches(self.rows(name)):
                 self.bring(name, batch, engine)
             self.place.done[name] = digest
-        except (program.Failed, databases.Damaged, Unfit, ValueError) as error:
+        except (program.Failed, databases.Damaged, ValueError) as error:
             self.place.bad[name] = digest
             self.tell(f"{name} is damaged, and not all of it is forwarded: {error}", LOOK)
         except FileNotFoundError:

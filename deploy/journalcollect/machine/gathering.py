@@ -8,7 +8,7 @@ import os
 import sqlite3
 import time
 
-from journalcollect.common.export_stream import Unfit
+from journalcollect.common.entries import Unfit
 from journalcollect.common.fit import Entry
 from journalcollect.common.report import FINE, LOOK
 from journalcollect.machine import journal

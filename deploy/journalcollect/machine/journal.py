@@ -18,7 +18,7 @@ from pathlib import Path
 from typing import NamedTuple, cast
 
 from journalcollect.common import files
-from journalcollect.common.export_stream import BLOCK, CutOff, Unfit
+from journalcollect.common.entries import BLOCK, CutOff, Unfit
 from journalcollect.common.fit import Entry, entries
 
 MACHINE_ID = Path("/etc/machine-id")

@@ -18,7 +18,7 @@ from pathlib import Path
 from typing import NamedTuple
 
 from journalcollect.common import files, program, protocol
-from journalcollect.common.export_stream import Unfit, buffered
+from journalcollect.common.entries import Unfit, buffered
 from journalcollect.common.fit import Entry, entries
 from journalcollect.common.report import LOOK, Report
 from journalcollect.common.uploads import HEADER, MOST_WINDOWS, WINDOW

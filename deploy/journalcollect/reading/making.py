@@ -19,13 +19,12 @@ from pathlib import Path
 
 from ..collector import databases, settings
 from ..common import entries, files, program
-from ..common.export_stream import Unfit
 from . import places, remote
 from .places import ABOUT, ALL, DAY, About, Places
 
 UNKNOWN = "systemd-journal-remote didn't write them"
 # One of them costs the files of a database or of a day, until the next run.
-FAILURES = (OSError, EOFError, ValueError, program.Failed, databases.Damaged, remote.Failed, Unfit)
+FAILURES = (OSError, EOFError, ValueError, program.Failed, databases.Damaged, remote.Failed)
 
 
 @contextlib.contextmanager

@@ -15,7 +15,6 @@ from collections.abc import Callable, Iterator
 from pathlib import Path
 
 from ..common import entries
-from ..common.export_stream import Unfit
 from ..common.uploads import HEADER, KIND, STREAM
 from . import remote
 from .places import About, Places
@@ -58,7 +57,7 @@ class Live(remote.Remote):
                     self.keys.add((entry.sequence, entry.number))
                     self.about.add(machine, entry.boot, entry.realtime, entry.realtime)
                     yield entry.text(machine, self.with_keys)
-        except Unfit as fault:
+        except entries.Unfit as fault:
             self.about.untaken[f"their upload can't be read: {fault}"] += 1
 
     def say(self) -> None:
