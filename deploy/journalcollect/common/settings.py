@@ -1,17 +1,18 @@
 """Settings: lines NAME=VALUE in the files `*.conf` of a folder. A later file, by its name, has the last word.
 
 The settings of a program are a frozen dataclass, which has each under its name in small letters, with its type (`str`,
-`bool`, `int` or `float`) and its default.
+`bool`, `int` or `float`) and its default. Times are said as systemd reads them: `yesterday`, `-2h`,
+`2026-12-01 14:00`.
 """
 import dataclasses
 import os
 import re
+import subprocess
 from collections.abc import Iterator
 from pathlib import Path
 from typing import Any, TypeVar
 
 FOLDER = Path(os.environ.get("JOURNAL_COLLECT_SETTINGS", "/etc/journal-collect"))
-
 S = TypeVar("S")
 # What a value of each type is, and which it may be.
 FORMS = {bool: ("yes or no", r"yes|no"), int: ("a whole number", r"[0-9]{1,18}"),
@@ -52,3 +53,16 @@ def assignments(path: Path) -> Iterator[tuple[int, str, str]]:
         if not equals or name != name.strip():
             raise Wrong(f"{path}: line {number} isn't NAME=VALUE: {text}")
         yield number, name, value.strip()
+
+
+def time_of(words: str) -> int | None:
+    """The time that these words name, in microseconds since 1970; None if it is none."""
+    told = subprocess.run(["systemd-analyze", "timestamp", "--", words], capture_output=True, text=True,
+                          errors="replace", check=False)
+    found = re.search(r"^ *UNIX seconds: @(\d+)(?:\.(\d{6}))?$", told.stdout, re.MULTILINE | re.ASCII)
+    return int(found[1]) * 1_000_000 + int(found[2] or 0) if found else None
+
+
+def spelled(microseconds: int) -> str:
+    """As journalctl takes a time, to the microsecond."""
+    return f"@{microseconds // 1_000_000}.{microseconds % 1_000_000:06}"

@@ -1,7 +1,7 @@
 """The settings of a machine, and the times that they name."""
 from dataclasses import dataclass
 
-from journalcollect.common import settings, times
+from journalcollect.common import settings
 
 
 @dataclass(frozen=True)
@@ -34,7 +34,7 @@ def read() -> Settings:
 def seconds(since: str) -> str:
     """A time that SINCE or --again says, as seconds; a Wrong if it is none. It is looked up once: what `today` or `-2h`
     is moves on, and what was gathered so far mustn't."""
-    found = times.read(since)
+    found = settings.time_of(since)
     if found is None:
         raise settings.Wrong(f"this isn't a time: {since}")
-    return times.spelled(found)
+    return settings.spelled(found)

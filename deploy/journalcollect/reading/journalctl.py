@@ -12,7 +12,7 @@ from functools import partial
 from itertools import product
 from typing import IO, Any, NamedTuple
 
-from ..common import times
+from ..common.settings import spelled
 from .places import FOREVER, File
 from .words import Call
 
@@ -30,9 +30,9 @@ class Window(NamedTuple):
 
     def words(self, call: Call) -> list[str]:
         if self.since:
-            call = call.plus(since=times.spelled(self.since))
+            call = call.plus(since=spelled(self.since))
         if self.until < FOREVER:
-            call = call.plus(until=times.spelled(self.until))
+            call = call.plus(until=spelled(self.until))
         return ["journalctl", *(f"--file=/proc/self/fd/{handle}" for handle in self.handles), "--merge", *call.words()]
 
     @property

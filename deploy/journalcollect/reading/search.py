@@ -16,8 +16,7 @@ from operator import itemgetter
 from pathlib import Path
 
 from ..collector import settings
-from ..common import times
-from ..common.settings import Wrong
+from ..common.settings import Wrong, time_of
 from . import journalctl, places, words
 from .journalctl import Counts, Values, Window
 from .places import FOREVER, About, File, Places
@@ -62,7 +61,7 @@ class Search:
             os.environ["TZ"] = "UTC"
             time.tzset()
         # What systemd can't read as a time is left to journalctl.
-        since, until = (value and times.read(value) for value in (call.value("since"), call.value("until")))
+        since, until = (value and time_of(value) for value in (call.value("since"), call.value("until")))
         self.since, self.until = int(since or 0), int(until or FOREVER)
         self.names = self.machines()
         self.call = call.of([f"_COLLECTED_FROM={name}" for name in self.names])
