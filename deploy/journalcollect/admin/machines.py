@@ -4,7 +4,7 @@ from collections.abc import Callable
 from pathlib import Path
 
 from ..collector.settings import Folder
-from ..common import files, names, program
+from ..common import files, program
 from ..common.protocol import HEX_ID
 from ..setup import keys
 from ..setup.deeds import Deeds
@@ -31,7 +31,7 @@ class Machines:
 
     def key(self, name: str) -> Path:
         """Where a machine's key is, if it has one."""
-        if not names.is_machine(name):
+        if not keys.is_machine(name):
             raise No(f"{name} can't be a machine's name: letters, digits, `.`, `_` and `-`, at most 64")
         return self.etc / "keys" / f"{name}.pub"
 

@@ -7,14 +7,14 @@ from collections.abc import Callable, Iterator, Sequence
 from pathlib import Path
 from typing import Any
 
-import journalcollect
-
+from .. import VERSION
 from ..collector import databases
 from ..collector.gate import Gate
 from ..collector.keeping import Keeping
 from ..collector.store import Store
 from ..collector.turns import Waiting
-from ..common import files, names, program
+from ..common import files, program
+from ..setup import keys
 
 PIECE = 1 << 20
 LIBRARY = Path(__file__).resolve().parents[2]
@@ -43,7 +43,7 @@ class Operations:
     def status(self) -> Iterator[dict[str, Any]]:
         """What is so at the moment; what outlives the service is in state.sqlite."""
         self.state.flush()
-        yield {**self.store.status(), "version": journalcollect.VERSION, "connections": self.gate.count(),
+        yield {**self.store.status(), "version": VERSION, "connections": self.gate.count(),
                "is_begun": self.store.is_begun.is_set(), "head": self.store.head()}
 
     def finish(self) -> None:
@@ -71,7 +71,7 @@ class Operations:
 
     def take(self, machine: str, handle: int) -> Iterator[str]:
         """An upload that came by other means is stored, whatever its size and kind; the answer."""
-        if not names.is_machine(machine):
+        if not keys.is_machine(machine):
             raise No(f"{machine} can't be a machine's name")
         with files.unnamed(self.folder.recent) as copy:
             at = 0

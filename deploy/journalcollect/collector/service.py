@@ -7,8 +7,7 @@ import threading
 import time
 from pathlib import Path
 
-import journalcollect
-
+from .. import VERSION
 from ..admin.door import Door
 from ..admin.operations import Operations
 from ..common import program
@@ -100,6 +99,6 @@ def look_at_program() -> None:
         version = program.version()
     except (OSError, program.Failed) as error:
         raise Wrong(f"{program.path()} can't be called: {error}") from error
-    if version != f"journal-collect {journalcollect.VERSION}":
-        raise Wrong(f"{program.path()} is `{version}`, and this service of version {journalcollect.VERSION}: "
+    if version != f"journal-collect {VERSION}":
+        raise Wrong(f"{program.path()} is `{version}`, and this service of version {VERSION}: "
                     "install both anew")

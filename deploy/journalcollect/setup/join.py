@@ -12,7 +12,7 @@ import sys
 import time
 from pathlib import Path
 
-from journalcollect.common import names, settings
+from journalcollect.common import settings
 from journalcollect.setup import keys
 from journalcollect.setup.deeds import Deeds, Stopped, is_true, output, status
 from journalcollect.status import machine
@@ -49,7 +49,7 @@ class Joining:
         self.deeds = Deeds(asked.dry_run)
         self.etc, self.key, self.public, self.known = etc, etc / "key", etc / "key.pub", etc / "known_hosts"
         self.name: str = asked.name or self.known_name() or socket.gethostname()
-        if not names.is_machine(self.name):
+        if not keys.is_machine(self.name):
             raise Stopped(f"{self.name} can't be a machine's name: say another one by --name")
 
     def join(self) -> int:
@@ -69,7 +69,7 @@ class Joining:
     def known_name(self) -> str:
         """The name under which this machine joined before is the comment of its key."""
         words = self.public_key().split()
-        return words[2] if len(words) == 3 and names.is_machine(words[2]) else ""
+        return words[2] if len(words) == 3 and keys.is_machine(words[2]) else ""
 
     def public_key(self) -> str:
         return self.public.read_text().strip() if self.public.exists() else ""

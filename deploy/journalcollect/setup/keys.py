@@ -2,16 +2,19 @@
 import re
 from pathlib import Path
 
-from journalcollect.common import names
-
+# A machine's name may be a file's, and stand in a line of the protocol.
+MACHINE = re.compile(r"[A-Za-z0-9][A-Za-z0-9._-]{0,63}", re.ASCII)
 # A public key as ssh-keygen writes it: its kind, its bytes, and a comment.
 KEY = re.compile(r"((?:ssh|ecdsa|sk)-[a-z0-9@.-]+ [A-Za-z0-9+/]+=*)(?: [^\x00-\x1f\x7f]*)?", re.ASCII)
 NETCAT = "/usr/bin/nc.openbsd"
 
 
+def is_machine(name: str) -> bool:
+    return MACHINE.fullmatch(name) is not None
+
+
 def machines(etc: Path) -> list[str]:
-    """The names that have a key."""
-    return sorted(path.stem for path in (etc / "keys").glob("*.pub") if names.is_machine(path.stem))
+    return sorted(path.stem for path in (etc / "keys").glob("*.pub") if is_machine(path.stem))
 
 
 def of_text(text: str) -> str:
