@@ -21,7 +21,7 @@ from pathlib import Path
 from load import ROOT, Answers, Collector, Line, in_threads, told, upload, whole
 
 sys.path.append(str(ROOT / "deploy"))
-from journalcollect.common.uploads import MOST_WINDOWS, WINDOW  # noqa: E402
+from journalcollect.common.protocol import MOST_WINDOWS, WINDOW  # noqa: E402
 
 HEALTHY, HOSTILE, CONNECTIONS = 20, 2, 4
 

@@ -16,7 +16,7 @@ from pathlib import Path
 from typing import NamedTuple, cast
 
 from ..common import files
-from ..common.uploads import WINDOW
+from ..common.protocol import WINDOW
 from .settings import Folder
 
 # A log without a page has at most so many bytes.

@@ -8,8 +8,7 @@ import threading
 from collections.abc import Iterator
 
 from ..common import program
-from ..common.protocol import Put, Verdict
-from ..common.uploads import COUNT, HEADER, MOST_WINDOWS, START, WHOLE, WINDOW
+from ..common.protocol import COUNT, HEADER, MOST_WINDOWS, START, WHOLE, WINDOW, Put, Verdict
 from .settings import CONNECTIONS, LARGE, MIB, UPLOAD_BYTES, WINDOWS_A_DAY, Settings
 from .state import State
 

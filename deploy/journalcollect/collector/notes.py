@@ -15,7 +15,7 @@ from collections.abc import Iterable, Iterator
 from pathlib import Path
 
 from ..common import files, program
-from ..common.uploads import WINDOW
+from ..common.protocol import WINDOW
 from . import databases
 from .process import Process
 from .state import State, Window, log

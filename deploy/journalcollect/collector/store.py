@@ -11,8 +11,7 @@ from concurrent.futures import Future
 from pathlib import Path
 
 from ..common import files, program
-from ..common.protocol import Answer, Put, Verdict
-from ..common.uploads import HEADER, MOST_WINDOWS
+from ..common.protocol import HEADER, MOST_WINDOWS, Answer, Put, Verdict
 from . import databases
 from .gate import IDS
 from .process import OWN, Ended, Process

@@ -1,4 +1,4 @@
-"""The lines that a machine and the collector's service say to each other over the machine's socket: version 1.
+"""What a machine and the collector's service say to each other over the machine's socket: version 1.
 
 The service greets. Then the machine asks, `had` or `upload` with its bytes behind it, and each question has one line
 for an answer, in turn. Lines are ASCII, end with a line feed and have at most 200 bytes. What `str` gives is without
@@ -11,6 +11,11 @@ from typing import NamedTuple
 LONGEST_LINE = 200
 # The greatest number and time that an entry may have.
 GREATEST = 2**63 - 1
+# What an upload of an export stream of version 2 that is to be whole begins with (docs/FORMATS.md); and its header.
+WHOLE, HEADER, STREAM = b"JCUPLD02\1\1" + bytes(6), 48, b"\1"
+KIND, SOURCE, START, COUNT = slice(8, 9), slice(16, 32), slice(32, 40), slice(40, 48)
+# A file of notes has so many numbers of a sequence, and an upload touches so many files of notes at most.
+WINDOW, MOST_WINDOWS = 4096, 16
 
 HEX_ID = re.compile(r"[0-9a-f]{32}")
 NUMBER, DIGEST = r"(0|[1-9][0-9]{0,18})", r"([0-9a-f]{64})"

@@ -20,8 +20,8 @@ from typing import NamedTuple
 from journalcollect.common import files, program, protocol
 from journalcollect.common.entries import Unfit, buffered
 from journalcollect.common.fit import Entry, entries
+from journalcollect.common.protocol import HEADER, MOST_WINDOWS, WINDOW
 from journalcollect.common.report import LOOK, Report
-from journalcollect.common.uploads import HEADER, MOST_WINDOWS, WINDOW
 from journalcollect.machine.places import Places
 
 # What a disk says of what it can't read any more, as a loss of power may leave it.

@@ -9,8 +9,8 @@ import random
 import time
 
 from journalcollect.common import program, protocol
+from journalcollect.common.protocol import SOURCE
 from journalcollect.common.report import FAILED, LOOK
-from journalcollect.common.uploads import SOURCE
 from journalcollect.machine.link import Link, Lost
 from journalcollect.machine.outbox import Outbox
 from journalcollect.machine.places import LONGEST_REST, NEVER

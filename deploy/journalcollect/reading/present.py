@@ -15,7 +15,7 @@ from collections.abc import Callable, Iterator
 from pathlib import Path
 
 from ..common import entries
-from ..common.uploads import HEADER, KIND, STREAM
+from ..common.protocol import HEADER, KIND, STREAM
 from . import remote
 from .places import About, Places
 
