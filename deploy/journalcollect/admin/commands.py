@@ -109,7 +109,6 @@ def upload_of(path: Path) -> Any:
 
 
 def asked_of(folder: Folder, do: str, words: list[str], file: Any = None) -> Iterator[Any]:
-    """Has the service do something."""
     with socket.socket(socket.AF_UNIX) as one:
         try:
             one.connect(str(folder.admin))

@@ -173,7 +173,6 @@ class State:
             known.text, known.last, known.count, self.is_changed = text, now, known.count + 1, True
 
     def over(self, cause: str) -> None:
-        """A cause is none any more."""
         with self.lock:
             if self.told.pop(cause, None):
                 self.is_changed = True

@@ -137,7 +137,6 @@ class Entry:
 
     @property
     def was_shortened(self) -> bool:
-        """Something was left out of it before."""
         self.unfold()
         return any(field.name == LEFT_OUT for field in self.held)
 

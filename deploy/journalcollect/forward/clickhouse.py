@@ -83,6 +83,5 @@ class ClickHouse:
 
 
 def one_line(status: int, said: str) -> str:
-    """An answer as people read it."""
     text = "".join(each if each.isprintable() else "?" for each in said[:LONGEST_REASON].strip())
     return f"{status} {text}".strip()

@@ -94,7 +94,6 @@ class Refused:
         self.room = self.most - sum(map(files.size, self.folder.iterdir()))
 
     def write(self, text: bytes) -> None:
-        """Some more of it comes."""
         self.room -= len(text)
         if self.room >= 0:
             with open(self.new, "ab") as file:

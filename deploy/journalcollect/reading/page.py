@@ -64,7 +64,6 @@ class Asked:
         return int(said)
 
     def call(self) -> Call:
-        """In journalctl's words."""
         machines = [f"_COLLECTED_FROM={name}" for name in self.values.get("machine", [])]
         call = Call([("unit", unit) for unit in self.values.get("unit", [])], machines + self.values.get("match", []))
         if not all(map(MATCH.fullmatch, call.matches)):

@@ -83,8 +83,6 @@ class File(NamedTuple):
 
 
 class Places:
-    """The folders below one collector's."""
-
     def __init__(self, folder: Path) -> None:
         self.folder, self.journals = folder, folder / "journals"
         self.present, self.today = self.journals / "present", self.journals / "today"
@@ -98,7 +96,6 @@ class Places:
                 folder.chmod(FOLDER_MODE)
 
     def days(self) -> list[Path]:
-        """The folders of days."""
         return [path for path in self.journals.glob("*") if DAY.fullmatch(path.name)]
 
     def of_today(self) -> set[str]:
@@ -141,7 +138,6 @@ class Places:
         return present + sorted(open_all(by_time, opened), key=lambda file: file.header.head_realtime)
 
     def live(self) -> list[Path]:
-        """The present's files."""
         return sorted(self.present.glob("*.journal"))
 
     def tail(self) -> int:

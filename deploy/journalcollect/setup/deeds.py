@@ -53,7 +53,6 @@ class Deeds:
             output(*words, given=given)
 
     def users(self) -> None:
-        """Those that the package's list has."""
         if not (is_true("getent", "passwd", *USERS) and is_true("getent", "group", "journal-collect-read")):
             self.call("makes the users journal-collect..", "systemd-sysusers", "journal-collect.conf")
 

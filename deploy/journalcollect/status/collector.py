@@ -29,7 +29,6 @@ class Machine:
 
 @dataclass
 class Collector:
-    """All that is known of it."""
     folder: str = ""
     service: str = "unknown"
     machines: list[Machine] = field(default_factory=list)
