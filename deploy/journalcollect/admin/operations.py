@@ -67,7 +67,7 @@ class Operations:
     def release(self, sequence: str) -> None:
         """A sequence is nobody's, until a machine brings a new entry of it."""
         self.store.alone(lambda: program.release(self.folder.sequences, sequence))
-        self.state.released(sequence)
+        self.state.ask("INSERT OR IGNORE INTO sequence VALUES(?, '')", sequence)
 
     def take(self, machine: str, handle: int) -> Iterator[str]:
         """An upload that came by other means is stored, whatever its size and kind; the answer."""

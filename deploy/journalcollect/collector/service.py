@@ -96,7 +96,7 @@ def serve(chosen: settings.Settings) -> None:
 def look_at_program() -> None:
     """The program that is called has to be there, and of the same version."""
     try:
-        version = program.version()
+        version = program.said("--version")
     except (OSError, program.Failed) as error:
         raise Wrong(f"{program.path()} can't be called: {error}") from error
     if version != f"journal-collect {VERSION}":

@@ -232,10 +232,6 @@ class State:
         """The machines with which entries of a sequence came; an empty name among them if it was released."""
         return {machine for machine, in self.ask("SELECT machine FROM sequence WHERE id = ?", sequence)}
 
-    def released(self, sequence: str) -> None:
-        """A sequence may be another machine's from now on."""
-        self.ask("INSERT OR IGNORE INTO sequence VALUES(?, '')", sequence)
-
     def head(self, day: str) -> str | None:
         """The digest over the digests of all databases that were begun on a day (UTC); None if there are none. It is
         that of the files NAME.db.sha256 one after the other: `cat 2026-12-01T*.db.sha256 | sha256sum`. Machines keep

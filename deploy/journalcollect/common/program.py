@@ -47,10 +47,6 @@ def said(*words: str | Path, given: bytes = b"", allowed: Iterable[int] = (OK,))
     return run(*words, given=given, allowed=allowed).stdout.decode(errors="replace").strip()
 
 
-def version() -> str:
-    return said("--version")
-
-
 def acknowledged(upload: Path, answers: str) -> tuple[int, str]:
     """What some answers, a line each, mean to an upload that is to be whole: OK, all of it is acknowledged; REFUSED,
     and the line that refuses it; NONE is about it."""

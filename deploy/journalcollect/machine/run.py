@@ -118,7 +118,7 @@ def note(chosen: settings.Settings, report: Report, again: str, answers: str) ->
 def run(words: argparse.Namespace, report: Report) -> None:
     chosen = settings.read()
     if words.check:
-        program.version()
+        program.said("--version")
         Link(chosen).open()
         return
     is_free, is_asked = locked(Path(chosen.folder)), bool(words.again or words.answers)
