@@ -16,7 +16,6 @@ WHOLE, HEADER, STREAM = b"JCUPLD02\1\1" + bytes(6), 48, b"\1"
 KIND, SOURCE, START, COUNT = slice(8, 9), slice(16, 32), slice(32, 40), slice(40, 48)
 # A file of notes has so many numbers of a sequence, and an upload touches so many files of notes at most.
 WINDOW, MOST_WINDOWS = 4096, 16
-
 HEX_ID = re.compile(r"[0-9a-f]{32}")
 NUMBER, DIGEST = r"(0|[1-9][0-9]{0,18})", r"([0-9a-f]{64})"
 GREETING = re.compile(rf"journal-collect 1 {NUMBER} (?:{DIGEST}|-)")
