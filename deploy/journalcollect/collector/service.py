@@ -36,7 +36,6 @@ class Service:
         self.keeping = Keeping(chosen, self.store)
 
     def run(self) -> None:
-        """Until SIGTERM."""
         signal.signal(signal.SIGTERM, lambda *_: self.stops.set())
         signal.signal(signal.SIGINT, lambda *_: self.stops.set())
         signal.signal(signal.SIGHUP, lambda *_: self.store.is_asked_to_finish.set())

@@ -105,7 +105,6 @@ class Span(NamedTuple):
 
 
 def spans(data: Data, at: int = 0) -> Iterator[Span]:
-    """All entries of a stream, one behind the other."""
     length = len(data)
     while at < length:
         if data[at] == 10:

@@ -1,8 +1,7 @@
 """What a machine and the collector's service say to each other over the machine's socket: version 1.
 
 The service greets. Then the machine asks, `had` or `upload` with its bytes behind it, and each question has one line
-for an answer, in turn. Lines are ASCII, end with a line feed and have at most 200 bytes. What `str` gives is without
-that.
+for an answer, in turn. Lines are ASCII and have at most 200 bytes with their line feed, which `str` leaves out.
 """
 import enum
 import re

@@ -1,8 +1,7 @@
 """Settings: lines NAME=VALUE in the files `*.conf` of a folder. A later file, by its name, has the last word.
 
 The settings of a program are a frozen dataclass, which has each under its name in small letters, with its type (`str`,
-`bool`, `int` or `float`) and its default. Times are said as systemd reads them: `yesterday`, `-2h`,
-`2026-12-01 14:00`.
+`bool`, `int` or `float`) and its default.
 """
 import dataclasses
 import os
@@ -56,7 +55,7 @@ def assignments(path: Path) -> Iterator[tuple[int, str, str]]:
 
 
 def time_of(words: str) -> int | None:
-    """The time that these words name, in microseconds since 1970; None if it is none."""
+    """The time that words such as `yesterday` and `-2h` name, in microseconds since 1970; None if it is none."""
     told = subprocess.run(["systemd-analyze", "timestamp", "--", words], capture_output=True, text=True,
                           errors="replace", check=False)
     found = re.search(r"^ *UNIX seconds: @(\d+)(?:\.(\d{6}))?$", told.stdout, re.MULTILINE | re.ASCII)

@@ -1,7 +1,6 @@
 """journal-collect-search: journalctl over what was collected of all machines.
 
-Its words are journalctl's, and are handed on to it as they are, over the files of the time asked for. `-M` is here the
-collector's name of a machine, and boots are counted for each machine by itself.
+Its words are journalctl's, and are handed on to it as they are, over the files of the time asked for.
 """
 import fnmatch
 import os
@@ -230,7 +229,6 @@ def moment(microseconds: int) -> str:
 
 
 def one_line(value: str) -> str:
-    """A value as a terminal may have it."""
     return "".join(each if each.isprintable() else "?" for each in value)
 
 

@@ -41,7 +41,6 @@ class Collector:
     waiting_for_files: int = 0
 
     def lines(self, now: float) -> list[tuple[str, str]]:
-        """What people are shown of it, each with its name."""
         rate = f", {words.size(self.bytes_a_day)} a day" if self.bytes_a_day else ""
         left = f", full in {self.days_left:.0f} days" if self.days_left is not None else ""
         standing = ", ".join(f"{count} {name}" for name, count in sorted(self.databases.items())) or "none finished yet"
