@@ -1,1 +1,0 @@
-"""Forwarding: what is stored is brought to ClickHouse."""

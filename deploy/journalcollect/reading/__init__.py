@@ -1,1 +1,0 @@
-"""Reading: journal files of what is stored, and journalctl, which reads them."""

@@ -1,1 +1,0 @@
-"""Sets up a collector and its machines: users, folders, sshd, keys and services."""
