@@ -94,10 +94,6 @@ class Recovery:
             self.notes.note(name)
             self.adopt(name, databases.told_digest(databases.path_of(self.folder, name)) or "")
 
-    def left(self) -> list[Path]:
-        """The databases that aren't finished."""
-        return sorted(path for path in self.folder.databases.glob("*.db") if databases.told_digest(path) is None)
-
     def recover(self, path: Path) -> list[tuple[str, Path]]:
         """Takes up a database; if it has to be set aside, the uploads to be stored again, with their machines."""
         if databases.has_nothing(path):

@@ -102,10 +102,11 @@ class Store(threading.Thread):
 
     def take_up(self) -> None:
         """Whatever isn't finished is finished or set aside."""
-        for path in self.recovery.left():
-            with self.notes:
-                uploads = self.recovery.recover(path)
-            self.store_again(uploads)
+        for path in sorted(self.folder.databases.glob("*.db")):
+            if databases.told_digest(path) is None:
+                with self.notes:
+                    uploads = self.recovery.recover(path)
+                self.store_again(uploads)
 
     def store_again(self, uploads: list[tuple[str, Path]]) -> None:
         """Uploads of databases that were set aside are stored in another one."""
