@@ -14,7 +14,7 @@ use crate::given::{is_alien, place_of, reads_front};
 use crate::machine::Machine;
 use crate::{Event, events_keep, schedules_keep};
 use jc_base::{Entry, Id128, Limits, OutOfMemory, SliceStream};
-use jc_collect::{Delivery, collect_one};
+use jc_collect::{Delivery, collect_settled};
 use jc_file::SliceSpace;
 use jc_keeper::Keeper;
 use jc_upload::{Answer, Resume};
@@ -382,7 +382,7 @@ impl<K: Keeper + Drop> World<K> {
     }
 }
 
-/// Has a delivery collected, and adds the answer. Room for it is made before.
+/// Has a delivery collected, and stored if it is acknowledged, and adds the answer. Room for it is made before.
 fn collect<K: Keeper>(
     alloc: Global,
     keeper: &mut K,
@@ -402,7 +402,7 @@ fn collect<K: Keeper>(
     let mut delivery: Delivery<SliceStream<'_>, SliceSpace<'_>> = Delivery::Space(SliceSpace {
         bytes,
     });
-    let answer = collect_one(alloc, keeper, &mut delivery, limits);
+    let answer = collect_settled(alloc, keeper, &mut delivery, limits);
     answers.push(answer)?;
     Ok(())
 }
