@@ -58,7 +58,7 @@ pub collected_one : (limits : Limits) (known : Option (List ℕ)) (before now : 
     → (now.Sound → Collects limits known before.journal answer now.journal)
     → AddsOnly before.may_leave now.may_leave (λ found. before.Sound × TakesUpload limits known before.journal answer found)
     → (IsTrue (is_acknowledged answer) → now.Sound) → (now.Sound → before.Sound)
-    → (now.Sound → (found : Journal) → now.may_leave found → found ≡ now.journal)
+    → (IsTrue (is_acknowledged answer) → now.Sound → (found : Journal) → now.may_leave found → found ≡ now.journal)
     → HoldsCollected limits (known ∷ []) before now (answer ∷ [])
 collected_one limits known before now (Ack source start count new left) position crash acks earlier durable =
     let sound : now.Sound = acks refl in
@@ -78,7 +78,7 @@ collected_one limits known before now (Ack source start count new left) position
           last = now.journal;
           collected = collected;
           none = tt;
-          is = inl (durable sound found may);
+          is = inl (durable refl sound found may);
         },
       );
     }
@@ -120,7 +120,7 @@ collected_one limits known before now (No of code place) position crash acks ear
 
 -- ---- a run
 
-get_map : {X Y : Type 0} (f : X → Y) (xs : List X) (i : ℕ) (x : X) → slice_get xs i ≡ Some x → slice_get (map f xs) i ≡ Some (f x)
+pub get_map : {X Y : Type 0} (f : X → Y) (xs : List X) (i : ℕ) (x : X) → slice_get xs i ≡ Some x → slice_get (map f xs) i ≡ Some (f x)
 get_map f [] i x h = absurd (none_not_some x h)
 get_map f (y ∷ ys) zero x h = ap (λ z. Some (f z)) (some_same y x h)
 get_map f (y ∷ ys) (suc i) x h = get_map f ys i x h
@@ -149,7 +149,7 @@ module _ {D : Type 0} (known_of : D → Option (List ℕ)) (limits : Limits) (fi
       (position : now.Sound → Collects limits (known_of was) mid.journal answer now.journal)
       (crash : AddsOnly mid.may_leave now.may_leave (λ found. mid.Sound × TakesUpload limits (known_of was) mid.journal answer found))
       (acks : IsTrue (is_acknowledged answer) → now.Sound)
-      (durable : now.Sound → (found : Journal) → now.may_leave found → found ≡ now.journal) where
+      (durable : IsTrue (is_acknowledged answer) → now.Sound → (found : Journal) → now.may_leave found → found ≡ now.journal) where
     said : slice_get (map known_of first) done ≡ Some (known_of was)
     said = get_map known_of first done was (sym (rest done (omega arith)) ∙ at)
 

@@ -16,10 +16,13 @@ pub mod Bodies
 pub mod Answering
 pub mod Crashed
 pub mod Taking
+pub mod Settling
 pub mod Chains
 pub mod Bounding
 pub mod Inspecting
 pub mod Losing
 pub mod Each
 pub mod EachKnown
+pub mod GatheredUploads
+pub mod WrittenTogether
 pub mod Widening

@@ -6,6 +6,7 @@ pub mod Run
 pub mod RunLaws
 pub mod Crash
 pub mod Taken
+pub mod Settled
 pub mod Part
 pub mod Whole
 pub mod Begun
@@ -17,3 +18,4 @@ pub mod Inspected
 pub mod Wide
 pub mod Each
 pub mod EachLaws
+pub mod Together

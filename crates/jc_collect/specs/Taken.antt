@@ -1,5 +1,5 @@
 -- What a call leaves of a keeper that is to take up an upload. (own)
-use Rattle.std.specs.Prelude.{ℕ, IsTrue, List, Option, Result}
+use Rattle.std.specs.Prelude.{ℕ, ◌⊎◌, IsTrue, List, Option, Result}
 use Rattle.jc_base.specs.declared.fault.Code.TheVariants.{NotTheOwner, StoreFailed}
 use Rattle.jc_base.specs.declared.limits.Limits.{Limits}
 use Rattle.jc_base.specs.Reading.{Reading}
@@ -25,12 +25,14 @@ pub record HasAbsorbed {K : Type 0} (k : keepers.Ghosts K) (Says : Reading → T
   pub step : k.sound old → k.made old → k.sound new → AbsorbsBody Says (k.journal old) result (k.journal new)
   pub was_sound : k.sound new → k.sound old
   pub was_clean : k.clean new → k.clean old
-  -- a device that a failure has shut takes nothing up
-  pub taken : k.clean new → IsTakenUp result → k.sound new
+  -- a device that a failure has shut takes nothing up, or `settle` tells that
+  pub taken : k.at_once → k.clean new → IsTakenUp result → k.sound new
   -- a crash leaves what it might have left before, or the journal with all of the body, unless that was refused
   pub crash : k.clean new → k.made old → AddsOnly (k.may_leave old) (k.may_leave new) (λ found. k.sound old × TakesBody Says (k.journal old) result found)
   pub recovers : k.clean new → k.made old → k.leaves_journals old → k.leaves_journals new
   pub stays_made : k.made old → k.made new
+  -- only what is taken up may wait to be stored
+  pub settled : k.settled old → IsTakenUp result ⊎ k.settled new
   pub format : RefusesFormat result
   pub owner : IsNotTheOwner result → k.has_owners
   pub brought : Brings k old new
@@ -41,10 +43,11 @@ pub record HasCollected {K : Type 0} (k : keepers.Ghosts K) (limits : Limits) (k
   pub position : k.sound old → k.made old → k.sound new → Collects limits known (k.journal old) answer (k.journal new)
   pub was_sound : k.sound new → k.sound old
   pub was_clean : k.clean new → k.clean old
-  pub acknowledged : k.clean new → IsTrue (is_acknowledged answer) → k.sound new
+  pub acknowledged : k.at_once → k.clean new → IsTrue (is_acknowledged answer) → k.sound new
   pub crash : k.clean new → k.made old → AddsOnly (k.may_leave old) (k.may_leave new) (λ found. k.sound old × TakesUpload limits known (k.journal old) answer found)
   pub recovers : k.clean new → k.made old → k.leaves_journals old → k.leaves_journals new
   pub stays_made : k.made old → k.made new
+  pub settled : k.settled old → IsTrue (is_acknowledged answer) ⊎ k.settled new
   pub owner : HasCode answer NotTheOwner → k.has_owners
   pub brought : Brings k old new
   pub store : HasCause StoreFailed (k.failures old) (k.failures new) answer
