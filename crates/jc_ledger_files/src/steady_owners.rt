@@ -77,4 +77,8 @@ impl<L: Ledger, F: Found> Ledger for SteadyOwners<L, F> {
     fn claim(&mut self, sequence: Id128, machine: MachineDigest) -> Result<(), KeepStop> {
         self.ledger.claim(sequence, machine)
     }
+
+    fn shut(&mut self) {
+        self.ledger.shut();
+    }
 }

@@ -7,10 +7,11 @@ ghost use Rattle.jc_sequences.specs.Opened.{IsFound};
 
 use crate::found_file::FoundFile;
 use crate::open_files::{OpenFiles, WindowFile};
+use crate::placed::Place;
 use jc_keeper::KeepStop;
 use jc_ledger_files::{Folder, Found, WindowName};
-use sqlite_std_file::{File, OpenError};
-use std::io;
+use sqlite_std_file::File;
+use std::{fs, io};
 
 /// A folder in which each sequence has a folder, and each of its windows a file in that one. `F` stands for what these
 /// files have as they are opened.
@@ -19,44 +20,41 @@ pub type FileFolder<'a, F> = WindowFolder<'a, FoundFile<File, F>, F>;
 /// The same over any files of windows.
 #[derive(Drop)]
 pub struct WindowFolder<'a, D: WindowFile<F> + Drop, F: Found> {
-    rt: &'a HostRuntime,
-    path: String,
+    place: Place<'a>,
     open: OpenFiles<D, F>,
     /// How often a file couldn't be opened, up to 2^64 - 1.
     failures: u64,
 }
 
 impl<'a, D: WindowFile<F> + Drop, F: Found> WindowFolder<'a, D, F> {
-    /// The folder at `path`, which is there. Takes no memory.
-    pub(crate) fn new(rt: &'a HostRuntime, path: String) -> WindowFolder<'a, D, F>
+    /// The folder at `path`, which is there, and what locks it. Takes no memory.
+    pub(crate) fn new(
+        rt: &'a HostRuntime,
+        path: String,
+        lock: Option<fs::File>,
+    ) -> WindowFolder<'a, D, F>
         ensures { IsFound F.found (⟦<WindowFolder<'a, D, F> as Folder<D>>⟧.clean result)
             (⟦<WindowFolder<'a, D, F> as Folder<D>>⟧.seen result) (⟦<WindowFolder<'a, D, F> as Folder<D>>⟧.may_leave result) }
     {
         WindowFolder {
-            rt,
-            path,
+            place: Place::new(rt, path, lock),
             open: OpenFiles::new(rt.alloc()),
             failures: 0,
         }
     }
 
     /// Why no file is lent, which is counted unless memory was refused.
-    fn count(&mut self, error: OpenError) -> KeepStop
+    fn count(&mut self, error: io::Error) -> KeepStop
         ensures never_read { result ≢ ReadFailed }
         ensures never_falls { self.old.failures ≤ self.new.failures }
         ensures store { result ≡ StoreFailed → Rose self.old.failures self.new.failures }
         ensures open { self.new.open ≡ self.old.open }
     {
-        match error {
-            OpenError::OutOfMemory => KeepStop::OutOfMemory,
-            OpenError::Io(error) if error.kind() == io::ErrorKind::OutOfMemory => {
-                KeepStop::OutOfMemory
-            }
-            _closed => {
-                self.failures = self.failures.saturating_add(1);
-                KeepStop::StoreFailed
-            }
+        if error.kind() == io::ErrorKind::OutOfMemory {
+            return KeepStop::OutOfMemory;
         }
+        self.failures = self.failures.saturating_add(1);
+        KeepStop::StoreFailed
     }
 }
 
@@ -78,8 +76,8 @@ impl<'a, D: WindowFile<F> + Drop, F: Found> Folder<D> for WindowFolder<'a, D, F>
     ghost seen_may_stay = { λ f w. seen_stays (F.found w) D.Disk.seen D.Disk.may_leave
         D.Disk.seen_may_stay (get key_cmp f.open.kept.files (key_named w)) };
 
-    fn lend(&mut self, name: WindowName) -> Result<D, KeepStop> {
-        match self.open.lend(self.rt, &self.path, name) {
+    fn lend(&mut self, name: WindowName, makes: bool) -> Result<D, KeepStop> {
+        match self.open.lend(&mut self.place, name, makes) {
             Ok(file) => Ok(file),
             Err(error) => Err(self.count(error)),
         }

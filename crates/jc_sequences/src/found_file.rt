@@ -1,4 +1,4 @@
-//! A window's file that had something when it was opened.
+//! A window's file that had something when it was asked for.
 
 ghost use Rattle.std.specs.Prelude.{◌≡◌, ◌<◌, [], ◌∷◌, true, false, is_ok, length, IfOk, IsTrue, MatchResult, OnOk};
 ghost use Rattle.sqlite_disk.specs.Disk.{Holds, Only};
@@ -8,10 +8,10 @@ ghost use Rattle.jc_sequences.specs.Called.{Called};
 
 use crate::file_record::FileRecord;
 use crate::open_files::WindowFile;
-use crate::placed::open_file;
+use crate::placed::Place;
 use jc_ledger_files::{Found, WindowName};
 use sqlite_disk::{Disk, Tally, is_no_room};
-use sqlite_std_file::{File, OpenError};
+use sqlite_std_file::File;
 use std::io;
 use std::marker::PhantomData;
 
@@ -25,44 +25,49 @@ const WRITTEN: u64 = 3;
 
 const FLUSHED: u64 = 5;
 
-/// The file of a window, which had what `F` says when it was opened first. It is read off that and the record of its calls,
-/// as the toolchain reads a database's file: each method makes the call that it notes, and notes its answer. What it has
-/// stays known while it is closed.
+/// The file of a window, which had what `F` says when it was asked for first. It is read off that and the record of its
+/// calls, as the toolchain reads a database's file: each method makes the call that it notes, and notes its answer. What it
+/// has stays known while it is closed.
 #[derive(Drop)]
 pub struct FoundFile<D: Disk, F: Found> {
     /// It is closed if there is none.
     disk: Option<D>,
-    /// Only clauses read it.
+    /// The system said that there is no such file, which is noted as a length of 0, and no other call was made since.
+    is_away: bool,
     name: WindowName,
     found: PhantomData<F>,
     calls: FileRecord,
     is_usable: bool,
+    /// A sync failed, so it isn't opened again.
+    is_lost: bool,
     /// How many calls have failed, up to 2^64 - 1.
     faults: u64,
     tally: Tally,
     ghost usable: { is_usable ≡ (replay (F.found name) calls.events).is_usable },
+    ghost away: { IsTrue is_away → IsTrue (replay (F.found name) calls.events).is_honest → (replay (F.found name) calls.events).seen ≡ [] },
 }
 
-impl<D: Disk, F: Found> FoundFile<D, F> {
-    /// The file of this window, opened and synced.
-    pub(crate) fn new(disk: D, name: WindowName) -> FoundFile<D, F>
-        ensures name { result.name ≡ name }
-        ensures calls { result.calls.events ≡ settled 0 ∷ [] }
+impl<D: Disk + Drop, F: Found> FoundFile<D, F> {
+    /// It was opened, and synced.
+    fn begin(&mut self, disk: D)
+        ensures name { self.new.name ≡ self.old.name }
+        ensures calls { self.new.calls.events ≡ settled 0 ∷ self.old.calls.events }
     {
-        let mut calls = FileRecord::new();
-        calls.note(&[SETTLED, 0, 0, 1], &[]);
-        FoundFile {
-            disk: Some(disk),
-            name,
-            found: PhantomData,
-            calls,
-            is_usable: true,
-            faults: 0,
-            tally: Tally {
-                caught: 0,
-                refused: 0,
-            },
-        }
+        self.is_away = false;
+        self.disk = Some(disk);
+        self.calls.note(&[SETTLED, 0, 0, 1], &[]);
+        self.is_usable = true;
+    }
+
+    /// The system said that there is none, and where it would be was synced.
+    fn miss(&mut self)
+        ensures name { self.new.name ≡ self.old.name }
+        ensures calls { self.new.calls.events ≡ measured true 0 ∷ settled 0 ∷ self.old.calls.events }
+    {
+        self.calls.note(&[SETTLED, 0, 0, 1], &[]);
+        self.calls.note(&[MEASURED, 0, 0, 1], &[]);
+        self.is_usable = true;
+        self.is_away = true;
     }
 }
 
@@ -71,32 +76,37 @@ impl<F: Found> WindowFile<F> for FoundFile<File, F> {
 
     ghost is_open = { λ f. is_some f.disk };
 
-    fn open(
-        rt: &HostRuntime,
-        folder: &str,
-        name: WindowName,
-    ) -> Result<FoundFile<File, F>, OpenError> {
-        match open_file(rt, folder, name) {
-            Ok(disk) => Ok(FoundFile::new(disk, name)),
-            Err(error) => Err(error),
+    fn unopened(name: WindowName) -> FoundFile<File, F> {
+        FoundFile {
+            disk: None,
+            is_away: false,
+            name,
+            found: PhantomData,
+            calls: FileRecord::new(),
+            is_usable: false,
+            is_lost: false,
+            faults: 0,
+            tally: Tally {
+                caught: 0,
+                refused: 0,
+            },
         }
     }
 
-    fn reopen(
-        &mut self,
-        rt: &HostRuntime,
-        folder: &str,
-        name: WindowName,
-    ) -> Result<(), OpenError> {
-        if !self.is_usable {
-            return Err(OpenError::Io(io::ErrorKind::Other.into()));
+    fn open(&mut self, place: &mut Place<'_>, makes: bool) -> io::Result<()> {
+        if self.is_lost {
+            return Err(io::ErrorKind::Other.into());
         }
-        if self.disk.is_some() {
+        if self.disk.is_some() && self.is_usable {
             return Ok(());
         }
-        match open_file(rt, folder, name) {
-            Ok(disk) => {
-                self.disk = Some(disk);
+        match place.open(self.name, makes, self.is_away) {
+            Ok(Some(disk)) => {
+                self.begin(disk);
+                Ok(())
+            }
+            Ok(None) => {
+                self.miss();
                 Ok(())
             }
             Err(error) => Err(error),
@@ -275,6 +285,9 @@ impl<D: Disk, F: Found> Disk for FoundFile<D, F> {
     }
 
     fn len(&mut self) -> io::Result<usize> {
+        if self.is_away {
+            return Ok(0);
+        }
         match measure(&mut self.disk, &mut self.calls) {
             Ok(len) => Ok(len),
             Err(error) => {
@@ -288,6 +301,7 @@ impl<D: Disk, F: Found> Disk for FoundFile<D, F> {
         if buf.is_empty() {
             return Ok(());
         }
+        self.is_away = false;
         match read(&mut self.disk, &mut self.calls, at, buf) {
             Ok(()) => Ok(()),
             Err(error) => {
@@ -313,6 +327,7 @@ impl<D: Disk, F: Found> Disk for FoundFile<D, F> {
         if bytes.is_empty() {
             return Ok(());
         }
+        self.is_away = false;
         match write(&mut self.disk, &mut self.calls, at, bytes) {
             Ok(()) => Ok(()),
             Err(error) => {
@@ -332,10 +347,12 @@ impl<D: Disk, F: Found> Disk for FoundFile<D, F> {
     }
 
     fn sync(&mut self) -> io::Result<()> {
+        self.is_away = false;
         match flush(&mut self.disk, &mut self.calls) {
             Ok(()) => Ok(()),
             Err(error) => {
                 self.is_usable = false;
+                self.is_lost = true;
                 self.faults = self.faults.saturating_add(1);
                 self.tally.refused = count_if(is_no_room(&error), self.tally.refused);
                 Err(error)

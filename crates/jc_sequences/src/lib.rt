@@ -15,4 +15,4 @@ pub use found_file::FoundFile;
 pub use listing::list_windows;
 pub use open_files::WindowFile;
 pub use opening::{FileSequences, Folders, open_sequences};
-pub use placed::window_path;
+pub use placed::{Place, window_path};

@@ -1,15 +1,16 @@
 //! The files of windows that are kept open.
 
-ghost use Rattle.std.specs.Prelude.{◌≡◌, ◌<◌, Bool, false, true, List, ℕ, IfNone, IfOk, IfSome, IsTrue, MatchOption, MatchResult, OnErr, OnOk, vec_len};
+ghost use Rattle.std.specs.Prelude.{◌≡◌, ◌<◌, Bool, false, true, List, ℕ, IfOk, IsTrue, MatchResult, OnErr, OnOk, vec_len};
 ghost use Rattle.jc_ledger_files.specs.declared.window_name.WindowName.{WindowName};
 ghost use Rattle.jc_ledger_files.specs.Files.{AreClean, IsAsFound, files_leave, files_seen};
 ghost use Rattle.jc_ledger_files.specs.Lent.{AllStay, IsBack, IsLent, OthersStay};
-ghost use Rattle.jc_sequences.specs.Closed.{StaysAs};
+ghost use Rattle.jc_sequences.specs.Closed.{IsAsked, StaysAs};
 
+use crate::placed::Place;
 use jc_ledger_files::{Found, KeptFiles, WindowName};
 use sqlite_disk::Disk;
-use sqlite_std_file::OpenError;
 use std::alloc::Global;
+use std::io;
 
 /// How many files are kept open at most.
 const MOST_FILES: usize = 64;
@@ -19,15 +20,17 @@ pub trait WindowFile<F: Found>: Disk + Sized {
     /// It isn't closed.
     ghost is_open: { Self → Bool };
 
-    /// Opens the file, or makes it.
-    fn open(rt: &HostRuntime, folder: &str, name: WindowName) -> Result<Self, OpenError>
-        ensures seen { IfOk result (λ file. Self.Disk.seen file ≡ F.found name) }
-        ensures crash { IfOk result (λ file. (c : List ℕ) → Self.Disk.may_leave file c → c ≡ F.found name) }
-        ensures usable { IfOk result (λ file. IsTrue (Self.Disk.is_usable file)) };
+    /// The file of a window of which nothing was asked yet. It is closed.
+    fn unopened(name: WindowName) -> Self
+        ensures seen { Self.Disk.seen result ≡ F.found name }
+        ensures crash { (c : List ℕ) → Self.Disk.may_leave result c → c ≡ F.found name }
+        ensures clean { IsTrue (Self.Disk.is_clean result) }
+        ensures closed { is_open result ≡ false };
 
-    /// Opens it again if it was closed meanwhile. Fails if it may not be used any more.
-    fn reopen(&mut self, rt: &HostRuntime, folder: &str, name: WindowName) -> Result<(), OpenError>
-        ensures stays { OnOk result (StaysAs Self.Disk.seen Self.Disk.may_leave Self.Disk.is_clean self.old self.new) }
+    /// Opens it if it is closed. If there is none, one is made if `makes` says so, or else it is known to be empty. Fails if it
+    /// may not be used any more.
+    fn open(&mut self, place: &mut Place<'_>, makes: bool) -> io::Result<()>
+        ensures asked { IsAsked Self.Disk.seen Self.Disk.may_leave Self.Disk.is_clean self.old self.new }
         ensures usable { OnOk result (IsTrue (Self.Disk.is_usable self.new)) };
 
     /// Closes it. What it has stays known.
@@ -60,17 +63,18 @@ impl<D: WindowFile<F> + Drop, F: Found> OpenFiles<D, F> {
         }
     }
 
-    /// Lends the file of a window, open: one that was kept, or else the one that is opened.
+    /// Lends the file of a window, open: one that was kept, or else the one that is opened. One that can't be opened stays.
     pub(crate) fn lend(
         &mut self,
-        rt: &HostRuntime,
-        folder: &str,
+        place: &mut Place<'_>,
         name: WindowName,
-    ) -> Result<D, OpenError>
+        makes: bool,
+    ) -> io::Result<D>
         ensures file { IfOk result (λ file. IsLent (D.Disk.seen file) (D.Disk.may_leave file)
             (files_seen F.found D.Disk.seen self.old.kept.files name) (files_leave F.found D.Disk.may_leave self.old.kept.files name)) }
         ensures usable { IfOk result (λ file. IsTrue (D.Disk.is_usable file)) }
-        ensures others { OthersStay name (files_seen F.found D.Disk.seen self.old.kept.files) (files_seen F.found D.Disk.seen self.new.kept.files)
+        ensures others { self.new.is_worn ≡ false → OthersStay name
+            (files_seen F.found D.Disk.seen self.old.kept.files) (files_seen F.found D.Disk.seen self.new.kept.files)
             (files_leave F.found D.Disk.may_leave self.old.kept.files) (files_leave F.found D.Disk.may_leave self.new.kept.files) }
         ensures refused { OnErr result (self.new.is_worn ≡ false → AllStay (files_seen F.found D.Disk.seen self.old.kept.files) (files_seen F.found D.Disk.seen self.new.kept.files)
             (files_leave F.found D.Disk.may_leave self.old.kept.files) (files_leave F.found D.Disk.may_leave self.new.kept.files)) }
@@ -78,34 +82,30 @@ impl<D: WindowFile<F> + Drop, F: Found> OpenFiles<D, F> {
             → MatchResult result (λ file. IsTrue (D.Disk.is_clean file) → AreClean D.Disk.is_clean self.old.kept.files) (λ _. AreClean D.Disk.is_clean self.old.kept.files) }
         ensures worn { self.new.is_worn ≡ false → self.old.is_worn ≡ false }
     {
-        match self.take(name) {
-            Some(mut file) => match file.reopen(rt, folder, name) {
-                Ok(()) => Ok(file),
-                Err(error) => {
-                    self.is_worn = true;
-                    Err(error)
-                }
-            },
-            None => D::open(rt, folder, name),
+        let mut file = self.take(name);
+        match file.open(place, makes) {
+            Ok(()) => Ok(file),
+            Err(error) => {
+                self.keep(name, file);
+                Err(error)
+            }
         }
     }
 
-    /// Takes out the file of a window, open or closed, if it was ever kept.
-    fn take(&mut self, name: WindowName) -> Option<D>
-        ensures file { IfSome result (λ file. IsLent (D.Disk.seen file) (D.Disk.may_leave file)
-            (files_seen F.found D.Disk.seen self.old.kept.files name) (files_leave F.found D.Disk.may_leave self.old.kept.files name)) }
-        ensures none { IfNone result (IsAsFound (F.found name) (files_seen F.found D.Disk.seen self.old.kept.files name)
-            (files_leave F.found D.Disk.may_leave self.old.kept.files name)) }
+    /// Takes out the file of a window: one that was kept, open or closed, or else one of which nothing was asked.
+    fn take(&mut self, name: WindowName) -> D
+        ensures file { IsLent (D.Disk.seen result) (D.Disk.may_leave result)
+            (files_seen F.found D.Disk.seen self.old.kept.files name) (files_leave F.found D.Disk.may_leave self.old.kept.files name) }
         ensures others { OthersStay name (files_seen F.found D.Disk.seen self.old.kept.files) (files_seen F.found D.Disk.seen self.new.kept.files)
             (files_leave F.found D.Disk.may_leave self.old.kept.files) (files_leave F.found D.Disk.may_leave self.new.kept.files) }
-        ensures all { IfNone result (AllStay (files_seen F.found D.Disk.seen self.old.kept.files) (files_seen F.found D.Disk.seen self.new.kept.files)
-            (files_leave F.found D.Disk.may_leave self.old.kept.files) (files_leave F.found D.Disk.may_leave self.new.kept.files)) }
-        ensures clean { AreClean D.Disk.is_clean self.new.kept.files → MatchOption result (AreClean D.Disk.is_clean self.old.kept.files)
-            (λ file. IsTrue (D.Disk.is_clean file) → AreClean D.Disk.is_clean self.old.kept.files) }
+        ensures clean { AreClean D.Disk.is_clean self.new.kept.files → IsTrue (D.Disk.is_clean result) → AreClean D.Disk.is_clean self.old.kept.files }
         ensures worn { self.new.is_worn ≡ self.old.is_worn }
     {
         self.names.retain(|open| *open != name);
-        self.kept.take(name)
+        match self.kept.take(name) {
+            Some(file) => file,
+            None => D::unopened(name),
+        }
     }
 
     /// Keeps a file open. If there are as many as there may be, the one is closed that wasn't used for longest.

@@ -43,8 +43,9 @@ impl<'a> Folders<'a> {
     }
 }
 
-/// Opens the folder at `path`, or makes it. What is noted in it stays there. It fails with `CannotOpen` if there is
-/// none and none can be made that stays, and with `OutOfMemory`. Whether files in it can be read isn't seen yet.
+/// Opens the folder at `path`, or makes it. What is noted in it stays there. No other run opens it until this is dropped. It
+/// fails with `CannotOpen` if another run has it, or there is none and none can be made that stays, and with `OutOfMemory`.
+/// Whether files in it can be read isn't seen yet.
 pub fn open_sequences<'a, 'p, F: Found, A: Arrivals>(
     folders: Folders<'a>,
     path: &'p str,
@@ -58,17 +59,24 @@ pub fn open_sequences<'a, 'p, F: Found, A: Arrivals>(
     ensures failed { IfErr result (λ failure. (failure ≡ Failure.CannotOpen path.entry) ⊎ (failure ≡ Failure.OutOfMemory)) }
 {
     let rt = folders.runtime;
-    match paths_of(rt, path) {
-        Ok((windows, owners)) => Ok(sequences_in::<FoundFile<File, F>, F, A>(rt, windows, owners)),
+    match lock(rt, path) {
+        Ok(
+            Locked {
+                folder,
+                windows,
+                owners,
+            },
+        ) => Ok(sequences_in::<FoundFile<File, F>, F, A>(rt, folder, windows, owners)),
         Err(failure) => Err(failure),
     }
 }
 
 type NotesOver<D, W, F, A> = SteadyOwners<FileLedger<DiskWindows<D, W>, RecordedEntries<A>>, F>;
 
-/// The notes of sequences in the folders at these paths: of all entries, and of owners.
+/// The notes of sequences in the folders at these paths: of all entries, and of owners. `folder` is locked as long.
 fn sequences_in<'a, D: WindowFile<F> + Drop, F: Found, A: Arrivals>(
     rt: &'a HostRuntime,
+    folder: fs::File,
     windows: String,
     owners: String,
 ) -> NotesOver<D, WindowFolder<'a, D, F>, F, A>
@@ -79,8 +87,8 @@ fn sequences_in<'a, D: WindowFile<F> + Drop, F: Found, A: Arrivals>(
 {
     sequences_over(
         rt.alloc(),
-        WindowFolder::<D, F>::new(rt, windows),
-        WindowFolder::<D, F>::new(rt, owners),
+        WindowFolder::<D, F>::new(rt, windows, Some(folder)),
+        WindowFolder::<D, F>::new(rt, owners, None),
     )
 }
 
@@ -103,28 +111,42 @@ fn sequences_over<D: Disk, W: Folder<D>, F: Found, A: Arrivals>(
     SteadyOwners::new(ledger)
 }
 
-/// The folder's path, twice, or why it can't be opened.
-fn paths_of<'p>(rt: &HostRuntime, path: &'p str) -> Result<(String, String), Failure<'p>>
-    ensures same { IfOk result (λ paths. (string_bytes paths.0 ≡ path.now) × (string_bytes paths.1 ≡ path.now)) }
+/// A folder that no other run has, and its path, twice.
+#[derive(Drop)]
+struct Locked {
+    folder: fs::File,
+    windows: String,
+    owners: String,
+}
+
+/// The folder, locked, or why it can't be opened.
+fn lock<'p>(rt: &HostRuntime, path: &'p str) -> Result<Locked, Failure<'p>>
+    ensures same { IfOk result (λ locked. (string_bytes locked.windows ≡ path.now) × (string_bytes locked.owners ≡ path.now)) }
     ensures failed { IfErr result (λ failure. (failure ≡ Failure.CannotOpen path.entry) ⊎ (failure ≡ Failure.OutOfMemory)) }
 {
-    match have_folder(rt, path) {
-        Ok(paths) => Ok(paths),
+    match lock_folder(rt, path) {
+        Ok(locked) => Ok(locked),
         Err(error) if error.kind() == io::ErrorKind::OutOfMemory => Err(Failure::OutOfMemory),
         Err(_) => Err(Failure::CannotOpen(path)),
     }
 }
 
-/// Makes the folder if there is none, and answers its path, twice. It is there after a loss of power, too.
-fn have_folder(rt: &HostRuntime, path: &str) -> io::Result<(String, String)>
-    ensures { IfOk result (λ paths. (string_bytes paths.0 ≡ path.now) × (string_bytes paths.1 ≡ path.now)) }
+/// Makes the folder if there is none, and locks it. It is there after a loss of power, too.
+fn lock_folder(rt: &HostRuntime, path: &str) -> io::Result<Locked>
+    ensures { IfOk result (λ locked. (string_bytes locked.windows ≡ path.now) × (string_bytes locked.owners ≡ path.now)) }
 {
     if !is_folder(rt, path) {
         make_lasting(rt, path)?;
     }
+    let folder = fs::open(rt, path)?;
+    folder.try_lock()?;
     let windows = format!(in rt.alloc(); "{path}")?;
     let owners = format!(in rt.alloc(); "{path}")?;
-    Ok((windows, owners))
+    Ok(Locked {
+        folder,
+        windows,
+        owners,
+    })
 }
 
 fn make_lasting(rt: &HostRuntime, path: &str) -> io::Result<()> {
