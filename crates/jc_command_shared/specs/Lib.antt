@@ -1,5 +1,6 @@
 pub mod Status
 pub mod Failure
+pub mod Found
 pub mod Ids
 pub mod Names
 pub mod Folder

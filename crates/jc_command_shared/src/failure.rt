@@ -1,16 +1,14 @@
 //! Why a command stops short, and the line that says so.
 
-ghost use Rattle.std.specs.Prelude.{◌≡◌, ◌++◌, ◌∷◌, [], Some, OnOk};
-ghost use Rattle.std.specs.Io.KnownBytes.{Appends};
+ghost use Rattle.std.specs.Prelude.{◌≡◌, Some};
 ghost use Rattle.jc_command_shared.specs.Failure.{status_of, stop_failure, upload_failure, line_of};
 ghost use Rattle.jc_command_shared.specs.declared.failure.Failure.TheVariants.{OutOfMemory};
 
-use crate::Status;
+use crate::{Errors, Status};
 use jc_base::{Code, Fault, OutOfMemory, Stop};
 use jc_upload::UploadFault;
 use std::alloc::{AllocError, AllocFailed};
-use std::io::Write;
-use std::{fmt, io};
+use std::fmt;
 
 /// Why a command stops short. Its text is one line on standard error. (own)
 #[derive(Debug, Drop)]
@@ -63,18 +61,11 @@ impl Failure<'_> {
         }
     }
 
-    /// Prints the line, with a newline at its end.
-    pub fn print<E: Write>(&self, errors: &mut E) -> io::Result<()>
-        ensures { OnOk result (Appends (E.contents errors.old) (E.contents errors.new) (line_of self.now ++ 10 ∷ [])) }
-    {
-        writeln!(errors, "{self}")
-    }
-
-    /// Prints the line. If that fails too there is nowhere left to say it, and the status stays.
-    pub fn report<E: Write>(&self, errors: &mut E) -> Status
+    /// Tells it, and answers the status. If that fails too there is nowhere left to say it.
+    pub fn report<E: Errors>(&self, errors: &mut E) -> Status
         ensures { result ≡ status_of self.now }
     {
-        let _ = self.print(errors);
+        let _ = errors.failure(self);
         self.status()
     }
 }

@@ -1,6 +1,4 @@
 mod GoingOut
 mod NotedFiles
-mod PlainLines
-mod WordParts
-mod WordPlaces
 mod Within
+mod WordPlaces

@@ -1,5 +1,5 @@
-pub mod Answers
 pub mod Explanations
 pub mod Subjects
 pub mod Texts
+pub mod Troubles
 pub mod Words

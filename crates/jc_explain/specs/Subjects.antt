@@ -1,5 +1,5 @@
 -- What a command works on.
-use Rattle.std.specs.Prelude.{◌≡◌, ◌⊎◌, ℕ, List, Bool, true, false, Option, Some, None, option_map}
+use Rattle.std.specs.Prelude.{◌≡◌, ◌⊎◌, ℕ, List, Option, Some, None, option_map}
 use Rattle.clap.specs.declared.error.kind.ErrorKind.{ErrorKind}
 use Rattle.clap.specs.declared.error.kind.ErrorKind.TheVariants.{OutOfMemory}
 use Rattle.jc_command_args.specs.Words.{AreAnswered, AskFor}
@@ -7,36 +7,35 @@ use Rattle.jc_command_args.specs.declared.request.Request.{Request}
 use Rattle.jc_command_args.specs.declared.request.Request.TheVariants as request
 use Rattle.jc_explain.specs.declared.subject.Subject.{Subject}
 
--- It works on this database, with the notes in this folder, and its output has lines that say how something was found.
-pub record IsAbout (subject : Subject) (path folder : Option (List ℕ)) (has_answers : Bool) : Type 0 where
+-- It works on this database, with the notes in this folder.
+pub record IsAbout (subject : Subject) (path folder : Option (List ℕ)) : Type 0 where
   pub database : option_map (λ name. name.now) subject.database ≡ path
   pub sequences : option_map (λ name. name.now) subject.sequences ≡ folder
-  pub answers : subject.answers ≡ has_answers
 
 -- What a request works on.
 abbrev pub Concerns : Request → Subject → Type 0
-Concerns (request.Collect database tables uploads then_export) subject = IsAbout subject (Some database.now) None true
-Concerns (request.CollectListed database tables list then_export) subject = IsAbout subject (Some database.now) None true
+Concerns (request.Collect database tables uploads then_export) subject = IsAbout subject (Some database.now) None
+Concerns (request.CollectListed database tables list then_export) subject = IsAbout subject (Some database.now) None
 Concerns (request.CollectIntoUnion database tables list sequences most_windows then_export) subject =
-    IsAbout subject (Some database.now) (Some sequences.now) true
-Concerns (request.Export database) subject = IsAbout subject (Some database.now) None false
-Concerns (request.Show database field id first last) subject = IsAbout subject (Some database.now) None false
-Concerns (request.Check database) subject = IsAbout subject (Some database.now) None true
-Concerns (request.CheckNoted database sequences) subject = IsAbout subject (Some database.now) (Some sequences.now) true
-Concerns (request.Notes sequences task) subject = IsAbout subject None (Some sequences.now) true
-Concerns (request.ListOwners sequences) subject = IsAbout subject None (Some sequences.now) true
-Concerns (request.RenameOwner sequences old new) subject = IsAbout subject None (Some sequences.now) true
-Concerns (request.ReleaseSequence sequences sequence) subject = IsAbout subject None (Some sequences.now) true
-Concerns (request.Migrate database tables) subject = IsAbout subject (Some database.now) None true
-Concerns (request.Verify kind file) subject = IsAbout subject None None true
-Concerns (request.Inspect file most_entries most_fields most_bytes most_windows) subject = IsAbout subject None None true
-Concerns (request.Upload source limit most_bytes whole) subject = IsAbout subject None None false
-Concerns (request.Ack source) subject = IsAbout subject None None false
-Concerns (request.Acknowledged upload) subject = IsAbout subject None None true
-Concerns request.ListCodes subject = IsAbout subject None None false
+    IsAbout subject (Some database.now) (Some sequences.now)
+Concerns (request.Export database) subject = IsAbout subject (Some database.now) None
+Concerns (request.Show database field id first last) subject = IsAbout subject (Some database.now) None
+Concerns (request.Check database) subject = IsAbout subject (Some database.now) None
+Concerns (request.CheckNoted database sequences) subject = IsAbout subject (Some database.now) (Some sequences.now)
+Concerns (request.Notes sequences task) subject = IsAbout subject None (Some sequences.now)
+Concerns (request.ListOwners sequences) subject = IsAbout subject None (Some sequences.now)
+Concerns (request.RenameOwner sequences old new) subject = IsAbout subject None (Some sequences.now)
+Concerns (request.ReleaseSequence sequences sequence) subject = IsAbout subject None (Some sequences.now)
+Concerns (request.Migrate database tables) subject = IsAbout subject (Some database.now) None
+Concerns (request.Verify kind file) subject = IsAbout subject None None
+Concerns (request.Inspect file most_entries most_fields most_bytes most_windows) subject = IsAbout subject None None
+Concerns (request.Upload source limit most_bytes whole) subject = IsAbout subject None None
+Concerns (request.Ack source) subject = IsAbout subject None None
+Concerns (request.Acknowledged upload) subject = IsAbout subject None None
+Concerns request.ListCodes subject = IsAbout subject None None
 
 -- What words ask to be worked on; nothing if they are answered with a mistake or with help, or memory was refused to read
 -- them.
 pub data IsSubjectOf (words : List (List ℕ)) (subject : Subject) : Type 0 where
   asked : (request : Request) → AskFor words request → Concerns request subject → IsSubjectOf words subject
-  answered : (kind : ErrorKind) → (kind ≡ OutOfMemory) ⊎ AreAnswered words kind → IsAbout subject None None false → IsSubjectOf words subject
+  answered : (kind : ErrorKind) → (kind ≡ OutOfMemory) ⊎ AreAnswered words kind → IsAbout subject None None → IsSubjectOf words subject

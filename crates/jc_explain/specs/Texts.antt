@@ -1,5 +1,5 @@
 -- What explanations say.
-use Rattle.std.specs.Prelude.{ℕ, List, [], codes, ⊤}
+use Rattle.std.specs.Prelude.{ℕ, List, [], codes}
 use Rattle.jc_command_shared.specs.declared.failure.Failure.{Failure}
 use Rattle.jc_command_shared.specs.declared.failure.Failure.TheVariants as failure
 use Rattle.jc_explain.specs.declared.cause.Cause.{Cause}
@@ -10,7 +10,7 @@ abbrev pub text_of : Cause → List ℕ
 text_of cause.Missing = codes "is missing: look at its name, and at the folders of its path"
 text_of cause.Unmade = codes "is missing, and can't be made: see whether its folder is there, who may write in it, and whether the disk is read-only"
 text_of cause.Folder = codes "is a folder: name a file"
-text_of cause.NotFolder = codes "can't be used as a folder: name one, or a path at which one can be made"
+text_of cause.NotFolder = codes "can't be used as a folder, or another run has it: name one, or a path at which one can be made"
 text_of cause.Unreadable = codes "may not be read by this user: see the rights of the file and of its folders"
 text_of cause.NotRegular = codes "is not a regular file: write what it gives into one first"
 text_of cause.SecondName = codes "has a second name (a hard link), under which it could be changed: use a copy"
@@ -22,7 +22,7 @@ text_of cause.InUse = codes "is in use by another program: wait until that one h
 text_of cause.Unusable = codes "can't be opened to be written: see its rights, those of its folder and of its log, and whether SQLite's rollback journal lies beside it, which sqlite3 plays back"
 text_of cause.Unknown = codes "can't be opened: look at its path, and whether the process has too many files open"
 
--- what a failure means, and what to do about it; nothing where a number in its line says it
+-- what a failure means, and what to do about it; nothing where a code says it
 abbrev pub advice_of : Failure → List ℕ
 advice_of failure.BadResume = codes "the resume file has something else in it: remove it and take a new id"
 advice_of (failure.BadAnswer _) = codes "this line of standard input is no answer: give `ack` what `collect` printed"
@@ -38,12 +38,3 @@ advice_of failure.WriteFailed = codes "standard output or a file took no more by
 advice_of failure.StoreFailed = codes "the database, or what is noted beside it, failed while it was read or written: look at the space on its disk, and at the disk"
 advice_of failure.OutOfMemory = codes "memory was refused: give the command more, or begin another database"
 advice_of _ = []
-
--- a failure whose line has no number in it, and which a command ends with
-abbrev pub IsPlain : Failure → Type 0
-IsPlain (failure.Bad _) = ⊥
-IsPlain failure.SourceChanged = ⊥
-IsPlain (failure.BadAnswer _) = ⊥
-IsPlain (failure.BadLine _) = ⊥
-IsPlain failure.WordsAreNoText = ⊥
-IsPlain _ = ⊤

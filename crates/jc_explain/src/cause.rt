@@ -40,7 +40,7 @@ impl Cause {
             }
             Cause::Folder => "is a folder: name a file",
             Cause::NotFolder => {
-                "can't be used as a folder: name one, or a path at which one can be made"
+                "can't be used as a folder, or another run has it: name one, or a path at which one can be made"
             }
             Cause::Unreadable => {
                 "may not be read by this user: see the rights of the file and of its folders"

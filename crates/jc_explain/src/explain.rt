@@ -6,25 +6,26 @@ ghost use Rattle.jc_command_shared.specs.declared.status.Status.{Status};
 ghost use Rattle.jc_command.specs.Run.{EndsWithin, begins_with, devices};
 ghost use Rattle.jc_explain.specs.Explanations.{TellsOn};
 
-use crate::Watched;
+use crate::Noting;
 use crate::telling::tell;
 use crate::witness::Witness;
 use jc_command::{Begun, Sequences, command};
 use jc_command_args::CODES;
+use jc_command_shared::{Errors, Output};
 use jc_database::OpenFromFiles;
 use jc_ledger::Ledger;
 use jc_sequences::Folders;
-use std::io::{Read, Write};
+use std::io::Read;
 
-/// Does what the arguments ask for, as `command` does. Then each line that refuses something or reports a failure is
-/// explained on `errors`.
-pub fn explained<'a, F: OpenFromFiles, S: Begun, I: Read, O: Write + Drop, E: Write + Drop>(
+/// Does what the arguments ask for, as `command` does. Then it is explained on `errors` why something was refused or
+/// failed.
+pub fn explained<'a, F: OpenFromFiles, S: Begun, I: Read, O: Output + Drop, E: Errors + Drop>(
     rt: &'a HostRuntime,
     start: F::Start,
     words: Vec<String>,
     input: &mut I,
-    output: &mut Watched<O>,
-    errors: &mut Watched<E>,
+    output: &mut Noting<O>,
+    errors: &mut Noting<E>,
 ) -> u8
     ensures status { result ≤ 4 }
     // `told` is what `errors` had before the explanations, and what came then goes on from there.
@@ -49,16 +50,10 @@ pub fn explained<'a, F: OpenFromFiles, S: Begun, I: Read, O: Write + Drop, E: Wr
     let Ok(asked) = asked else {
         return status;
     };
-    let answers = output.take_kept(rt.alloc());
-    let failures = errors.take_kept(rt.alloc());
+    let mut troubles = output.take_troubles();
+    let mut failures = errors.take_troubles();
     // An explanation is beside the run: where it can't be made or written, the run has ended as it has.
-    let _ = tell(
-        rt.alloc(),
-        &asked,
-        notes,
-        &answers,
-        &failures,
-        &mut errors.inner,
-    );
+    let _ = troubles.append(&mut failures);
+    let _ = tell(rt.alloc(), &asked, notes, &troubles, &mut errors.inner);
     status
 }

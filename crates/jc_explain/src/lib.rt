@@ -2,19 +2,18 @@
 //! means, and what to do.
 #![tactic(auto)]
 
-mod answers;
+mod advice;
 mod cause;
 mod explain;
-mod said;
+mod noting;
 mod subject;
 mod telling;
-mod watched;
+mod trouble;
 mod why;
 mod witness;
 mod words;
 
 pub use cause::Cause;
 pub use explain::explained;
-pub use said::{advice, failure_of};
-pub use watched::Watched;
+pub use noting::Noting;
 pub use words::{EXPLAIN, take_option};

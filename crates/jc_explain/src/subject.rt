@@ -1,6 +1,6 @@
 //! What a command works on.
 
-ghost use Rattle.std.specs.Prelude.{true, false, Some, None, map, option_map, string_bytes};
+ghost use Rattle.std.specs.Prelude.{Some, None, map, option_map, string_bytes};
 ghost use Rattle.jc_explain.specs.Subjects.{Concerns, IsAbout, IsSubjectOf};
 
 use crate::witness::Noted;
@@ -13,8 +13,6 @@ pub(crate) struct Subject<'a> {
     pub(crate) database: Option<&'a str>,
     /// The folder in which is noted what databases have.
     pub(crate) sequences: Option<&'a str>,
-    /// Whether standard output has lines that say how something was found.
-    pub(crate) answers: bool,
     /// What was noted of files that were asked for, the latest first.
     pub(crate) noted: Vec<Noted>,
 }
@@ -25,7 +23,7 @@ pub(crate) fn subject_of<'a>(alloc: Global, words: &'a [String], noted: Vec<Note
 {
     match parse(alloc, words) {
         Ok(request) => subject_in(request, noted),
-        Err(_) => over(None, None, false, noted),
+        Err(_) => over(None, None, noted),
     }
 }
 
@@ -41,39 +39,32 @@ fn subject_in<'a>(request: Request<'a>, noted: Vec<Noted>) -> Subject<'a>
         | Request::CheckNoted {
             database,
             sequences,
-        } => over(Some(database), Some(sequences), true, noted),
+        } => over(Some(database), Some(sequences), noted),
         Request::Collect { database, .. }
         | Request::CollectListed { database, .. }
         | Request::Check { database }
-        | Request::Migrate { database, .. } => over(Some(database), None, true, noted),
-        Request::Export { database } | Request::Show { database, .. } => {
-            over(Some(database), None, false, noted)
-        }
+        | Request::Migrate { database, .. }
+        | Request::Export { database }
+        | Request::Show { database, .. } => over(Some(database), None, noted),
         Request::Notes { sequences, .. }
         | Request::ListOwners { sequences }
         | Request::RenameOwner { sequences, .. }
-        | Request::ReleaseSequence { sequences, .. } => over(None, Some(sequences), true, noted),
-        Request::Acknowledged { .. } | Request::Verify { .. } | Request::Inspect { .. } => {
-            over(None, None, true, noted)
-        }
-        Request::Upload { .. } | Request::Ack { .. } | Request::ListCodes => {
-            over(None, None, false, noted)
-        }
+        | Request::ReleaseSequence { sequences, .. } => over(None, Some(sequences), noted),
+        Request::Acknowledged { .. }
+        | Request::Verify { .. }
+        | Request::Inspect { .. }
+        | Request::Upload { .. }
+        | Request::Ack { .. }
+        | Request::ListCodes => over(None, None, noted),
     }
 }
 
-fn over<'a>(
-    database: Option<&'a str>,
-    sequences: Option<&'a str>,
-    answers: bool,
-    noted: Vec<Noted>,
-) -> Subject<'a>
-    ensures { IsAbout result (option_map (λ path. path.now) database.entry) (option_map (λ path. path.now) sequences.entry) answers }
+fn over<'a>(database: Option<&'a str>, sequences: Option<&'a str>, noted: Vec<Noted>) -> Subject<'a>
+    ensures { IsAbout result (option_map (λ path. path.now) database.entry) (option_map (λ path. path.now) sequences.entry) }
 {
     Subject {
         database,
         sequences,
-        answers,
         noted,
     }
 }

@@ -1,80 +1,50 @@
-//! The explanations of what a run printed.
+//! The explanations of what a run told.
 
-ghost use Rattle.std.specs.Prelude.{◌≡◌, ◌⊎◌, ◌∷◌, [], ℕ, List, OnOk, OnErr, IfErr, map, string_bytes, take};
-ghost use Rattle.std.specs.Io.KnownBytes.{Appends, Keeps};
-ghost use Rattle.std.specs.Str.Lines.{lines};
-ghost use Rattle.jc_explain.specs.Explanations.{BreaksOff, GoesOn, HasTold, TellsPart, answers_in, lines_told, told_line};
+ghost use Rattle.std.specs.Prelude.{◌≡◌, ◌⊎◌, ℕ, List, OnOk, OnErr, IfErr, map, string_bytes, take};
+ghost use Rattle.std.specs.Io.KnownBytes.{Appends};
+ghost use Rattle.jc_explain.specs.Explanations.{BreaksOff, HasBegun, HasTold, TellsOne, TellsPart, told_line};
 ghost use Rattle.jc_explain.specs.Subjects.{IsSubjectOf};
 ghost use Rattle.jc_explain.specs.declared.subject.Subject.{Subject as Concern};
 
 use crate::subject::{Subject, subject_of};
+use crate::trouble::Trouble;
 use crate::why::explanation;
 use crate::witness::Noted;
 use jc_command_args::CODES;
 use jc_command_shared::{Failure, write_front};
 use std::alloc::Global;
 use std::io::Write;
-use std::str;
 
-/// Writes an explanation of each line that needs one, and none twice.
+/// Writes an explanation of each of these, and none twice.
 pub(crate) fn tell<W: Write>(
     alloc: Global,
     words: &[String],
     noted: Vec<Noted>,
-    answers: &[u8],
-    failures: &[u8],
+    troubles: &[Trouble],
     to: &mut W,
 ) -> Result<(), Failure<'static>>
     ensures ok { OnOk result ((subject : Concern) × (texts : List (List ℕ)) × IsSubjectOf (map string_bytes words.now) subject
-        × HasTold subject CODES.now (lines_told subject answers.now failures.now) texts (W.contents to.old) (W.contents to.new)) }
-    ensures err { OnErr result (TellsPart (map string_bytes words.now) CODES.now answers.now failures.now (W.contents to.old) (W.contents to.new)) }
+        × HasTold subject CODES.now troubles.now texts (W.contents to.old) (W.contents to.new)) }
+    ensures err { OnErr result (TellsPart (map string_bytes words.now) CODES.now troubles.now (W.contents to.old) (W.contents to.new)) }
     ensures why { IfErr result (λ failure. (failure ≡ Failure.WriteFailed) ⊎ (failure ≡ Failure.OutOfMemory)) }
 {
     let subject = subject_of(alloc, words, noted);
+    tell_all(alloc, &subject, troubles, to)
+}
+
+fn tell_all<W: Write>(
+    alloc: Global,
+    subject: &Subject<'_>,
+    troubles: &[Trouble],
+    to: &mut W,
+) -> Result<(), Failure<'static>>
+    ensures ok { OnOk result ((texts : List (List ℕ)) × HasTold subject.now CODES.now troubles.now texts (W.contents to.old) (W.contents to.new)) }
+    ensures err { OnErr result (HasBegun subject.now CODES.now troubles.now (W.contents to.old) (W.contents to.new)) }
+    ensures why { IfErr result (λ failure. (failure ≡ Failure.WriteFailed) ⊎ (failure ≡ Failure.OutOfMemory)) }
+{
     let mut told = Vec::new(alloc);
-    tell_answers(alloc, &subject, answers, &mut told, to)?;
-    tell_lines(alloc, &subject, failures, &mut told, to)
-}
-
-/// Explains the lines of what went out, if these say how something was found.
-fn tell_answers<W: Write>(
-    alloc: Global,
-    subject: &Subject<'_>,
-    text: &[u8],
-    told: &mut Vec<String>,
-    to: &mut W,
-) -> Result<(), Failure<'static>>
-    ensures ok { OnOk result (GoesOn subject.now CODES.now (answers_in subject.now text.now) (map string_bytes told.old.items)
-        (map string_bytes told.new.items) (W.contents to.old) (W.contents to.new)) }
-    ensures err { OnErr result (BreaksOff subject.now CODES.now (answers_in subject.now text.now) (map string_bytes told.old.items)
-        (W.contents to.old) (W.contents to.new)) }
-    ensures why { IfErr result (λ failure. (failure ≡ Failure.WriteFailed) ⊎ (failure ≡ Failure.OutOfMemory)) }
-{
-    if !subject.answers {
-        return Ok(());
-    }
-    tell_lines(alloc, subject, text, told, to)
-}
-
-/// Explains the lines of a text; one that isn't UTF-8 has none.
-fn tell_lines<W: Write>(
-    alloc: Global,
-    subject: &Subject<'_>,
-    text: &[u8],
-    told: &mut Vec<String>,
-    to: &mut W,
-) -> Result<(), Failure<'static>>
-    ensures ok { OnOk result (GoesOn subject.now CODES.now (lines text.now) (map string_bytes told.old.items) (map string_bytes told.new.items)
-        (W.contents to.old) (W.contents to.new)) }
-    ensures err { OnErr result (BreaksOff subject.now CODES.now (lines text.now) (map string_bytes told.old.items) (W.contents to.old) (W.contents to.new)) }
-    ensures why { IfErr result (λ failure. (failure ≡ Failure.WriteFailed) ⊎ (failure ≡ Failure.OutOfMemory)) }
-{
-    let Ok(text) = str::from_utf8(text) else {
-        return Ok(());
-    };
-    let lines: Vec<&str> = text.lines().collect(alloc)?;
-    for line in &lines {
-        tell_line(alloc, subject, line, told, to)?;
+    for trouble in troubles {
+        tell_one(alloc, subject, trouble, &mut told, to)?;
     }
     match to.flush() {
         Ok(()) => Ok(()),
@@ -82,20 +52,20 @@ fn tell_lines<W: Write>(
     }
 }
 
-/// Explains a line, if it needs that and the same wasn't told before.
-fn tell_line<W: Write>(
+/// Explains this, if the same wasn't told before.
+fn tell_one<W: Write>(
     alloc: Global,
     subject: &Subject<'_>,
-    line: &str,
+    trouble: &Trouble,
     told: &mut Vec<String>,
     to: &mut W,
 ) -> Result<(), Failure<'static>>
-    ensures ok { OnOk result (GoesOn subject.now CODES.now (line.now ∷ []) (map string_bytes told.old.items) (map string_bytes told.new.items)
+    ensures ok { OnOk result (TellsOne subject.now CODES.now trouble.now (map string_bytes told.old.items) (map string_bytes told.new.items)
         (W.contents to.old) (W.contents to.new)) }
-    ensures err { OnErr result (BreaksOff subject.now CODES.now (line.now ∷ []) (map string_bytes told.old.items) (W.contents to.old) (W.contents to.new)) }
+    ensures err { OnErr result (BreaksOff subject.now CODES.now trouble.now (map string_bytes told.old.items) (W.contents to.old) (W.contents to.new)) }
     ensures why { IfErr result (λ failure. (failure ≡ Failure.WriteFailed) ⊎ (failure ≡ Failure.OutOfMemory)) }
 {
-    let Some(explanation) = explanation(alloc, subject, line)? else {
+    let Some(explanation) = explanation(alloc, subject, trouble)? else {
         return Ok(());
     };
     if told.contains(&explanation) {

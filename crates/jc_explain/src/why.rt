@@ -1,67 +1,56 @@
-//! Why what a line says is so.
+//! Why what was told is so.
 
 ghost use Rattle.std.specs.Prelude.{◌≡◌, ℕ, List, IfOk, IfSome, MatchOption, string_bytes};
-ghost use Rattle.jc_explain.specs.Explanations.{Differs, Explains, IsNoJournal, IsWhy, SaysCode, SaysFailure, differs_text, noted_cause, nothing_text};
+ghost use Rattle.jc_explain.specs.Explanations.{Differs, Explains, IsNoJournal, IsWhy, SaysBad, SaysCode, SaysUnopened, differs_text, empty_text, noted_cause};
 
 use crate::Cause;
-use crate::answers::{code_in, left_alone};
-use crate::said::{advice, failure_of};
 use crate::subject::Subject;
+use crate::trouble::Trouble;
 use crate::witness::Noted;
 use jc_codes::row_about;
 use jc_command_args::CODES;
-use jc_command_shared::Failure;
 use std::alloc::{AllocError, Global};
 
 /// The code of a database that has no journal.
-const NOT_A_JOURNAL: u64 = 64;
+const NOT_A_JOURNAL: u16 = 64;
 
-/// What begins the line of a database with another entry than the one that is noted. Its number is behind.
-const DIFFERS: &str = "bad 60 ";
+/// The code of a database that has another entry than the one that is noted.
+const DIFFERS: u16 = 60;
 
-/// What begins the line of a line that is no answer. Its number is behind.
-const BAD_ANSWER: &str = "bad answer ";
-
-/// What begins the line of a line that a command doesn't read. Its number is behind.
-const BAD_LINE: &str = "bad line ";
-
-/// What is to be said about a line, if anything is.
+/// What is to be said about this, if the table of codes has its code.
 pub(crate) fn explanation(
     alloc: Global,
     subject: &Subject<'_>,
-    line: &str,
+    trouble: &Trouble,
 ) -> Result<Option<String>, AllocError>
-    ensures { IfOk result (λ found. IfSome found (λ text. Explains subject.now CODES.now line.now (string_bytes text))) }
+    ensures { IfOk result (λ found. IfSome found (λ text. Explains subject.now CODES.now trouble.now (string_bytes text))) }
 {
-    if let Some(failure) = failure_of(line) {
-        return Ok(Some(why_failed(alloc, subject, &failure)?));
-    }
-    if line.starts_with(BAD_ANSWER) {
-        let told = advice(&Failure::BadAnswer(0));
-        return Ok(Some(String::from_str(alloc, told)?));
-    }
-    if line.starts_with(BAD_LINE) {
-        let told = advice(&Failure::BadLine(0));
-        return Ok(Some(String::from_str(alloc, told)?));
-    }
-    if let Some((database, folder)) = noted_beside(subject, line) {
-        return Ok(Some(why_differs(alloc, database, folder)?));
-    }
-    if let Some(code) = code_in(line) {
-        return why_refused(alloc, subject, code);
-    }
-    match left_alone(line) {
-        Some(left) => Ok(Some(why_nothing(alloc, left)?)),
-        None => Ok(None),
+    let told = match trouble {
+        Trouble::Bad(code) => return why_bad(alloc, subject, *code),
+        Trouble::Refused(code) => return why_refused(alloc, subject, *code),
+        Trouble::Empty(left) => why_empty(alloc, *left)?,
+        Trouble::Unopened(path) => why_unopened(alloc, subject, path.as_str())?,
+        Trouble::Failed(advice) => String::from_str(alloc, advice)?,
+    };
+    Ok(Some(told))
+}
+
+/// Why this is wrong with a file or a database.
+fn why_bad(alloc: Global, subject: &Subject<'_>, code: u16) -> Result<Option<String>, AllocError>
+    ensures { IfOk result (λ found. IfSome found (λ text. SaysBad subject.now CODES.now code (string_bytes text))) }
+{
+    match noted_beside(subject, code) {
+        Some((database, folder)) => Ok(Some(why_differs(alloc, database, folder)?)),
+        None => why_refused(alloc, subject, code),
     }
 }
 
-/// The database, and the folder in which is noted what it has, if the line says that the two differ.
-fn noted_beside<'a>(subject: &Subject<'a>, line: &str) -> Option<(&'a str, &'a str)>
-    ensures { MatchOption result ((path folder : List ℕ) → ¬ Differs subject.now line.now path folder)
-        (λ found. Differs subject.now line.now found.0.now found.1.now) }
+/// The database, and the folder in which is noted what it has, if the code says that the two differ.
+fn noted_beside<'a>(subject: &Subject<'a>, code: u16) -> Option<(&'a str, &'a str)>
+    ensures { MatchOption result ((path folder : List ℕ) → ¬ Differs subject.now code path folder)
+        (λ found. Differs subject.now code found.0.now found.1.now) }
 {
-    if !line.starts_with(DIFFERS) {
+    if code != DIFFERS {
         return None;
     }
     match (subject.database, subject.sequences) {
@@ -70,21 +59,12 @@ fn noted_beside<'a>(subject: &Subject<'a>, line: &str) -> Option<(&'a str, &'a s
     }
 }
 
-/// Why a command failed: what was seen of its file, or else what the line means.
-fn why_failed(
-    alloc: Global,
-    subject: &Subject<'_>,
-    failure: &Failure<'_>,
-) -> Result<String, AllocError>
-    ensures { IfOk result (λ text. SaysFailure subject.now failure.now (string_bytes text)) }
+/// Why this file can't be opened: what was seen of it.
+fn why_unopened(alloc: Global, subject: &Subject<'_>, path: &str) -> Result<String, AllocError>
+    ensures { IfOk result (λ text. SaysUnopened subject.now path.now (string_bytes text)) }
 {
-    match failure {
-        Failure::CannotOpen(path) => {
-            let cause = why_of(subject, path);
-            format!(in alloc; "{path} {}", cause.text())
-        }
-        _ => String::from_str(alloc, advice(failure)),
-    }
+    let cause = why_of(subject, path);
+    format!(in alloc; "{path} {}", cause.text())
 }
 
 /// Why this file of a command can't be opened.
@@ -124,11 +104,11 @@ fn why_no_journal(subject: &Subject<'_>, path: &str) -> Cause
 fn why_refused(
     alloc: Global,
     subject: &Subject<'_>,
-    code: u64,
+    code: u16,
 ) -> Result<Option<String>, AllocError>
     ensures { IfOk result (λ found. IfSome found (λ text. SaysCode subject.now CODES.now code (string_bytes text))) }
 {
-    let Some(row) = row_about(alloc, code)? else {
+    let Some(row) = row_about(alloc, u64::from(code))? else {
         return Ok(None);
     };
     let (name, meaning, advice) = (row.name, row.meaning, row.advice);
@@ -152,10 +132,10 @@ fn why_differs(alloc: Global, database: &str, folder: &str) -> Result<String, Al
 }
 
 /// What it means that there was no complete entry in what was read.
-fn why_nothing(alloc: Global, left: &str) -> Result<String, AllocError>
-    ensures { IfOk result (λ text. string_bytes text ≡ nothing_text left.now) }
+fn why_empty(alloc: Global, left: u64) -> Result<String, AllocError>
+    ensures { IfOk result (λ text. string_bytes text ≡ empty_text left) }
 {
-    if left == "0" {
+    if left == 0 {
         return String::from_str(alloc, "there was nothing to read: it has no entries");
     }
     format!(in alloc;

@@ -1,13 +1,13 @@
-//! Lines as objects of JSON, one on each line.
+//! What commands find as objects of JSON, one on each line.
 #![tactic(auto)]
 
-mod answers;
 mod codes;
+mod commands;
 mod digits;
 mod entries;
-mod lines;
+mod found;
 mod objects;
 mod quoted;
 
-pub use lines::{JSON, Lines, lines_of};
-pub use objects::Objects;
+pub use commands::{JSON, has_objects};
+pub use objects::Json;

@@ -1,77 +1,81 @@
-//! A writer of objects.
+//! Output that is objects.
 
-ghost use Rattle.std.specs.Prelude.{◌≡◌, ◌⊎◌, ◌∷◌, ◌++◌, [], true, OnOk, IfOk, IfErr};
+ghost use Rattle.std.specs.Prelude.{◌≡◌, ◌⊎◌, ◌∷◌, ◌++◌, [], ℕ, List, None, if◌then◌else◌, true, OnOk, IfErr};
 ghost use Rattle.std.specs.Io.KnownBytes.{Appends, Keeps};
+ghost use Rattle.jc_json.specs.Codes.{IsCode};
+ghost use Rattle.jc_json.specs.Found.{IsObject};
 ghost use Rattle.jc_json.specs.Passing.{passed};
 
-use crate::Lines;
-use crate::answers::object_of_answer;
-use crate::codes::{is_advice, object_of_code};
+use crate::codes::object_of_code;
 use crate::entries::object_of_entry;
-use jc_command_shared::{Failure, printed};
-use std::alloc::{AllocError, Global};
-use std::io::Write;
+use crate::found::object_of;
+use jc_command_args::CODES;
+use jc_command_shared::{Failure, Found, Output, printed};
+use jc_upload::Answer;
+use std::alloc::Global;
+use std::io::{ErrorKind, Write};
 use std::{io, str};
 
-/// A writer that passes lines on as objects, each as soon as its line has come to its end, or all bytes as they are if no
-/// objects are asked for. Without memory for an object it passes on no more.
+/// Output that is objects, each on a line, if they are asked for, and else text. Without memory for an object none goes out
+/// any more.
 #[derive(Drop)]
-pub struct Objects<W: Write + Drop> {
-    inner: W,
-    telling: Option<Telling>,
+pub struct Json<W: Write + Drop> {
+    pub inner: W,
+    objects: Option<Objects>,
 }
 
-/// Lines that are told as objects.
+/// What is needed to make objects.
 #[derive(Drop)]
-struct Telling {
+struct Objects {
     alloc: Global,
-    lines: Lines,
-    /// The line that has begun.
+    /// The line of `show` that has begun.
     begun: Vec<u8>,
     has_memory: bool,
 }
 
-impl<W: Write + Drop> Objects<W> {
-    pub fn new(alloc: Global, lines: Option<Lines>, inner: W) -> Objects<W>
-        ensures passed { ⟦<Objects<W> as Write>⟧.contents result ≡ passed lines (W.contents inner) }
+impl<W: Write + Drop> Json<W> {
+    pub fn new(alloc: Global, is_asked: bool, inner: W) -> Json<W>
+        ensures inner { result.inner ≡ inner }
+        ensures passed { ⟦<Json<W> as Write>⟧.contents result ≡ (if is_asked then None else W.contents inner) }
     {
-        let telling = match lines {
-            Some(lines) => Some(Telling::new(alloc, lines)),
-            None => None,
+        let objects = if is_asked {
+            Some(Objects::new(alloc))
+        } else {
+            None
         };
-        Objects { inner, telling }
+        Json { inner, objects }
     }
 
     /// Passes on what has begun and has no end, and says whether memory was refused. If no objects are asked for, nothing
     /// has.
     pub fn end(&mut self) -> Result<(), Failure<'static>>
-        ensures kept { OnOk result (Keeps (⟦<Objects<W> as Write>⟧.contents self.old) (⟦<Objects<W> as Write>⟧.contents self.new)) }
+        ensures kept { OnOk result (Keeps (⟦<Json<W> as Write>⟧.contents self.old) (⟦<Json<W> as Write>⟧.contents self.new)) }
         ensures failed { IfErr result (λ failure. (failure ≡ Failure.WriteFailed) ⊎ (failure ≡ Failure.OutOfMemory)) }
     {
-        let Some(telling) = &mut self.telling else {
+        let Some(objects) = &mut self.objects else {
             return printed(Ok(()), &mut self.inner);
         };
-        if !telling.has_memory {
+        if !objects.has_memory {
             return Err(Failure::OutOfMemory);
         }
-        let written = self.inner.write_all(&telling.begun);
-        telling.begun.clear();
+        let written = self.inner.write_all(&objects.begun);
+        objects.begun.clear();
         printed(written, &mut self.inner)
     }
 }
 
-impl<W: Write + Drop> Write for Objects<W> {
-    ghost contents = { λ s. passed s.telling (W.contents s.inner) };
+impl<W: Write + Drop> Write for Json<W> {
+    ghost contents = { λ s. passed s.objects (W.contents s.inner) };
 
     fn write(&mut self, buf: &[u8]) -> io::Result<usize> {
-        let Some(telling) = &mut self.telling else {
+        let Some(objects) = &mut self.objects else {
             return self.inner.write(buf);
         };
         let (length, ends) = match buf.iter().position(|byte| *byte == b'\n') {
             Some(at) => (at + 1, true),
             None => (buf.len(), false),
         };
-        telling.take(&buf[..length], ends, &mut self.inner)?;
+        objects.take(&buf[..length], ends, &mut self.inner)?;
         Ok(length)
     }
 
@@ -80,16 +84,51 @@ impl<W: Write + Drop> Write for Objects<W> {
     }
 }
 
-impl Telling {
-    fn new(alloc: Global, lines: Lines) -> Telling
+impl<W: Write + Drop> Output for Json<W> {
+    fn found(&mut self, found: &Found) -> io::Result<()> {
+        match &mut self.objects {
+            Some(objects) => {
+                let put = put_found(objects.alloc, found, &mut self.inner);
+                objects.written(put)
+            }
+            None => writeln!(self.inner, "{found}"),
+        }
+    }
+
+    fn codes(&mut self, table: &str) -> io::Result<()> {
+        match &mut self.objects {
+            Some(objects) => {
+                let put = put_codes(objects.alloc, table, &mut self.inner);
+                objects.written(put)
+            }
+            None => self.inner.write_all(table.as_bytes()),
+        }
+    }
+
+    fn answered(&mut self, _answer: &Answer) {}
+}
+
+impl Objects {
+    fn new(alloc: Global) -> Objects
         ensures begun { result.begun.items ≡ [] }
         ensures has_memory { result.has_memory ≡ true }
     {
-        Telling {
+        Objects {
             alloc,
-            lines,
             begun: Vec::new(alloc),
             has_memory: true,
+        }
+    }
+
+    /// What the writer of an object is to be told. That memory was refused is said at the end.
+    fn written(&mut self, put: Result<(), Failure<'static>>) -> io::Result<()> {
+        match put {
+            Ok(()) => Ok(()),
+            Err(Failure::OutOfMemory) => {
+                self.has_memory = false;
+                Ok(())
+            }
+            Err(_) => Err(io::Error::from(ErrorKind::Other)),
         }
     }
 
@@ -102,38 +141,60 @@ impl Telling {
             self.has_memory = false;
             return Ok(());
         }
-        if ends { self.pass_on(inner) } else { Ok(()) }
-    }
-
-    /// Passes on the line that has come to its end.
-    fn pass_on<W: Write>(&mut self, inner: &mut W) -> io::Result<()> {
-        match told_for(self.alloc, self.lines, self.begun.as_slice()) {
-            Ok(told) => {
-                self.begun.clear();
-                inner.write_all(&told)
-            }
-            Err(_) => {
-                self.has_memory = false;
-                Ok(())
-            }
+        if !ends {
+            return Ok(());
         }
+        let put = put_shown(self.alloc, self.begun.as_slice(), inner);
+        self.begun.clear();
+        self.written(put)
     }
 }
 
-/// What stands for a line, which ends with a newline: its object on a line, or the line itself if it has none, as help
-/// hasn't.
-fn told_for(alloc: Global, lines: Lines, line: &[u8]) -> Result<Vec<u8>, AllocError> {
+/// Writes the object of what was found.
+fn put_found<W: Write>(alloc: Global, found: &Found, inner: &mut W) -> Result<(), Failure<'static>>
+    ensures { OnOk result ((object : List ℕ) × IsObject CODES.now found.now object
+        × Appends (W.contents inner.old) (W.contents inner.new) (object ++ 10 ∷ [])) }
+{
+    let object = object_of(alloc, found)?;
+    put_line(object.as_str(), inner)
+}
+
+/// Writes the objects of the codes of the table, which begin its lines.
+fn put_codes<W: Write>(alloc: Global, table: &str, inner: &mut W) -> Result<(), Failure<'static>> {
+    for line in table.lines() {
+        put_code(alloc, line, inner)?;
+    }
+    Ok(())
+}
+
+/// Writes the object of the code that a line of the table begins with, if it begins with one.
+fn put_code<W: Write>(alloc: Global, line: &str, inner: &mut W) -> Result<(), Failure<'static>>
+    ensures { OnOk result (Keeps (W.contents inner.old) (W.contents inner.new) ⊎ ((object : List ℕ) × IsCode CODES.now object
+        × Appends (W.contents inner.old) (W.contents inner.new) (object ++ 10 ∷ []))) }
+{
+    match object_of_code(alloc, line)? {
+        Some(object) => put_line(object.as_str(), inner),
+        None => Ok(()),
+    }
+}
+
+/// Writes what stands for a line of `show`: its object, or the line itself if it has none, as help hasn't.
+fn put_shown<W: Write>(alloc: Global, line: &[u8], inner: &mut W) -> Result<(), Failure<'static>> {
     let text = str::from_utf8(line).unwrap_or("").trim_end_matches('\n');
-    let object = match lines {
-        Lines::Answers => object_of_answer(alloc, text)?,
-        Lines::Codes if is_advice(text) => return Ok(Vec::new(alloc)),
-        Lines::Codes => object_of_code(alloc, text)?,
-        Lines::Entries => object_of_entry(alloc, text)?,
-    };
-    let mut told = match object {
-        Some(object) => object.into_bytes(),
-        None => return Vec::from_slice(alloc, line),
-    };
-    told.push(b'\n')?;
-    Ok(told)
+    match object_of_entry(alloc, text)? {
+        Some(object) => put_line(object.as_str(), inner),
+        None => match inner.write_all(line) {
+            Ok(()) => Ok(()),
+            Err(_) => Err(Failure::WriteFailed),
+        },
+    }
+}
+
+fn put_line<W: Write>(text: &str, inner: &mut W) -> Result<(), Failure<'static>>
+    ensures { OnOk result (Appends (W.contents inner.old) (W.contents inner.new) (text.now ++ 10 ∷ [])) }
+{
+    match writeln!(inner, "{text}") {
+        Ok(()) => Ok(()),
+        Err(_) => Err(Failure::WriteFailed),
+    }
 }

@@ -1,32 +1,18 @@
 -- What `verify` says of a reading. (own)
-use Rattle.std.specs.Prelude.{◌≡◌, ℕ, List, [], ◌∷◌, ◌++◌, Option, codes, length}
-use Rattle.std.specs.Fmt.{decimal}
-use Rattle.std.specs.Io.KnownBytes.{Appends}
-use Rattle.jc_base.specs.Fault.{number_of}
+use Rattle.std.specs.Prelude.{ℕ, List, Option, length}
 use Rattle.jc_base.specs.LimitBounds.{AreDefaults}
 use Rattle.jc_base.specs.Reading.{Reading}
 use Rattle.jc_base.specs.declared.fault.Ending.{Ending}
-use Rattle.jc_base.specs.declared.fault.Ending.TheVariants.{End, Bad}
 use Rattle.jc_base.specs.declared.limits.Limits.{Limits}
 use Rattle.jc_sender.specs.Reads.{EndsAs, ReadsAs}
 use Rattle.jc_sender.specs.Source.{AreReadOf}
+use Rattle.jc_command_shared.specs.Found.{PrintsFound, reading_found}
 use Rattle.jc_command_shared.specs.declared.status.Status.{Status}
-use Rattle.jc_command_shared.specs.declared.status.Status.TheVariants.{Success, Refused}
 use Rattle.jc_command_args.specs.declared.request.InputKind.{InputKind}
 
--- `ok <count> <left>` or `bad <code> <place>`, without the newline
-abbrev pub verdict_text : ℕ → Ending → List ℕ
-verdict_text count (End left) = codes "ok " ++ decimal count ++ codes " " ++ decimal left
-verdict_text count (Bad fault) = codes "bad " ++ decimal (number_of fault.code) ++ codes " " ++ decimal fault.place
-
-abbrev pub verdict_status : Ending → Status
-verdict_status (End _) = Success
-verdict_status (Bad _) = Refused
-
 -- The output gained the line of a reading, and the status is that reading's.
-pub record PrintsReading (count : ℕ) (ending : Ending) (status : Status) (old new : Option (List ℕ)) : Type 0 where
-  pub judged : status ≡ verdict_status ending
-  pub printed : Appends old new (verdict_text count ending ++ 10 ∷ [])
+abbrev pub PrintsReading : (count : ℕ) → Ending → Status → (old new : Option (List ℕ)) → Type 0
+PrintsReading count ending status old new = PrintsFound (reading_found count ending) status old new
 
 -- The output gained the line of some reading, which ends as one of that kind under the default limits, and the status is
 -- that reading's.

@@ -8,11 +8,11 @@ ghost use Rattle.jc_sender.specs.Acknowledged.{BringsAll, IsBy, IsHeadOf, Says, 
 
 use jc_base::Id128;
 use jc_command_shared::{
-    Failure, Status, System, line_length, open_file, printed, read_front, read_whole,
+    Failure, Output, Status, System, line_length, open_file, printed, read_front, read_whole,
 };
 use jc_upload::{Answer, Kind, UploadHead};
 use std::alloc::Global;
-use std::io::{Read, Write};
+use std::io::Read;
 
 /// The bytes of an upload's header.
 const HEAD_LENGTH: u64 = 48;
@@ -38,7 +38,7 @@ enum Outcome {
 
 /// Whether one of the answers on standard input acknowledges all of the upload in a file. If none does, and some refuse
 /// it, the last of these lines is printed. A line that is no answer says nothing.
-pub fn acknowledged<'a, R: System, I: Read, O: Write>(
+pub fn acknowledged<'a, R: System, I: Read, O: Output>(
     rt: &R,
     upload: &'a str,
     input: &mut I,
@@ -58,7 +58,7 @@ pub fn acknowledged<'a, R: System, I: Read, O: Write>(
 }
 
 /// The same of the upload that a reader gives.
-fn acknowledged_of<'a, F: Read + Drop, I: Read, O: Write>(
+fn acknowledged_of<'a, F: Read + Drop, I: Read, O: Output>(
     alloc: Global,
     file: F,
     input: &mut I,
@@ -178,7 +178,7 @@ fn outcome_by(sent: Sent, answer: Answer) -> Outcome
 }
 
 /// Prints the line of a refusal, and answers the status.
-fn tell<'a, O: Write>(outcome: Outcome, output: &mut O) -> Result<Status, Failure<'a>>
+fn tell<'a, O: Output>(outcome: Outcome, output: &mut O) -> Result<Status, Failure<'a>>
     ensures told { IfOk result (λ status. Tells outcome status (O.contents output.old) (O.contents output.new)) }
     ensures failed { IfErr result (λ failure. failure ≡ Failure.WriteFailed) }
 {
@@ -188,6 +188,7 @@ fn tell<'a, O: Write>(outcome: Outcome, output: &mut O) -> Result<Status, Failur
         Outcome::Refused(answer) => {
             let written = output.write_all(answer.line().bytes());
             printed(written, output)?;
+            output.answered(&answer);
             Ok(Status::Refused)
         }
     }

@@ -2,53 +2,24 @@
 
 ghost use Rattle.std.specs.Prelude.{◌≡◌, ◌≢◌, ◌⊎◌, ℕ, List, Some, IfOk, IfErr};
 ghost use Rattle.std.specs.Io.KnownBytes.{Keeps};
-ghost use Rattle.jc_sender.specs.Verdict.{verdict_text, verdict_status, PrintsReading, PrintsSomeReading, PrintsReadingIn, PrintsReadingOf};
+ghost use Rattle.jc_sender.specs.Verdict.{PrintsSomeReading, PrintsReadingIn, PrintsReadingOf};
 
 use crate::entries::count_entries;
 use crate::source::file_bytes;
-use jc_base::{ByteStream, Ending, FromRead, Limits};
+use jc_base::{ByteStream, FromRead, Limits};
 use jc_command_args::InputKind;
-use jc_command_shared::{Failure, Status, System, is_regular, open_file, printed};
+use jc_command_shared::{
+    Failure, Found, Output, Status, System, is_regular, open_file, print_found,
+};
 use jc_export::one_reading;
 use jc_file::{ByteSpace, FileEntries, FileSpace, PagedSpace, ReadFile, SliceSpace};
 use jc_stream::Stream;
 use std::alloc::Global;
-use std::fmt;
 use std::fs::OpenFile;
-use std::io::{Read, Write};
-
-/// What `verify` prints: how many entries are complete, and how the reading ends.
-#[derive(Clone, Copy)]
-struct Verdict {
-    count: u64,
-    ending: Ending,
-}
-
-impl Verdict {
-    fn status(&self) -> Status
-        ensures { result ≡ verdict_status self.now.ending }
-    {
-        match self.ending {
-            Ending::End { .. } => Status::Success,
-            Ending::Bad(_) => Status::Refused,
-        }
-    }
-}
-
-impl fmt::Display for Verdict {
-    ghost output = { λ verdict. Some (verdict_text verdict.count verdict.ending) };
-
-    fn fmt<W: fmt::Write>(&self, f: &mut fmt::Formatter<W>) -> fmt::Result {
-        let count = self.count;
-        match self.ending {
-            Ending::End { left } => write!(f, "ok {count} {left}"),
-            Ending::Bad(fault) => write!(f, "bad {} {}", fault.code.number(), fault.place),
-        }
-    }
-}
+use std::io::Read;
 
 /// Prints how the file reads, under the default limits.
-pub fn verify<'a, R: System, O: Write>(
+pub fn verify<'a, R: System, O: Output>(
     rt: &R,
     kind: InputKind,
     file: &'a str,
@@ -74,7 +45,7 @@ pub fn verify<'a, R: System, O: Write>(
 }
 
 /// Prints how what a device gives reads as an export stream.
-fn verify_export<'a, R: ByteStream + Drop, O: Write>(
+fn verify_export<'a, R: ByteStream + Drop, O: Output>(
     alloc: Global,
     device: R,
     output: &mut O,
@@ -92,11 +63,11 @@ fn verify_export<'a, R: ByteStream + Drop, O: Write>(
     one_reading();
     let mut entries = Stream::new(alloc, device, Limits::default())?;
     let (count, ending) = count_entries(&mut entries)?;
-    print_verdict(count, ending, output)
+    print_found(&Found::by_reading(count, ending), output)
 }
 
 /// Prints how a file reads as a journal file. If it isn't a regular file, its ranges can't be read, and it is read whole.
-fn verify_file<'a, F: Read + ReadFile + OpenFile + Drop, O: Write>(
+fn verify_file<'a, F: Read + ReadFile + OpenFile + Drop, O: Output>(
     alloc: Global,
     file: F,
     output: &mut O,
@@ -121,7 +92,7 @@ fn verify_file<'a, F: Read + ReadFile + OpenFile + Drop, O: Write>(
 }
 
 /// Prints how the bytes of a space read as a journal file.
-fn verify_space<'a, B: ByteSpace + Drop, O: Write>(
+fn verify_space<'a, B: ByteSpace + Drop, O: Output>(
     alloc: Global,
     space: B,
     output: &mut O,
@@ -137,20 +108,5 @@ fn verify_space<'a, B: ByteSpace + Drop, O: Write>(
 {
     let mut entries = FileEntries::new(alloc, space, Limits::default());
     let (count, ending) = count_entries(&mut entries)?;
-    print_verdict(count, ending, output)
-}
-
-/// Prints a verdict, and answers its status.
-fn print_verdict<'a, O: Write>(
-    count: u64,
-    ending: Ending,
-    output: &mut O,
-) -> Result<Status, Failure<'a>>
-    ensures printed { IfOk result (λ status. PrintsReading count ending status (O.contents output.old) (O.contents output.new)) }
-    ensures failed { IfErr result (λ failure. failure ≡ Failure.WriteFailed) }
-{
-    let verdict = Verdict { count, ending };
-    let written = writeln!(output, "{verdict}");
-    printed(written, output)?;
-    Ok(verdict.status())
+    print_found(&Found::by_reading(count, ending), output)
 }

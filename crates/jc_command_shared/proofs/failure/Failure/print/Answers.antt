@@ -1,5 +1,0 @@
-use Rattle.std.proofs.Common.{rules}
-use Rattle.jc_command_shared.proofs.failure.Failure.print.Goals as goal
-
-pub returns : goal.returns
-returns g c = search rules
