@@ -4,3 +4,4 @@ pub mod InFolder
 pub mod LinesRead
 pub mod Printing
 pub mod Turns
+pub mod Working

@@ -1,15 +1,9 @@
--- What is printed, and that nothing is of a sequence that stays whose it was.
-use Rattle.std.proofs.Common.{◌≡◌, ◌∙◌, ◌++◌, ℕ, Bool, true, false, not, List, [], Option, Some, None, ap, append-nil, append_assoc, inr, refl, subst, sym}
+-- What is printed, and machines that aren't owners.
+use Rattle.std.proofs.Common.{◌≡◌, ◌∙◌, ◌++◌, ℕ, Bool, true, false, not, List, [], Option, Some, None, ap, append-nil, append_assoc, subst, sym}
 use Rattle.std.specs.Prelude.{◌≢◌}
 use Rattle.std.specs.Io.KnownBytes.{Appends}
 use Rattle.std.specs.Option.{option_eq}
-use Rattle.jc_base.specs.declared.id.Id128.{Id128}
 use Rattle.jc_ledger.specs.declared.owner.MachineDigest.{MachineDigest}
-use Rattle.jc_ledger_files.specs.Owned.{owner_of}
-use Rattle.jc_ledger_files.specs.declared.window_name.WindowName.{WindowName}
-use Rattle.jc_ledger_files.specs.declared.window_note.WindowNote.{WindowNote}
-use Rattle.jc_notes.specs.Found.{AreRead}
-use Rattle.jc_notes.specs.Printed.{IsRelease, IsRenaming, Prints}
 
 -- a machine that was asked for and isn't the owner
 pub not_same : (same : MachineDigest → MachineDigest → Bool) (owner : Option MachineDigest) (machine : MachineDigest)
@@ -29,13 +23,3 @@ appends_more (Some x) None c xs ys first then = absurd first
 appends_more (Some x) (Some y) None xs ys first then = absurd then
 appends_more (Some x) (Some y) (Some z) xs ys first then =
     then ∙ ap (λ (bytes : List ℕ). bytes ++ ys) first ∙ append_assoc x xs ys
-
-module _ (told : Option (List ℕ)) (notes : List WindowNote) (read : AreRead told notes) (known : Option (List ℕ)) where
-  pub not_renamed : (name : WindowName) (from to : MachineDigest) → owner_of notes ≢ Some from
-      → Prints (IsRenaming told name from to) known known
-  not_renamed name from to other =
-      record { text = []; is = record { notes = notes; read = read; line = inr (other, refl) }; printed = nothing known }
-
-  pub not_released : (sequence : Id128) → owner_of notes ≡ None → Prints (IsRelease told sequence) known known
-  not_released sequence none =
-      record { text = []; is = record { notes = notes; read = read; line = inr (none, refl) }; printed = nothing known }

@@ -35,14 +35,14 @@ judge true false = refl
 judge false true = refl
 judge false false = refl
 
-module _ {A : Type 0} (Is : A → Bool → List ℕ → Type 0) where
-  zip_more : (items : List A) (found : List (Bool × List ℕ)) (item : A) (one : Bool × List ℕ)
-      → AllZip (λ (x : A) (y : Bool × List ℕ). Is x y.0 y.1) items found → Is item one.0 one.1 → AllZip (λ (x : A) (y : Bool × List ℕ). Is x y.0 y.1) (items ++ item ∷ []) (found ++ one ∷ [])
-  zip_more [] [] item one each is = (is, tt)
-  zip_more [] (y ∷ ys) item one each is = absurd each
-  zip_more (x ∷ xs) [] item one each is = absurd each
-  zip_more (x ∷ xs) (y ∷ ys) item one each is = (each.0, zip_more xs ys item one each.1 is)
+pub zip_more : {A B : Type 0} (Are : A → B → Type 0) (items : List A) (found : List B) (item : A) (one : B) → AllZip Are items found → Are item one
+    → AllZip Are (items ++ item ∷ []) (found ++ one ∷ [])
+zip_more Are [] [] item one each is = (is, tt)
+zip_more Are [] (y ∷ ys) item one each is = absurd each
+zip_more Are (x ∷ xs) [] item one each is = absurd each
+zip_more Are (x ∷ xs) (y ∷ ys) item one each is = (each.0, zip_more Are xs ys item one each.1 is)
 
+module _ {A : Type 0} (Is : A → Bool → List ℕ → Type 0) where
   pub none_printed : (known : Option (List ℕ)) → PrintsEach Is [] Success known known
   none_printed known = record { found = []; each = tt; printed = nothing known; judged = refl }
 
@@ -52,7 +52,7 @@ module _ {A : Type 0} (Is : A → Bool → List ℕ → Type 0) where
   one_printed items i d status after is_well old mid new within so_far one judged = record {
     found = so_far.found ++ (is_well, one.text) ∷ [];
     each = subst (λ (xs : List A). AllZip (λ (x : A) (y : Bool × List ℕ). Is x y.0 y.1) xs (so_far.found ++ (is_well, one.text) ∷ [])) (sym (take_more items i d within))
-        (zip_more (take i items) so_far.found (get_or items i d) (is_well, one.text) so_far.each one.is);
+        (zip_more (λ (x : A) (y : Bool × List ℕ). Is x y.0 y.1) (take i items) so_far.found (get_or items i d) (is_well, one.text) so_far.each one.is);
     printed = subst (Appends old new) (sym (texts_more so_far.found (is_well, one.text)))
         (appends_more old mid new (texts_of so_far.found) one.text so_far.printed one.printed);
     judged = judged

@@ -30,3 +30,9 @@ pub record IsFirstBad {A : Type 0} (read : List ℕ → Option A) (text : List �
   pub behind : List (Option A)
   pub lines : map read (lines_of text) ≡ map Some items ++ None ∷ behind
   pub is : line ≡ length items + 1
+
+-- The text's lines are those of items that this is so of.
+pub record OfLines {A : Type 0} (read : List ℕ → Option A) (Does : List A → Type 0) (text : List ℕ) : Type 0 where
+  pub items : List A
+  pub lines : AreLines read items text
+  pub does : Does items

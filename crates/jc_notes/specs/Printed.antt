@@ -1,16 +1,21 @@
 -- What commands over notes print. (own)
-use Rattle.std.specs.Prelude.{◌≡◌, ◌≢◌, ◌⊎◌, ◌/◌, ◌^◌, ℕ, List, [], Bool, true, false, Option, Some, None}
+use Rattle.std.specs.Prelude.{◌≡◌, ◌≢◌, ◌⊎◌, ◌/◌, ◌^◌, ℕ, List, [], ◌∷◌, Bool, true, false, Option, Some, None, is_some}
 use Rattle.std.specs.Io.KnownBytes.{Appends}
 use Rattle.std.specs.List.{All}
 use Rattle.jc_base.specs.declared.id.Id128.{Id128}
+use Rattle.jc_base.specs.declared.id.Key.{Key}
+use Rattle.jc_command_shared.specs.Deeds.{Deed}
 use Rattle.jc_command_shared.specs.Ids.{IsIdOf}
+use Rattle.jc_ledger.specs.declared.digest.EntryDigest.{EntryDigest}
 use Rattle.jc_ledger.specs.declared.owner.MachineDigest.{MachineDigest}
 use Rattle.jc_ledger_files.specs.Owned.{owner_of, owner_window}
+use Rattle.jc_ledger_files.specs.Windows.{window_of}
 use Rattle.jc_ledger_files.specs.declared.window_name.WindowName.{WindowName}
 use Rattle.jc_ledger_files.specs.declared.window_note.WindowNote.{WindowNote}
 use Rattle.jc_sequences.specs.Placed.{path_of}
-use Rattle.jc_notes.specs.Found.{AreRead}
-use Rattle.jc_notes.specs.Texts.{bad_line, free_line, owner_line, owner_text, window_line}
+use Rattle.jc_notes.specs.Changed.{replacing}
+use Rattle.jc_notes.specs.Found.{AreRead, IsNotedIn}
+use Rattle.jc_notes.specs.Texts.{bad_line, free_line, noted_line, owner_line, owner_text, window_line}
 
 -- Some text was printed that is such a one.
 pub record Prints (Is : List ℕ → Type 0) (old new : Option (List ℕ)) : Type 0 where
@@ -50,20 +55,43 @@ IsListedIf told folder name is_read text =
     ((name.window ≡ 2 ^ 51) × IsOwnerToldIf (told (path_of folder name)) name is_read text)
     ⊎ ((name.window ≢ 2 ^ 51) × ((is_read ≡ true) × (text ≡ [])))
 
--- If a sequence was the first machine's, the text says that it is the other one's now. Else it is empty.
-pub record IsRenaming (told : Option (List ℕ)) (name : WindowName) (old new : MachineDigest) (text : List ℕ) : Type 0 where
-  pub notes : List WindowNote
-  pub read : AreRead told notes
-  pub line : ((owner_of notes ≡ Some old) × (text ≡ owner_line name.sequence new)) ⊎ ((owner_of notes ≢ Some old) × (text ≡ []))
+-- The note that a sequence is a machine's.
+abbrev pub owner_note : MachineDigest → WindowNote
+owner_note machine = record { number = 2 ^ 63; digest = record { 0 = machine.0 } }
 
--- If a sequence was a machine's, the text says that it is nobody's now. Else it is empty.
-pub record IsRelease (told : Option (List ℕ)) (sequence : Id128) (text : List ℕ) : Type 0 where
+-- If the owner by the notes of a window's file is one that is asked for, these notes alone take their place, and the line is
+-- printed. Else nothing is done or printed.
+pub record IsOwnerChange (told : List ℕ → Option (List ℕ)) (folder : List ℕ) (name : WindowName) (Asked : Option MachineDigest → Type 0) (line : List ℕ) (put : List WindowNote) (text : List ℕ) (deeds : List Deed) : Type 0 where
   pub notes : List WindowNote
-  pub read : AreRead told notes
-  pub line : ((owner_of notes ≢ None) × (text ≡ free_line sequence)) ⊎ ((owner_of notes ≡ None) × (text ≡ []))
+  pub read : AreRead (told (path_of folder name)) notes
+  pub done : (Asked (owner_of notes) × ((text ≡ line) × (deeds ≡ replacing (path_of folder name) put)))
+      ⊎ ((¬ Asked (owner_of notes)) × ((text ≡ []) × (deeds ≡ [])))
 
--- The digits spell a sequence, and what is printed is of its release.
-pub record PrintsRelease (told : List ℕ → Option (List ℕ)) (folder digits : List ℕ) (old new : Option (List ℕ)) : Type 0 where
+-- If a sequence was the first machine's, it is the other one's now, and the text says so.
+abbrev pub IsRenaming : (told : List ℕ → Option (List ℕ)) (folder : List ℕ) (old new : MachineDigest) → WindowName → (text : List ℕ) → List Deed → Type 0
+IsRenaming told folder old new name text deeds =
+    IsOwnerChange told folder name (λ owner. owner ≡ Some old) (owner_line name.sequence new) (owner_note new ∷ []) text deeds
+
+-- Of a window in which an owner is noted this is so. Of another nothing is done or printed.
+abbrev pub IsRenamingIf : (told : List ℕ → Option (List ℕ)) (folder : List ℕ) (old new : MachineDigest) → WindowName → (text : List ℕ) → List Deed → Type 0
+IsRenamingIf told folder old new name text deeds =
+    ((name.window ≡ 2 ^ 51) × IsRenaming told folder old new name text deeds)
+    ⊎ ((name.window ≢ 2 ^ 51) × ((text ≡ []) × (deeds ≡ [])))
+
+-- If a sequence was a machine's, it is nobody's now, and the text says so.
+abbrev pub IsRelease : (told : List ℕ → Option (List ℕ)) (folder : List ℕ) → Id128 → (text : List ℕ) → List Deed → Type 0
+IsRelease told folder sequence text deeds =
+    IsOwnerChange told folder (owner_window sequence) (λ owner. owner ≢ None) (free_line sequence) [] text deeds
+
+-- The digits spell a sequence that this is so of.
+pub record OfSequence (digits : List ℕ) (Does : Id128 → Type 0) : Type 0 where
   pub sequence : Id128
   pub spelled : IsIdOf digits sequence
-  pub printed : Prints (IsRelease (told (path_of folder (owner_window sequence))) sequence) old new
+  pub does : Does sequence
+
+-- The text says whether a key is noted in the file of its window. That is well, whatever it says.
+pub record IsNotedTold (told : List ℕ → Option (List ℕ)) (folder : List ℕ) (key : Key) (is_well : Bool) (text : List ℕ) : Type 0 where
+  pub digest : Option EntryDigest
+  pub is : IsNotedIn (told (path_of folder (window_of key))) key.seqnum digest
+  pub well : is_well ≡ true
+  pub line : text ≡ noted_line (is_some digest)

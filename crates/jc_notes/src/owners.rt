@@ -1,14 +1,16 @@
 //! `owners`: which sequence is which machine's.
 
-ghost use Rattle.std.specs.Prelude.{◌≡◌, ◌⊎◌, ◌≢◌, ◌∷◌, [], IfErr, IfOk, OnOk, Some};
+ghost use Rattle.std.specs.Prelude.{◌≡◌, ◌⊎◌, ◌≢◌, IfErr, IfOk, OnErr, OnOk};
 ghost use Rattle.std.specs.Io.KnownBytes.{Appends, Keeps};
 ghost use Rattle.jc_command_shared.specs.Deeds.{ChangesOnly};
 ghost use Rattle.jc_command_shared.specs.Failure.{status_of};
+ghost use Rattle.jc_command_shared.specs.Ids.{IsIdText};
+ghost use Rattle.jc_ledger.specs.Owners.{machine_named};
 ghost use Rattle.jc_ledger_files.specs.Owned.{owner_of, owner_window};
 ghost use Rattle.jc_notes.specs.Changed.{IsInFolder};
-ghost use Rattle.jc_notes.specs.Each.{PrintsEach};
+ghost use Rattle.jc_notes.specs.Each.{GivesUp, MayWork, PrintsEach, Works, WorksEach};
 ghost use Rattle.jc_notes.specs.Failing.{NamedFails, WorkFails};
-ghost use Rattle.jc_notes.specs.Printed.{IsListedIf, IsOwnerToldIf, IsRelease, IsRenaming, Prints, PrintsRelease};
+ghost use Rattle.jc_notes.specs.Printed.{IsListedIf, IsOwnerToldIf, IsRelease, IsRenaming, IsRenamingIf, OfSequence, Prints, owner_note};
 ghost use Rattle.jc_notes.specs.Texts.{free_line, owner_line, owner_text};
 ghost use Rattle.jc_sequences.specs.Placed.{path_of};
 
@@ -96,21 +98,45 @@ pub fn rename_owner<'p, R: System, O: Write>(
     new: &str,
     output: &mut O,
 ) -> Result<(), Failure<'p>>
+    ensures renamed { OnOk result (WorksEach (IsRenamingIf R.told folder.now (machine_named old.now) (machine_named new.now)) windows.now
+        (O.contents output.old) (O.contents output.new) (R.deeds rt.old) (R.deeds rt.new)) }
+    // A failure comes behind the first of these windows.
+    ensures stopped { OnErr result (GivesUp (IsRenamingIf R.told folder.now (machine_named old.now) (machine_named new.now))
+        (path_of folder.now) windows.now (R.deeds rt.old) (R.deeds rt.new)) }
     ensures touched { ChangesOnly (IsInFolder folder.now) (R.deeds rt.old) (R.deeds rt.new) }
     ensures failed { IfErr result WorkFails }
 {
-    let old = MachineDigest::of(old.as_bytes());
-    let new = MachineDigest::of(new.as_bytes());
-    for name in windows {
-        if *name == owner_window(name.sequence) {
-            rename_one(rt, folder, *name, old, new, output)?;
-        }
-    }
+    let from = MachineDigest::of(old.as_bytes());
+    let to = MachineDigest::of(new.as_bytes());
+    rename_each(rt, folder, windows, from, to, output)?;
     printed(Ok(()), output)
 }
 
-/// The same of the sequence whose owner is noted in this window.
+/// The same by the digests of the machines' names.
 #[tactic(auto, using(jc_command_shared::specs::DeedLaws::nothing_changes, jc_command_shared::specs::DeedLaws::changes_then))]
+fn rename_each<'p, R: System, O: Write>(
+    rt: &mut R,
+    folder: &str,
+    windows: &[WindowName],
+    from: MachineDigest,
+    to: MachineDigest,
+    output: &mut O,
+) -> Result<(), Failure<'p>>
+    ensures renamed { OnOk result (WorksEach (IsRenamingIf R.told folder.now from to) windows.now
+        (O.contents output.old) (O.contents output.new) (R.deeds rt.old) (R.deeds rt.new)) }
+    ensures stopped { OnErr result (GivesUp (IsRenamingIf R.told folder.now from to) (path_of folder.now) windows.now
+        (R.deeds rt.old) (R.deeds rt.new)) }
+    ensures touched { ChangesOnly (IsInFolder folder.now) (R.deeds rt.old) (R.deeds rt.new) }
+    ensures failed { IfErr result WorkFails }
+{
+    for name in windows {
+        rename_one(rt, folder, *name, from, to, output)?;
+    }
+    Ok(())
+}
+
+/// The same of the sequence whose owner may be noted in this window.
+#[tactic(auto, using(jc_command_shared::specs::DeedLaws::nothing_changes))]
 fn rename_one<'p, R: System, O: Write>(
     rt: &mut R,
     folder: &str,
@@ -119,8 +145,33 @@ fn rename_one<'p, R: System, O: Write>(
     to: MachineDigest,
     output: &mut O,
 ) -> Result<(), Failure<'p>>
-    ensures printed { OnOk result
-        (Prints (IsRenaming (R.told (path_of folder.now name)) name from to) (O.contents output.old) (O.contents output.new)) }
+    ensures renamed { OnOk result (Works (IsRenamingIf R.told folder.now from to name)
+        (O.contents output.old) (O.contents output.new) (R.deeds rt.old) (R.deeds rt.new)) }
+    ensures stopped { OnErr result (MayWork (IsRenamingIf R.told folder.now from to name) (path_of folder.now name)
+        (R.deeds rt.old) (R.deeds rt.new)) }
+    ensures touched { ChangesOnly (IsInFolder folder.now) (R.deeds rt.old) (R.deeds rt.new) }
+    ensures failed { IfErr result WorkFails }
+{
+    if name.window != owner_window(name.sequence).window {
+        return Ok(());
+    }
+    rename_noted(rt, folder, name, from, to, output)
+}
+
+/// The same of the sequence whose owner is noted in this window.
+#[tactic(auto, using(jc_command_shared::specs::DeedLaws::nothing_changes, jc_command_shared::specs::DeedLaws::changes_then))]
+fn rename_noted<'p, R: System, O: Write>(
+    rt: &mut R,
+    folder: &str,
+    name: WindowName,
+    from: MachineDigest,
+    to: MachineDigest,
+    output: &mut O,
+) -> Result<(), Failure<'p>>
+    ensures renamed { OnOk result (Works (IsRenaming R.told folder.now from to name)
+        (O.contents output.old) (O.contents output.new) (R.deeds rt.old) (R.deeds rt.new)) }
+    ensures stopped { OnErr result (MayWork (IsRenaming R.told folder.now from to name) (path_of folder.now name)
+        (R.deeds rt.old) (R.deeds rt.new)) }
     ensures touched { ChangesOnly (IsInFolder folder.now) (R.deeds rt.old) (R.deeds rt.new) }
     ensures failed { IfErr result WorkFails }
 {
@@ -140,7 +191,13 @@ pub fn release_sequence<'p, R: System, O: Write>(
     sequence: &'p str,
     output: &mut O,
 ) -> Result<(), Failure<'p>>
-    ensures printed { OnOk result (PrintsRelease R.told folder.now sequence.entry.now (O.contents output.old) (O.contents output.new)) }
+    ensures released { OnOk result (OfSequence sequence.entry.now (λ s. Works (IsRelease R.told folder.now s)
+        (O.contents output.old) (O.contents output.new) (R.deeds rt.old) (R.deeds rt.new))) }
+    // A failure leaves all as it was, or the file of this sequence's owner, or comes behind its release.
+    ensures stopped { OnErr result ((R.deeds rt.new ≡ R.deeds rt.old) ⊎ OfSequence sequence.entry.now
+        (λ s. MayWork (IsRelease R.told folder.now s) (path_of folder.now (owner_window s)) (R.deeds rt.old) (R.deeds rt.new))) }
+    ensures bad { IfErr result (λ failure. failure ≡ Failure.BadId → ¬ IsIdText sequence.entry.now) }
+    ensures unchanged { IfErr result (λ failure. status_of failure ≢ Status.Failed → R.deeds rt.new ≡ R.deeds rt.old) }
     ensures touched { ChangesOnly (IsInFolder folder.now) (R.deeds rt.old) (R.deeds rt.new) }
     ensures failed { IfErr result NamedFails }
     ensures untouched { IfErr result (λ failure. status_of failure ≢ Status.Failed
@@ -159,8 +216,10 @@ fn release_one<'p, R: System, O: Write>(
     sequence: Id128,
     output: &mut O,
 ) -> Result<(), Failure<'p>>
-    ensures printed { OnOk result
-        (Prints (IsRelease (R.told (path_of folder.now (owner_window sequence))) sequence) (O.contents output.old) (O.contents output.new)) }
+    ensures released { OnOk result (Works (IsRelease R.told folder.now sequence)
+        (O.contents output.old) (O.contents output.new) (R.deeds rt.old) (R.deeds rt.new)) }
+    ensures stopped { OnErr result (MayWork (IsRelease R.told folder.now sequence) (path_of folder.now (owner_window sequence))
+        (R.deeds rt.old) (R.deeds rt.new)) }
     ensures touched { ChangesOnly (IsInFolder folder.now) (R.deeds rt.old) (R.deeds rt.new) }
     ensures failed { IfErr result WorkFails }
 {
@@ -183,7 +242,7 @@ fn owner_of(notes: &[WindowNote]) -> Option<MachineDigest>
 
 /// The note that a sequence is this machine's.
 fn owner_note(machine: MachineDigest) -> WindowNote
-    ensures { owner_of (result ∷ []) ≡ Some machine }
+    ensures { result ≡ owner_note machine }
 {
     WindowNote {
         number: NUMBER_END,

@@ -1,10 +1,11 @@
 //! The file of a window, replaced.
 
-ghost use Rattle.std.specs.Prelude.{◌≡◌, ◌⊎◌, ◌++◌, ◌∷◌, [], IfErr, OnOk};
+ghost use Rattle.std.specs.Prelude.{◌≡◌, ◌⊎◌, ◌++◌, ◌∷◌, [], IfErr, OnErr, OnOk};
 ghost use Rattle.std.specs.Io.KnownBytes.{Appends};
-ghost use Rattle.jc_command_shared.specs.Deeds.{ChangesOnly, IsReplaced};
+ghost use Rattle.jc_command_shared.specs.Deeds.{Adds, ChangesOnly, IsReplaced, LeavesOld, Replaces};
 ghost use Rattle.jc_ledger_files.specs.Blocks.{blocks};
-ghost use Rattle.jc_notes.specs.Changed.{IsInFolder};
+ghost use Rattle.jc_notes.specs.Changed.{IsInFolder, replacing};
+ghost use Rattle.jc_sequences.specs.Placed.{path_of};
 
 use jc_command_shared::{Failure, System, create_file, name_beside, printed, put_in_place};
 use jc_ledger_files::{WindowName, WindowNote, blocks_text};
@@ -20,6 +21,8 @@ pub(crate) fn replace_notes<'p, R: System>(
     name: WindowName,
     notes: &[WindowNote],
 ) -> Result<(), Failure<'p>>
+    ensures replaced { OnOk result (Adds (R.deeds rt.old) (R.deeds rt.new) (replacing (path_of folder.now name) notes.now)) }
+    ensures stays { OnErr result (LeavesOld (path_of folder.now name) (R.deeds rt.old) (R.deeds rt.new)) }
     ensures touched { ChangesOnly (IsInFolder folder.now) (R.deeds rt.old) (R.deeds rt.new) }
     ensures failed { IfErr result (λ failure. (failure ≡ Failure.WriteFailed) ⊎ (failure ≡ Failure.OutOfMemory)) }
 {
@@ -37,6 +40,8 @@ fn replace_file<'p, R: System>(
     path: &str,
     notes: &[WindowNote],
 ) -> Result<(), Failure<'p>>
+    ensures replaced { OnOk result (Replaces path.now (blocks notes.now ++ 0 ∷ []) (R.deeds rt.old) (R.deeds rt.new)) }
+    ensures stays { OnErr result (LeavesOld path.now (R.deeds rt.old) (R.deeds rt.new)) }
     ensures touched { ChangesOnly (IsReplaced path.now) (R.deeds rt.old) (R.deeds rt.new) }
     ensures failed { IfErr result (λ failure. (failure ≡ Failure.WriteFailed) ⊎ (failure ≡ Failure.OutOfMemory)) }
 {
