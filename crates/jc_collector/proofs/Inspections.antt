@@ -1,9 +1,6 @@
 -- The line of what an upload says.
-use Rattle.std.proofs.Common.{◌≡◌, ◌∙◌, ℕ, List, ◌++◌, Option, subst, sym}
-use Rattle.std.specs.Prelude.{IfOk, OnOk, Result, Ok, Err}
-use Rattle.std.specs.Io.KnownBytes.{Appends}
-use Rattle.std.proofs.KnownBytes.{Appends-trans}
-use Rattle.std.proofs.lemmas.List.{append_assoc}
+use Rattle.std.proofs.Common.{ℕ, List, Option}
+use Rattle.std.specs.Prelude.{IfOk, Result}
 use Rattle.std.proofs.lemmas.Result.{IfOk-weaker}
 use Rattle.jc_base.specs.LimitBounds.{AreDefaults}
 use Rattle.jc_base.specs.declared.limits.Limits.{Limits}
@@ -30,33 +27,3 @@ upload_printed bounds upload limits inspected r old new defaults says printed =
       says = says;
       printed = prints;
     }) printed
-
--- ---- lines that are written in parts
-
-pub flat : (a b c d e f g : List ℕ) → a ++ (b ++ (c ++ (d ++ (e ++ (f ++ g))))) ≡ a ++ b ++ c ++ d ++ e ++ f ++ g
-flat a b c d e f g =
-    sym (append_assoc a b (c ++ (d ++ (e ++ (f ++ g)))))
-    ∙ sym (append_assoc (a ++ b) c (d ++ (e ++ (f ++ g))))
-    ∙ sym (append_assoc (a ++ b ++ c) d (e ++ (f ++ g)))
-    ∙ sym (append_assoc (a ++ b ++ c ++ d) e (f ++ g))
-    ∙ sym (append_assoc (a ++ b ++ c ++ d ++ e) f g)
-
-pub key_put : {T E : Type 0} (a b c : Option (List ℕ)) (hex id rest : List ℕ) (r : Result T E) → Appends a b hex → hex ≡ id
-    → OnOk r (Appends b c rest) → OnOk r (Appends a c (id ++ rest))
-key_put a b c hex id rest (Ok x) first same more =
-    Appends-trans a b c id rest (subst (λ (l : List ℕ). Appends a b l) same first) more
-key_put a b c hex id rest (Err e) first same more = tt
-
-pub end_put : {T E : Type 0} (a b c : Option (List ℕ)) (key rest : List ℕ) (r : Result T E) → Appends a b key → OnOk r (Appends b c rest)
-    → OnOk r (Appends a c (key ++ rest))
-end_put a b c key rest (Ok x) first more = Appends-trans a b c key rest first more
-end_put a b c key rest (Err e) first more = tt
-
-pub line_put : {T E : Type 0} (a b c d e : Option (List ℕ)) (word hex id numbers rest : List ℕ) (r : Result T E) → Appends a b word
-    → Appends b c hex → hex ≡ id → Appends c d numbers → OnOk r (Appends d e rest)
-    → OnOk r (Appends a e (word ++ (id ++ (numbers ++ rest))))
-line_put a b c d e word hex id numbers rest (Ok x) first source same more last =
-    Appends-trans a b e word (id ++ (numbers ++ rest)) first
-    (Appends-trans b c e id (numbers ++ rest) (subst (λ (l : List ℕ). Appends b c l) same source)
-    (Appends-trans c d e numbers rest more last))
-line_put a b c d e word hex id numbers rest (Err x) first source same more last = tt

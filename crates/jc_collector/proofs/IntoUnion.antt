@@ -1,16 +1,17 @@
 -- A run over a union of databases: why it fails, and what it makes of the files.
-use Rattle.std.proofs.Common.{◌≡◌, ◌⊎◌, ℕ, List, Option, Result, Ok, Err, inl, inr, sym, subst}
+use Rattle.std.proofs.Common.{◌≡◌, ◌⊎◌, ℕ, List, [], Option, Result, Ok, Err, ap, inl, inr, refl, sym, subst}
 use Rattle.std.specs.Prelude.{IfOk}
-use Rattle.std.proofs.Math.Logic.{∥∥₁_map}
 use Rattle.sqlite.specs.Store.{Ghosts}
+use Rattle.sqlite.specs.Effect.{Database}
 use Rattle.sqlite.specs.Recovery.{Image}
 use Rattle.sqlite.specs.Held.{Held, state}
 use Rattle.sqlite.specs.State.{HasCleanDisk}
 use Rattle.jc_base.specs.declared.id.Id128.{Id128}
 use Rattle.jc_base.specs.Journal.{Journal}
 use Rattle.jc_base.specs.LogEntry.{LogEntry}
+use Rattle.jc_collect.specs.Each.{held}
 use Rattle.jc_collector_answers.specs.Brought.{CollectsText}
-use Rattle.jc_collector_answers.specs.Collected.{KeepsFirstOf}
+use Rattle.jc_collector_answers.specs.Collected.{HoldsFirstOf}
 use Rattle.jc_collector_answers.specs.Kept.{HoldsPrinted}
 use Rattle.jc_collector_answers.specs.PrintedLaws.{named}
 use Rattle.jc_collector_answers.specs.Tied.{NamedWith, PrintsFront}
@@ -20,16 +21,16 @@ use Rattle.jc_command_shared.specs.declared.failure.Failure.{Failure}
 use Rattle.jc_command_shared.specs.declared.failure.Failure.TheVariants.{Bad, BadAnswer, BadDatabaseName, BadExportName, BadFieldName, BadId, BadLine, BadResume, BadUpload, CannotOpen, OutOfMemory, ReadFailed, SourceChanged, StoreFailed, WordsAreNoText, WriteFailed}
 use Rattle.jc_command_shared.specs.declared.status.Status.{Status}
 use Rattle.jc_database.specs.Files.{EndsWith, HoldsJournal, InFiles, Keeps, KeepsAlways}
-use Rattle.jc_ledger.specs.Kept.{IsKept}
+use Rattle.jc_ledger.specs.Kept.{ComesToo, IsKept, NoneCollide}
 use Rattle.jc_ledger.specs.Known.{Known}
-use Rattle.jc_ledger.specs.Union.{union}
-use Rattle.jc_store.specs.Meaning.{Meaning}
+use Rattle.jc_ledger.specs.Union.{union, with_all}
+use Rattle.jc_store.specs.Crash.{MayLeave}
+use Rattle.jc_store.specs.Meaning.{AreMade, IsSound, Meaning, journal_of}
 use Rattle.jc_collector.specs.Noted.{WhyNoUnion}
 use Rattle.jc_collector.specs.Database.{DatabaseFailsBy, MayEndNames}
 use Rattle.jc_collector.specs.IntoUnion.{LeadsIf, UnionFailsBy, UnionStopsBy}
 use Rattle.jc_collector.specs.Kinds.{meaning_of}
 use Rattle.jc_collector.specs.Open.{IsFoundIn}
-use Rattle.jc_collector.specs.UnionLeft.{LeavesNoted}
 use Rattle.jc_collector.specs.UnionRun.{IsFoundAs}
 use Rattle.jc_collector.proofs.Open.{front_named}
 use Rattle.jc_upload.specs.declared.answer.Answer.{Answer}
@@ -91,6 +92,10 @@ module _ (database : List ℕ) (paths : List (List ℕ)) where
 pub kept_same : {known : Known} {past one other : Journal} {came : LogEntry → Type 0} → other ≡ one → IsKept known past one came → IsKept known past other came
 kept_same {known = known} {past = past} {came = came} same kept = subst (λ (j : Journal). IsKept known past j came) (sym same) kept
 
+-- what doesn't collide once more has come did not before
+pub apart_before : {before later : LogEntry → Type 0} → ComesToo before later → NoneCollide later → NoneCollide before
+apart_before comes none e f here there = none e f (comes e here) (comes f there)
+
 -- whose what is new is, between the same journals
 pub named_between : {F : Type 0} (told : List ℕ → Option (List ℕ)) (Of : Option (List ℕ) → Id128 → Type 0) (text : Option (List ℕ)) (past first then now last : Journal)
     (result : Result Status F) (old new : Option (List ℕ)) → then ≡ first → last ≡ now
@@ -99,6 +104,24 @@ pub named_between : {F : Type 0} (told : List ℕ → Option (List ℕ)) (Of : O
 named_between told Of text past first then now last result old new begins ends named =
     subst (λ (j : Journal). IfOk result (λ status. NamedWith (CollectsText told MachinesAndUploads Of text (union past j) (union past last)) text status old new)) begins
     (subst (λ (j : Journal). IfOk result (λ status. NamedWith (CollectsText told MachinesAndUploads Of text (union past then) (union past j)) text status old new)) (sym ends) named)
+
+-- where nothing is pending, the union is that of what the databases have
+module _ {F : Type 0} (text : Option (List ℕ)) (past first last : Journal) (pending pending_now : List LogEntry) (none : pending ≡ []) (none_now : pending_now ≡ [])
+    (result : Result Status F) (old new : Option (List ℕ))
+  where
+    pub holds_stored : (AreUploads : List (Option (List ℕ)) → Type 0) (Was Now : Type 0) (had has : Journal → Type 0)
+        → HoldsPrinted (named text) (HoldsFirstOf AreUploads (held (union past (with_all first pending)) Was had) (held (union past (with_all last pending_now)) Now has)) result old new
+        → HoldsPrinted (named text) (HoldsFirstOf AreUploads (held (union past first) Was had) (held (union past last) Now has)) result old new
+    holds_stored AreUploads Was Now had has holds =
+        subst (λ (es : List LogEntry). HoldsPrinted (named text) (HoldsFirstOf AreUploads (held (union past (with_all first es)) Was had) (held (union past last) Now has)) result old new) none
+        (subst (λ (es : List LogEntry). HoldsPrinted (named text) (HoldsFirstOf AreUploads (held (union past (with_all first pending)) Was had) (held (union past (with_all last es)) Now has)) result old new) none_now holds)
+
+    pub named_stored : (told : List ℕ → Option (List ℕ)) (Of : Option (List ℕ) → Id128 → Type 0)
+        → IfOk result (λ status. NamedWith (CollectsText told MachinesAndUploads Of text (union past (with_all first pending)) (union past (with_all last pending_now))) text status old new)
+        → IfOk result (λ status. NamedWith (CollectsText told MachinesAndUploads Of text (union past first) (union past last)) text status old new)
+    named_stored told Of holds =
+        subst (λ (es : List LogEntry). IfOk result (λ status. NamedWith (CollectsText told MachinesAndUploads Of text (union past (with_all first es)) (union past last)) text status old new)) none
+        (subst (λ (es : List LogEntry). IfOk result (λ status. NamedWith (CollectsText told MachinesAndUploads Of text (union past (with_all first pending)) (union past (with_all last es))) text status old new)) none_now holds)
 
 pub keeps_same : {S C L : Type 0} {o : InFiles S C L} (m : Meaning) (files : C) (one other : Journal) → one ≡ other → KeepsAlways m o files one
     → KeepsAlways m o files other
@@ -132,7 +155,7 @@ leads_found m made image first files Holds Step found was_clean each clean kind 
       };
     }
 
--- ---- what it leaves if it fails
+-- ---- what it leaves
 
 -- what was printed, whether all of it or not
 pub front_any : {F : Type 0} (Holds : List Answer → Type 0) (text : Option (List ℕ)) (old new : Option (List ℕ)) (result : Result Status F)
@@ -140,13 +163,17 @@ pub front_any : {F : Type 0} (Holds : List Answer → Type 0) (text : Option (Li
 front_any Holds text old new (Ok status) it = front_named Holds text old new status it
 front_any Holds text old new (Err failure) it = it
 
--- what is left is said of another meaning, and of the journal in other words
-pub leaves_as : (m n : Meaning) (AreUploads : List (Option (List ℕ)) → Type 0) (past one other : Journal) (came : LogEntry → Type 0) (ledgers : Known → Type 0)
-    (answers : List Answer) (image : Image) → one ≡ other → ((found : Journal) → HoldsJournal m image found → HoldsJournal n image found)
-    → ∥ LeavesNoted AreUploads m past one came ledgers answers image ∥₁ → ∥ LeavesNoted AreUploads n past other came ledgers answers image ∥₁
-leaves_as m n AreUploads past one other came ledgers answers image same holds left = ∥∥₁_map left (λ it. record {
-  found = it.found;
-  keeps = subst (λ (j : Journal). KeepsFirstOf AreUploads (union past j) answers (union past it.found)) same it.keeps;
-  lags = it.lags;
-  holds = holds it.found it.holds;
-})
+-- a database that was closed has what a crash may have left of it
+pub has_left : {S : Type 0} (m : Meaning) (g : Ghosts S) (conn : Held S) → IsSound g conn → AreMade m g conn
+    → (state g conn).may_leave (state g conn).committed.trees → MayLeave m g conn (journal_of m g conn)
+has_left m g conn sound made left =
+    let has = made sound in record {
+      trees = (state g conn).committed.trees;
+      left = left;
+      is = record {
+        database = (state g conn).now;
+        is_journal = has.journal;
+        trees_are = ap (λ (d : Database). d.trees) (sym has.settled);
+        reads = refl;
+      };
+    }

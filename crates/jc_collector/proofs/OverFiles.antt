@@ -15,7 +15,8 @@ use Rattle.jc_command_shared.specs.declared.status.Status.{Status}
 use Rattle.jc_collector.specs.declared.health.Health.{Health}
 use Rattle.jc_collector.specs.Open.{Begun, EndsOver, HasKind, StandsIn, StandsOver}
 use Rattle.jc_collector.specs.Kinds.{LeadsIn, OpenedOver, conn_of, journal_in, kind_of, meaning_of}
-use Rattle.jc_collector.specs.Checked.{Counts, PrintsHealth, count_line, health_text}
+use Rattle.jc_command_shared.specs.Found.{found_text}
+use Rattle.jc_collector.specs.Checked.{Counts, PrintsHealth, count_line, health_found}
 use Rattle.jc_collector_answers.specs.Collected.{just}
 use Rattle.jc_collector.specs.OverFiles.{IsListed, Prints, StoresFromList, StoresNamed, StoresPrinted}
 use Rattle.jc_database.specs.FilesLaws.{keeps_found}
@@ -79,7 +80,7 @@ went_over m n first moved back moves before sound it = record { made = moves.mad
 pub prints_counted : (health : Health) (status : Status) (old new : Option (List ℕ)) → PrintsHealth health status old new
     → (before after : Journal) → Counts health before after → Prints count_line old new before after
 prints_counted health status old new prints before after counts = record {
-  printed = subst (λ (h : Health). Appends old new (health_text h ++ 10 ∷ [])) counts.counted prints.printed;
+  printed = subst (λ (h : Health). Appends old new (found_text (health_found h) ++ 10 ∷ [])) counts.counted prints.printed;
   stays = counts.stays;
 }
 

@@ -1,6 +1,6 @@
 -- What is said of a result by what is said of another one.
 use Rattle.std.proofs.Common.{◌≡◌, ◌⊎◌, inl, inr, None, Ok, Err, Option, Result, Some, refl, subst, sym}
-use Rattle.std.specs.Prelude.{IfOk, IfErr, IfSome, IsSomeAnd, MatchOption, MatchResult, OnOk}
+use Rattle.std.specs.Prelude.{IfOk, IfErr, IfSome, IsSomeAnd, MatchResult, OnOk}
 use Rattle.std.specs.Result.{result_ok}
 use Rattle.jc_keeper.specs.declared.keeper.KeepStop.{KeepStop}
 use Rattle.jc_collector.specs.declared.into_union.opening.OpenStop.{OpenStop}
@@ -47,9 +47,9 @@ failure_in_other (Err f) done failure More P (inl is) p more = subst (λ d. IfEr
 failure_in_other (Err f) done failure More P (inr its) p more = more (failure f) its
 
 -- what follows of a value that there is
-pub match_some : {X : Type 0} (o : Option X) (P Q : X → Type 0) (Nothing : Type 0) → IsSomeAnd o P → ((x : X) → P x → Q x) → MatchOption o Nothing Q
-match_some None P Q Nothing some each = absurd some
-match_some (Some x) P Q Nothing some each = each x some
+pub some_each : {X : Type 0} (o : Option X) (P Q : X → Type 0) → IsSomeAnd o P → ((x : X) → P x → Q x) → IsSomeAnd o Q
+some_each None P Q some each = some
+some_each (Some x) P Q some each = each x some
 
 pub on_ok : {T E : Type 0} (r : Result T E) (x : T) (P : Type 0) → r ≡ Ok x → OnOk r P → P
 on_ok r x P is p = subst (λ d. OnOk d P) is p

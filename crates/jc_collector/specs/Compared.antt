@@ -1,11 +1,13 @@
 -- What comes of a comparison of a database with its notes. (own)
-use Rattle.std.specs.Prelude.{◌≡◌, ◌⊎◌, ℕ, List, [], ◌∷◌, ◌++◌, Option, codes, decimal}
-use Rattle.std.specs.Io.KnownBytes.{Appends}
+use Rattle.std.specs.Prelude.{◌≡◌, ◌⊎◌, ℕ, List, Option, Some}
 use Rattle.jc_base.specs.Fault.{number_of}
 use Rattle.jc_collector.specs.declared.comparing.Comparison.{Comparison}
 use Rattle.jc_collector.specs.declared.comparing.Comparison.TheVariants.{Agrees, Bad}
+use Rattle.jc_command_shared.specs.Found.{PrintsFound}
 use Rattle.jc_command_shared.specs.declared.failure.Failure.{Failure}
 use Rattle.jc_command_shared.specs.declared.failure.Failure.TheVariants.{OutOfMemory, ReadFailed, StoreFailed}
+use Rattle.jc_command_shared.specs.declared.found.Found.{Found}
+use Rattle.jc_command_shared.specs.declared.found.Found.TheVariants as found
 use Rattle.jc_command_shared.specs.declared.status.Status.{Status}
 use Rattle.jc_command_shared.specs.declared.status.Status.TheVariants.{Success, Refused}
 
@@ -17,16 +19,11 @@ IsJudged status = (status ≡ Success) ⊎ (status ≡ Refused)
 abbrev pub ComparingFails : Failure → Type 0
 ComparingFails failure = (failure ≡ ReadFailed) ⊎ (failure ≡ StoreFailed) ⊎ (failure ≡ OutOfMemory)
 
--- `ok <count> <lacking>` or `bad <code> <place>`, without the newline
-abbrev pub comparison_text : Comparison → List ℕ
-comparison_text (Agrees count lacking) = codes "ok " ++ decimal count ++ codes " " ++ decimal lacking
-comparison_text (Bad fault) = codes "bad " ++ decimal (number_of fault.code) ++ codes " " ++ decimal fault.place
-
-abbrev pub comparison_status : Comparison → Status
-comparison_status (Agrees count lacking) = Success
-comparison_status (Bad fault) = Refused
+-- what is found then
+abbrev pub comparison_found : Comparison → Found
+comparison_found (Agrees count lacking) = found.Count count (Some lacking)
+comparison_found (Bad fault) = found.Bad (number_of fault.code) fault.place
 
 -- The output gained the line, and the status is its own.
-pub record PrintsComparison (comparison : Comparison) (status : Status) (old new : Option (List ℕ)) : Type 0 where
-  pub judged : status ≡ comparison_status comparison
-  pub printed : Appends old new (comparison_text comparison ++ 10 ∷ [])
+abbrev pub PrintsComparison : Comparison → Status → (old new : Option (List ℕ)) → Type 0
+PrintsComparison comparison status old new = PrintsFound (comparison_found comparison) status old new

@@ -1,9 +1,9 @@
 -- What was answered over a union, and what a crash leaves of it. (own)
-use Rattle.std.proofs.Common.{◌≡◌, ◌⊎◌, ℕ, List, [], Option, ap, ◌∙◌, inl, inr, refl, subst, sym}
+use Rattle.std.proofs.Common.{◌≡◌, ℕ, List, [], Option, ap, ◌∙◌, inl, inr, refl, subst, sym}
 use Rattle.jc_base.specs.declared.id.Key.{Key}
 use Rattle.jc_base.specs.Journal.{Journal}
 use Rattle.jc_base.specs.LogEntry.{LogEntry}
-use Rattle.jc_collect.specs.Each.{NoneAcknowledged, held}
+use Rattle.jc_collect.specs.Each.{held}
 use Rattle.jc_collector_answers.specs.Collected.{HoldsFirstOf, StoresFirstOf}
 use Rattle.jc_collector_answers.specs.CollectedLaws.{keeps_first, keeps_nothing, stores_first, stores_nothing}
 use Rattle.jc_keeper.specs.declared.keeper.KeepStop.TheVariants as keep
@@ -44,43 +44,10 @@ holds_nothing AreUploads uploads are past before after Sound known came database
   lags = lags;
 }
 
--- one that was opened
-module _ (AreUploads : List (Option (List ℕ)) → Type 0) (past before first after : Journal) (Was Sound : Type 0) (known : Known) (came : LogEntry → Type 0) (had databases : Journal → Type 0) (ledgers : Known → Type 0)
-    (same : first ≡ before) (left : (found : Journal) → had found → found ≡ before)
-    (kept : Sound → IsKept known past after came) (lags : LeaveLagging databases ledgers past came)
-  where
-    pub holds_noted : (answers : List Answer)
-        → HoldsFirstOf AreUploads (held (union past first) Was (λ (found : Journal). (j : Journal) × (had j × (found ≡ union past j))))
-        (held (union past after) Sound (λ (found : Journal). (j : Journal) × (databases j × (found ≡ union past j)))) answers
-        → HoldsNoted AreUploads past before after Sound known came databases ledgers answers
-    holds_noted answers h =
-        let was = held (union past first) Was (λ (found : Journal). (j : Journal) × (had j × (found ≡ union past j))) in
-        let now = held (union past after) Sound (λ (found : Journal). (j : Journal) × (databases j × (found ≡ union past j))) in
-        record {
-          stored = λ late.
-              subst (λ (b : Journal). StoresFirstOf AreUploads (union past b) answers (union past after)) same (stores_first AreUploads was now answers h late);
-          noted = λ late. inr (kept late);
-          found = λ found is.
-              keeps_first AreUploads was now answers h (union past before) (union past found)
-              (λ there. there.1.1 ∙ ap (union past) (left there.0 there.1.0)) (ap (union past) same) (found, (is, refl));
-          lags = lags;
-        }
-
--- what was done with the present database behind the answers changed nothing
-pub holds_behind : (AreUploads : List (Option (List ℕ)) → Type 0) (past before after later : Journal) (Sound Late : Type 0) (known : Known) (came : LogEntry → Type 0) (databases less : Journal → Type 0) (ledgers : Known → Type 0)
-    → (Late → Sound) → (Late → later ≡ after) → ((found : Journal) → less found → databases found) → (answers : List Answer)
-    → HoldsNoted AreUploads past before after Sound known came databases ledgers answers → HoldsNoted AreUploads past before later Late known came less ledgers answers
-holds_behind AreUploads past before after later Sound Late known came databases less ledgers back same fewer answers h = record {
-  stored = λ late. subst (λ (m : Journal). StoresFirstOf AreUploads (union past before) answers (union past m)) (sym (same late)) (h.stored (back late));
-  noted = λ late. subst (λ (m : Journal). NoneAcknowledged answers ⊎ IsKept known past m came) (sym (same late)) (h.noted (back late));
-  found = λ found is. h.found found (fewer found is);
-  lags = λ now noted in_database in_ledger. h.lags now noted (fewer now in_database) in_ledger;
-}
-
--- both: the union was opened, and something was done with the present database behind the answers
+-- one that was opened: what waited was noted, and something was done with the present database behind the answers
 module _ (AreUploads : List (Option (List ℕ)) → Type 0) (past before first after later : Journal) (Was Sound Late : Type 0) (known : Known) (came : LogEntry → Type 0) (had databases less : Journal → Type 0)
     (ledgers : Known → Type 0) (same : first ≡ before) (left : (found : Journal) → had found → found ≡ before)
-    (kept : Sound → IsKept known past after came) (lags : LeaveLagging databases ledgers past came)
+    (kept : Late → IsKept known past later came) (lags : LeaveLagging less ledgers past came)
     (back : Late → Sound) (stays : Late → later ≡ after) (fewer : (found : Journal) → less found → databases found)
   where
     pub holds_through : (answers : List Answer)
@@ -88,5 +55,14 @@ module _ (AreUploads : List (Option (List ℕ)) → Type 0) (past before first a
         (held (union past after) Sound (λ (found : Journal). (j : Journal) × (databases j × (found ≡ union past j)))) answers
         → HoldsNoted AreUploads past before later Late known came less ledgers answers
     holds_through answers h =
-        holds_behind AreUploads past before after later Sound Late known came databases less ledgers back stays fewer answers
-        (holds_noted AreUploads past before first after Was Sound known came had databases ledgers same left kept lags answers h)
+        let was = held (union past first) Was (λ (found : Journal). (j : Journal) × (had j × (found ≡ union past j))) in
+        let now = held (union past after) Sound (λ (found : Journal). (j : Journal) × (databases j × (found ≡ union past j))) in
+        record {
+          stored = λ late. subst (λ (m : Journal). StoresFirstOf AreUploads (union past before) answers (union past m)) (sym (stays late))
+              (subst (λ (b : Journal). StoresFirstOf AreUploads (union past b) answers (union past after)) same (stores_first AreUploads was now answers h (back late)));
+          noted = λ late. inr (kept late);
+          found = λ found is.
+              keeps_first AreUploads was now answers h (union past before) (union past found)
+              (λ there. there.1.1 ∙ ap (union past) (left there.0 there.1.0)) (ap (union past) same) (found, (fewer found is, refl));
+          lags = lags;
+        }

@@ -7,11 +7,10 @@ use Rattle.sqlite.specs.State.{HasCleanDisk}
 use Rattle.jc_base.specs.Journal.{Journal}
 use Rattle.jc_base.specs.LogEntry.{LogEntry}
 use Rattle.jc_collector_answers.specs.Collected.{KeepsFirstOf, those_named}
-use Rattle.jc_collector_answers.specs.Tied.{PrintsFront}
 use Rattle.jc_collector_answers.specs.declared.name_lines.NameLines.TheVariants.{MachinesAndUploads}
 use Rattle.jc_command_args.specs.declared.request.Tables.{Tables}
 use Rattle.jc_database.specs.Files.{AreLawful, HoldsJournal, InFiles}
-use Rattle.jc_database.specs.Left.{IsLeftOf, LeavesOnly}
+use Rattle.jc_database.specs.Left.{IsLeftOf}
 use Rattle.jc_ledger.specs.declared.ledger.Ledger as ledgers
 use Rattle.jc_ledger.specs.Kept.{NoneCollide}
 use Rattle.jc_ledger.specs.Known.{Known}
@@ -33,20 +32,32 @@ pub record LeavesNoted (AreUploads : List (Option (List ℕ)) → Type 0) (m : M
   pub lags : (known : Known) → ledgers known → MayCatchUp known past found came
   pub holds : HoldsJournal m left found
 
--- What is handed back of a database that was closed, or couldn't be: a crash leaves a journal of it that it might have left of
--- the connection.
-pub record IsHandedBack (m : Meaning) {S C R : Type 0} (g : Ghosts S) (o : InFiles S C R) (conn : Held S) (left : R) : Type 0 where
-  pub was_clean : o.is_clean_left left → HasCleanDisk (state g conn)
-  pub leaves : AreLawful m → AreMade m g conn → LeavesJournals m g conn → (before : Image) → LeavesOnly o (IsLeftOf m g conn) before left
+-- Files as a run leaves them: that their disks have returned what was written, and what a crash may leave of them.
+pub record FilesLeft : Type 1 where
+  pub clean : Type 0
+  pub images : Image → Type 0
+
+module _ {S C R : Type 0} (o : InFiles S C R) where
+  -- A call that failed hands them back, and they are usual, if the files held this as they were opened.
+  abbrev pub handed_back : (first : Image) → R → FilesLeft
+  handed_back first files = record { clean = o.is_clean_left files × o.is_usual first files; images = o.may_be_left files }
+
+-- So a database is left of a connection: a crash leaves a journal of it that it might have left of the connection.
+pub record IsLeftAs (m : Meaning) {S : Type 0} (g : Ghosts S) (conn : Held S) (files : FilesLeft) : Type 0 where
+  pub was_clean : files.clean → HasCleanDisk (state g conn)
+  pub leaves : AreLawful m → AreMade m g conn → LeavesJournals m g conn → files.clean → (image : Image) → files.images image → IsLeftOf m g conn image
+
+-- How answers were printed of which something holds.
+abbrev pub HowPrinted : Type 1
+HowPrinted = (Holds : List Answer → Type 0) → Type 0
 
 -- What a run left that failed once its present database was open. If the disks returned what was written, the files had a
--- journal when it began, or none, and this is so of the notes beside it: the lines that were printed are those of the answers to
--- the first ones of the uploads that a text names, the last perhaps in part, and whatever a crash leaves of the files and of the
--- notes has what they acknowledge.
-abbrev pub FrontIsLeft : {S C R N : Type 0} → InFiles S C R → ledgers.Ghosts N → (made : Tables) → (first : Image) → (told : List ℕ → Option (List ℕ)) → (past : Journal)
-    → (Noted : Journal → Type 0) → (text old new : Option (List ℕ)) → (files : R) → (notes : N) → Type 0
-FrontIsLeft o n made first told past Noted text old new files notes =
-    o.is_clean_left files → o.is_usual first files → n.clean notes → NoneCollide (n.came notes)
+-- journal when it began, or none, and this is so of the notes beside it: whatever a crash leaves of the files and of the notes
+-- has what the answers acknowledge whose lines were printed. They were given to the first ones of the uploads that a text names.
+abbrev pub UnionIsLeft : {N : Type 0} → ledgers.Ghosts N → (made : Tables) → (first : Image) → (told : List ℕ → Option (List ℕ)) → (past : Journal)
+    → (Noted : Journal → Type 0) → (text : Option (List ℕ)) → (Prints : HowPrinted) → FilesLeft → (notes : N) → Type 0
+UnionIsLeft n made first told past Noted text Prints files notes =
+    files.clean → n.clean notes → NoneCollide (n.came notes)
     → (kind : Tables) (before : Journal) → BeginsIn made kind first before → Noted before
-    → PrintsFront (λ answers. (image : Image) → o.may_be_left files image
-    → ∥ LeavesNoted (those_named told MachinesAndUploads text) (meaning_of kind) past before (n.came notes) (n.may_leave notes) answers image ∥₁) old new
+    → Prints (λ answers. (image : Image) → files.images image
+    → ∥ LeavesNoted (those_named told MachinesAndUploads text) (meaning_of kind) past before (n.came notes) (n.may_leave notes) answers image ∥₁)

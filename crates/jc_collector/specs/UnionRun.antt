@@ -1,5 +1,5 @@
 -- What comes of a run over a union of databases: what it stores, prints and leaves. (own)
-use Rattle.std.specs.Prelude.{◌≡◌, ◌≢◌, ◌⊎◌, ℕ, List, Option, None, Result, Err, IfOk, IfErr, MatchOption}
+use Rattle.std.specs.Prelude.{◌≡◌, ◌≢◌, ◌⊎◌, ℕ, List, Option, None, Result, Err, IfOk, IfErr, IsSomeAnd}
 use Rattle.std.specs.Io.KnownBytes.{Keeps as KeepsBytes}
 use Rattle.sqlite.specs.Store.{Ghosts}
 use Rattle.sqlite.specs.Recovery.{Image}
@@ -8,6 +8,7 @@ use Rattle.sqlite.specs.State.{HasCleanDisk}
 use Rattle.jc_base.specs.Journal.{Journal}
 use Rattle.jc_collector_answers.specs.Collected.{told_within}
 use Rattle.jc_collector_answers.specs.Named.{PrintsNamed}
+use Rattle.jc_collector_answers.specs.Tied.{PrintsFront}
 use Rattle.jc_command_args.specs.declared.request.Tables.{Tables}
 use Rattle.jc_command_shared.specs.Failure.{status_of}
 use Rattle.jc_command_shared.specs.declared.status.Status.TheVariants.{Failed, Success}
@@ -19,7 +20,7 @@ use Rattle.jc_store.specs.Meaning.{IsSound, Meaning}
 use Rattle.jc_collector.specs.Kinds.{BeginsIn, meaning_of}
 use Rattle.jc_collector.specs.IntoUnion.{LeadsIf, StoresNotedNames}
 use Rattle.jc_collector.specs.OverFiles.{IsListed}
-use Rattle.jc_collector.specs.UnionLeft.{FrontIsLeft}
+use Rattle.jc_collector.specs.UnionLeft.{FilesLeft, HowPrinted, UnionIsLeft, handed_back}
 use Rattle.jc_collector.specs.declared.into_union.closing.FailedRun.{FailedRun}
 use Rattle.jc_collector.specs.declared.into_union.closing.NotedRun.{NotedRun}
 
@@ -31,6 +32,13 @@ pub record IsFoundAs (m : Meaning) {S : Type 0} (g : Ghosts S) (made : Tables) (
   pub same : HasCleanDisk (state g present) → (kind : Tables) (before : Journal) → BeginsIn made kind first before
       → (image : Image) (found : Journal) → HoldsJournal m image found → HoldsJournal (meaning_of kind) image found
 
+-- Nothing was opened, and nothing is printed.
+pub record FailsEarly {C R N : Type 0} (result : Result (NotedRun C N) (FailedRun R N)) (old new : Option (List ℕ)) : Type 0 where
+  pub run : FailedRun R N
+  pub failed : result ≡ Err run
+  pub left : run.left ≡ None
+  pub kept : KeepsBytes old new
+
 module _ {S C R N : Type 0} (o : InFiles S C R) (n : ledgers.Ghosts N) (made : Tables) (first : Image) (told : List ℕ → Option (List ℕ)) (past : Journal) (ledger : N) where
   -- What a run over the uploads that a text names comes to, from files that had this, and these notes.
   pub record RunsNoted (text : Option (List ℕ)) (result : Result (NotedRun C N) (FailedRun R N)) (old new errors errors_now : Option (List ℕ)) : Type 0 where
@@ -38,21 +46,20 @@ module _ {S C R N : Type 0} (o : InFiles S C R) (n : ledgers.Ghosts N) (made : T
     -- acknowledge is stored in the union, if what was noted is what the finished databases have, and some of what the present
     -- one had. Then what is noted is what they have.
     pub stored : IfOk result (λ run. LeadsIf made first o run.files
-        (λ before. MayCatchUp (n.known ledger) past before (n.came ledger) × n.sound run.ledger × NoneCollide (n.came run.ledger))
+        (λ before. MayCatchUp (n.known ledger) past before (n.came ledger) × n.clean run.ledger × NoneCollide (n.came run.ledger))
         (StoresNotedNames told past (n.known run.ledger) (n.came run.ledger) (n.owner run.ledger) text run.status old new))
     pub printed : IfOk result (λ run. PrintsNamed text run.status old new)
     pub quiet : IfOk result (λ run. run.status ≡ Success → KeepsBytes errors errors_now)
-    -- If it fails, what the lines acknowledge that were printed before is in what is left. If nothing is handed back, none was.
-    pub left : IfErr result (λ run. MatchOption run.left (KeepsBytes old new) (λ it. FrontIsLeft o n made first told past
-        (λ before. MayCatchUp (n.known ledger) past before (n.came ledger) × n.sound ledger) text old new it.files it.ledger))
+    -- No failure has shut the notes.
+    pub noted : IfOk result (λ run. n.clean run.ledger → n.sound run.ledger)
+    -- If it fails, what those acknowledge that were printed before is in what is handed back.
+    pub left : IfErr result (λ run. IsSomeAnd run.left (λ it. UnionIsLeft n made first told past
+        (λ before. MayCatchUp (n.known ledger) past before (n.came ledger) × n.sound ledger) text (λ Holds. PrintsFront Holds old new) (handed_back o first it.files) it.ledger))
     pub untouched : IfErr result (λ run. status_of run.failure ≢ Failed → KeepsBytes old new)
 
--- Nothing was opened, and nothing is printed.
-pub record FailsEarly {C R N : Type 0} (result : Result (NotedRun C N) (FailedRun R N)) (old new : Option (List ℕ)) : Type 0 where
-  pub run : FailedRun R N
-  pub failed : result ≡ Err run
-  pub left : run.left ≡ None
-  pub kept : KeepsBytes old new
+  -- The same of a run that may fail before its present database is open.
+  abbrev pub RunsNotedOrNot : (text : Option (List ℕ)) → Result (NotedRun C N) (FailedRun R N) → (old new errors errors_now : Option (List ℕ)) → Type 0
+  RunsNotedOrNot text result old new errors errors_now = FailsEarly result old new ⊎ RunsNoted text result old new errors errors_now
 
 -- The same of a list, which is given by its name, where windows of sequences may be bounded.
 abbrev pub RunsFromList : {S C R N : Type 0} → InFiles S C R → ledgers.Ghosts N → (made : Tables) → (first : Image) → (told : List ℕ → Option (List ℕ)) → (most_windows : Option ℕ)
@@ -61,3 +68,11 @@ RunsFromList o n made first told most_windows past ledger list given result old 
     FailsEarly result old new
     ⊎ ((text : Option (List ℕ)) × IsListed told list given text
     × RunsNoted o n made first (told_within most_windows told) past ledger text result old new errors errors_now)
+
+-- What a run over the uploads that a list names left: of the text that its name stands for, where windows may be bounded.
+abbrev pub ListIsLeft : {N : Type 0} → ledgers.Ghosts N → (made : Tables) → (first : Image) → (told : List ℕ → Option (List ℕ)) → (most_windows : Option ℕ)
+    → (past : Journal) → (Noted : Journal → Type 0) → (list : List ℕ) → (given : Option (List ℕ))
+    → (Prints : (text : Option (List ℕ)) → HowPrinted) → FilesLeft → (notes : N) → Type 0
+ListIsLeft n made first told most_windows past Noted list given Prints files notes =
+    (text : Option (List ℕ)) × IsListed told list given text
+    × UnionIsLeft n made first (told_within most_windows told) past Noted text (Prints text) files notes

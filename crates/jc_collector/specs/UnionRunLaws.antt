@@ -1,11 +1,12 @@
 -- What a run over a union whose uploads a list names comes to, by how it ends. (own)
 use Rattle.std.proofs.Common.{◌≡◌, ◌≢◌, ℕ, List, Option, Result, inl, inr, subst, sym}
 use Rattle.std.proofs.lemmas.Result.{IfErr-weaker, IfOk-weaker}
-use Rattle.std.specs.Prelude.{IfErr, IfOk, MatchOption, None, Some}
+use Rattle.std.specs.Prelude.{◌⊎◌, IfErr, IfOk, IsSomeAnd, None, Some}
 use Rattle.std.specs.Io.KnownBytes.{Keeps}
 use Rattle.sqlite.specs.Recovery.{Image}
 use Rattle.jc_base.specs.Journal.{Journal}
 use Rattle.jc_collector_answers.specs.Collected.{told_within}
+use Rattle.jc_collector_answers.specs.Tied.{PrintsFront}
 use Rattle.jc_command_args.specs.declared.request.Tables.{Tables}
 use Rattle.jc_command_shared.specs.Failure.{status_of}
 use Rattle.jc_command_shared.specs.declared.status.Status.TheVariants.{Failed, Success}
@@ -16,8 +17,8 @@ use Rattle.jc_ledger.specs.Lagging.{MayCatchUp}
 use Rattle.jc_collector.specs.FromList.{PrintsFromList}
 use Rattle.jc_collector.specs.IntoUnion.{LeadsIf, StoresNotedFromList}
 use Rattle.jc_collector.specs.OverFiles.{IsListed}
-use Rattle.jc_collector.specs.UnionLeft.{FrontIsLeft}
-use Rattle.jc_collector.specs.UnionRun.{FailsEarly, RunsFromList}
+use Rattle.jc_collector.specs.UnionLeft.{FilesLeft, HowPrinted, UnionIsLeft, handed_back}
+use Rattle.jc_collector.specs.UnionRun.{FailsEarly, ListIsLeft, RunsFromList}
 use Rattle.jc_collector.specs.declared.into_union.closing.FailedRun.{FailedRun}
 use Rattle.jc_collector.specs.declared.into_union.closing.NotedLeft.{NotedLeft}
 use Rattle.jc_collector.specs.declared.into_union.closing.NotedRun.{NotedRun}
@@ -32,7 +33,7 @@ module _ {S C R N : Type 0} (o : InFiles S C R) (n : ledgers.Ghosts N) (made : T
     early_ok P early = subst (λ (r : Result (NotedRun C N) (FailedRun R N)). IfOk r P) (sym early.failed) tt
 
     pub runs_stored : Runs → IfOk result (λ run. LeadsIf made first o run.files
-        (λ before. MayCatchUp (n.known ledger) past before (n.came ledger) × n.sound run.ledger × NoneCollide (n.came run.ledger))
+        (λ before. MayCatchUp (n.known ledger) past before (n.came ledger) × n.clean run.ledger × NoneCollide (n.came run.ledger))
         (StoresNotedFromList told most_windows past (n.known run.ledger) (n.came run.ledger) (n.owner run.ledger) list given run.status old new))
     runs_stored (inl early) = early_ok _ early
     runs_stored (inr (text, listed, runs)) = IfOk-weaker result _ _
@@ -58,24 +59,31 @@ module _ {S C R N : Type 0} (o : InFiles S C R) (n : ledgers.Ghosts N) (made : T
         subst (λ (r : Result (NotedRun C N) (FailedRun R N)). IfErr r (λ run. status_of run.failure ≢ Failed → Keeps old new)) (sym early.failed) (λ other. early.kept)
     runs_untouched (inr (text, listed, runs)) = runs.untouched
 
-    left_some : (Holds Other : NotedLeft R N → Type 0) → ((it : NotedLeft R N) → Holds it → Other it) → (left : Option (NotedLeft R N))
-        → MatchOption left (Keeps old new) Holds → MatchOption left (Keeps old new) Other
-    left_some Holds Other each None kept = kept
-    left_some Holds Other each (Some it) holds = each it holds
+    -- no failure has shut the notes
+    pub runs_noted : Runs → IfOk result (λ run. n.clean run.ledger → n.sound run.ledger)
+    runs_noted (inl early) = early_ok _ early
+    runs_noted (inr (text, listed, runs)) = runs.noted
 
-    -- what is left says so of the list's text, under another premise on the notes, which says more
-    pub runs_left : (Noted : Journal → Type 0) → ((before : Journal) → Noted before → MayCatchUp (n.known ledger) past before (n.came ledger) × n.sound ledger) → Runs
-        → IfErr result (λ run. MatchOption run.left (Keeps old new) (λ it. (text : Option (List ℕ)) × IsListed told list given text
-        × FrontIsLeft o n made first (told_within most_windows told) past Noted text old new it.files it.ledger))
-    runs_left Noted each (inl early) =
-        subst
-        (λ (r : Result (NotedRun C N) (FailedRun R N)). IfErr r (λ run. MatchOption run.left (Keeps old new) (λ it. (text : Option (List ℕ)) × IsListed told list given text
-        × FrontIsLeft o n made first (told_within most_windows told) past Noted text old new it.files it.ledger)))
-        (sym early.failed)
-        (subst
-        (λ (l : Option (NotedLeft R N)). MatchOption l (Keeps old new) (λ it. (text : Option (List ℕ)) × IsListed told list given text
-        × FrontIsLeft o n made first (told_within most_windows told) past Noted text old new it.files it.ledger)) (sym early.left) early.kept)
-    runs_left Noted each (inr (text, listed, runs)) = IfErr-weaker result _ _
-        (λ run left. left_some _ _
-        (λ it front. (text, listed, λ clean usual l_clean none kind before begin noted. front clean usual l_clean none kind before begin (each before noted))) run.left left)
-        runs.left
+    -- what is left, under another premise on the notes, which says more
+    module _ (Noted : Journal → Type 0) (each : (before : Journal) → Noted before → MayCatchUp (n.known ledger) past before (n.came ledger) × n.sound ledger) where
+      listed_left : (text : Option (List ℕ)) → IsListed told list given text → (Prints : (text : Option (List ℕ)) → HowPrinted) (files : FilesLeft) (notes : N)
+          → UnionIsLeft n made first (told_within most_windows told) past (λ before. MayCatchUp (n.known ledger) past before (n.came ledger) × n.sound ledger) text (Prints text) files notes
+          → ListIsLeft n made first told most_windows past Noted list given Prints files notes
+      listed_left text listed Prints files notes left =
+          (text, listed, λ clean l_clean none kind before begin noted. left clean l_clean none kind before begin (each before noted))
+
+      abbrev pub Leaves : Option (NotedLeft R N) → Type 0
+      Leaves left = ((left ≡ None) × Keeps old new) ⊎ IsSomeAnd left (λ it. ListIsLeft n made first told most_windows past Noted list given
+          (λ text Holds. PrintsFront Holds old new) (handed_back o first it.files) it.ledger)
+
+      left_some : (text : Option (List ℕ)) → IsListed told list given text → (left : Option (NotedLeft R N))
+          → IsSomeAnd left (λ it. UnionIsLeft n made first (told_within most_windows told) past
+          (λ before. MayCatchUp (n.known ledger) past before (n.came ledger) × n.sound ledger) text (λ Holds. PrintsFront Holds old new) (handed_back o first it.files) it.ledger)
+          → Leaves left
+      left_some text listed None some = absurd some
+      left_some text listed (Some it) left = inr (listed_left text listed (λ text Holds. PrintsFront Holds old new) (handed_back o first it.files) it.ledger left)
+
+      pub runs_left : Runs → IfErr result (λ run. Leaves run.left)
+      runs_left (inl early) =
+          subst (λ (r : Result (NotedRun C N) (FailedRun R N)). IfErr r (λ run. Leaves run.left)) (sym early.failed) (inl (early.left, early.kept))
+      runs_left (inr (text, listed, runs)) = IfErr-weaker result _ _ (λ run left. left_some text listed run.left left) runs.left

@@ -24,11 +24,11 @@ use jc_base::ByteStream;
 use jc_collect::Delivery;
 use jc_collector_answers::NameLines;
 use jc_command_args::Tables;
-use jc_command_shared::{Failure, Status, System};
+use jc_command_shared::{Errors, Failure, Output, Status, System};
 use jc_database::{Databases, OpenFromFiles, StoreInFiles, sound_leaves_journals};
 use jc_file::ByteSpace;
 use jc_store::{Listed, TableKeeper};
-use std::io::{BufRead, Write};
+use std::io::BufRead;
 
 /// What a run answered, and the keeper of its database, which is still open.
 #[derive(Drop)]
@@ -39,7 +39,14 @@ pub struct Answered<'a, K: Drop> {
 
 /// Takes deliveries up into the journal of a database, which is made if there is none, and prints an answer for each. Then
 /// the journal goes to a file, if one is named.
-pub fn answer_deliveries<'a, Y: Databases, F: OpenFromFiles, R: ByteStream, B: ByteSpace, O: Write>(
+pub fn answer_deliveries<
+    'a,
+    Y: Databases,
+    F: OpenFromFiles,
+    R: ByteStream,
+    B: ByteSpace,
+    O: Output,
+>(
     rt: &mut Y,
     start: F::Start,
     database: &'a str,
@@ -73,7 +80,7 @@ pub fn answer_deliveries<'a, Y: Databases, F: OpenFromFiles, R: ByteStream, B: B
 }
 
 /// The same of the uploads that lines name, each answered before the next name is read.
-pub fn answer_lines<'a, Y: Databases, F: OpenFromFiles, L: BufRead, O: Write, E: Write>(
+pub fn answer_lines<'a, Y: Databases, F: OpenFromFiles, L: BufRead, O: Output, E: Errors>(
     rt: &mut Y,
     start: F::Start,
     database: &'a str,
@@ -108,7 +115,14 @@ pub fn answer_lines<'a, Y: Databases, F: OpenFromFiles, L: BufRead, O: Write, E:
 
 /// Answers uploads over a database, which is made if there is none. Then its journal goes to a file, if one is named.
 #[tactic(auto, using(crate::specs::ExportedLaws::opens_alone, crate::specs::ExportedLaws::opens_then))]
-pub(crate) fn answer_uploads<'a, Y: Databases, F: OpenFromFiles, E, U: Uploads<E> + Drop, O: Write>(
+pub(crate) fn answer_uploads<
+    'a,
+    Y: Databases,
+    F: OpenFromFiles,
+    E,
+    U: Uploads<E> + Drop,
+    O: Output,
+>(
     rt: &mut Y,
     target: Target<'a, F::Start>,
     uploads: U,
@@ -162,7 +176,7 @@ pub(crate) fn answer_uploads<'a, Y: Databases, F: OpenFromFiles, E, U: Uploads<E
 }
 
 /// The same over a keeper.
-fn answer_over<'a, Y: System, F: StoreInFiles, L: Listed, E, U: Uploads<E>, O: Write>(
+fn answer_over<'a, Y: System, F: StoreInFiles, L: Listed, E, U: Uploads<E>, O: Output>(
     rt: &mut Y,
     keeper: &mut TableKeeper<F, L>,
     then_export: Option<&'a str>,

@@ -2,7 +2,7 @@
 
 ghost use Rattle.std.specs.Prelude.{◌≡◌, ◌≢◌, ◌⊎◌, Some, IfOk, IfErr};
 ghost use Rattle.std.specs.Io.KnownBytes.{Keeps};
-ghost use Rattle.jc_collector.specs.Compared.{ComparingFails, IsJudged, PrintsComparison, comparison_status, comparison_text};
+ghost use Rattle.jc_collector.specs.Compared.{ComparingFails, IsJudged, PrintsComparison, comparison_found};
 ghost use Rattle.jc_collector.specs.Database.{CheckFailsBy, WhyNoHealth};
 ghost use Rattle.jc_command_shared.specs.Deeds.{OpensOnce};
 ghost use Rattle.jc_command_shared.specs.Failure.{status_of};
@@ -13,15 +13,13 @@ use crate::failures::why_unanswered;
 use crate::health::{Examined, refused_as};
 use crate::into_union::list_present;
 use jc_base::{Code, Ending, EntrySource, Fault, Limits, SliceStream, Step};
-use jc_command_shared::{Failure, Status, System, printed};
+use jc_command_shared::{Failure, Found, Output, Status, System, print_found};
 use jc_database::{Databases, OpenFromFiles, StoreInFiles};
 use jc_keeper::KeepStop;
 use jc_ledger::digest_of;
 use jc_notes::NotesRead;
 use jc_store::{Listed, TableKeeper};
 use jc_stream::Stream;
-use std::fmt;
-use std::io::Write;
 
 /// What `check --sequences` prints of a database.
 #[derive(Clone, Copy)]
@@ -34,30 +32,21 @@ pub enum Comparison {
 }
 
 impl Comparison {
-    fn status(&self) -> Status
-        ensures value { result ≡ comparison_status self.now }
-        ensures judged { IsJudged result }
+    fn found(&self) -> Found
+        ensures { result ≡ comparison_found self.now }
     {
-        match self {
-            Comparison::Agrees { .. } => Status::Success,
-            Comparison::Bad(_) => Status::Refused,
-        }
-    }
-}
-
-impl fmt::Display for Comparison {
-    ghost output = { λ comparison. Some (comparison_text comparison) };
-
-    fn fmt<W: fmt::Write>(&self, f: &mut fmt::Formatter<W>) -> fmt::Result {
-        match self {
-            Comparison::Agrees { count, lacking } => write!(f, "ok {count} {lacking}"),
-            Comparison::Bad(fault) => write!(f, "bad {} {}", fault.code, fault.place),
+        match *self {
+            Comparison::Agrees { count, lacking } => Found::Count {
+                entries: count,
+                left: Some(lacking),
+            },
+            Comparison::Bad(fault) => Found::bad(fault),
         }
     }
 }
 
 /// Compares the entries of a database with their notes in a folder, and notes nothing.
-pub fn check_noted<'a, Y: Databases, F: OpenFromFiles, O: Write>(
+pub fn check_noted<'a, Y: Databases, F: OpenFromFiles, O: Output>(
     rt: &mut Y,
     start: F::Start,
     database: &'a str,
@@ -74,22 +63,8 @@ pub fn check_noted<'a, Y: Databases, F: OpenFromFiles, O: Write>(
 {
     check_name(database)?;
     let Examined { value, files } = compared::<_, F>(rt, start, database, folder)?;
-    let value = print_comparison(value, output)?;
+    let value = print_found(&value.found(), output)?;
     Ok(Examined { value, files })
-}
-
-/// Prints what was found, and answers its status.
-fn print_comparison<'a, O: Write>(
-    comparison: Comparison,
-    output: &mut O,
-) -> Result<Status, Failure<'a>>
-    ensures printed { IfOk result (λ status. PrintsComparison comparison status (O.contents output.old) (O.contents output.new)) }
-    ensures judged { IfOk result IsJudged }
-    ensures failed { IfErr result (λ failure. failure ≡ Failure.WriteFailed) }
-{
-    let written = writeln!(output, "{comparison}");
-    printed(written, output)?;
-    Ok(comparison.status())
 }
 
 fn compared<'a, Y: Databases, F: OpenFromFiles>(

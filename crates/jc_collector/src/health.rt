@@ -4,7 +4,7 @@ ghost use Rattle.std.specs.Prelude.{◌≡◌, ◌≢◌, None, Some, IfOk, IfEr
 ghost use Rattle.std.specs.FinMap.{len};
 ghost use Rattle.std.specs.Io.KnownBytes.{Keeps};
 ghost use Rattle.jc_store.specs.Meaning.{IsSound, KeepsJournal};
-ghost use Rattle.jc_collector.specs.Checked.{Counts, IsHealth, PrintsHealth, count_line, health_text, health_status};
+ghost use Rattle.jc_collector.specs.Checked.{Counts, IsHealth, PrintsHealth, count_line, health_found, health_status};
 ghost use Rattle.jc_collector.specs.Database.{CheckFailsBy, IsStoreFailure, WhyNoHealth};
 ghost use Rattle.jc_collector.specs.Open.{EndsOver};
 ghost use Rattle.jc_collector.specs.Kinds.{LeadsThere};
@@ -16,13 +16,11 @@ use crate::closing::{Closed, close_after};
 use crate::database::{Opened, check_name, open_there};
 use crate::failures::why_unanswered;
 use jc_base::Fault;
-use jc_command_shared::{Failure, Status, printed};
+use jc_command_shared::{Failure, Found, Output, Status, print_found};
 use jc_database::{Databases, OpenFromFiles, StoreInFiles};
 use jc_keeper::Keeper;
 use jc_store::{Listed, TableKeeper};
 use sqlite::Alter;
-use std::fmt;
-use std::io::Write;
 
 /// What `check` and `migrate` print of a database.
 #[derive(Clone, Copy)]
@@ -55,29 +53,21 @@ impl<T: Drop, C: Drop> Examined<T, C> {
 }
 
 impl Health {
-    fn status(&self) -> Status
-        ensures { result ≡ health_status self.now }
+    fn found(&self) -> Found
+        ensures { result ≡ health_found self.now }
     {
-        match self {
-            Health::Whole(_) => Status::Success,
-            Health::Bad(_) => Status::Refused,
-        }
-    }
-}
-
-impl fmt::Display for Health {
-    ghost output = { λ health. Some (health_text health) };
-
-    fn fmt<W: fmt::Write>(&self, f: &mut fmt::Formatter<W>) -> fmt::Result {
-        match self {
-            Health::Whole(count) => write!(f, "ok {count}"),
-            Health::Bad(fault) => write!(f, "bad {} {}", fault.code, fault.place),
+        match *self {
+            Health::Whole(entries) => Found::Count {
+                entries,
+                left: None,
+            },
+            Health::Bad(fault) => Found::bad(fault),
         }
     }
 }
 
 /// Prints what is in a database.
-pub fn check<'a, Y: Databases, F: OpenFromFiles, O: Write>(
+pub fn check<'a, Y: Databases, F: OpenFromFiles, O: Output>(
     rt: &mut Y,
     start: F::Start,
     database: &'a str,
@@ -172,14 +162,12 @@ fn count<'a, S: Alter, L: Listed>(keeper: &mut TableKeeper<S, L>) -> Result<Heal
 }
 
 /// Prints what was found, and answers its status.
-pub(crate) fn print_health<'a, O: Write>(
+pub(crate) fn print_health<'a, O: Output>(
     health: Health,
     output: &mut O,
 ) -> Result<Status, Failure<'a>>
     ensures printed { IfOk result (λ status. PrintsHealth health status (O.contents output.old) (O.contents output.new)) }
     ensures failed { IfErr result (λ failure. failure ≡ Failure.WriteFailed) }
 {
-    let written = writeln!(output, "{health}");
-    printed(written, output)?;
-    Ok(health.status())
+    print_found(&health.found(), output)
 }

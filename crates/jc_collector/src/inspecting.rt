@@ -1,24 +1,22 @@
 //! `inspect`: what an upload says.
 
-ghost use Rattle.std.specs.Prelude.{◌≡◌, ◌≢◌, ◌⊎◌, ℕ, List, Some, IfOk, IfErr, OnOk};
-ghost use Rattle.std.specs.Io.KnownBytes.{Appends, Keeps};
+ghost use Rattle.std.specs.Prelude.{◌≡◌, ◌≢◌, ◌⊎◌, ℕ, List, Some, IfOk, IfErr};
+ghost use Rattle.std.specs.Io.KnownBytes.{Keeps};
 ghost use Rattle.jc_collect.specs.Delivered.{of_delivery};
-ghost use Rattle.jc_collector.specs.Inspected.{PrintsInspected, PrintsSomeInspected, PrintsInspectedOf, end_text, inspected_line, inspected_status, key_text};
+ghost use Rattle.jc_collector.specs.Inspected.{PrintsSomeInspected, PrintsInspectedOf, inspected_found};
 
-use jc_base::{ByteStream, Key, Limits};
+use jc_base::{ByteStream, Limits};
 use jc_collect::{Bounds, Delivery, Inspected, inspect_one};
 use jc_collector_answers::open_upload;
-use jc_command_shared::{Failure, Status, System, printed};
+use jc_command_shared::{Failure, Found, Output, Status, System, Upload, print_found};
 use jc_file::ByteSpace;
 use std::alloc::Global;
-use std::io;
-use std::io::Write;
 
 /// The code of an upload that passes a bound. It is no fault of a format.
 const OVER_BOUNDS: u16 = 6;
 
 /// Prints what the upload in a file says, under the default limits and within these bounds.
-pub fn inspect<'a, R: System, O: Write>(
+pub fn inspect<'a, R: System, O: Output>(
     rt: &R,
     file: &'a str,
     bounds: &Bounds,
@@ -38,7 +36,7 @@ pub fn inspect<'a, R: System, O: Write>(
 }
 
 /// Prints what a delivery says.
-fn inspect_delivery<'a, S: ByteStream + Drop, B: ByteSpace + Drop, O: Write>(
+fn inspect_delivery<'a, S: ByteStream + Drop, B: ByteSpace + Drop, O: Output>(
     alloc: Global,
     delivery: Delivery<S, B>,
     bounds: &Bounds,
@@ -54,33 +52,12 @@ fn inspect_delivery<'a, S: ByteStream + Drop, B: ByteSpace + Drop, O: Write>(
         → Keeps (O.contents output.old) (O.contents output.new)) }
 {
     let inspected = inspect_one(alloc, delivery, &Limits::default(), bounds)?;
-    print_inspected(&inspected, output)
+    print_found(&found_of(&inspected), output)
 }
 
-/// Prints what an upload says, and answers its status.
-fn print_inspected<'a, O: Write>(
-    inspected: &Inspected,
-    output: &mut O,
-) -> Result<Status, Failure<'a>>
-    ensures printed { IfOk result (λ status. PrintsInspected inspected.now status (O.contents output.old) (O.contents output.new)) }
-    ensures failed { IfErr result (λ failure. failure ≡ Failure.WriteFailed) }
-{
-    let written = put_inspected(inspected, output);
-    printed(written, output)?;
-    Ok(status_of_inspected(inspected))
-}
-
-fn status_of_inspected(inspected: &Inspected) -> Status
-    ensures { result ≡ inspected_status inspected.now }
-{
-    match inspected {
-        Inspected::Upload { .. } => Status::Success,
-        Inspected::Bad(_) | Inspected::Over(_) => Status::Refused,
-    }
-}
-
-fn put_inspected<O: Write>(inspected: &Inspected, output: &mut O) -> io::Result<()>
-    ensures { OnOk result (Appends (O.contents output.old) (O.contents output.new) (inspected_line inspected.now)) }
+/// What is found of an upload that says this.
+fn found_of(inspected: &Inspected) -> Found
+    ensures { result ≡ inspected_found inspected.now }
 {
     match *inspected {
         Inspected::Upload {
@@ -90,36 +67,18 @@ fn put_inspected<O: Write>(inspected: &Inspected, output: &mut O) -> io::Result<
             left,
             last,
             windows,
-        } => {
-            output.write_all(b"upload ")?;
-            output.write_all(&source.to_hex())?;
-            write!(output, " {start} {count} {left} ")?;
-            put_end(last, windows, output)
-        }
-        Inspected::Bad(fault) => writeln!(output, "bad {} {}", fault.code, fault.place),
-        Inspected::Over(place) => writeln!(output, "bad {OVER_BOUNDS} {place}"),
-    }
-}
-
-/// Writes the end of a line: a key, if there is one, and a number of windows.
-#[tactic(auto, using(crate::proofs::Inspections::end_put))]
-fn put_end<O: Write>(last: Option<Key>, windows: u64, output: &mut O) -> io::Result<()>
-    ensures { OnOk result (Appends (O.contents output.old) (O.contents output.new) (end_text last windows)) }
-{
-    put_key(last, output)?;
-    writeln!(output, " {windows}")
-}
-
-/// Writes a key, if there is one.
-#[tactic(auto, using(crate::proofs::Inspections::key_put))]
-fn put_key<O: Write>(key: Option<Key>, output: &mut O) -> io::Result<()>
-    ensures { OnOk result (Appends (O.contents output.old) (O.contents output.new) (key_text key)) }
-{
-    match key {
-        Some(Key { seqnum_id, seqnum }) => {
-            output.write_all(&seqnum_id.to_hex())?;
-            write!(output, " {seqnum}")
-        }
-        None => write!(output, "- -"),
+        } => Found::Upload(Upload {
+            source,
+            start,
+            entries: count,
+            left,
+            last,
+            windows,
+        }),
+        Inspected::Bad(fault) => Found::bad(fault),
+        Inspected::Over(place) => Found::Bad {
+            code: OVER_BOUNDS,
+            place,
+        },
     }
 }

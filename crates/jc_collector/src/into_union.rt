@@ -17,7 +17,7 @@ ghost use Rattle.jc_store.specs.Meaning.{IsSound, journal_of};
 ghost use Rattle.jc_collector.specs.UnionAnswered.{AnswersNoted};
 ghost use Rattle.jc_collector.specs.Database.{DatabaseFailsBy};
 ghost use Rattle.jc_collector.specs.IntoUnion.{BelongsBy, LeadsIf, UnionFailsBy, UnionStopsBy};
-ghost use Rattle.jc_collector.specs.UnionRun.{IsFoundAs, RunsFromList, RunsNoted};
+ghost use Rattle.jc_collector.specs.UnionRun.{IsFoundAs, RunsFromList, RunsNoted, RunsNotedOrNot};
 ghost use Rattle.jc_collector.specs.Exported.{MayReplaceIf, OpensAndExports, OpensAndMayReplace, ReplacesIf};
 ghost use Rattle.jc_collector.specs.UnionOpened.{MayOpen};
 ghost use Rattle.jc_keeper.specs.Listing.{export_text};
@@ -26,8 +26,10 @@ mod closing;
 mod listing;
 mod noting;
 mod opening;
+mod settling;
 
 use self::closing::{close_union, why_no_union};
+use self::settling::settle_after;
 use crate::database::{Opened, open_or_make};
 use crate::from_list::list_source;
 use crate::target::Target;
@@ -35,7 +37,7 @@ use crate::then_export::{check_names, export_after};
 pub use closing::{AnsweredUnion, FailedRun, NotedLeft, NotedRun};
 use jc_collector_answers::{NameLines, answer_names_within};
 use jc_command_args::Tables;
-use jc_command_shared::{Failure, Status, System};
+use jc_command_shared::{Errors, Failure, Output, Status, System};
 use jc_database::{Databases, OpenFromFiles, StoreInFiles};
 use jc_keeper::Keeper;
 use jc_ledger::{Ledger, Past};
@@ -45,7 +47,7 @@ use jc_store::{Listed, TableKeeper};
 pub(crate) use listing::list_present;
 pub use opening::{OpenStop, OpenedUnion, TableUnion, open_union};
 use sqlite::Alter;
-use std::io::{BufRead, BufReader, Read, Write};
+use std::io::{BufRead, BufReader, Read};
 
 /// Takes the uploads that the lines of a list name up into the union of the databases that are finished and the present
 /// one, which is made if there is none, and prints an answer for each line. The export and the status are as
@@ -59,8 +61,8 @@ pub fn collect_into_union<
     L: Ledger + Drop,
     P: Past,
     I: Read,
-    O: Write,
-    E: Write,
+    O: Output,
+    E: Errors,
 >(
     rt: &mut Y,
     start: F::Start,
@@ -80,7 +82,7 @@ pub fn collect_into_union<
         result (O.contents output.old) (O.contents output.new) (E.contents errors.old) (E.contents errors.new) }
     // If so, the present database's journal was exported, if a path is given.
     ensures exported { IfOk result (λ run. LeadsIf tables F.first F.in_files run.files
-        (λ before. MayCatchUp (L.known ledger) P.journal before (L.came ledger) × L.sound run.ledger × NoneCollide (L.came run.ledger))
+        (λ before. MayCatchUp (L.known ledger) P.journal before (L.came ledger) × L.clean run.ledger × NoneCollide (L.came run.ledger))
         (λ _. OpensAndExports database.now (option_map (λ name. name.now) then_export.entry) (Y.deeds rt.old) (Y.deeds rt.new))) }
     ensures failed { IfErr result (λ run. UnionFailsBy database.now (list.now ∷ []) run.failure) }
     ensures touched { OpensAndMayReplace database.now (option_map (λ name. name.now) then_export.entry)
@@ -106,8 +108,8 @@ fn join_lines<
     L: Ledger + Drop,
     P: Past,
     N: Read + Drop,
-    O: Write,
-    E: Write,
+    O: Output,
+    E: Errors,
 >(
     rt: &mut Y,
     target: Target<'a, F::Start>,
@@ -117,10 +119,10 @@ fn join_lines<
     output: &mut O,
     errors: &mut E,
 ) -> Result<NotedRun<F::Files, L>, FailedRun<'a, F::Left, L>>
-    ensures runs { RunsNoted F.in_files L.Ledger target.entry.tables F.first (told_within most_windows Y.told) P.journal ledger (N.remaining list)
+    ensures runs { RunsNotedOrNot F.in_files L.Ledger target.entry.tables F.first (told_within most_windows Y.told) P.journal ledger (N.remaining list)
         result (O.contents output.old) (O.contents output.new) (E.contents errors.old) (E.contents errors.new) }
     ensures exported { IfOk result (λ run. LeadsIf target.entry.tables F.first F.in_files run.files
-        (λ before. MayCatchUp (L.known ledger) P.journal before (L.came ledger) × L.sound run.ledger × NoneCollide (L.came run.ledger))
+        (λ before. MayCatchUp (L.known ledger) P.journal before (L.came ledger) × L.clean run.ledger × NoneCollide (L.came run.ledger))
         (λ _. OpensAndExports target.entry.database.now (option_map (λ name. name.now) target.entry.then_export) (Y.deeds rt.old) (Y.deeds rt.new))) }
     ensures failed { IfErr result (λ run. UnionStopsBy run.failure ⊎ DatabaseFailsBy target.entry.database.now run.failure) }
     ensures touched { OpensAndMayReplace target.entry.database.now (option_map (λ name. name.now) target.entry.then_export)
@@ -140,8 +142,8 @@ fn join_names<
     L: Ledger + Drop,
     P: Past,
     N: BufRead,
-    O: Write,
-    E: Write,
+    O: Output,
+    E: Errors,
 >(
     rt: &mut Y,
     target: Target<'a, F::Start>,
@@ -151,10 +153,10 @@ fn join_names<
     output: &mut O,
     errors: &mut E,
 ) -> Result<NotedRun<F::Files, L>, FailedRun<'a, F::Left, L>>
-    ensures runs { RunsNoted F.in_files L.Ledger target.entry.tables F.first (told_within most_windows Y.told) P.journal ledger (N.remaining names.old)
+    ensures runs { RunsNotedOrNot F.in_files L.Ledger target.entry.tables F.first (told_within most_windows Y.told) P.journal ledger (N.remaining names.old)
         result (O.contents output.old) (O.contents output.new) (E.contents errors.old) (E.contents errors.new) }
     ensures exported { IfOk result (λ run. LeadsIf target.entry.tables F.first F.in_files run.files
-        (λ before. MayCatchUp (L.known ledger) P.journal before (L.came ledger) × L.sound run.ledger × NoneCollide (L.came run.ledger))
+        (λ before. MayCatchUp (L.known ledger) P.journal before (L.came ledger) × L.clean run.ledger × NoneCollide (L.came run.ledger))
         (λ _. OpensAndExports target.entry.database.now (option_map (λ name. name.now) target.entry.then_export) (Y.deeds rt.old) (Y.deeds rt.new))) }
     ensures failed { IfErr result (λ run. UnionStopsBy run.failure ⊎ DatabaseFailsBy target.entry.database.now run.failure) }
     ensures touched { OpensAndMayReplace target.entry.database.now (option_map (λ name. name.now) target.entry.then_export)
@@ -199,8 +201,8 @@ fn join_over<
     L: Ledger + Drop,
     P: Past,
     N: BufRead,
-    O: Write,
-    E: Write,
+    O: Output,
+    E: Errors,
 >(
     rt: &mut Y,
     present: TableKeeper<F, T>,
@@ -217,7 +219,7 @@ fn join_over<
         result (O.contents output.old) (O.contents output.new) (E.contents errors.old) (E.contents errors.new) }
     ensures exported { (made : Kind) (first : Image) → IsFoundAs T.meaning F.Store made first present.conn
         → IfOk result (λ run. LeadsIf made first F.in_files run.files
-        (λ before. MayCatchUp (L.known ledger) P.journal before (L.came ledger) × L.sound run.ledger × NoneCollide (L.came run.ledger))
+        (λ before. MayCatchUp (L.known ledger) P.journal before (L.came ledger) × L.clean run.ledger × NoneCollide (L.came run.ledger))
         (λ _ after. ReplacesIf (option_map (λ name. name.now) then_export.entry) (export_text after) (Y.deeds rt.old) (Y.deeds rt.new))) }
     ensures failed { IfErr result (λ run. UnionStopsBy run.failure) }
     ensures touched { MayReplaceIf (option_map (λ name. name.now) then_export.entry) (Y.deeds rt.old) (Y.deeds rt.new) }
@@ -235,8 +237,8 @@ fn join_over<
     close_union(union, answered)
 }
 
-/// All of it before the present database is closed: the union is opened, the uploads are taken up, and the present
-/// database's journal is exported, if a path is given. What a crash leaves of a run is what it leaves of this union.
+/// All of it before the present database is closed: the union is opened, the uploads are taken up, what waits is noted, and
+/// the present database's journal is exported, if a path is given. What a crash leaves of a run is what it leaves of this union.
 #[tactic(auto, using(crate::specs::ExportedLaws::may_stay))]
 pub fn join_open<
     'a,
@@ -246,8 +248,8 @@ pub fn join_open<
     L: Ledger + Drop,
     P: Past,
     N: BufRead,
-    O: Write,
-    E: Write,
+    O: Output,
+    E: Errors,
 >(
     rt: &mut Y,
     present: TableKeeper<S, T>,
@@ -267,10 +269,15 @@ pub fn join_open<
         → IfOk result.answered (λ status. NamedWith (CollectsText (told_within most Y.told) NameLines.MachinesAndUploads (BelongsBy (L.owner result.union.ledger)) (N.remaining names.old)
         (union P.journal (journal_of T.meaning S.Store present.conn)) (union P.journal (journal_of T.meaning S.Store result.union.present.conn)))
         (N.remaining names.old) status (O.contents output.old) (O.contents output.new)) }
+    // No failure has shut the notes.
+    ensures noted { L.clean result.union.ledger → OnOk result.answered (L.sound result.union.ledger) }
     // The present database's journal was exported, if a path is given.
     ensures exported { ⟦<TableUnion<S, T, L, P> as Keeper>⟧.clean result.union → MayOpen T.meaning S.Store present.conn (L.known ledger) P.journal (L.came ledger)
         → OnOk result.answered (IsSound S.Store result.union.present.conn → ReplacesIf (option_map (λ name. name.now) then_export.entry)
         (export_text (journal_of T.meaning S.Store result.union.present.conn)) (Y.deeds rt.old) (Y.deeds rt.new)) }
+    // No entry is pending, and no note waits any more.
+    ensures none { result.union.pending.items ≡ [] }
+    ensures settled { result.union.waiting.entries ≡ [] }
     ensures printed { IfOk result.answered (λ status. PrintsNamed (N.remaining names.old) status (O.contents output.old) (O.contents output.new)) }
     ensures quiet { IfOk result.answered (λ status. status ≡ Status.Success → KeepsBytes (E.contents errors.old) (E.contents errors.new)) }
     ensures failed { IfErr result.answered UnionStopsBy }
@@ -283,7 +290,8 @@ pub fn join_open<
         Ok(()) => {
             let lines = NameLines::MachinesAndUploads;
             let answered = answer_names_within(rt, &mut union, names, lines, most, output, errors);
-            let done = export_after(rt, &mut union.present, answered, then_export);
+            let settled = settle_after(&mut union, answered);
+            let done = export_after(rt, &mut union.present, settled, then_export);
             AnsweredUnion {
                 answered: done,
                 union,

@@ -21,19 +21,18 @@ use crate::earlier::{Earlier, EarlierFiles, open_earlier};
 use crate::health::{Examined, Health, count_and_close, print_health, refused};
 use jc_base::Code;
 use jc_command_args::Tables;
-use jc_command_shared::{Failure, Status};
+use jc_command_shared::{Failure, Output, Status};
 use jc_database::{Databases, OpenFromFiles, StoreInFiles, close_keeper};
 use jc_records::{ReplaceStop, replace_tables};
 use jc_schema_one::{MigrateStop, SqlKeeper1, raise_version};
 use jc_schema_three::{SchemaThree, Three};
 use jc_schema_two::SchemaTwo;
 use jc_store::{Layout, Successor, TableKeeper};
-use std::io::Write;
 
 /// Puts the journal of a database from tables of an earlier kind into these, and prints what is in them; or what is wrong
 /// with the database, which then stays as it is. Those of schema 1 become tables of either kind, and those by key become
 /// tables by number.
-pub fn migrate<'a, Y: Databases, F: OpenFromFiles, O: Write>(
+pub fn migrate<'a, Y: Databases, F: OpenFromFiles, O: Output>(
     rt: &mut Y,
     start: F::Start,
     database: &'a str,

@@ -16,10 +16,10 @@ ghost use Rattle.jc_collector.specs.OverFiles.{CollectsAll};
 use jc_base::ByteStream;
 use jc_collect::Delivery;
 use jc_collector_answers::{NameLines, answer_all, answer_names};
-use jc_command_shared::{Failure, Status, System};
+use jc_command_shared::{Errors, Failure, Output, Status, System};
 use jc_file::ByteSpace;
 use jc_keeper::Keeper;
-use std::io::{BufRead, Write};
+use std::io::BufRead;
 
 /// Uploads that are to be answered over any keeper. `E` is what is told beside the answers.
 pub(crate) trait Uploads<E> {
@@ -39,7 +39,7 @@ pub(crate) trait Uploads<E> {
     ghost keeps_quiet: { E → E → Type 0 };
 
     /// Collects them and prints an answer for each.
-    fn answer<'a, Y: System, K: Keeper, O: Write>(
+    fn answer<'a, Y: System, K: Keeper, O: Output>(
         self,
         rt: &Y,
         keeper: &mut K,
@@ -54,10 +54,10 @@ pub(crate) trait Uploads<E> {
         // What becomes of known bytes, and what a crash leaves of them.
         ensures collected { (known : List (List ℕ)) → have self known → K.sound keeper.new → K.made keeper.old
             → OnOk result (CollectsAll known (O.contents output.old) (O.contents output.new) (K.journal keeper.old) (K.journal keeper.new)) }
-        ensures crash { (known : List (List ℕ)) → have self known → K.clean keeper.new → K.sound keeper.old → K.made keeper.old
+        ensures crash { (known : List (List ℕ)) → have self known → K.clean keeper.new → K.sound keeper.old → K.made keeper.old → K.settled keeper.old
             → (found : Journal) → K.may_leave keeper.new found
             → OnOk result (KeepsPrinted known (K.journal keeper.old) (O.contents output.old) (O.contents output.new) found) }
-        ensures crash_unprinted { (known : List (List ℕ)) → have self known → K.clean keeper.new → K.sound keeper.old → K.made keeper.old
+        ensures crash_unprinted { (known : List (List ℕ)) → have self known → K.clean keeper.new → K.sound keeper.old → K.made keeper.old → K.settled keeper.old
             → (found : Journal) → K.may_leave keeper.new found
             → result ≡ Err Failure.WriteFailed → KeepsFirst known (K.journal keeper.old) (O.contents output.old) (O.contents output.new) found }
         ensures quiet { IfOk result (λ status. status ≡ Status.Success → keeps_quiet errors.old errors.new) }
@@ -82,7 +82,7 @@ impl<R: ByteStream, B: ByteSpace> Uploads<()> for Deliveries<'_, R, B> {
 
     ghost keeps_quiet = { λ _ _. ⊤ };
 
-    fn answer<'a, Y: System, K: Keeper, O: Write>(
+    fn answer<'a, Y: System, K: Keeper, O: Output>(
         self,
         rt: &Y,
         keeper: &mut K,
@@ -100,7 +100,7 @@ pub(crate) struct NamedUploads<L> {
     pub(crate) names: L,
 }
 
-impl<L: BufRead + Drop, E: Write> Uploads<E> for NamedUploads<L> {
+impl<L: BufRead + Drop, E: Errors> Uploads<E> for NamedUploads<L> {
     ghost counts = { λ uploads n. IfSome (L.remaining uploads.names) (λ text. n ≡ length (lines_of text)) };
 
     ghost are = { λ told uploads. those_named told name_lines.Uploads (L.remaining uploads.names) };
@@ -111,7 +111,7 @@ impl<L: BufRead + Drop, E: Write> Uploads<E> for NamedUploads<L> {
 
     ghost keeps_quiet = { λ old new. Keeps (E.contents old) (E.contents new) };
 
-    fn answer<'a, Y: System, K: Keeper, O: Write>(
+    fn answer<'a, Y: System, K: Keeper, O: Output>(
         self,
         rt: &Y,
         keeper: &mut K,

@@ -12,6 +12,7 @@ module _ {K : Type 0} (k : keepers.Ghosts K) where
     was_sound = λ sound. sound;
     was_clean = λ clean. clean;
     stays_made = λ made. made;
+    settled = λ was. was;
     stored = λ sound made e is. is;
     crash = λ clean made found may. inl may;
     recovers = λ clean made leaves. leaves;
@@ -22,6 +23,7 @@ module _ {K : Type 0} (k : keepers.Ghosts K) where
     was_sound = λ sound. one.was_sound (other.was_sound sound);
     was_clean = λ clean. one.was_clean (other.was_clean clean);
     stays_made = λ made. other.stays_made (one.stays_made made);
+    settled = λ was. other.settled (one.settled was);
     stored = λ sound made e is. other.stored sound (one.stays_made made) e (one.stored (other.was_sound sound) made e is);
     crash = λ clean made found may.
         ⊎_elim (λ was. one.crash (other.was_clean clean) made found was)
@@ -32,12 +34,13 @@ module _ {K : Type 0} (k : keepers.Ghosts K) where
 
   -- it was told something, of which nothing is seen
   pub kept_told : (old told : K) → k.journal told ≡ k.journal old → ((found : Journal) → k.may_leave told found → k.may_leave old found)
-      → (k.sound told → k.sound old) → (k.clean told → k.clean old) → (k.made old → k.made told)
+      → (k.sound told → k.sound old) → (k.clean told → k.clean old) → (k.made old → k.made told) → (k.settled old → k.settled told)
       → (k.leaves_journals old → k.leaves_journals told) → HasKept k old told
-  kept_told old told same back sound clean made leaves = record {
+  kept_told old told same back sound clean made settled leaves = record {
     was_sound = sound;
     was_clean = clean;
     stays_made = made;
+    settled = settled;
     stored = λ late is e stored. subst (λ (j : Journal). IsStored j e) (sym same) stored;
     crash = λ late is found may. inl (back found may);
     recovers = λ late is. leaves;

@@ -18,6 +18,8 @@ pub record HasKept {K : Type 0} (k : keepers.Ghosts K) (old new : K) : Type 0 wh
   pub was_sound : k.sound new → k.sound old
   pub was_clean : k.clean new → k.clean old
   pub stays_made : k.made old → k.made new
+  -- nothing waits to be stored, if nothing did
+  pub settled : k.settled old → k.settled new
   -- over a device that is sound now nothing that was stored is lost
   pub stored : k.sound new → k.made old → (e : LogEntry) → IsStored (k.journal old) e → IsStored (k.journal new) e
   -- nor does a crash lose any of it, whether a failure has shut the device or not

@@ -6,11 +6,12 @@ ghost use Rattle.std.specs.List.{All};
 ghost use Rattle.jc_collector_answers.specs.Answered.{Appends-prop, begun, judged};
 ghost use Rattle.jc_collect.specs.Run.{lines_of_answers};
 ghost use Rattle.jc_upload.specs.Answer.{IsAnswer};
-ghost use Rattle.jc_upload.specs.declared.answer.Answer.{Answer};
+ghost use Rattle.jc_upload.specs.declared.answer.Answer.{Answer as Told};
 
 use crate::judged::status_of_lines;
 use jc_base::{ByteSink, WriteFailed, count_failure};
-use jc_command_shared::{Status, write_front};
+use jc_command_shared::{Output, Status, write_front};
+use jc_upload::Answer;
 use std::io::Write;
 use std::snapshot::Snapshot;
 
@@ -28,7 +29,7 @@ pub(crate) struct AnswerSink<'a, O: Write> {
     ghost printed: { Appends (O.contents before.value) (O.contents output.now) lines.now.items } by { Prim.hlevel (Appends-prop) },
 }
 
-impl<'a, O: Write> AnswerSink<'a, O> {
+impl<'a, O: Output> AnswerSink<'a, O> {
     /// A sink that keeps in `lines` what it prints.
     pub(crate) fn new(output: &'a mut O, lines: &'a mut Vec<u8>) -> AnswerSink<'a, O>
         requires { lines.old.items ≡ [] }
@@ -48,7 +49,7 @@ impl<'a, O: Write> AnswerSink<'a, O> {
     #[tactic(auto, using(crate::proofs::Printing::went_out))]
     pub(crate) fn end(self) -> (&'a mut O, Option<Status>)
         ensures borrowed_device { result.0.ghost_name ∷ [] ≡ ⟦<AnswerSink<'a, O> as ByteSink>⟧.borrowed_device self.entry }
-        ensures printed { IfSome result.1 (λ status. (before : Option (List ℕ)) (answers : List Answer) → All IsAnswer answers
+        ensures printed { IfSome result.1 (λ status. (before : Option (List ℕ)) (answers : List Told) → All IsAnswer answers
             → ⟦<AnswerSink<'a, O> as ByteSink>⟧.written self.entry ≡ Some (begun before (lines_of_answers answers))
             → (status ≡ judged answers) × Appends before (O.contents result.0.now) (lines_of_answers answers)) }
         // Whether it has failed or not, what it has written went out, and nothing else.
@@ -71,7 +72,7 @@ impl<'a, O: Write> AnswerSink<'a, O> {
     }
 }
 
-impl<O: Write> ByteSink for AnswerSink<'_, O> {
+impl<O: Output> ByteSink for AnswerSink<'_, O> {
     // What the writer had comes with the lines, so that a proof over any sink keeps it.
     ghost written = { λ s. Some (begun (O.contents s.before.value) s.lines.now.items) };
 
@@ -92,7 +93,7 @@ impl<O: Write> ByteSink for AnswerSink<'_, O> {
         let count = write_front(self.output, line);
         self.lines.extend_from_slice(&line[..count]).unwrap();
         // If the line isn't printed whole, the next call fails. This one answers what went out of it.
-        self.failed = !flushed(self.output, count == line.len());
+        self.failed = !flushed(self.output, Answer::read(line), count == line.len());
         if count == 0 {
             count_failure(&mut self.failures);
             return Err(WriteFailed);
@@ -101,10 +102,17 @@ impl<O: Write> ByteSink for AnswerSink<'_, O> {
     }
 }
 
-/// Flushes what went out, if that was all. False if it wasn't, or if flushing failed.
-pub(crate) fn flushed<O: Write>(output: &mut O, all: bool) -> bool
+/// Tells the output of the answer that went out, and flushes it, if that was all of its line. False if it wasn't, or if
+/// flushing failed.
+pub(crate) fn flushed<O: Output>(output: &mut O, answer: Option<Answer>, all: bool) -> bool
     ensures keeps { Keeps (O.contents output.old) (O.contents output.new) }
     ensures all { IsTrue result → IsTrue all }
 {
-    all && output.flush().is_ok()
+    if !all {
+        return false;
+    }
+    if let Some(answer) = answer {
+        output.answered(&answer);
+    }
+    output.flush().is_ok()
 }

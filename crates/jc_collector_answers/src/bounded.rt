@@ -19,18 +19,18 @@ use crate::named::{answer_names, answer_unread, read_name, report_unopened, wors
 use crate::uploads::{Upload, open_upload};
 use jc_base::Limits;
 use jc_collect::{Delivery, refuse_wide};
-use jc_command_shared::{Failure, Status, System, write_front};
+use jc_command_shared::{Errors, Failure, Output, Status, System, write_front};
 use jc_file::ReadFile;
 use jc_keeper::Keeper;
 use jc_upload::{Answer, one_saying};
 use std::alloc::Global;
-use std::io::{BufRead, Read, Write};
+use std::io::{BufRead, Read};
 use std::str;
 
 /// Collects the uploads that lines name, as `answer_names` does, but for those that touch more windows of sequences than
 /// these, if they are bounded: such a one is refused before anything of it is taken up. An upload that is in no regular file
 /// can't be looked at before, and is answered as one that can't be read.
-pub fn answer_names_within<'a, R: System, K: Keeper, L: BufRead, O: Write, E: Write>(
+pub fn answer_names_within<'a, R: System, K: Keeper, L: BufRead, O: Output, E: Errors>(
     rt: &R,
     keeper: &mut K,
     names: &mut L,
@@ -63,7 +63,7 @@ pub fn answer_names_within<'a, R: System, K: Keeper, L: BufRead, O: Write, E: Wr
 }
 
 /// The same where they are bounded.
-fn answer_bounded<'a, R: System, K: Keeper, L: BufRead, O: Write, E: Write>(
+fn answer_bounded<'a, R: System, K: Keeper, L: BufRead, O: Output, E: Errors>(
     rt: &R,
     keeper: &mut K,
     names: &mut L,
@@ -109,7 +109,7 @@ fn answer_bounded<'a, R: System, K: Keeper, L: BufRead, O: Write, E: Write>(
 }
 
 /// Collects an upload that this machine brings, or none that is named, and prints its answer.
-fn answer_line_within<'a, R: System, K: Keeper, O: Write, E: Write>(
+fn answer_line_within<'a, R: System, K: Keeper, O: Output, E: Errors>(
     rt: &R,
     keeper: &mut K,
     machine: Option<&[u8]>,
@@ -133,7 +133,7 @@ fn answer_line_within<'a, R: System, K: Keeper, O: Write, E: Write>(
 
 /// Collects the upload in the file with this name, and prints its answer.
 #[tactic(auto, using(crate::proofs::Kept::kept_same, jc_keeper::specs::BroughtLaws::brought_none))]
-fn answer_name_within<'a, R: System, K: Keeper, O: Write, E: Write>(
+fn answer_name_within<'a, R: System, K: Keeper, O: Output, E: Errors>(
     rt: &R,
     keeper: &mut K,
     name: &[u8],
@@ -166,7 +166,7 @@ fn answer_name_within<'a, R: System, K: Keeper, O: Write, E: Write>(
 
 /// Collects an upload that was opened, and prints its answer.
 #[tactic(auto, using(crate::proofs::Kept::kept_same, jc_keeper::specs::BroughtLaws::brought_none))]
-fn answer_within<'a, K: Keeper, F: Read + ReadFile + Drop, O: Write>(
+fn answer_within<'a, K: Keeper, F: Read + ReadFile + Drop, O: Output>(
     alloc: Global,
     keeper: &mut K,
     upload: Upload<F>,
@@ -191,7 +191,7 @@ fn answer_within<'a, K: Keeper, F: Read + ReadFile + Drop, O: Write>(
 
 /// Collects an upload, and prints its answer, of which it isn't said what the upload's bytes have to do with it.
 #[tactic(auto, using(crate::proofs::Kept::kept_same, jc_keeper::specs::BroughtLaws::brought_none))]
-fn answer_untold<'a, K: Keeper, F: Read + ReadFile + Drop, O: Write>(
+fn answer_untold<'a, K: Keeper, F: Read + ReadFile + Drop, O: Output>(
     alloc: Global,
     keeper: &mut K,
     upload: Upload<F>,
@@ -212,13 +212,13 @@ fn answer_untold<'a, K: Keeper, F: Read + ReadFile + Drop, O: Write>(
 }
 
 /// Prints a refusal, and answers its status.
-fn print_answer<'a, O: Write>(answer: &Answer, output: &mut O) -> Result<Status, Failure<'a>>
+fn print_answer<'a, O: Output>(answer: &Answer, output: &mut O) -> Result<Status, Failure<'a>>
     ensures printed { HoldsPrinted (λ Holds. PrintsWith Holds 1) (IsAlone answer.now) result (O.contents output.old) (O.contents output.new) }
     ensures failed { IfErr result (λ failure. failure ≡ Failure.WriteFailed) }
 {
     let line = answer.line();
     let count = write_front(output, line.bytes());
-    if !flushed(output, count == line.bytes().len()) {
+    if !flushed(output, Some(*answer), count == line.bytes().len()) {
         return Err(Failure::WriteFailed);
     }
     Ok(status_with(Status::Success, answer))

@@ -1,10 +1,11 @@
 //! The present database of a union, closed.
 
 ghost use Rattle.std.specs.Prelude.{◌≡◌, ◌⊎◌, Ok, Err, IfOk, IfErr, IsSomeAnd};
+ghost use Rattle.sqlite.specs.Recovery.{Image};
 ghost use Rattle.jc_database.specs.Files.{KeepsAlways};
 ghost use Rattle.jc_store.specs.Meaning.{AreMade, IsSound, journal_of};
 ghost use Rattle.jc_collector.specs.Noted.{failure_of};
-ghost use Rattle.jc_collector.specs.UnionLeft.{IsHandedBack};
+ghost use Rattle.jc_collector.specs.UnionLeft.{IsLeftAs, handed_back};
 
 use super::opening::{OpenStop, TableUnion};
 use crate::unopened::Unopened;
@@ -79,11 +80,14 @@ pub(super) fn close_union<'a, F: StoreInFiles, T: Listed + Drop, L: Ledger + Dro
         → KeepsAlways T.meaning F.in_files run.files (journal_of T.meaning F.Store union.present.conn)) }
     ensures failed { IfErr result (λ run. (answered.entry ≡ Err run.failure) ⊎ (run.failure ≡ Failure.StoreFailed)) }
     ensures left { IfErr result (λ run. IsSomeAnd run.left (λ left. (left.ledger ≡ union.ledger)
-        × IsHandedBack T.meaning F.Store F.in_files union.present.conn left.files)) }
+        × ((first : Image) → IsLeftAs T.meaning F.Store union.present.conn (handed_back F.in_files first left.files)))) }
 {
     let UnionKeeper {
         present,
         ledger,
+        pending: _,
+        waiting: _,
+        refusals: _,
         shelf: _,
         machine: _,
         alloc: _,

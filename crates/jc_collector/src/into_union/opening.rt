@@ -1,6 +1,6 @@
 //! The union of databases, opened.
 
-ghost use Rattle.std.specs.Prelude.{◌≡◌, ◌≢◌, ◌⊎◌, Err, IfErr, OnOk};
+ghost use Rattle.std.specs.Prelude.{◌≡◌, ◌≢◌, ◌⊎◌, [], Err, IfErr, OnOk};
 ghost use Rattle.sqlite.specs.Held.{state};
 ghost use Rattle.sqlite.specs.State.{HasCleanDisk};
 ghost use Rattle.jc_base.specs.Device.{Rose};
@@ -18,6 +18,7 @@ use jc_ledger::{Elsewhere, Ledger, Past, UnionKeeper};
 use jc_store::{Listed, TableKeeper};
 use sqlite::Alter;
 use std::alloc::Global;
+use std::collections::{BTreeMap, VecDeque};
 
 /// The keeper of a union whose present database is in tables, and whose finished ones lie elsewhere.
 pub type TableUnion<S, T, L, P> = UnionKeeper<TableKeeper<S, T>, L, Elsewhere<P>>;
@@ -59,6 +60,8 @@ pub fn open_union<S: Alter + Drop, T: Listed + Drop, L: Ledger + Drop, P: Past>(
     ensures left { HasCleanDisk (state S.Store result.union.present.conn)
         → MayOpen T.meaning S.Store present.conn (L.known ledger) P.journal (L.came ledger)
         → (found : Journal) → MayLeave T.meaning S.Store result.union.present.conn found → found ≡ journal_of T.meaning S.Store present.conn }
+    ensures none { result.union.pending.items ≡ [] }
+    ensures settled { result.union.waiting.entries ≡ [] }
     ensures journal { KeepsJournal T.meaning S.Store present.conn result.union.present.conn }
     ensures before { IsSound S.Store result.union.present.conn → IsSound S.Store present.conn }
     ensures ledger { L.sound result.union.ledger → L.sound ledger }
@@ -74,10 +77,15 @@ pub fn open_union<S: Alter + Drop, T: Listed + Drop, L: Ledger + Drop, P: Past>(
 {
     let (present, text) = list_present::<S, T>(alloc, present);
     let opened = note_listed(alloc, &mut ledger, text);
+    let pending = VecDeque::new(alloc);
+    let waiting = BTreeMap::new(alloc);
     OpenedUnion {
         union: UnionKeeper {
             present,
             ledger,
+            pending,
+            waiting,
+            refusals: 0,
             shelf: Elsewhere::new(),
             machine: None,
             alloc,

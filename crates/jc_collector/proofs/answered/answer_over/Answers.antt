@@ -64,18 +64,18 @@ returns-clause-collected g c = λ known have.
           exported.before exported.keeps exported.crash clean found may in
           on_ok_of_other c.export_after.result c.answer-answered.result _ exported.answered
           (subst (λ (journal : Journal). OnOk c.answer-answered.result (KeepsPrinted known journal old new found)) it.1.is
-          (answered.crash known have mid it.0 it.1.made found there));
+          (answered.crash known have mid it.0 it.1.made tt found there));
       crash_unprinted = λ clean before begin found may.
           let mid = clean_before exported.clean clean in
           let it = begin (answered.kept.was_clean mid) in
           let there = less_left m first _ last before it.0 it.1 (c.sound_leaves_journals.ensures.durable it.0 it.1.made) (answered.kept.stays_made it.1.made)
           exported.before exported.keeps exported.crash clean found may in
           let printed = subst (λ (journal : Journal). OnOk c.answer-answered.result (KeepsPrinted known journal old new found)) it.1.is
-          (answered.crash known have mid it.0 it.1.made found there) in
+          (answered.crash known have mid it.0 it.1.made tt found there) in
           failed_before c.export_after.result c.answer-answered.result WriteFailed (KeepsFirst known before old new found) exported.passed_on
           (on_ok_each c.answer-answered.result _ _ (all_first known before old new found) printed)
           (λ failed. subst (λ (journal : Journal). KeepsFirst known journal old new found) it.1.is
-          (answered.crash_unprinted known have mid it.0 it.1.made found there failed));
+          (answered.crash_unprinted known have mid it.0 it.1.made tt found there failed));
     }
 
 pub returns-clause-printed : goal.returns-clause-printed

@@ -1,12 +1,12 @@
 -- The list is standard input, or a file.
-use Rattle.std.proofs.Common.{[], ◌∷◌, inr}
+use Rattle.std.proofs.Common.{[], ◌∷◌, inl, inr, ⊎_elim}
 use Rattle.jc_collector.specs.ExportedLaws.{does_nothing}
 use Rattle.jc_collector.proofs.IntoUnion.{by_union}
 use Rattle.jc_collector.proofs.Results.{IfErr-each}
 use Rattle.jc_collector.proofs.into_union.collect_into_union.Goals as goal
 
 pub returns-clause-runs : goal.returns-clause-runs
-returns-clause-runs g c = inr (_, c.in_ok-source.ensures.listed, c.join_lines.ensures.runs)
+returns-clause-runs g c = ⊎_elim (λ early. inl early) (λ runs. inr (_, c.in_ok-source.ensures.listed, runs)) c.join_lines.ensures.runs
 
 pub returns-clause-failed : goal.returns-clause-failed
 returns-clause-failed g c =

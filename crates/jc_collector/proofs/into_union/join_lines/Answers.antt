@@ -1,14 +1,14 @@
 -- A buffer that is empty gives what its reader gives.
 use Rattle.std.proofs.Common.{ℕ, List, Option, subst}
 use Rattle.jc_collector_answers.specs.Collected.{told_within}
-use Rattle.jc_collector.specs.UnionRun.{RunsNoted}
+use Rattle.jc_collector.specs.UnionRun.{RunsNotedOrNot}
 use Rattle.jc_collector.proofs.OverFiles.{prepend_nothing}
 use Rattle.jc_collector.proofs.into_union.join_lines.Goals as goal
 
 pub returns-clause-runs : goal.returns-clause-runs
 returns-clause-runs g c =
     let given = g.N.Read.remaining c.args.list in
-    subst (λ (text : Option (List ℕ)). RunsNoted g.F.StoreInFiles.in_files g.L.Ledger c.args.target.tables g.F.OpenFromFiles.first (told_within c.args.most_windows g.Y.System.told) g.P.Past.journal c.args.ledger text
+    subst (λ (text : Option (List ℕ)). RunsNotedOrNot g.F.StoreInFiles.in_files g.L.Ledger c.args.target.tables g.F.OpenFromFiles.first (told_within c.args.most_windows g.Y.System.told) g.P.Past.journal c.args.ledger text
     c.join_names.result (g.O.Write.contents c.args.output.now) (g.O.Write.contents c.join_names.new.output) (g.E.Write.contents c.args.errors.now) (g.E.Write.contents c.join_names.new.errors))
     (prepend_nothing given)
     (rw (c.in-Ok.ensures.capacity, c.in-Ok.ensures.empty, c.in-Ok.ensures.inner) at c.join_names.ensures.runs)

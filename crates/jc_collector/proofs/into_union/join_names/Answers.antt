@@ -1,4 +1,5 @@
 -- The keeper is that of one kind, and has the journal that the files had in tables of this kind.
+use Rattle.std.proofs.Common.{inr}
 use Rattle.jc_command_args.specs.declared.request.Tables.TheVariants.{ByKey, ByNumber}
 use Rattle.jc_collector.specs.ExportedLaws.{opens_alone, opens_then}
 use Rattle.jc_collector.proofs.Exported.{opens_exports}
@@ -9,14 +10,14 @@ use Rattle.jc_collector.proofs.into_union.join_names.Goals as goal
 pub returns-in-ByKey-clause-runs : goal.returns-in-ByKey-clause-runs
 returns-in-ByKey-clause-runs g c =
     let found = rw c.in-ByKey.is at c.in_ok-keeper.ensures.found in
-    c.join_over.ensures.runs (λ db journal. journal.spells.sound) c.args.target.tables g.F.OpenFromFiles.first
-    (found_as c.args.target.tables ByKey g.F.OpenFromFiles.first c.in-ByKey.keeper.conn found)
+    inr (c.join_over.ensures.runs (λ db journal. journal.spells.sound) c.args.target.tables g.F.OpenFromFiles.first
+    (found_as c.args.target.tables ByKey g.F.OpenFromFiles.first c.in-ByKey.keeper.conn found))
 
 pub returns-in-ByNumber-clause-runs : goal.returns-in-ByNumber-clause-runs
 returns-in-ByNumber-clause-runs g c =
     let found = rw c.in-ByNumber.is at c.in_ok-keeper.ensures.found in
-    c.join_over-in-ByNumber.ensures.runs (λ db journal. journal.sound) c.args.target.tables g.F.OpenFromFiles.first
-    (found_as c.args.target.tables ByNumber g.F.OpenFromFiles.first c.in-ByNumber.keeper.conn found)
+    inr (c.join_over-in-ByNumber.ensures.runs (λ db journal. journal.sound) c.args.target.tables g.F.OpenFromFiles.first
+    (found_as c.args.target.tables ByNumber g.F.OpenFromFiles.first c.in-ByNumber.keeper.conn found))
 
 pub returns-in-ByKey-clause-touched : goal.returns-in-ByKey-clause-touched
 returns-in-ByKey-clause-touched g c = opens_then c.in_ok-keeper.ensures.touched c.join_over.ensures.touched

@@ -3,27 +3,26 @@
 use Rattle.std.proofs.Common.{inl, inr, subst, sym}
 use Rattle.std.specs.Prelude.{⊤}
 use Rattle.sqlite.specs.Held.{state}
-use Rattle.sqlite.specs.Recovery.{Image}
 use Rattle.sqlite.specs.State.{HasCleanDisk}
 use Rattle.jc_base.specs.Journal.{Journal}
 use Rattle.jc_collector_answers.specs.Brought.{CollectsText}
 use Rattle.jc_collector_answers.specs.Collected.{StoresFirstOf, those_named, told_within}
-use Rattle.jc_collector_answers.specs.PrintedLaws.{front_other, named}
-use Rattle.jc_collector_answers.specs.Tied.{NamedWith, PrintsFront}
+use Rattle.jc_collector_answers.specs.PrintedLaws.{named}
+use Rattle.jc_collector_answers.specs.Tied.{NamedWith}
 use Rattle.jc_collector_answers.specs.declared.name_lines.NameLines.TheVariants.{MachinesAndUploads}
 use Rattle.jc_ledger.specs.Kept.{IsKept, NoneCollide}
 use Rattle.jc_ledger.specs.Lagging.{MayCatchUp}
+use Rattle.jc_ledger.specs.LaggingLaws.{kept_alone, noted_pending}
 use Rattle.jc_ledger.specs.Union.{union}
 use Rattle.jc_store.specs.Meaning.{IsSound, journal_of}
 use Rattle.jc_collector.specs.UnionOpened.{MayOpen}
 use Rattle.jc_collector.specs.IntoUnion.{BelongsBy, UnionStopsBy}
-use Rattle.jc_collector.specs.Kinds.{meaning_of}
 use Rattle.jc_collector.specs.PrintedLaws.{whole}
-use Rattle.jc_collector.specs.UnionLeft.{LeavesNoted}
-use Rattle.jc_collector.specs.UnionLeftLaws.{leaves_noted}
+use Rattle.jc_collector.specs.UnionLeft.{handed_back}
+use Rattle.jc_collector.specs.UnionLeftLaws.{union_left}
 use Rattle.jc_collector.proofs.Causes.{failed}
-use Rattle.jc_collector.proofs.IntoUnion.{by_answers, front_any, leads_found, leaves_as}
-use Rattle.jc_collector.proofs.Results.{IfErr-each, IfOk-four, at_ok, failure_in_other, match_some, on_ok, value_of_other}
+use Rattle.jc_collector.proofs.IntoUnion.{by_answers, front_any, leads_found}
+use Rattle.jc_collector.proofs.Results.{IfErr-each, IfOk-both, IfOk-four, at_ok, failure_in_other, on_ok, some_each, value_of_other}
 use Rattle.jc_collector.proofs.into_union.join_over.Goals as goal
 
 pub returns-clause-runs : goal.returns-clause-runs
@@ -38,18 +37,20 @@ returns-clause-runs g c = λ lawful made first found.
     let m = g.T.Layout.meaning in
     let old = g.O.Write.contents c.args.output.now in
     let new = g.O.Write.contents c.join_open-union.new.output in
+    let left = union_left (told_within c.args.most_windows g.Y.System.told) made first found ran (λ k_clean l_clean none. (k_clean, (l_clean, (tt, none)))) (λ journals. journals.0) lawful in
     record {
       stored = IfOk-four c.close_union.result _ _ _ _ _
           (λ run done ledger sound keeps. leads_found m made first c.args.present.conn run.files _ _ found
-          (λ clean before holds. (ran.was_sound
-          (sound clean, (subst g.L.Ledger.sound ledger holds.1, (tt, subst (λ (l : g.row.L.Denot). NoneCollide (g.L.Ledger.came l)) ledger holds.2)))).0.clean)
+          (λ clean before holds. (ran.was_clean
+          ((sound clean).clean, (subst g.L.Ledger.clean ledger holds.1, (tt, subst (λ (l : g.row.L.Denot). NoneCollide (g.L.Ledger.came l)) ledger holds.2)))).0)
           (λ clean before has holds.
           let k_now = sound clean in
-          let l_now = subst g.L.Ledger.sound ledger holds.1 in
+          let l_clean = subst g.L.Ledger.clean ledger holds.1 in
+          let l_now = on_ok answered run.status _ done (c.join_open-union.ensures.noted l_clean) in
           let none = subst (λ (l : g.row.L.Denot). NoneCollide (g.L.Ledger.came l)) ledger holds.2 in
           let now : IsSound g.F.Store it.present.conn × (g.L.Ledger.sound it.ledger × (⊤ × NoneCollide (g.L.Ledger.came it.ledger))) = (k_now, (l_now, (tt, none))) in
           let now_clean : HasCleanDisk (state g.F.Store it.present.conn) × (g.L.Ledger.clean it.ledger × (⊤ × NoneCollide (g.L.Ledger.came it.ledger))) =
-          (k_now.clean, (g.met.L.Ledger.clean_if_sound _ l_now, (tt, none))) in
+          (k_now.clean, (l_clean, (tt, none))) in
           let was = ran.was_sound now in
           let lag = subst (λ (j : Journal). MayCatchUp (g.L.Ledger.known c.args.ledger) past j (g.L.Ledger.came c.args.ledger)) (sym has.is) holds.0 in
           let may : MayOpen m g.F.Store c.args.present.conn (g.L.Ledger.known c.args.ledger) past (g.L.Ledger.came c.args.ledger) =
@@ -59,7 +60,9 @@ returns-clause-runs g c = λ lawful made first found.
           let after = journal_of m g.F.Store it.present.conn in record {
             found = after;
             is = record {
-              kept = subst (λ (l : g.row.L.Denot). IsKept (g.L.Ledger.known l) past after (g.L.Ledger.came l)) (sym ledger) (is_made.1.1 (k_now, (l_now, tt)));
+              kept = subst (λ (l : g.row.L.Denot). IsKept (g.L.Ledger.known l) past after (g.L.Ledger.came l)) (sym ledger)
+                  (kept_alone it.waiting c.join_open-union.ensures.settled
+                  (noted_pending it.pending.items c.join_open-union.ensures.none (is_made.1.1.1 (k_now, (l_now, tt)))).kept);
               stored = record {
                 shown = printed.shown;
                 holds = subst (λ (j : Journal). StoresFirstOf named_uploads (union past j) printed.shown.printed.answers (union past after)) has.is (printed.holds.stored now);
@@ -75,25 +78,14 @@ returns-clause-runs g c = λ lawful made first found.
           closed.answered closed.ledger closed.sound closed.keeps;
       printed = value_of_other c.close_union.result answered (λ run. run.status) _ closed.answered c.join_open-union.ensures.printed;
       quiet = value_of_other c.close_union.result answered (λ run. run.status) _ closed.answered c.join_open-union.ensures.quiet;
+      noted = IfOk-both c.close_union.result _ _ _
+          (λ run done ledger. λ l_clean.
+          subst g.L.Ledger.sound (sym ledger) (on_ok answered run.status _ done (c.join_open-union.ensures.noted (subst g.L.Ledger.clean ledger l_clean))))
+          closed.answered closed.ledger;
       left = IfErr-each c.close_union.result _ _
-          (λ run some. match_some run.left _ _ _ some
-          (λ left back. λ clean usual l_clean none kind before begin noted.
-          let l_now = subst g.L.Ledger.clean back.0 l_clean in
-          let apart = subst (λ (l : g.row.L.Denot). NoneCollide (g.L.Ledger.came l)) back.0 none in
-          let u_clean : HasCleanDisk (state g.F.Store it.present.conn) × (g.L.Ledger.clean it.ledger × (⊤ × NoneCollide (g.L.Ledger.came it.ledger))) =
-          (back.1.was_clean clean, (l_now, (tt, apart))) in
-          let was = (ran.was_clean u_clean).0 in
-          let has = found.keeps was kind before begin in
-          let lag = subst (λ (j : Journal). MayCatchUp (g.L.Ledger.known c.args.ledger) past j (g.L.Ledger.came c.args.ledger)) (sym has.is) noted.0 in
-          let may : MayOpen m g.F.Store c.args.present.conn (g.L.Ledger.known c.args.ledger) past (g.L.Ledger.came c.args.ledger) =
-          record { sound = found.sound was; made = has.made; lags = lag } in
-          subst (λ (l : g.row.L.Denot). PrintsFront (λ answers. (image : Image) → g.F.StoreInFiles.in_files.may_be_left left.files image
-          → ∥ LeavesNoted named_uploads (meaning_of kind) past before (g.L.Ledger.came l) (g.L.Ledger.may_leave l) answers image ∥₁) old new) (sym back.0)
-          (front_other _ _
-          (λ answers h image is. leaves_as m (meaning_of kind) named_uploads past _ before _ _ answers image has.is (λ j holds. found.same was kind before begin image j holds)
-          (leaves_noted named_uploads answers image
-          (back.1.leaves lawful (ran.tables u_clean may) (ran.recovers u_clean may noted.1).0 first clean usual image is) h)) old new
-          (front_any _ text old new answered (ran.each u_clean may noted.1)))))
+          (λ run some. some_each run.left _ _ some
+          (λ it back. λ clean l_clean none kind before begin noted. front_any _ text old new answered
+          (left (handed_back g.F.StoreInFiles.in_files first it.files) (back.1 first) it.ledger back.0 clean l_clean none kind before begin noted)))
           closed.left;
       untouched = failure_in_other c.close_union.result answered (λ run. run.failure) _ _ closed.failed
           c.join_open-union.ensures.untouched (λ failure is judged. absurd (judged (failed failure (inr (inl is)))));
@@ -109,15 +101,16 @@ returns-clause-exported g c = λ made first found.
     let m = g.T.Layout.meaning in
     IfOk-four c.close_union.result _ _ _ _ _
     (λ run done ledger sound keeps. leads_found m made first c.args.present.conn run.files _ _ found
-    (λ clean before holds. (ran.was_sound
-    (sound clean, (subst g.L.Ledger.sound ledger holds.1, (tt, subst (λ (l : g.row.L.Denot). NoneCollide (g.L.Ledger.came l)) ledger holds.2)))).0.clean)
+    (λ clean before holds. (ran.was_clean
+    ((sound clean).clean, (subst g.L.Ledger.clean ledger holds.1, (tt, subst (λ (l : g.row.L.Denot). NoneCollide (g.L.Ledger.came l)) ledger holds.2)))).0)
     (λ clean before has holds.
     let k_now = sound clean in
-    let l_now = subst g.L.Ledger.sound ledger holds.1 in
+    let l_clean = subst g.L.Ledger.clean ledger holds.1 in
+    let l_now = on_ok answered run.status _ done (c.join_open-union.ensures.noted l_clean) in
     let none = subst (λ (l : g.row.L.Denot). NoneCollide (g.L.Ledger.came l)) ledger holds.2 in
     let now : IsSound g.F.Store it.present.conn × (g.L.Ledger.sound it.ledger × (⊤ × NoneCollide (g.L.Ledger.came it.ledger))) = (k_now, (l_now, (tt, none))) in
     let now_clean : HasCleanDisk (state g.F.Store it.present.conn) × (g.L.Ledger.clean it.ledger × (⊤ × NoneCollide (g.L.Ledger.came it.ledger))) =
-    (k_now.clean, (g.met.L.Ledger.clean_if_sound _ l_now, (tt, none))) in
+    (k_now.clean, (l_clean, (tt, none))) in
     let lag = subst (λ (j : Journal). MayCatchUp (g.L.Ledger.known c.args.ledger) past j (g.L.Ledger.came c.args.ledger)) (sym has.is) holds.0 in
     let may : MayOpen m g.F.Store c.args.present.conn (g.L.Ledger.known c.args.ledger) past (g.L.Ledger.came c.args.ledger) =
     record { sound = (ran.was_sound now).0; made = has.made; lags = lag } in

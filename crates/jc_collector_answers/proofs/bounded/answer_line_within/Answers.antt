@@ -9,7 +9,7 @@ returns-clause-kept g c =
     let k = g.K.Keeper in
     let told = c.brought_by.ensures in
     kept_then k c.args.keeper.now c.brought_by.new.self c.answer_name_within.new.keeper
-    (kept_told k c.args.keeper.now c.brought_by.new.self told.journal (λ found may. (told.crash found).0 may) told.sound.0 told.clean.0 told.made.1 told.recovers.1)
+    (kept_told k c.args.keeper.now c.brought_by.new.self told.journal (λ found may. (told.crash found).0 may) told.sound.0 told.clean.0 told.made.1 told.settled told.recovers.1)
     c.answer_name_within.ensures.kept
 
 pub returns-clause-answers : goal.returns-clause-answers
@@ -18,7 +18,7 @@ returns-clause-answers g c =
     let told = c.brought_by.ensures in
     answers_told k c.args.keeper.now c.brought_by.new.self c.answer_name_within.new.keeper 1 _ c.answer_name_within.result (g.O.Write.contents c.args.output.now)
     (g.O.Write.contents c.answer_name_within.new.output) told.journal (λ found may. (told.crash found).0 may)
-    (kept_told k c.args.keeper.now c.brought_by.new.self told.journal (λ found may. (told.crash found).0 may) told.sound.0 told.clean.0 told.made.1 told.recovers.1)
+    (kept_told k c.args.keeper.now c.brought_by.new.self told.journal (λ found may. (told.crash found).0 may) told.sound.0 told.clean.0 told.made.1 told.settled told.recovers.1)
     c.answer_name_within.ensures.answers
 
 pub returns-clause-brought : goal.returns-clause-brought

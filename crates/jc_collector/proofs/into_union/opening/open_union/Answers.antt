@@ -1,8 +1,9 @@
 -- What a stop left of the present database is noted, and what a crash leaves meanwhile is opened again.
-use Rattle.std.proofs.Common.{arith, inl, inr, subst, sym, ⊎_elim}
+use Rattle.std.proofs.Common.{◌≡◌, [], arith, inl, inr, subst, sym, ⊎_elim}
 use Rattle.std.specs.Prelude.{⊤}
 use Rattle.jc_base.specs.Journal.{Journal}
 use Rattle.jc_ledger.specs.Kept.{IsKept}
+use Rattle.jc_ledger.specs.LaggingLaws.{none_pending, noted_alone, tells_alone}
 use Rattle.jc_store.specs.CrashLaws.{durable_in, journals_if_sound}
 use Rattle.jc_store.specs.Meaning.{IsSound, journal_of}
 use Rattle.jc_collector.specs.UnionLaws.{alike}
@@ -26,8 +27,12 @@ returns-clause-made g c = λ may none.
       listed.keeps.made may.made,
       (
         tt,
-        λ sounds. subst (λ (m : Journal). IsKept (g.L.Ledger.known c.note_listed-opened.new.ledger) g.P.Past.journal m (g.L.Ledger.came c.note_listed-opened.new.ledger))
-            (sym (listed.keeps.same may.sound may.made sounds.0)) (kept sounds),
+        (
+          tt,
+          λ sounds. none_pending c.new-pending.result.items c.new-pending.ensures.items (noted_alone c.new-waiting.result c.new-waiting.ensures.empty
+              (subst (λ (m : Journal). IsKept (g.L.Ledger.known c.note_listed-opened.new.ledger) g.P.Past.journal m (g.L.Ledger.came c.note_listed-opened.new.ledger))
+              (sym (listed.keeps.same may.sound may.made sounds.0)) (kept sounds))),
+        ),
       ),
     ))
 
@@ -46,7 +51,9 @@ returns-clause-recovers g c = λ clean may l_sound.
     let before = journal_of g.T.Layout.meaning g.S.Store c.args.present.conn in
     let there = listed.sound clean.0 in (
       record { each = λ left is. (journals_if_sound g.T.Layout.meaning g.S.Store g.met.S.Store.settled c.args.present.conn may.sound may.made).each left (listed.crash clean.0 left is) },
-      λ now known in_database in_ledger.
+      λ now known in_database tells.
+          let in_ledger = tells_alone (g.L.Ledger.may_leave c.note_listed-opened.new.ledger) (g.L.Ledger.sound c.note_listed-opened.new.ledger × (c.new-pending.result.items ≡ [])) (g.L.Ledger.known c.note_listed-opened.new.ledger)
+          c.new-waiting.result c.new-waiting.ensures.empty tells in
           rw (durable_in g.T.Layout.meaning g.S.Store g.met.S.Store.settled c.args.present.conn may.sound may.made g.met.T.Layout.reads_once now (record { trees = in_database.trees; left = listed.crash clean.0 in_database.trees in_database.left; is = in_database.is }))
           (⊎_elim (λ was. alike lag known (g.met.L.Ledger.durable _ known l_sound was) noted.comes) (λ found. found)
           (noted.crash clean.1.0 clean.1.1.1 g.P.Past.journal lag.noted before lag.kept lag.lags (

@@ -18,10 +18,10 @@ returns-clause-collected g c = λ known have sound made.
     (c.answer_all.ensures.run sound made known have)
 
 pub returns-clause-crash : goal.returns-clause-crash
-returns-clause-crash g c = λ known have clean sound made. c.answer_all.ensures.crash clean sound made known have
+returns-clause-crash g c = λ known have clean sound made settled. c.answer_all.ensures.crash clean sound made settled known have
 
 pub returns-clause-crash_unprinted : goal.returns-clause-crash_unprinted
-returns-clause-crash_unprinted g c = λ known have clean sound made. c.answer_all.ensures.crash_unprinted clean sound made known have
+returns-clause-crash_unprinted g c = λ known have clean sound made settled. c.answer_all.ensures.crash_unprinted clean sound made settled known have
 
 pub returns-clause-stopped : goal.returns-clause-stopped
 returns-clause-stopped g c =
