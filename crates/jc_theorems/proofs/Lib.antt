@@ -1,3 +1,5 @@
+pub mod Causes
 pub mod NoFailures
 pub mod Results
 pub mod Left
+pub mod Settled

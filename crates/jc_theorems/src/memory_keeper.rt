@@ -82,7 +82,9 @@ impl<L: Layout> Keeper for MemoryKeeper<L> {
 
     ghost clean_if_sound = { λ m sound. sound };
 
-    ghost durable = { λ m found sound made left. absurd left };
+    ghost durable = { λ m found sound made settled left. absurd left };
+
+    ghost settled_at_once = { λ once m. once };
 
     ghost recovers_if_sound = { λ m sound made. sound };
 
@@ -91,6 +93,10 @@ impl<L: Layout> Keeper for MemoryKeeper<L> {
     fn absorb<S: EntrySource>(&mut self, source: &mut S) -> Result<Absorbed, KeepStop> {
         memory_is_sound();
         self.keeper.absorb(source)
+    }
+
+    fn settle(&mut self) -> Result<(), KeepStop> {
+        Ok(())
     }
 
     fn get(&mut self, key: &Key) -> Result<Option<Entry>, KeepStop> {

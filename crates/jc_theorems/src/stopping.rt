@@ -21,10 +21,10 @@ use jc_collector::{
 };
 use jc_collector_answers::NameLines;
 use jc_command_args::Tables;
-use jc_command_shared::{Failure, Status};
+use jc_command_shared::{Errors, Failure, Output, Status};
 use jc_database::{Databases, OpenFromFiles, StoreInFiles, stop_keeper};
 use jc_file::ByteSpace;
-use std::io::{BufRead, Write};
+use std::io::BufRead;
 use std::snapshot::Snapshot;
 
 /// What a run had answered when it was stopped, and what it left of its database's files, which proofs alone see.
@@ -37,7 +37,7 @@ pub struct Stopped<'a, S> {
 /// Does what `collect` does of deliveries up to where it closes its database, and then is stopped: what a crash may leave
 /// of the files is what it may leave at this moment. It is a journal with what was stored, all that was acknowledged, and
 /// all of one more upload at most.
-pub fn collect_and_stop<'a, Y: Databases, F: OpenFromFiles, R: ByteStream, B: ByteSpace, O: Write>(
+pub fn collect_and_stop<'a, Y: Databases, F: OpenFromFiles, R: ByteStream, B: ByteSpace, O: Output>(
     rt: &mut Y,
     start: F::Start,
     database: &'a str,
@@ -81,7 +81,7 @@ pub fn collect_and_stop<'a, Y: Databases, F: OpenFromFiles, R: ByteStream, B: By
 }
 
 /// The same of the uploads that lines name.
-pub fn collect_lines_and_stop<'a, Y: Databases, F: OpenFromFiles, L: BufRead, O: Write, E: Write>(
+pub fn collect_lines_and_stop<'a, Y: Databases, F: OpenFromFiles, L: BufRead, O: Output, E: Errors>(
     rt: &mut Y,
     start: F::Start,
     database: &'a str,
@@ -126,7 +126,7 @@ pub fn open_after_stop<
     G: OpenFromFiles,
     R: ByteStream,
     B: ByteSpace,
-    O: Write,
+    O: Output,
 >(
     rt: &mut Y,
     start: F::Start,
@@ -162,8 +162,8 @@ pub fn open_after_lines<
     F: OpenFromFiles,
     G: OpenFromFiles,
     L: BufRead,
-    O: Write,
-    E: Write,
+    O: Output,
+    E: Errors,
 >(
     rt: &mut Y,
     start: F::Start,

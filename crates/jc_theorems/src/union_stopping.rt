@@ -22,13 +22,13 @@ use crate::stopping::let_go;
 use jc_collector::{AnsweredUnion, Opened, join_open, open_or_make};
 use jc_collector_answers::NameLines;
 use jc_command_args::Tables;
-use jc_command_shared::{Failure, Status, System};
+use jc_command_shared::{Errors, Failure, Output, Status, System};
 use jc_database::{Databases, OpenFromFiles, StoreInFiles, stop_keeper};
 use jc_ledger::{Ledger, Past, UnionKeeper};
 use jc_schema_three::SchemaThree;
 use jc_schema_two::SchemaTwo;
 use jc_store::{Listed, TableKeeper};
-use std::io::{BufRead, Write};
+use std::io::BufRead;
 use std::snapshot::Snapshot;
 
 /// What a run over a union had answered when it was stopped, and what it left of the files of its present database and of
@@ -50,8 +50,8 @@ pub fn collect_into_union_and_stop<
     L: Ledger + Drop,
     P: Past,
     N: BufRead,
-    O: Write,
-    E: Write,
+    O: Output,
+    E: Errors,
 >(
     rt: &mut Y,
     start: F::Start,
@@ -107,8 +107,8 @@ fn stop_over<
     L: Ledger + Drop,
     P: Past,
     N: BufRead,
-    O: Write,
-    E: Write,
+    O: Output,
+    E: Errors,
 >(
     rt: &mut Y,
     present: TableKeeper<F, T>,
@@ -141,6 +141,9 @@ fn stop_over<
     let UnionKeeper {
         present,
         ledger,
+        pending: _,
+        waiting: _,
+        refusals: _,
         shelf: _,
         machine: _,
         alloc: _,
