@@ -1,6 +1,6 @@
 -- How a run ends, from what its parts promise.
 use Rattle.std.proofs.Common.{◌≡◌, ◌≢◌, ◌⊎◌, ◌∙◌, ap, refl, sym, subst, inl, inr, Bool, true, false, List, ℕ, Option}
-use Rattle.std.specs.Prelude.{IfOk, IfErr, IsErrAnd, IsOkAnd, Result, Ok, Err, if◌then◌else◌}
+use Rattle.std.specs.Prelude.{IfOk, IfErr, IsErrAnd, IsOkAnd, None, Result, Ok, Err, if◌then◌else◌}
 use Rattle.std.specs.List.{list_any}
 use Rattle.std.specs.Borrow.{Bor}
 use Rattle.std.specs.Io.KnownBytes.{Keeps}
@@ -17,12 +17,8 @@ use Rattle.jc_collector.specs.IntoUnion.{LeadsIf}
 use Rattle.jc_database.specs.Files.{InFiles}
 use Rattle.clap.specs.declared.error.kind.ErrorKind.{ErrorKind}
 use Rattle.clap.specs.declared.error.kind.ErrorKind.TheVariants as kind
-use Rattle.jc_base.specs.declared.fault.Ending.{Ending}
-use Rattle.jc_base.specs.declared.fault.Ending.TheVariants.{End, Bad}
 use Rattle.jc_collector.specs.declared.into_union.closing.FailedRun.{FailedRun}
 use Rattle.jc_collector.specs.declared.into_union.closing.NotedLeft.{NotedLeft}
-use Rattle.jc_collector.specs.declared.health.Health.{Health}
-use Rattle.jc_collector.specs.declared.health.Health.TheVariants as health
 use Rattle.jc_command_shared.specs.declared.failure.Failure.{Failure}
 use Rattle.jc_command_shared.specs.declared.failure.Failure.TheVariants as failures
 use Rattle.jc_command_shared.specs.declared.status.Status.{Status}
@@ -33,32 +29,24 @@ use Rattle.jc_command_args.specs.declared.request.Request.TheVariants as request
 use Rattle.jc_collect.specs.Answer.{is_failure}
 use Rattle.jc_command_args.specs.Answer.{IsAskedFor}
 use Rattle.jc_collector_answers.specs.Answered.{is_refusal}
-use Rattle.jc_collect.specs.declared.inspect.Inspected.{Inspected}
-use Rattle.jc_collect.specs.declared.inspect.Inspected.TheVariants as inspected
-use Rattle.jc_collector.specs.Checked.{health_status}
-use Rattle.jc_collector.specs.Inspected.{inspected_status}
+use Rattle.jc_collector.specs.Checked.{health_found}
+use Rattle.jc_collector.specs.Inspected.{inspected_found}
 use Rattle.jc_command_shared.specs.Deeds.{Deed}
 use Rattle.jc_command_shared.specs.Failure.{status_of}
+use Rattle.jc_command_shared.specs.Found.{found_status, reading_found}
+use Rattle.jc_command_shared.specs.declared.found.Found.{Found}
+use Rattle.jc_command_shared.specs.declared.found.Found.TheVariants as found
 use Rattle.jc_command.specs.Failed.{FailsAsked, FailsLeaving}
 use Rattle.jc_command.specs.Run.{Begins, Collects, Devices, DoesFor, Ends, FailsBy, Leaves, leaves, Performs, PerformsAsked, Stops, StopsAsked}
 use Rattle.jc_command_shared.specs.Status.{number_of}
 use Rattle.jc_sender.proofs.Outcomes.{told_not_misused}
-use Rattle.jc_sender.specs.Verdict.{verdict_status}
 use Rattle.jc_command_args.specs.Words.{AreAnswered, AskFor}
 
--- a reading's status is one of two
-not_misused : (ending : Ending) → Misused ≡ verdict_status ending → ⊥
-not_misused (End left) same = cc
-not_misused (Bad fault) same = cc
-
-inspected_not_misused : (inspected : Inspected) → Misused ≡ inspected_status inspected → ⊥
-inspected_not_misused (inspected.Upload source start count left last windows) same = cc
-inspected_not_misused (inspected.Bad fault) same = cc
-inspected_not_misused (inspected.Over place) same = cc
-
-health_not_misused : (health : Health) → Misused ≡ health_status health → ⊥
-health_not_misused (health.Whole count) same = cc
-health_not_misused (health.Bad fault) same = cc
+-- what was found has one of two statuses
+found_not_misused : (it : Found) → Misused ≡ found_status it → ⊥
+found_not_misused (found.Count entries left) same = cc
+found_not_misused (found.Bad code place) same = cc
+found_not_misused (found.Upload upload) same = cc
 
 judged_not_misused : (failed refused : Bool) → Misused ≡ (if failed then Failed else (if refused then Refused else Success)) → ⊥
 judged_not_misused true refused same = cc
@@ -77,11 +65,11 @@ performed begun g left words request given output output' errors errors' Success
 performed begun g left words request given output output' errors errors' Refused asks does quiet = inl (request, asks, does)
 performed begun g left words request given output output' errors errors' Failed asks does quiet = (request, asks, does)
 performed begun g left words request given output output' errors errors' Unanswered asks does quiet = (request, asks, does)
-performed begun g left words (Verify k file) given output output' errors errors' Misused asks does quiet = absurd (not_misused does.0.ending does.0.printed.judged)
+performed begun g left words (Verify k file) given output output' errors errors' Misused asks does quiet = absurd (found_not_misused (reading_found does.0.count does.0.ending) does.0.printed.judged)
 performed begun g left words (Upload source limit most_bytes whole) given output output' errors errors' Misused asks does quiet = let same : Misused ≡ Success = does.0 in cc
 performed begun g left words (Ack source) given output output' errors errors' Misused asks does quiet = let same : Misused ≡ Success = does.0 in cc
 performed begun g left words (requests.Inspect file most_entries most_fields most_bytes most_windows) given output output' errors errors' Misused asks does quiet =
-    absurd (inspected_not_misused does.0.inspected does.0.printed.judged)
+    absurd (found_not_misused (inspected_found does.0.inspected) does.0.printed.judged)
 performed begun g left words (requests.Collect database tables uploads then_export) given output output' errors errors' Misused asks does quiet =
     absurd (judged_not_misused (list_any is_failure does.printed.answers) (list_any is_refusal does.printed.answers) does.printed.is)
 performed begun g left words (requests.CollectListed database tables list then_export) given output output' errors errors' Misused asks does quiet =
@@ -99,8 +87,8 @@ performed begun g left words (requests.ReleaseSequence sequences sequence) given
 performed begun g left words (requests.Export database) given output output' errors errors' Misused asks does quiet = let same : Misused ≡ Success = does.0 in cc
 performed begun g left words (requests.Show database field id first last) given output output' errors errors' Misused asks does quiet = let same : Misused ≡ Success = does.0 in cc
 performed begun g left words requests.ListCodes given output output' errors errors' Misused asks does quiet = let same : Misused ≡ Success = does in cc
-performed begun g left words (requests.Check database) given output output' errors errors' Misused asks does quiet = absurd (health_not_misused does.health does.printed.judged)
-performed begun g left words (requests.Migrate database tables) given output output' errors errors' Misused asks does quiet = absurd (health_not_misused does.health does.printed.judged)
+performed begun g left words (requests.Check database) given output output' errors errors' Misused asks does quiet = absurd (found_not_misused (health_found does.health) does.printed.judged)
+performed begun g left words (requests.Migrate database tables) given output output' errors errors' Misused asks does quiet = absurd (found_not_misused (health_found does.health) does.printed.judged)
 
 -- a failure's status is that of a device or memory, or another one
 device_or_not : (status : Status) → (status ≡ Failed) ⊎ (status ≢ Failed)
@@ -178,10 +166,6 @@ err_and (Err e) P Q is each = each e is
 pub err_is : {U E : Type 0} (made : Result U E) (run : E) (Q : E → Type 0) → IsErrAnd made (λ e. e ≡ run) → Q run → IfErr made Q
 err_is (Ok u) run Q is it = absurd is
 err_is (Err e) run Q is it = subst Q (sym is) it
-
-pub err_any : {U E : Type 0} (made : Result U E) (Q : E → Type 0) → ((e : E) → Q e) → IfErr made Q
-err_any (Ok u) Q each = tt
-err_any (Err e) Q each = each e
 
 -- what writes nothing there is quiet
 pub stays_quiet : {U E : Type 0} (made : Result U E) (Says : U → Type 0) (errors : Option (List ℕ))
@@ -378,25 +362,42 @@ stops_answered told words k r given output output' errors errors' asked mistaken
 
 -- ... and leaves nothing of a database: nothing was printed, or help was
 pub left_answered : {S C L N : Type 0} (begun : Begins) (g : Devices S C L N) (words : List Text) (k : ErrorKind) (r : Result Status Failure) (given output output' : Option (List ℕ)) (left : Option (NotedLeft L N))
-    → (k ≡ kind.OutOfMemory) ⊎ AreAnswered words k
+    → left ≡ None → (k ≡ kind.OutOfMemory) ⊎ AreAnswered words k
     → (¬ IsAskedFor k → k ≢ kind.OutOfMemory → (r ≡ Ok Misused) × Keeps output output')
     → (k ≡ kind.OutOfMemory → (r ≡ Err failures.OutOfMemory) × Keeps output output')
     → FailsAsked begun g words given output output' left
-left_answered begun g words k r given output output' left answered mistaken memory =
-    elim (sorted k) [
-      | inl h ↦ elim answered [ inl m ↦ inl (memory m).1 | inr is ↦ inr (inl (k, h, is)) ]
-      | inr rest ↦ elim rest [
-        | inl m ↦ inl (memory m).1
-        | inr n ↦ inl (mistaken n.0 n.1).1
-      ]
-    ]
+left_answered begun g words k r given output output' left none answered mistaken memory =
+    inl (
+      elim (sorted k) [
+        | inl h ↦ elim answered [ inl m ↦ inl (memory m).1 | inr is ↦ inr (k, h, is) ]
+        | inr rest ↦ elim rest [
+          | inl m ↦ inl (memory m).1
+          | inr n ↦ inl (mistaken n.0 n.1).1
+        ]
+      ],
+      none,
+    )
 
--- what failed, by the status's number
-pub failed_done : {S C L N : Type 0} (begun : Begins) (g : Devices S C L N) (left : Leaves C N) (words texts : List Text) (given output output' errors errors' : Option (List ℕ)) (n : ℕ) (status : Status)
-    → texts ≡ words → n ≡ number_of status → n ≡ number_of Failed → Ends begun g left texts given output output' errors errors' status
-    → PerformsAsked begun g left words given output output' Failed
-failed_done begun g left words texts given output output' errors errors' n status same is wants ends =
-    by_number begun g left words texts given output output' errors errors' n status Failed same is wants ends
+-- what was asked for is performed, or nothing is begun
+performed_or_left : {S C L N : Type 0} (begun : Begins) (g : Devices S C L N) (left : Leaves C N) (words : List Text) (given output output' errors errors' : Option (List ℕ)) (status : Status)
+    → Ends begun g left words given output output' errors errors' status
+    → PerformsAsked begun g left words given output output' status ⊎ FailsAsked begun g words given output output' None
+performed_or_left begun g left words given output output' errors errors' Success (quiet, inl help) = inr (inl (inr help, refl))
+performed_or_left begun g left words given output output' errors errors' Success (quiet, inr performs) = inl performs
+performed_or_left begun g left words given output output' errors errors' Refused (inl performs) = inl performs
+performed_or_left begun g left words given output output' errors errors' Refused (inr stops) = inr (inl (inl stops.kept, refl))
+performed_or_left begun g left words given output output' errors errors' Misused (inl (wrong, kept)) = inr (inl (inl kept, refl))
+performed_or_left begun g left words given output output' errors errors' Misused (inr stops) = inr (inl (inl stops.kept, refl))
+performed_or_left begun g left words given output output' errors errors' Failed performs = inl performs
+performed_or_left begun g left words given output output' errors errors' Unanswered performs = inl performs
+
+-- ... by the status's number
+pub done_by_number : {S C L N : Type 0} (begun : Begins) (g : Devices S C L N) (left : Leaves C N) (words texts : List Text) (given output output' errors errors' : Option (List ℕ)) (n : ℕ) (status wanted : Status)
+    → texts ≡ words → n ≡ number_of status → n ≡ number_of wanted → Ends begun g left texts given output output' errors errors' status
+    → PerformsAsked begun g left words given output output' wanted ⊎ FailsAsked begun g words given output output' None
+done_by_number begun g left words texts given output output' errors errors' n status wanted same is wants ends =
+    performed_or_left begun g left words given output output' errors errors' wanted
+    (by_number begun g left words texts given output output' errors errors' n status wanted same is wants ends)
 
 -- ---- over a union of databases
 

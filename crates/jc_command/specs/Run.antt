@@ -41,6 +41,8 @@ use Rattle.jc_collector.specs.Earlier.{LeadsFrom}
 use Rattle.jc_collector.specs.Exported.{KeepsAndExports, OpensAndExports, OpensAndMayReplace}
 use Rattle.jc_collector.specs.Kinds.{LeadsIn, LeadsThere}
 use Rattle.jc_collector.specs.OverFiles.{CollectsAll, Prints, PrintsAsked, StoresFromList, StoresPrinted, given_uploads}
+use Rattle.jc_collector.specs.UnionLeft.{FilesLeft, HowPrinted}
+use Rattle.jc_collector.specs.UnionRun.{ListIsLeft}
 use Rattle.jc_sender.specs.Sent.{PrintsSomeUpload}
 use Rattle.jc_sender.specs.Acknowledged.{TellsOfSome, TellsOfUpload}
 use Rattle.jc_sender.specs.Failing.{AckFailsBy, UploadFailsBy}
@@ -98,6 +100,14 @@ pub record Leaves (C N : Type 0) : Type 0 where
 abbrev pub leaves : {C N : Type 0} → Option C → Option N → Option (List Deed) → Leaves C N
 leaves files ledger deeds = record { files = files; ledger = ledger; deeds = deeds }
 
+-- What is left of a union's files and notes has what the answers acknowledge whose lines were printed, if the notes were at
+-- first what is still noted of earlier databases, and some of what the present one had. A list names their uploads.
+abbrev pub LeavesUnion : {S C L N : Type 0} → Begins → Devices S C L N → (made : Tables) → (list : List ℕ) → (most_windows : Option ℕ) → (given : Option (List ℕ))
+    → (Prints : (text : Option (List ℕ)) → HowPrinted) → FilesLeft → (notes : N) → Type 0
+LeavesUnion begun g made list most_windows given Prints files notes =
+    ListIsLeft g.ledger made begun.image begun.told most_windows (stored_before begun)
+    (λ before. MayCatchUp begun.noted (stored_before begun) before begun.came) list given Prints files notes
+
 module _ {S C L N : Type 0} (begun : Begins) (g : Devices S C L N) (left : Leaves C N) where
   -- A run ends with the files of its database, closed, and made such a step over the journal that they had, or over the empty
   -- one in tables that it made.
@@ -128,12 +138,12 @@ module _ {S C L N : Type 0} (begun : Begins) (g : Devices S C L N) (left : Leave
     pub stores : Leads made (StoresFromList begun.told list given status old new)
 
   -- If what the files of sequences noted is what is still noted of earlier databases, and some of what the present one had, the
-  -- notes are sound at the end, and of the entries that came no two differ and have one key and one digest, then such a step
-  -- was made over the present database's journal.
+  -- notes' disk returned what was written, and of the entries that came no two differ and have one key and one digest, then such
+  -- a step was made over the present database's journal.
   abbrev pub LeadsNoted : (made : Tables) → ((known : Known) → (came : LogEntry → Type 0) → (owner : Owner) → Journal → Journal → Type 0) → Type 0
   LeadsNoted made Step =
       IsSomeAnd left.files (λ closed. IsSomeAnd left.ledger (λ notes. LeadsIf made begun.image g.database closed
-      (λ before. MayCatchUp begun.noted (stored_before begun) before begun.came × g.ledger.sound notes × NoneCollide (g.ledger.came notes))
+      (λ before. MayCatchUp begun.noted (stored_before begun) before begun.came × g.ledger.clean notes × NoneCollide (g.ledger.came notes))
       (Step (g.ledger.known notes) (g.ledger.came notes) (g.ledger.owner notes))))
 
   -- Each sequence that belonged to a machine belongs to it, if the notes are sound at the end. If the disk returned what was
@@ -144,11 +154,12 @@ module _ {S C L N : Type 0} (begun : Begins) (g : Devices S C L N) (left : Leave
 
   -- An answer to each upload that a list names was printed, line by line. What they acknowledge is stored in the present database,
   -- or was still noted of an earlier one. What is noted then is what these have. What is new of a line belongs to the machine that
-  -- it names. No sequence was taken from its owner.
+  -- it names. No sequence was taken from its owner. No failure has shut the notes.
   pub record CollectsIntoUnion (made : Tables) (list : List ℕ) (most_windows : Option ℕ) (given old new : Option (List ℕ)) (status : Status) : Type 0 where
     pub printed : PrintsFromList begun.told list given status old new
     pub stores : LeadsNoted made (λ known came owner. StoresNotedFromList begun.told most_windows (stored_before begun) known came owner list given status old new)
     pub owners : IsSomeAnd left.ledger KeepOwners
+    pub noted : IsSomeAnd left.ledger (λ notes. g.ledger.clean notes → g.ledger.sound notes)
 
   -- The line of what there is of a journal was printed. If the files are given back, it is that of the journal which they
   -- had, and they keep it.

@@ -19,13 +19,13 @@ use jc_collector::{
     collect_from_list, collect_into_union, export, inspect, migrate, show,
 };
 use jc_command_args::{CODES, Request, parse};
-use jc_command_shared::{Failure, Status, printed};
+use jc_command_shared::{Errors, Failure, Output, Status, printed};
 use jc_database::{Databases, OpenFromFiles};
 use jc_ledger::Ledger;
 use jc_notes::release_sequence;
 use jc_sender::{ack, acknowledged, upload, verify};
 use jc_sequences::Folders;
-use std::io::{Read, Write};
+use std::io::Read;
 
 /// What a run ended with: its status, and the files of its database, closed, if it had one open, with the notes of
 /// sequences, if it had those. Of a run over a union that failed it has what is left of both.
@@ -53,6 +53,7 @@ impl<C: Drop, L: Ledger + Drop> Done<C, L> {
         ensures done { IfOk result (λ done. IsOkAnd status.entry (λ status.
             (done.status ≡ status) × (done.files ≡ None))) }
         ensures failed { IfErr result (λ run. status.entry ≡ Err run.failure) }
+        ensures left { IfErr result (λ run. run.left ≡ None) }
     {
         match status {
             Ok(status) => Ok(Done {
@@ -71,6 +72,7 @@ impl<C: Drop, L: Ledger + Drop> Done<C, L> {
         ensures done { IfOk result (λ done. IsOkAnd worked.entry (λ it.
             (done.status ≡ Status.Success) × (done.files ≡ None))) }
         ensures failed { IfErr result (λ run. worked.entry ≡ Err run.failure) }
+        ensures left { IfErr result (λ run. run.left ≡ None) }
     {
         match worked {
             Ok(()) => Ok(Done {
@@ -89,6 +91,7 @@ impl<C: Drop, L: Ledger + Drop> Done<C, L> {
         ensures done { IfOk result (λ done. IsOkAnd closed.entry (λ closed.
             (done.status ≡ closed.value) × (done.files ≡ Some closed.files))) }
         ensures failed { IfErr result (λ run. closed.entry ≡ Err run.failure) }
+        ensures left { IfErr result (λ run. run.left ≡ None) }
     {
         match closed {
             Ok(closed) => Ok(Done {
@@ -120,6 +123,7 @@ impl<C: Drop, L: Ledger + Drop> Done<C, L> {
         ensures done { IfOk result (λ done. IsOkAnd closed.entry (λ closed.
             (done.status ≡ Status.Success) × (done.files ≡ Some closed.files))) }
         ensures failed { IfErr result (λ run. closed.entry ≡ Err run.failure) }
+        ensures left { IfErr result (λ run. run.left ≡ None) }
     {
         match closed {
             Ok(closed) => Ok(Done {
@@ -140,6 +144,7 @@ impl<C: Drop, L: Ledger + Drop> Done<C, L> {
         ensures done { IfOk result (λ done. IsOkAnd examined.entry (λ examined.
             (done.status ≡ examined.value) × (done.files ≡ examined.files))) }
         ensures failed { IfErr result (λ run. examined.entry ≡ Err run.failure) }
+        ensures left { IfErr result (λ run. run.left ≡ None) }
     {
         match examined {
             Ok(examined) => Ok(Done {
@@ -153,7 +158,7 @@ impl<C: Drop, L: Ledger + Drop> Done<C, L> {
 }
 
 /// Does what the arguments ask for, as `run_command` does, and answers the status to end with.
-pub fn command<'a, Y: Databases, F: OpenFromFiles, S: Begun, I: Read, O: Write, E: Write>(
+pub fn command<'a, Y: Databases, F: OpenFromFiles, S: Begun, I: Read, O: Output, E: Errors>(
     rt: &mut Y,
     folders: Folders<'a>,
     start: F::Start,
@@ -186,8 +191,8 @@ pub fn run_command<
     S: Begun,
     N: NoteFolders<S>,
     I: Read,
-    O: Write,
-    E: Write,
+    O: Output,
+    E: Errors,
 >(
     rt: &mut Y,
     folders: N,
@@ -203,11 +208,11 @@ pub fn run_command<
         → Ends (begins_with F.first S.windows S.finished S.aside S.came Y.told (Y.deeds rt.old))
         (devices F.in_files ⟦<N::Notes as Ledger>⟧) (leaves result.files result.ledger (Y.deeds rt.new)) (map string_bytes words.items) (I.remaining input.old)
         (O.contents output.old) (O.contents output.new) (E.contents errors.old) (E.contents errors.new) status }
-    // Where something failed, either what was asked for is performed, or what is left of a union has what was printed.
-    ensures failed { result.status ≡ number_of Status.Failed
+    // Whatever the status is, either what was asked for is performed, or what is left of a union has what was printed.
+    ensures failed { (status : Status) → result.status ≡ number_of status
         → PerformsAsked (begins_with F.first S.windows S.finished S.aside S.came Y.told (Y.deeds rt.old))
         (devices F.in_files ⟦<N::Notes as Ledger>⟧) (leaves result.files result.ledger (Y.deeds rt.new)) (map string_bytes words.items) (I.remaining input.old)
-        (O.contents output.old) (O.contents output.new) Status.Failed
+        (O.contents output.old) (O.contents output.new) status
         ⊎ FailsAsked (begins_with F.first S.windows S.finished S.aside S.came Y.told (Y.deeds rt.old))
         (devices F.in_files ⟦<N::Notes as Ledger>⟧) (map string_bytes words.items) (I.remaining input.old)
         (O.contents output.old) (O.contents output.new) result.left }
@@ -246,8 +251,8 @@ fn answered<
     S: Begun,
     N: NoteFolders<S>,
     I: Read,
-    O: Write,
-    E: Write,
+    O: Output,
+    E: Errors,
 >(
     rt: &mut Y,
     folders: N,
@@ -283,8 +288,8 @@ fn perform<
     S: Begun,
     N: NoteFolders<S>,
     I: Read,
-    O: Write,
-    E: Write,
+    O: Output,
+    E: Errors,
 >(
     rt: &mut Y,
     folders: N,
@@ -445,16 +450,16 @@ fn perform<
 }
 
 /// Prints what each code means.
-fn list_codes<'a, O: Write>(output: &mut O) -> Result<(), Failure<'a>>
+fn list_codes<'a, O: Output>(output: &mut O) -> Result<(), Failure<'a>>
     ensures printed { OnOk result (Appends (O.contents output.old) (O.contents output.new) CODES.now) }
     ensures failed { IfErr result (λ failure. failure ≡ Failure.WriteFailed) }
 {
-    let written = output.write_all(CODES.as_bytes());
+    let written = output.codes(CODES);
     printed(written, output)
 }
 
 /// Prints what `clap` answers in place of a request.
-fn answer_words<'a, O: Write, E: Write>(
+fn answer_words<'a, O: Output, E: Errors>(
     answer: &clap::Error,
     output: &mut O,
     errors: &mut E,

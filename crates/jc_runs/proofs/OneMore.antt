@@ -13,7 +13,7 @@ use Rattle.jc_base.specs.LogEntry.{IsEntry, LogEntry, Body}
 use Rattle.jc_base.specs.Number.{IsId}
 use Rattle.jc_base.specs.Reading.{Reading, reading}
 use Rattle.jc_collect.specs.Each.{CollectsEach}
-use Rattle.jc_collect.specs.Position.{IsPosition}
+use Rattle.jc_collect.specs.Position.{Collects, IsPosition}
 use Rattle.jc_export.specs.Computed.Lines.{reading_of}
 use Rattle.jc_export.specs.Cut.{AllFit, ReadsBack, StopsBefore, joined as texts}
 use Rattle.jc_export.specs.Stream.{StreamReading}
@@ -53,54 +53,58 @@ pub record Reads : Type 0 where
   pub some : (limits : Limits) (at : ℕ) (bytes : List ℕ) → StreamReading limits at bytes (reading_of limits at bytes)
   pub back : (limits : Limits) (at : ℕ) (es : List LogEntry) (r : Reading) → All IsEntry es → StreamReading limits at (texts es) r → ReadsBack limits es r
 
--- A source of one byte, and the number of an entry.
-pub record AreSmall (source n : ℕ) : Type 0 where
+-- A source and a sequence of one byte, and the number of an entry.
+pub record AreSmall (source sequence n : ℕ) : Type 0 where
   pub byte : source < 256
+  pub sequence_byte : sequence < 256
   pub some : 0 < n
   pub few : n < 2 ^ 63
 
-pub small_one : AreSmall 1 1
-small_one = record { byte = omega arith; some = omega arith; few = omega arith }
+pub small_one : AreSmall 1 1 1
+small_one = record { byte = omega arith; sequence_byte = omega arith; some = omega arith; few = omega arith }
 
-pub small_other : AreSmall 2 (64 * 4096 + 1)
-small_other = record { byte = omega arith; some = omega arith; few = omega arith }
+pub small_other : AreSmall 2 2 (64 * 4096 + 1)
+small_other = record { byte = omega arith; sequence_byte = omega arith; some = omega arith; few = omega arith }
+
+pub small_lost : AreSmall 3 2 (64 * 4096 + 2)
+small_lost = record { byte = omega arith; sequence_byte = omega arith; some = omega arith; few = omega arith }
 
 pub lawful_id : (n : ℕ) → n < 256 → IsId (numbered n).0
 lawful_id n byte = (refl, All-from_recursion (λ (b : ℕ). b < 256) (numbered n).0 (byte, (omega arith, (omega arith, (omega arith, (omega arith, (omega arith, (omega arith, (omega arith, (omega arith, (omega arith, (omega arith, (omega arith, (omega arith, (omega arith, (omega arith, (omega arith, tt)))))))))))))))))
 
-pub lawful_head : (source n : ℕ) → AreSmall source n → IsHead (head_of source)
-lawful_head source n small = record { source = lawful_id source small.byte; start = omega arith; number = omega arith }
+pub lawful_head : (source sequence n : ℕ) → AreSmall source sequence n → IsHead (head_of source)
+lawful_head source sequence n small = record { source = lawful_id source small.byte; start = omega arith; number = omega arith }
 
-lawful_entry : (source n : ℕ) → AreSmall source n → IsEntry (entry_at source n)
+lawful_entry : (source sequence n : ℕ) → AreSmall source sequence n → IsEntry (entry_at sequence n)
 unfolding IsStrictlySortedBy
-lawful_entry source n small = record {
-  key = record { id = lawful_id source small.byte; positive = small.some; small = small.few };
+lawful_entry source sequence n small = record {
+  key = record { id = lawful_id sequence small.sequence_byte; positive = small.some; small = small.few };
   body = record { realtime = omega arith; monotonic = omega arith; names = λ k d within. absurd (omega (arith, within)); values = λ k d within. absurd (omega (arith, within)); sorted = tt };
 }
 
 -- It reads as that entry.
-reads_one : Reads → (limits : Limits) (source n : ℕ) → AreSmall source n
-    → StreamReading limits 0 (texts (entry_at source n ∷ [])) (reading (entry_at source n ∷ []) (End 0))
-reads_one reads limits source n small =
-    let e : LogEntry = entry_at source n in
+reads_one : Reads → (limits : Limits) (source sequence n : ℕ) → AreSmall source sequence n
+    → StreamReading limits 0 (texts (entry_at sequence n ∷ [])) (reading (entry_at sequence n ∷ []) (End 0))
+reads_one reads limits source sequence n small =
+    let e : LogEntry = entry_at sequence n in
     let some = reads.some limits 0 (texts (e ∷ [])) in
     ⊎_elim
     (λ (whole : AllFit limits (e ∷ []) × (reading_of limits 0 (texts (e ∷ [])) ≡ reading (e ∷ []) (End 0))).
     subst (StreamReading limits 0 (texts (e ∷ []))) whole.1 some)
     (λ (stops : StopsBefore limits (e ∷ []) (reading_of limits 0 (texts (e ∷ [])))). absurd (stops.beyond (fits stops)))
-    (reads.back limits 0 (e ∷ []) (reading_of limits 0 (texts (e ∷ []))) (All-from_recursion IsEntry (e ∷ []) (lawful_entry source n small, tt)) some)
+    (reads.back limits 0 (e ∷ []) (reading_of limits 0 (texts (e ∷ []))) (All-from_recursion IsEntry (e ∷ []) (lawful_entry source sequence n small, tt)) some)
   where
-    fits : (stops : StopsBefore limits (entry_at source n ∷ []) (reading_of limits 0 (texts (entry_at source n ∷ [])))) → AreKept limits stops.first.body.pairs
+    fits : (stops : StopsBefore limits (entry_at sequence n ∷ []) (reading_of limits 0 (texts (entry_at sequence n ∷ [])))) → AreKept limits stops.first.body.pairs
     fits stops =
-        let inside : Contains (entry_at source n ∷ []) stops.first = subst (λ (es : List LogEntry). Contains es stops.first) (sym stops.whole)
+        let inside : Contains (entry_at sequence n ∷ []) stops.first = subst (λ (es : List LogEntry). Contains es stops.first) (sym stops.whole)
         (Contains-append_right _ (stops.first ∷ stops.more) stops.first (0, omega arith, refl)) in
-        subst (λ (x : LogEntry). AreKept limits x.body.pairs) (only (entry_at source n) stops.first inside)
+        subst (λ (x : LogEntry). AreKept limits x.body.pairs) (only (entry_at sequence n) stops.first inside)
         (record { each = λ k d within. absurd (omega (arith, within)); number = omega arith; bytes = omega arith })
 
-position : Reads → (limits : Limits) (before after : Journal) (source n new : ℕ) → AreSmall source n
-    → TakesWhole before (reading (entry_at source n ∷ []) (End 0)) 1 new 0 after
-    → IsPosition limits (upload_of source (entry_at source n)) before (ack_of source new) after
-position reads limits before after source n new small t = record {
+position : Reads → (limits : Limits) (before after : Journal) (source sequence n new : ℕ) → AreSmall source sequence n
+    → TakesWhole before (reading (entry_at sequence n ∷ []) (End 0)) 1 new 0 after
+    → IsPosition limits (upload_of source (entry_at sequence n)) before (ack_of source new) after
+position reads limits before after source sequence n new small t = record {
   answers = record {
     head = head_of source;
     reading = it;
@@ -115,13 +119,13 @@ position reads limits before after source n new small t = record {
 }
   where
     it : Reading
-    it = reading (entry_at source n ∷ []) (End 0)
+    it = reading (entry_at sequence n ∷ []) (End 0)
 
-    says : SaysBehind limits (upload_of source (entry_at source n)) (head_of source) it
+    says : SaysBehind limits (upload_of source (entry_at sequence n)) (head_of source) it
     says = record {
-      body = texts (entry_at source n ∷ []);
-      has = record { lawful = lawful_head source n small; whole = refl };
-      reads = record { read = it; reads = reads_one reads limits source n small; under = refl };
+      body = texts (entry_at sequence n ∷ []);
+      has = record { lawful = lawful_head source sequence n small; whole = refl };
+      reads = record { read = it; reads = reads_one reads limits source sequence n small; under = refl };
     }
 
 -- ---- one that is new
@@ -172,16 +176,22 @@ takes_new m e none = record {
   grown = len-insert key_total m e.key e.body ∙ ap (λ (o : Option Body). cond (is_some o) (len m) (len m + 1)) none;
 }
 
-pub stores_new : Reads → (past now : Journal) (source n : ℕ) → AreSmall source n → get (union past now) (entry_at source n).key ≡ None
-    → (limits : Limits) → CollectsEach limits (alone source (entry_at source n)) (union past now) (acks source 1)
-    (union past (insert now (entry_at source n).key (entry_at source n).body))
-stores_new reads past now source n small none limits =
-    let e : LogEntry = entry_at source n in (
-      union past (insert now e.key e.body),
-      position reads limits (union past now) (union past (insert now e.key e.body)) source n 1 small
-          (subst (TakesWhole (union past now) (reading (e ∷ []) (End 0)) 1 1 0) (sym (joined past now e)) (takes_new (union past now) e none)),
-      refl,
-    )
+pub collects_new : Reads → (past now : Journal) (source sequence n : ℕ) → AreSmall source sequence n → get (union past now) (entry_at sequence n).key ≡ None
+    → (limits : Limits) → Collects limits (Some (upload_of source (entry_at sequence n))) (union past now) (ack_of source 1)
+    (union past (insert now (entry_at sequence n).key (entry_at sequence n).body))
+collects_new reads past now source sequence n small none limits =
+    let e : LogEntry = entry_at sequence n in
+    position reads limits (union past now) (union past (insert now e.key e.body)) source sequence n 1 small
+    (subst (TakesWhole (union past now) (reading (e ∷ []) (End 0)) 1 1 0) (sym (joined past now e)) (takes_new (union past now) e none))
+
+pub stores_new : Reads → (past now : Journal) (source sequence n : ℕ) → AreSmall source sequence n → get (union past now) (entry_at sequence n).key ≡ None
+    → (limits : Limits) → CollectsEach limits (alone source (entry_at sequence n)) (union past now) (acks source 1)
+    (union past (insert now (entry_at sequence n).key (entry_at sequence n).body))
+stores_new reads past now source sequence n small none limits = (
+  union past (insert now (entry_at sequence n).key (entry_at sequence n).body),
+  collects_new reads past now source sequence n small none limits,
+  refl,
+)
 
 -- ---- one that is there
 
@@ -194,7 +204,7 @@ takes_same m e there = record {
   grown = omega arith;
 }
 
-pub stores_same : Reads → (m : Journal) (source n : ℕ) → AreSmall source n → IsStored m (entry_at source n)
-    → (limits : Limits) → CollectsEach limits (alone source (entry_at source n)) m (acks source 0) m
-stores_same reads m source n small there limits =
-    (m, position reads limits m m source n 0 small (takes_same m (entry_at source n) there), refl)
+pub stores_same : Reads → (m : Journal) (source sequence n : ℕ) → AreSmall source sequence n → IsStored m (entry_at sequence n)
+    → (limits : Limits) → CollectsEach limits (alone source (entry_at sequence n)) m (acks source 0) m
+stores_same reads m source sequence n small there limits =
+    (m, position reads limits m m source sequence n 0 small (takes_same m (entry_at sequence n) there), refl)

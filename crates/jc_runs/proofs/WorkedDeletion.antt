@@ -15,7 +15,7 @@ use Rattle.jc_upload.specs.declared.head.UploadHead.{UploadHead}
 use Rattle.jc_upload.specs.Head.{IsHead, head_text}
 use Rattle.jc_runs.specs.Acknowledged.{AcknowledgeNoOther}
 use Rattle.jc_runs.specs.Safe.{AcknowledgeAll, IsPrinted, MayDelete}
-use Rattle.jc_runs.specs.Worked.{ack_of, acks, alone, numbered, of_one, of_other, unread, upload_of, worked}
+use Rattle.jc_runs.specs.Worked.{ack_of, acks, alone, numbered, of_lost, of_one, of_other, uncommitted, unread, upload_of, worked}
 use Rattle.jc_runs.proofs.OneMore.{lawful_head, lawful_id, small_one}
 
 -- no two headers begin one upload, and no two answers have one line
@@ -42,7 +42,7 @@ acknowledge = record {
   count = 1;
   new = 1;
   body = joined (of_one ∷ []);
-  has = record { lawful = lawful_head 1 1 small_one; whole = refl };
+  has = record { lawful = lawful_head 1 1 1 small_one; whole = refl };
   lawful = lawful_ack;
   line = there;
 }
@@ -87,12 +87,19 @@ behind_unread zero more at known is =
     let refused : true ≡ false = ap is_refused (same_Some unread (Ack (numbered 1) 0 1 more 0) at) in absurd cc
 behind_unread (suc i) more at known is = its_own 0 i more at known is
 
+-- One is stored and isn't acknowledged.
+behind_stop : AcknowledgeNoOther (numbered 1) 1 (upload_of 1 of_one) (alone 3 of_lost) (uncommitted 3 ∷ [])
+unfolding is_refused
+behind_stop zero more at known is =
+    let refused : true ≡ false = ap is_refused (same_Some (uncommitted 3) (Ack (numbered 1) 0 1 more 0) at) in absurd cc
+behind_stop (suc i) more at known is = absurd (none-some (Ack (numbered 1) 0 1 more 0) at)
+
 pub may_delete : OneEach → MayDelete (upload_of 1 of_one) line worked
 unfolding acknowledge
 may_delete one = record {
   acknowledge = acknowledge;
   printed = was_printed one;
-  alone = (its_own 1, (none, (of_another, (behind_unread, (none, (none, (its_own 1, (none, tt))))))));
+  alone = (its_own 1, (none, (of_another, (behind_unread, (none, (behind_stop, (none, (none, (its_own 1, (none, tt))))))))));
 }
   where
     none : AcknowledgeNoOther (numbered 1) 1 (upload_of 1 of_one) [] []

@@ -1,9 +1,9 @@
--- Files of notes with which the third database of the worked list begins.
-use Rattle.std.proofs.Common.{◌≡◌, ◌∙◌, ◌<◌, ◌^◌, arith, ℕ, nat_eq, Bool, true, false, cond, List, [], ◌∷◌, Option, Some, None, take, refl, sym, ap, subst, inl, inr, append-nil}
+-- Files of notes with which runs over the second and the third database of the worked list begin.
+use Rattle.std.proofs.Common.{◌≡◌, ◌∙◌, ◌<◌, ◌^◌, arith, ℕ, nat_eq, Bool, true, false, cond, List, [], ◌∷◌, Some, None, take, refl, sym, ap, subst, append-nil}
 use Rattle.std.specs.BTreeMap.{is_at}
 use Rattle.std.specs.FinMap.{empty, get}
-use Rattle.std.specs.List.{All}
-use Rattle.std.specs.Option.{option_map, option_or}
+use Rattle.std.specs.List.{All, Contains}
+use Rattle.std.specs.Option.{option_map}
 use Rattle.std.specs.Ordering.{nat_cmp}
 use Rattle.std.proofs.lemmas.List.Elements.{All-from_recursion}
 use Rattle.std.proofs.lemmas.Map.Lookups.{exact_unsigned}
@@ -12,12 +12,14 @@ use Rattle.sha2.proofs.Facts256.{length-sha256}
 use Rattle.jc_base.specs.declared.id.Id128.{Id128}
 use Rattle.jc_base.specs.declared.id.Key.{Key}
 use Rattle.jc_base.specs.Journal.{Journal}
-use Rattle.jc_base.specs.LogEntry.{Body, IsKey, LogEntry}
+use Rattle.jc_base.specs.LogEntry.{IsKey, LogEntry}
 use Rattle.jc_export.specs.Canonical.{canon}
+use Rattle.jc_keeper.specs.Agree.{IsStored}
 use Rattle.jc_keeper.specs.KeyLaws.{key_eq, key_eq_equiv, same_key}
-use Rattle.jc_ledger.specs.Kept.{IsKnownBy}
-use Rattle.jc_ledger.specs.Known.{digest_of, digest_under, known_of}
-use Rattle.jc_ledger.specs.Owners.{machine_named}
+use Rattle.jc_ledger.specs.Kept.{IsKnownBy, NoneCollide}
+use Rattle.jc_ledger.specs.Known.{Known, digest_of, digest_under, known_of}
+use Rattle.jc_ledger.specs.Owners.{Owner, machine_named}
+use Rattle.jc_ledger.specs.Union.{union}
 use Rattle.jc_ledger_files.specs.Blocks.{HasNotes, IsNote, blocks}
 use Rattle.jc_ledger_files.specs.declared.window_name.WindowName.{WindowName}
 use Rattle.jc_ledger_files.specs.declared.window_note.WindowNote.{WindowNote}
@@ -27,13 +29,14 @@ use Rattle.jc_ledger_files.specs.Owned.{owner_found, owner_of, owner_window}
 use Rattle.jc_ledger_files.specs.OwnersLaws.{with_owners}
 use Rattle.jc_ledger_files.specs.Windows.{known_in, same_window, window_of}
 use Rattle.jc_runs.specs.Between.{Between, nothing}
-use Rattle.jc_runs.specs.Worked.{StartsThird, of_one, of_other, worked}
+use Rattle.jc_runs.specs.Steps.{LeadsOn}
+use Rattle.jc_runs.specs.Worked.{Starts, numbered, of_one, of_other, worked}
 use Rattle.jc_runs.proofs.Course.{keeps_on, stands_at_first}
 use Rattle.jc_runs.proofs.Following.{begins_alike}
 use Rattle.jc_runs.proofs.OneMore.{Reads}
 use Rattle.jc_runs.proofs.Stepping.{Laws}
-use Rattle.jc_runs.proofs.Unions.{in_now, in_past, union_get}
-use Rattle.jc_runs.proofs.WorkedSteps.{both_owners, has_one, is_numbered, leads_half, m1, m2, no_one, none_but, none_collide, owned_if, p1, p1_get, p2, s5}
+use Rattle.jc_runs.proofs.Unions.{in_now, in_past}
+use Rattle.jc_runs.proofs.WorkedSteps.{both_owners, came, has_no_third, has_one, is_numbered, leads_half, leads_to_s4, m1, m2, no_one, none_collide, owned_if, p1, p2, s4, s5}
 
 -- what is read of files, and that owners among the notes do no harm
 pub record Files : Type 0 where
@@ -107,10 +110,6 @@ has_one_of_p2 = in_past p1 m2 of_one no_one (in_now empty m1 of_one (has_one of_
 has_other_of_p2 : get p2 of_other.key ≡ Some of_other.body
 has_other_of_p2 = in_now p1 m2 of_other (has_one of_other)
 
-has_no_third : (k : Key) → key_eq k of_one.key ≡ false → key_eq k of_other.key ≡ false → get p2 k ≡ None
-has_no_third k one other =
-    union_get p1 m2 k ∙ (ap (λ (o : Option Body). option_or o (get p1 k)) (none_but of_other k other) ∙ p1_get k (none_but of_one k one))
-
 tells : (k : Key) → noted (entry_notes (window_of k)) k.seqnum ≡ known_of p2 k
 unfolding entry_notes note_of
 tells k = by_first (key_eq k of_one.key) refl
@@ -183,25 +182,33 @@ module _ (files : Files) where
   unfolding all_notes owner_notes both_owners
   owner_there s = ap owner_of (found (owner_window s)) ∙ owned (is_numbered 1 s) (is_numbered 2 s)
 
-  pub starts_third : Laws → Reads → (b : Between) × StartsThird b
+  -- A run begins behind such a list if this is all that came, is known and belongs to somebody.
+  starts_at : Laws → (steps : ℕ) (b : Between) → LeadsOn nothing (take steps worked) b → (past now : Journal) → b.past ≡ union past now
+      → b.known ≡ known_of p2 → b.owner ≡ both_owners → b.came ≡ came → Starts steps b
   unfolding both_owners is_numbered owned_if
-  starts_third laws reads = (
-    s5,
-    record {
-      leads = leads_half reads;
-      owner = refl;
-      owner_of_other = refl;
-      noted = ap (option_map (digest_under of_one.key)) has_one_of_p2;
-      noted_of_other = ap (option_map (digest_under of_other.key)) has_other_of_p2;
-      windows = windows;
-      began = λ tables image told deeds nothing_there. record {
-        holds = inr (inl nothing_there, refl, refl);
-        noted = known_there;
-        owner = owner_there;
-        past = laws.same p1 m2;
-        came = λ e had. had;
-      };
-      begins = λ image told deeds. begins_alike (sym (laws.same p1 m2)) known_there (λ e had. had)
-          (keeps_on laws nothing s5 (take 5 worked) (leads_half reads) none_collide (stands_at_first laws.same)).stands.begins;
-    },
+  starts_at laws steps b leads past now earlier known owner had = record {
+    leads = leads;
+    owner = ap (λ (o : Owner). o (numbered 1)) owner;
+    owner_of_other = ap (λ (o : Owner). o (numbered 2)) owner;
+    noted = ap (λ (o : Known). o of_one.key) known ∙ ap (option_map (digest_under of_one.key)) has_one_of_p2;
+    noted_of_other = ap (λ (o : Known). o of_other.key) known ∙ ap (option_map (digest_under of_other.key)) has_other_of_p2;
+    windows = windows;
+    began = λ made kind image told deeds begins. record {
+      holds = begins;
+      noted = λ k key. known_there k key ∙ ap (λ (o : Known). o k) (sym known);
+      owner = λ s. owner_there s ∙ ap (λ (o : Owner). o s) (sym owner);
+      past = all_there;
+      came = λ e inside. inside;
+    };
+    begins = λ image told deeds. begins_alike (sym all_there) (λ k key. known_there k key ∙ ap (λ (o : Known). o k) (sym known)) (λ e inside. inside)
+        (keeps_on laws nothing b (take steps worked) leads (subst (λ (es : List LogEntry). NoneCollide (Contains es)) (sym had) none_collide) (stands_at_first laws.same)).stands.begins;
+  }
+    where
+      all_there : union b.past empty ≡ b.past
+      all_there = subst (λ (m : Journal). union m empty ≡ m) (sym earlier) (laws.same past now)
+
+  pub starts : Laws → Reads → ((b : Between) × Starts 4 b × IsStored b.now of_other) × ((b : Between) × Starts 5 b × (b.now ≡ empty))
+  starts laws reads = (
+    (s4, starts_at laws 4 s4 (leads_to_s4 reads) empty m1 refl refl refl refl, has_one of_other),
+    (s5, starts_at laws 5 s5 (leads_half reads) p1 m2 refl refl refl refl, refl),
   )

@@ -1,32 +1,36 @@
 -- The worked list of steps, one by one.
-use Rattle.std.proofs.Common.{◌≡◌, ◌⊎◌, ◌∙◌, ◌&&◌, ◌+◌, ◌*◌, arith, ℕ, Bool, true, false, cond, not, is_some, List, [], ◌∷◌, Option, Some, None, take, refl, sym, ap, subst, inl, inr, ⊎_elim}
+use Rattle.std.proofs.Common.{◌≡◌, ◌⊎◌, ◌∙◌, ◌&&◌, ◌||◌, ◌+◌, ◌*◌, arith, ℕ, Bool, true, false, cond, not, is_some, List, [], ◌∷◌, Option, Some, None, take, refl, sym, ap, subst, inl, inr, ⊎_elim}
 use Rattle.std.specs.Option.{option_map, option_or}
 use Rattle.std.specs.List.{Contains}
 use Rattle.std.specs.FinMap.{empty, get, get-insert, insert, retain_keys}
 use Rattle.std.proofs.lemmas.List.Elements.{Contains-append_cases, Contains-append_left, Contains-append_right}
+use Rattle.jc_base.specs.declared.fault.Code.TheVariants.{StoreFailed}
 use Rattle.jc_base.specs.declared.id.Id128.{Id128}
 use Rattle.jc_base.specs.declared.id.Key.{Key}
+use Rattle.jc_base.specs.declared.limits.Limits.{Limits}
+use Rattle.jc_base.specs.Fault.{number_of}
 use Rattle.jc_base.specs.Journal.{Journal}
 use Rattle.jc_base.specs.LogEntry.{LogEntry, Body}
+use Rattle.jc_collect.specs.Each.{CollectsOneMore}
 use Rattle.jc_keeper.specs.Agree.{IsStored}
-use Rattle.jc_keeper.specs.KeyLaws.{key_eq, key_total, same_key}
+use Rattle.jc_keeper.specs.KeyLaws.{key_eq, key_total, same_key, same_parts}
 use Rattle.jc_keeper.specs.Listing.{entry_under}
 use Rattle.jc_ledger.specs.declared.owner.MachineDigest.{MachineDigest}
 use Rattle.jc_ledger.specs.Kept.{AreApart, IsKept, NoneCollide}
 use Rattle.jc_ledger.specs.Known.{digest_under, known_of}
-use Rattle.jc_ledger.specs.Lagging.{MayCatchUp}
+use Rattle.jc_ledger.specs.Lagging.{LagsBehind, MayCatchUp}
 use Rattle.jc_ledger.specs.Owners.{Owner, machine_named}
 use Rattle.jc_ledger.specs.Union.{union}
 use Rattle.jc_ledger_files.specs.Owned.{owner_window}
 use Rattle.jc_ledger_files.specs.Windows.{window_of}
-use Rattle.jc_runs.specs.Between.{Between, Expired, Kept, database, nothing}
+use Rattle.jc_runs.specs.Between.{Aside, Between, Expired, Kept, database, nothing}
 use Rattle.jc_runs.specs.Steps.{EndsRun, Expiry, Forgetting, LeadsOn, StopsRun, Turn}
-use Rattle.jc_runs.specs.Worked.{IsWorked, acks, alone, numbered, of_its_window, of_one, of_other, unread, worked}
+use Rattle.jc_runs.specs.Worked.{IsWorked, acks, alone, numbered, of_its_window, of_lost, of_one, of_other, uncommitted, unread, upload_of, worked}
 use Rattle.jc_runs.proofs.Course.{keeps_on, stands_at_first}
-use Rattle.jc_runs.proofs.OneMore.{Reads, has_it, it_is, only, small_one, small_other, stores_new, stores_same}
+use Rattle.jc_runs.proofs.OneMore.{Reads, collects_new, has_it, it_is, only, small_lost, small_one, small_other, stores_new, stores_same}
 use Rattle.jc_runs.proofs.Stepping.{Laws}
 use Rattle.jc_runs.proofs.WorkedDeletion.{OneEach, may_delete}
-use Rattle.jc_runs.proofs.Unions.{has_none, in_either, in_now, in_past, part_get, part_of, union_get, union_none, void}
+use Rattle.jc_runs.proofs.Unions.{has_none, in_either, in_now, in_past, part_get, part_none, part_of, union_get, union_none, void}
 
 -- ---- journals with one entry
 
@@ -63,6 +67,9 @@ m1 = one_only of_one
 abbrev pub m2 : Journal
 m2 = one_only of_other
 
+abbrev m3 : Journal
+m3 = one_only of_lost
+
 abbrev pub p1 : Journal
 p1 = union empty m1
 
@@ -70,10 +77,19 @@ abbrev pub p2 : Journal
 p2 = union p1 m2
 
 abbrev p3 : Journal
-p3 = retain_keys p2 (λ k. not (of_its_window (window_of k)))
+p3 = union p2 empty
+
+abbrev stays_there : Key → Bool
+stays_there k = not (of_its_window (window_of k))
+
+abbrev p4 : Journal
+p4 = retain_keys p3 stays_there
 
 abbrev pub came : List LogEntry
 came = of_other ∷ of_one ∷ []
+
+abbrev came_all : List LogEntry
+came_all = of_lost ∷ came
 
 came_one : Contains came of_one
 came_one = Contains-append_right (of_other ∷ []) (of_one ∷ []) of_one (it_is of_one)
@@ -84,11 +100,17 @@ came_other = Contains-append_left (of_other ∷ []) (of_one ∷ []) of_other (it
 in_came : (e : LogEntry) → Contains came e → (of_other ≡ e) ⊎ (of_one ≡ e)
 in_came e inside = ⊎_elim (λ a. inl (only of_other e a)) (λ b. inr (only of_one e b)) (Contains-append_cases (of_other ∷ []) (of_one ∷ []) e inside)
 
+came_too : (e : LogEntry) → Contains came e → Contains came_all e
+came_too e inside = Contains-append_right (of_lost ∷ []) came e inside
+
 of_m1 : (e : LogEntry) → IsStored m1 e → Contains came e
 of_m1 e stored = subst (Contains came) (is_one of_one e stored) came_one
 
 of_m2 : (e : LogEntry) → IsStored m2 e → Contains came e
 of_m2 e stored = subst (Contains came) (is_one of_other e stored) came_other
+
+of_m3 : (e : LogEntry) → IsStored m3 e → Contains came_all e
+of_m3 e stored = subst (Contains came_all) (is_one of_lost e stored) (Contains-append_left (of_lost ∷ []) came of_lost (it_is of_lost))
 
 not_in_none : {A : Type 0} (e : LogEntry) → IsStored empty e → A
 not_in_none e stored = absurd (let nothing = has_none e.key in let there : get void e.key ≡ Some e.body = stored in cc)
@@ -99,6 +121,9 @@ in_p1 e stored = ⊎_elim (λ now. now) (λ past. not_in_none e past) (in_either
 of_p2 : (e : LogEntry) → IsStored p2 e → Contains came e
 of_p2 e stored = ⊎_elim (λ now. of_m2 e now) (λ past. of_m1 e (in_p1 e past)) (in_either p1 m2 e stored)
 
+of_p3 : (e : LogEntry) → IsStored p3 e → Contains came e
+of_p3 e stored = ⊎_elim (λ now. not_in_none e now) (λ past. of_p2 e past) (in_either p2 empty e stored)
+
 pub p1_get : (k : Key) → get m1 k ≡ None → get p1 k ≡ None
 p1_get k none = union_get void m1 k ∙ (ap (λ (o : Option Body). option_or o (get void k)) none ∙ has_none k)
 
@@ -108,22 +133,31 @@ no_other = none_but of_one of_other.key refl
 pub no_one : get m2 of_one.key ≡ None
 no_one = none_but of_other of_one.key refl
 
+pub has_no_third : (k : Key) → key_eq k of_one.key ≡ false → key_eq k of_other.key ≡ false → get p2 k ≡ None
+has_no_third k one other =
+    union_get p1 m2 k ∙ (ap (λ (o : Option Body). option_or o (get p1 k)) (none_but of_other k other) ∙ p1_get k (none_but of_one k one))
+
+no_lost : get p2 of_lost.key ≡ None
+no_lost = has_no_third of_lost.key refl refl
+
+gone_one : get p4 of_one.key ≡ None
+gone_one = part_get p3 stays_there of_one.key
+
+gone_lost : get p4 of_lost.key ≡ None
+gone_lost = part_none p3 stays_there of_lost.key (union_none p2 of_lost.key no_lost)
+
+apart_from : (past : Journal) (e : LogEntry) → get past e.key ≡ None → AreApart past (one_only e)
+apart_from past e none k = by_key (key_eq k e.key) refl
+  where
+    by_key : (b : Bool) → key_eq k e.key ≡ b → (get past k ≡ None) ⊎ (get (one_only e) k ≡ None)
+    by_key true is = inl (ap (get past) (same_key k e.key is) ∙ none)
+    by_key false is = inr (none_but e k is)
+
 apart_p1 : AreApart p1 m2
-apart_p1 k = by_key (key_eq k of_one.key) refl
-  where
-    by_key : (b : Bool) → key_eq k of_one.key ≡ b → (get p1 k ≡ None) ⊎ (get m2 k ≡ None)
-    by_key true is = inr (ap (get m2) (same_key k of_one.key is) ∙ no_one)
-    by_key false is = inl (p1_get k (none_but of_one k is))
+apart_p1 = apart_from p1 of_other (p1_get of_other.key no_other)
 
-gone_one : get p3 of_one.key ≡ None
-gone_one = part_get p2 (λ k. not (of_its_window (window_of k))) of_one.key
-
-apart_p3 : AreApart p3 m1
-apart_p3 k = by_key (key_eq k of_one.key) refl
-  where
-    by_key : (b : Bool) → key_eq k of_one.key ≡ b → (get p3 k ≡ None) ⊎ (get m1 k ≡ None)
-    by_key true is = inl (ap (get p3) (same_key k of_one.key is) ∙ gone_one)
-    by_key false is = inr (none_but of_one k is)
+apart_p2 : AreApart p2 m3
+apart_p2 = apart_from p2 of_lost no_lost
 
 kept_as_known : (past now : Journal) (es : List LogEntry) → AreApart past now → ((e : LogEntry) → IsStored past e → Contains es e) → ((e : LogEntry) → IsStored now e → Contains es e)
     → IsKept (known_of (union past now)) past now (Contains es)
@@ -132,6 +166,20 @@ kept_as_known past now es apart of_past of_now = record {
   apart = apart;
   have_come = λ e stored. ⊎_elim (λ here. of_now e here) (λ there. of_past e there) (in_either past now e stored);
 }
+
+with_none : (past : Journal) (k : Key) → get past k ≡ get (union past empty) k
+with_none past k = sym (union_get past empty k ∙ ap (λ (o : Option Body). option_or o (get past k)) (has_none k))
+
+-- Nothing of the present one is noted.
+kept_none : (past : Journal) (es : List LogEntry) → ((e : LogEntry) → IsStored past e → Contains es e) → IsKept (known_of past) past empty (Contains es)
+kept_none past es of_past = record {
+  noted = λ k key. ap (λ (o : Option Body). option_map (digest_under k) o) (with_none past k);
+  apart = λ k. inr (has_none k);
+  have_come = λ e stored. ⊎_elim (λ here. not_in_none e here) (λ there. of_past e there) (in_either past empty e stored);
+}
+
+lags_whole : (past now : Journal) → AreApart past now → LagsBehind past empty now
+lags_whole past now apart = record { has = λ e stored. not_in_none e stored; apart = apart }
 
 -- ---- whom sequences belong to
 
@@ -172,19 +220,30 @@ abbrev pub s5 : Between
 s5 = record s4 { earlier = database Kept m2 ∷ database Kept m1 ∷ []; past = p2; now = empty }
 
 abbrev s6 : Between
-s6 = record s5 {
+s6 = record s5 { now = m3; came = came_all }
+
+abbrev s7 : Between
+s7 = record s6 {
+  earlier = database Aside m3 ∷ database Kept m2 ∷ database Kept m1 ∷ [];
+  past = p3;
+  now = empty;
+  forgotten = λ k. key_eq k of_lost.key;
+}
+
+abbrev s8 : Between
+s8 = record s7 {
   known = λ k. cond (of_its_window (window_of k)) None (known_of (union p1 m2) k);
   owner = λ s. cond (of_its_window (owner_window s)) None (both_owners s);
-  past = p3;
-  forgotten = λ k. of_its_window (window_of k);
+  past = p4;
+  forgotten = λ k. key_eq k of_lost.key || of_its_window (window_of k);
   released = λ s. of_its_window (owner_window s);
 }
 
-abbrev s7 : Between
-s7 = record s6 { known = known_of (union p3 m1); now = m1 }
+abbrev s9 : Between
+s9 = record s8 { known = known_of (union p4 m1); now = m1 }
 
-abbrev s8 : Between
-s8 = record s7 { earlier = database Kept m2 ∷ database Expired m1 ∷ [] }
+abbrev s10 : Between
+s10 = record s9 { earlier = database Aside m3 ∷ database Kept m2 ∷ database Expired m1 ∷ [] }
 
 nothing_there : (k : Key) → get (union empty empty) k ≡ None
 nothing_there k = union_none empty k (has_none k)
@@ -205,7 +264,7 @@ step1 reads = record {
     owners = λ s machine owns. absurd cc;
   };
   kept = λ begins apart. kept_first;
-  stored = λ begins apart limits defaults. stores_new reads empty empty 1 1 small_one (nothing_there of_one.key) limits;
+  stored = λ begins apart limits defaults. stores_new reads empty empty 1 1 1 small_one (nothing_there of_one.key) limits;
 }
 
 and_not : (b : Bool) → false ≡ (b && not b)
@@ -227,19 +286,8 @@ step2 = record {
   released = refl;
 }
 
-with_none : (past : Journal) (k : Key) → get past k ≡ get (union past empty) k
-with_none past k = sym (union_get past empty k ∙ ap (λ (o : Option Body). option_or o (get past k)) (has_none k))
-
 begins3 : MayCatchUp (known_of p1) p1 m2 (Contains came)
-begins3 = record {
-  noted = empty;
-  kept = record {
-    noted = λ k key. ap (λ (o : Option Body). option_map (digest_under k) o) (with_none p1 k);
-    apart = λ k. inr (has_none k);
-    have_come = λ e stored. of_m1 e (in_p1 e (⊎_elim (λ here. not_in_none e here) (λ there. there) (in_either p1 empty e stored)));
-  };
-  lags = record { has = λ e stored. not_in_none e stored; apart = apart_p1 };
-}
+begins3 = record { noted = empty; kept = kept_none p1 came (λ e past. of_m1 e (in_p1 e past)); lags = lags_whole p1 m2 apart_p1 }
 
 step3 : Reads → StopsRun (alone 2 of_other) (acks 2 1) s2 s3
 unfolding one_only first_owner both_owners
@@ -261,7 +309,7 @@ step3 reads = record {
     behind = [];
     whole = refl;
     last = union p1 m2;
-    collected = stores_new reads p1 empty 2 (64 * 4096 + 1) small_other (union_none p1 of_other.key (p1_get of_other.key no_other)) limits;
+    collected = stores_new reads p1 empty 2 2 (64 * 4096 + 1) small_other (union_none p1 of_other.key (p1_get of_other.key no_other)) limits;
     none = tt;
     is = inl refl;
   };
@@ -277,7 +325,7 @@ step4 reads = record {
   stored = λ begins apart limits defaults. (
     union p1 m2,
     refl,
-    stores_same reads (union p1 m2) 1 1 small_one (in_past p1 m2 of_one no_one (in_now empty m1 of_one (has_one of_one))) limits,
+    stores_same reads (union p1 m2) 1 1 1 small_one (in_past p1 m2 of_one no_one (in_now empty m1 of_one (has_one of_one))) limits,
   );
 }
 
@@ -296,8 +344,74 @@ step5 = record {
   released = refl;
 }
 
-step6 : Forgetting of_its_window s5 s6
-step6 = record {
+kept6 : IsKept (known_of p2) p2 empty (Contains came_all)
+kept6 = kept_none p2 came_all (λ e past. came_too e (of_p2 e past))
+
+step6 : Reads → StopsRun (alone 3 of_lost) (uncommitted 3 ∷ []) s5 s6
+unfolding one_only
+step6 reads = record {
+  leaves = record { earlier = refl; past = refl; forgotten = refl; released = refl; comes = came_too; owners = λ s machine owns. owns };
+  lags = λ begins apart. record { noted = empty; kept = kept6; lags = lags_whole p2 m3 apart_p2 };
+  stored = λ begins apart limits defaults. record {
+    ahead = [];
+    others = alone 3 of_lost;
+    are = refl;
+    front = [];
+    behind = uncommitted 3 ∷ [];
+    whole = refl;
+    last = union p2 empty;
+    collected = refl;
+    none = tt;
+    is = inr (one_more limits);
+  };
+}
+  where
+    one_more : (limits : Limits) → CollectsOneMore limits (alone 3 of_lost) (uncommitted 3 ∷ []) (union p2 empty) (union p2 (insert empty of_lost.key of_lost.body))
+    one_more limits = record {
+      upload = Some (upload_of 3 of_lost);
+      others = [];
+      are = refl;
+      of = Some (numbered 3, 0);
+      code = number_of StoreFailed;
+      place = 0;
+      behind = [];
+      whole = refl;
+      may = inl refl;
+      source = numbered 3;
+      start = 0;
+      count = 1;
+      new = 1;
+      left = 0;
+      collects = collects_new reads p2 empty 3 2 (64 * 4096 + 2) small_lost (union_none p2 of_lost.key no_lost) limits;
+    }
+
+-- Of what the database that is set aside has, nothing is noted.
+unnoted : (k : Key) → key_eq k of_lost.key ≡ (is_some (get m3 k) && not (is_some (get void k)))
+unnoted k = by_key (key_eq k of_lost.key) ∙ sym
+    (ap (λ (o : Option Body). is_some o && not (is_some (get void k))) (one_get of_lost k (key_eq k of_lost.key) refl)
+    ∙ ap (λ (o : Option Body). is_some (cond (key_eq k of_lost.key) (Some of_lost.body) None) && not (is_some o)) (has_none k))
+  where
+    by_key : (b : Bool) → b ≡ (is_some (cond b (Some of_lost.body) None) && true)
+    by_key true = refl
+    by_key false = refl
+
+step7 : Turn Aside s6 s7
+step7 = record {
+  noted = empty;
+  kept = kept6;
+  lags = lags_whole p2 m3 apart_p2;
+  known = refl;
+  owner = refl;
+  earlier = refl;
+  past = refl;
+  now = refl;
+  came = refl;
+  forgotten = unnoted;
+  released = refl;
+}
+
+step8 : Forgetting of_its_window s7 s8
+step8 = record {
   known = λ k. refl;
   owner = λ s. refl;
   earlier = refl;
@@ -308,56 +422,71 @@ step6 = record {
   released = λ s. refl;
 }
 
-kept_third : IsKept (known_of (union p3 m1)) p3 m1 (Contains came)
-kept_third = kept_as_known p3 m1 came apart_p3
-    (λ e stored. of_p2 e (part_of p2 (λ k. not (of_its_window (window_of k))) e.key e.body stored)) of_m1
+kept_last : IsKept (known_of (union p4 m1)) p4 m1 (Contains came_all)
+kept_last = kept_as_known p4 m1 came_all (apart_from p4 of_one gone_one)
+    (λ e stored. came_too e (of_p3 e (part_of p3 stays_there e.key e.body stored))) (λ e stored. came_too e (of_m1 e stored))
 
-step7 : Reads → EndsRun (alone 1 of_one) (acks 1 1) s6 s7
+step9 : Reads → EndsRun (alone 1 of_one) (acks 1 1) s8 s9
 unfolding one_only
-step7 reads = record {
+step9 reads = record {
   leaves = record { earlier = refl; past = refl; forgotten = refl; released = refl; comes = λ e inside. inside; owners = λ s machine owns. owns };
-  kept = λ begins apart. kept_third;
-  stored = λ begins apart limits defaults. stores_new reads p3 empty 1 1 small_one (union_none p3 of_one.key gone_one) limits;
+  kept = λ begins apart. kept_last;
+  stored = λ begins apart limits defaults. stores_new reads p4 empty 1 1 1 small_one (union_none p4 of_one.key gone_one) limits;
 }
 
-step8 : Expiry s7 s8
-step8 = record { known = refl; owner = refl; earlier = refl; past = refl; now = refl; came = refl; forgotten = refl; released = refl }
+step10 : Expiry s9 s10
+step10 = record { known = refl; owner = refl; earlier = refl; past = refl; now = refl; came = refl; forgotten = refl; released = refl }
+
+lost_unknown : known_of (union p4 m1) of_lost.key ≡ None
+lost_unknown = ap (option_map (digest_under of_lost.key)) (union_get p4 m1 of_lost.key
+    ∙ (ap (λ (o : Option Body). option_or o (get p4 of_lost.key)) (none_but of_one of_lost.key refl) ∙ gone_lost))
+
+-- All of these entries have one body.
+plain : (e : LogEntry) → Contains came_all e → e.body ≡ of_one.body
+plain e inside = ⊎_elim (λ (a : Contains (of_lost ∷ []) e). is_plain of_lost refl (only of_lost e a))
+    (λ b. ⊎_elim (is_plain of_other refl) (is_plain of_one refl) (in_came e b)) (Contains-append_cases (of_lost ∷ []) came e inside)
+  where
+    is_plain : (x : LogEntry) → x.body ≡ of_one.body → x ≡ e → e.body ≡ of_one.body
+    is_plain x body is = sym (ap (λ (y : LogEntry). y.body) is) ∙ body
+
+none_collide_all : NoneCollide (Contains came_all)
+none_collide_all e f here there keys digests = same_parts e f keys (plain e here ∙ sym (plain f there))
 
 pub none_collide : NoneCollide (Contains came)
-none_collide e f here there keys digests = two (in_came e here) (in_came f there)
-  where
-    two : (of_other ≡ e) ⊎ (of_one ≡ e) → (of_other ≡ f) ⊎ (of_one ≡ f) → e ≡ f
-    two (inl a) (inl b) = sym a ∙ b
-    two (inr a) (inr b) = sym a ∙ b
-    two (inl a) (inr b) =
-        let same : 262145 ≡ 1 = ap (λ (x : LogEntry). x.key.seqnum) a ∙ (ap (λ (k : Key). k.seqnum) keys ∙ sym (ap (λ (x : LogEntry). x.key.seqnum) b)) in
-        absurd (omega (arith, same))
-    two (inr a) (inl b) =
-        let same : 1 ≡ 262145 = ap (λ (x : LogEntry). x.key.seqnum) a ∙ (ap (λ (k : Key). k.seqnum) keys ∙ sym (ap (λ (x : LogEntry). x.key.seqnum) b)) in
-        absurd (omega (arith, same))
+none_collide e f here there = none_collide_all e f (came_too e here) (came_too f there)
+
+pub leads_to_s4 : Reads → LeadsOn nothing (take 4 worked) s4
+leads_to_s4 reads = (s1, step1 reads, (s2, step2, (s3, step3 reads, (s4, step4 reads, refl))))
 
 pub leads_half : Reads → LeadsOn nothing (take 5 worked) s5
 leads_half reads = (s1, step1 reads, (s2, step2, (s3, step3 reads, (s4, step4 reads, (s5, step5, refl)))))
 
-leads_there : Reads → LeadsOn nothing worked s8
-leads_there reads = (s1, step1 reads, (s2, step2, (s3, step3 reads, (s4, step4 reads, (s5, step5, (s6, step6, (s7, step7 reads, (s8, step8, refl))))))))
+leads_there : Reads → LeadsOn nothing worked s10
+leads_there reads = (
+  s1,
+  step1 reads,
+  (s2, step2, (s3, step3 reads, (s4, step4 reads, (s5, step5, (s6, step6 reads, (s7, step7, (s8, step8, (s9, step9 reads, (s10, step10, refl))))))))),
+)
 
 pub it_is_worked : Laws → Reads → OneEach → (c : Between) × IsWorked c
 unfolding both_owners is_numbered owned_if
 it_is_worked laws reads one = (
-  s8,
+  s10,
   record {
     leads = leads_there reads;
-    apart = none_collide;
+    apart = none_collide_all;
     again = has_one of_one;
-    still = inr (inl (has_one of_one));
+    still = inr (inr (inl (has_one of_one)));
     went = refl;
-    other = inl (has_one of_other);
+    other = inr (inl (has_one of_other));
     stayed = refl;
+    lost = inl (has_one of_lost);
+    unknown = lost_unknown;
+    went_aside = refl;
     owner = refl;
     owner_of_other = refl;
-    kept = kept_third;
-    keeps = keeps_on laws nothing s8 worked (leads_there reads) none_collide (stands_at_first laws.same);
+    kept = kept_last;
+    keeps = keeps_on laws nothing s10 worked (leads_there reads) none_collide_all (stands_at_first laws.same);
     may = may_delete one;
   },
 )

@@ -63,30 +63,30 @@ pub record AreFirst (AreUploads Are : List (Option (List ℕ)) → Type 0) : Typ
   pub both : AreUploads (first ++ others)
   pub are : Are first
 
--- A run printed the lines of answers, and what they say of the uploads that the list names is a step of a run that ended.
-pub record PrintsEnd (told : List ℕ → Option (List ℕ)) (list : List ℕ) (most_windows : Option ℕ) (given : Option (List ℕ)) (status : Status)
-    (old new : Option (List ℕ)) (b c : Between) : Type 0 where
+-- A run printed the lines of answers, and what they say of the uploads that the list names is such a step.
+pub record PrintsStep (Runs : List (Option (List ℕ)) → List Answer → Type 0) (told : List ℕ → Option (List ℕ)) (list : List ℕ) (most_windows : Option ℕ) (given : Option (List ℕ))
+    (status : Status) (old new : Option (List ℕ)) : Type 0 where
   pub text : Option (List ℕ)
   pub listed : IsListed told list given text
-  pub step : NamedWith (λ answers. AreFirst (those_named (told_within most_windows told) MachinesAndUploads text) (λ uploads. EndsRun uploads answers b c)) text status old new
+  pub step : NamedWith (λ answers. AreFirst (those_named (told_within most_windows told) MachinesAndUploads text) (λ uploads. Runs uploads answers)) text status old new
 
--- With what a run left the next one begins, whichever tables it would make.
+-- With what a run left the next one begins, whichever tables it would make, and behind a turn with nothing.
 abbrev pub NextBegins : Type 0
 NextBegins =
     (made kind : Tables) (b : Between) (now finished aside : Journal) (windows : WindowName → List ℕ) (image : Image) (came : List LogEntry)
-    (told : List ℕ → Option (List ℕ)) (deeds : Option (List Deed)) → HoldsJournal (meaning_of kind) image now → union finished aside ≡ b.past
+    (told : List ℕ → Option (List ℕ)) (deeds : Option (List Deed)) → BeginsIn made kind image now → union finished aside ≡ b.past
     → BeganWith made kind (begins_with image windows finished aside (Contains came) told deeds) (behind b now windows came)
 
 module _ {S C L N : Type 0} (begun : Begins) (g : Devices S C L N) (files_leave : N → WindowName → List ℕ → Type 0) (notes : N) where
-  -- What a run promises that ended with these files, closed, and these notes, sound, is a step.
+  -- What a run promises that ended with these files, closed, and these notes is a step.
   abbrev pub EndLeadsOn : C → Type 0
   EndLeadsOn files =
       (made kind : Tables) (list : List ℕ) (most_windows : Option ℕ) (given old new : Option (List ℕ)) (status : Status) (b : Between)
       (windows : WindowName → List ℕ) (image : Image) (came : List LogEntry) (deeds : Option (List Deed))
       → CollectsIntoUnion begun g (leaves (Some files) (Some notes) deeds) made list most_windows given old new status
-      → g.database.clean files → g.ledger.sound notes → BeganWith made kind begun b → MayBegin b
+      → g.database.clean files → g.ledger.clean notes → BeganWith made kind begun b → MayBegin b
       → IsFound (files_leave notes) (g.database.outcomes files) (g.ledger.came notes) b windows image came
-      → NextFinds kind b windows image came (PrintsEnd begun.told list most_windows given status old new b)
+      → NextFinds kind b windows image came (λ c. PrintsStep (λ uploads answers. EndsRun uploads answers b c) begun.told list most_windows given status old new)
 
   -- So is what one promises over the uploads that a text names, that was stopped, of whatever the stop left of its database's
   -- files.

@@ -19,9 +19,9 @@ use Rattle.jc_upload.specs.declared.answer.Answer.{Answer}
 use Rattle.jc_runs.specs.Between.{Between, Fate, MayBegin, database, journals_of}
 
 pub data Step : Type 0 where
-  -- A run printed the lines of these answers, each to the upload at its place, and ended, and no failure had shut the notes.
+  -- A run printed the lines of these answers, each to the upload at its place, and ended.
   Ends : List (Option (List ℕ)) → List Answer → Step
-  -- It printed these and was stopped, or failed: a crash, a kill, a device.
+  -- It printed these and was stopped, or failed.
   Stops : List (Option (List ℕ)) → List Answer → Step
   -- Another database, which is empty, became the present one: this became of the one before.
   Turns : Fate → Step

@@ -1,15 +1,16 @@
--- A worked list of steps: two machines, three databases, a stop, an entry that comes again, an upload that can't be read, a window
--- of notes that goes, and an upload that its machine may delete. (own)
+-- A worked list of steps: two machines, four databases, a stop, one that left more than was acknowledged, an entry that comes
+-- again, an upload that can't be read, a database that is set aside, a window of notes that goes, and an upload that its machine
+-- may delete. (own)
 use Rattle.std.specs.Prelude.{ℕ, ◌+◌, ◌*◌, ◌≡◌, Bool, true, false, List, [], ◌∷◌, ◌++◌, Option, Some, None, take}
 use Rattle.std.specs.List.{Contains}
 use Rattle.std.specs.FinMap.{empty}
-use Rattle.sqlite.specs.Files.{IsNothing}
 use Rattle.sqlite.specs.Recovery.{Image}
-use Rattle.jc_base.specs.declared.fault.Code.TheVariants.{ReadFailed}
+use Rattle.jc_base.specs.declared.fault.Code.TheVariants.{ReadFailed, StoreFailed}
 use Rattle.jc_base.specs.declared.id.Id128.{Id128}
 use Rattle.jc_base.specs.Fault.{number_of}
 use Rattle.jc_base.specs.Journal.{Journal}
 use Rattle.jc_base.specs.LogEntry.{LogEntry}
+use Rattle.jc_collector.specs.Kinds.{BeginsIn}
 use Rattle.jc_command.specs.Run.{Begins, begins_with, stored_before}
 use Rattle.jc_command_args.specs.declared.request.Tables.{Tables}
 use Rattle.jc_command_shared.specs.Deeds.{Deed}
@@ -26,7 +27,7 @@ use Rattle.jc_upload.specs.Head.{head_text}
 use Rattle.jc_upload.specs.declared.answer.Answer.{Answer}
 use Rattle.jc_upload.specs.declared.answer.Answer.TheVariants.{Ack, No}
 use Rattle.jc_upload.specs.declared.head.UploadHead.{UploadHead}
-use Rattle.jc_runs.specs.Between.{Between, IsInOne, Kept, journals_of, nothing}
+use Rattle.jc_runs.specs.Between.{Aside, Between, IsInOne, Kept, journals_of, nothing}
 use Rattle.jc_runs.specs.Next.{BeganWith}
 use Rattle.jc_runs.specs.Safe.{MayDelete, head_of_all}
 use Rattle.jc_runs.specs.Stands.{Keeps}
@@ -42,12 +43,15 @@ entry_at sequence number = record {
   body = record { realtime = 1; monotonic = 1; pairs = [] };
 }
 
--- an entry of one machine, and one of another in the 65th window of its sequence
+-- an entry of one machine, and two of another in the 65th window of its sequence
 abbrev pub of_one : LogEntry
 of_one = entry_at 1 1
 
 abbrev pub of_other : LogEntry
 of_other = entry_at 2 (64 * 4096 + 1)
+
+abbrev pub of_lost : LogEntry
+of_lost = entry_at 2 (64 * 4096 + 2)
 
 -- All of a source in one upload: this entry.
 abbrev pub head_of : (source : ℕ) → UploadHead
@@ -70,6 +74,10 @@ acks source new = ack_of source new ∷ []
 abbrev pub unread : Answer
 unread = No None (number_of ReadFailed) 0
 
+-- how one is answered whose commit failed: it may be stored all the same
+abbrev pub uncommitted : (source : ℕ) → Answer
+uncommitted source = No (Some (numbered source, 0)) (number_of StoreFailed) 0
+
 -- the window of the first machine's entry
 abbrev pub of_its_window : WindowName → Bool
 of_its_window w = same_window (window_of of_one.key) w
@@ -77,14 +85,15 @@ of_its_window w = same_window (window_of of_one.key) w
 abbrev pub worked : List Step
 worked =
     Ends (alone 1 of_one) (acks 1 1) ∷ Turns Kept ∷ Stops (alone 2 of_other) (acks 2 1) ∷ Ends (None ∷ alone 1 of_one) (unread ∷ acks 1 0)
-    ∷ Turns Kept ∷ Forgets of_its_window ∷ Ends (alone 1 of_one) (acks 1 1) ∷ Expires ∷ []
+    ∷ Turns Kept ∷ Stops (alone 3 of_lost) (uncommitted 3 ∷ []) ∷ Turns Aside ∷ Forgets of_its_window ∷ Ends (alone 1 of_one) (acks 1 1)
+    ∷ Expires ∷ []
 
 -- what a run supposes of the notes that it begins with, and of the journal that its database has
 abbrev pub MayStart : Begins → Journal → Type 0
 MayStart begun now = MayCatchUp begun.noted (stored_before begun) now begun.came
 
--- What they lead to: the first machine's entry is in two databases, since its note went, and the other's in one; the sequences
--- belong to whom they belonged to.
+-- What they lead to: the first machine's entry is in two databases, since its note went, and the other's in one; what a stop left
+-- beyond that was in the database that was set aside, and has no note; the sequences belong to whom they belonged to.
 pub record IsWorked (c : Between) : Type 0 where
   pub leads : LeadsOn nothing worked c
   pub apart : NoneCollide (Contains c.came)
@@ -93,6 +102,9 @@ pub record IsWorked (c : Between) : Type 0 where
   pub went : c.forgotten of_one.key ≡ true
   pub other : IsInOne (journals_of c.earlier) of_other
   pub stayed : c.forgotten of_other.key ≡ false
+  pub lost : IsInOne (journals_of c.earlier) of_lost
+  pub unknown : c.known of_lost.key ≡ None
+  pub went_aside : c.forgotten of_lost.key ≡ true
   pub owner : c.owner (numbered 1) ≡ Some (machine_named (1 ∷ []))
   pub owner_of_other : c.owner (numbered 2) ≡ Some (machine_named (2 ∷ []))
   -- what is noted is what its databases have
@@ -101,16 +113,16 @@ pub record IsWorked (c : Between) : Type 0 where
   pub keeps : Keeps nothing worked c
   pub may : MayDelete (upload_of 1 of_one) (answer_text (ack_of 1 1)) worked
 
--- The third database begins where no database is. The machines own the sequences, and their entries are noted, one of them in
--- the 65th window: such files of notes are what runs suppose of their beginning.
-pub record StartsThird (b : Between) : Type 0 where
-  pub leads : LeadsOn nothing (take 5 worked) b
+-- So many steps lead to this. The machines own the sequences, and their entries are noted, one of them in the 65th window: with
+-- such files of notes, and with any of the present database that have what it has, the next run begins.
+pub record Starts (steps : ℕ) (b : Between) : Type 0 where
+  pub leads : LeadsOn nothing (take steps worked) b
   pub owner : b.owner (numbered 1) ≡ Some (machine_named (1 ∷ []))
   pub owner_of_other : b.owner (numbered 2) ≡ Some (machine_named (2 ∷ []))
   pub noted : b.known of_one.key ≡ Some (digest_of of_one)
   pub noted_of_other : b.known of_other.key ≡ Some (digest_of of_other)
   pub windows : WindowName → List ℕ
-  pub began : (tables : Tables) (image : Image) (told : List ℕ → Option (List ℕ)) (deeds : Option (List Deed)) → IsNothing image
-      → BeganWith tables tables (begins_with image windows b.past empty (Contains b.came) told deeds) b
+  pub began : (made kind : Tables) (image : Image) (told : List ℕ → Option (List ℕ)) (deeds : Option (List Deed)) → BeginsIn made kind image b.now
+      → BeganWith made kind (begins_with image windows b.past empty (Contains b.came) told deeds) b
   pub begins : (image : Image) (told : List ℕ → Option (List ℕ)) (deeds : Option (List Deed))
       → MayStart (begins_with image windows b.past empty (Contains b.came) told deeds) b.now

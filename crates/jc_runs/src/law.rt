@@ -1,15 +1,17 @@
 //! What holds after any list of runs.
 
 ghost use Rattle.std.specs.Prelude.{◌≡◌, List};
+ghost use Rattle.std.specs.FinMap.{empty};
 ghost use Rattle.std.specs.List.{Contains};
 ghost use Rattle.jc_base.specs.declared.id.Key.{Key};
 ghost use Rattle.jc_base.specs.LogEntry.{IsKey};
+ghost use Rattle.jc_keeper.specs.Agree.{IsStored};
 ghost use Rattle.jc_ledger.specs.Kept.{IsKept, NoneCollide};
 ghost use Rattle.jc_runs.specs.Between.{Between, Fate, nothing};
 ghost use Rattle.jc_runs.specs.Safe.{DeletesSafely, TellsAll};
 ghost use Rattle.jc_runs.specs.Stands.{Keeps, Stands};
 ghost use Rattle.jc_runs.specs.Steps.{LeadsOn, Step, Turn};
-ghost use Rattle.jc_runs.specs.Worked.{IsWorked, StartsThird};
+ghost use Rattle.jc_runs.specs.Worked.{IsWorked, Starts, of_other};
 
 use jc_base::Limits;
 use jc_collect::{acknowledged_stored, each_stored};
@@ -31,7 +33,8 @@ pub fn runs_keep()
     ensures deletes { DeletesSafely }
     // There are such lists, and such uploads.
     ensures worked { (c : Between) × IsWorked c }
-    ensures starts { (b : Between) × StartsThird b }
+    // A run begins with a database that has an entry, and behind a turn with an empty one.
+    ensures starts { ((b : Between) × Starts 4 b × IsStored b.now of_other) × ((b : Between) × Starts 5 b × (b.now ≡ empty)) }
 {
     acknowledged_stored();
     each_stored();

@@ -8,7 +8,6 @@
 //! |---|---|
 //! | `present STEP` | the step is taken over the present database |
 //! | `catch E` | the entries of the export stream E are noted where they aren't |
-//! | `recover E` | the union recovers from a stop, by the entries of its present database |
 //! | `turn` | an empty database becomes the present one |
 //!
 //! With `elsewhere` for its first line, an entry is asked for that lies in databases which aren't opened.
@@ -103,8 +102,10 @@ fn after_two_turns<K: Keeper + Drop, L: Ledger + Drop, S: Shelf + Drop>(
 /// Another database in a map becomes the present one. What calls this has nothing of `turn`'s contract to prove with.
 fn turned<K: Keeper, L: Ledger, S: Shelf>(
     alloc: Global,
-    union: UnionKeeper<K, L, S>,
+    mut union: UnionKeeper<K, L, S>,
 ) -> UnionKeeper<MapKeeper, L, Behind<S, K>> {
+    let _settled = union.settle();
+    let _noted = union.note_waiting();
     union.turn(MapKeeper::new(alloc))
 }
 
@@ -135,10 +136,6 @@ fn take_union_step<K: Keeper, L: Ledger, S: Shelf>(
             ),
             None => output.no_meaning(),
         },
-        "recover" => match given.source(rest) {
-            Some(mut entries) => write_caught_up(output, recovered(union, &mut entries)),
-            None => output.no_meaning(),
-        },
         _ => take_step(given, union, step, output),
     }
 }
@@ -151,14 +148,6 @@ fn caught_up<L: Ledger>(
     entries: &mut ListSource,
 ) -> Result<CaughtUp, KeepStop> {
     catch_up(alloc, ledger, entries)
-}
-
-/// What becomes of a union that was found after a stop.
-fn recovered<K: Keeper, L: Ledger, S: Shelf>(
-    union: &mut UnionKeeper<K, L, S>,
-    entries: &mut ListSource,
-) -> Result<CaughtUp, KeepStop> {
-    union.recover(entries)
 }
 
 fn write_caught_up(output: &mut Output, caught: Result<CaughtUp, KeepStop>) {

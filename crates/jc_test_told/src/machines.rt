@@ -19,7 +19,14 @@ pub(crate) const OTHER: &[u8] = b"JCUPLD02\x01\x01\0\0\0\0\0\0\
     __REALTIME_TIMESTAMP=1\n__MONOTONIC_TIMESTAMP=1\n\
     __SEQNUM=262145\n__SEQNUM_ID=02000000000000000000000000000000\n\n";
 
-/// Files whose names begin with `1` or `2`: these uploads. There are no others.
+/// One more of that machine, of the entry behind it.
+pub(crate) const LOST: &[u8] = b"JCUPLD02\x01\x01\0\0\0\0\0\0\
+    \x03\0\0\0\0\0\0\0\0\0\0\0\0\0\0\0\
+    \0\0\0\0\0\0\0\0\x01\0\0\0\0\0\0\0\
+    __REALTIME_TIMESTAMP=1\n__MONOTONIC_TIMESTAMP=1\n\
+    __SEQNUM=262146\n__SEQNUM_ID=02000000000000000000000000000000\n\n";
+
+/// Files whose names begin with `1`, `2` or `3`: these uploads. There are no others.
 pub struct Machines;
 
 impl Told for Machines {
@@ -29,6 +36,7 @@ impl Told for Machines {
         match path.as_bytes().first() {
             Some(b'1') => Some(ONE),
             Some(b'2') => Some(OTHER),
+            Some(b'3') => Some(LOST),
             _ => None,
         }
     }

@@ -5,7 +5,7 @@ mod runs;
 use crate::{Memory, Note, Samples};
 use jc_collector_answers::{NameLines, answer_names};
 use jc_command_args::{InputKind, Source};
-use jc_command_shared::Status;
+use jc_command_shared::{Status, Text};
 use jc_keeper::MapKeeper;
 use jc_sender::ack;
 use jc_test_samples::answer_lines;
@@ -19,8 +19,12 @@ fn named_uploads_are_answered(rt: HostRuntime) -> Result<(), Fail> {
     let files = Memory::<Samples>::new(alloc);
     let mut keeper = MapKeeper::new(alloc);
     let mut names = b"a\nb\na\nc\nnone\nd".as_slice();
-    let mut output = Vec::new(alloc);
-    let mut errors = Vec::new(alloc);
+    let mut output = Text {
+        inner: Vec::new(alloc),
+    };
+    let mut errors = Text {
+        inner: Vec::new(alloc),
+    };
     let answered = answer_names(
         &files,
         &mut keeper,
@@ -39,8 +43,8 @@ fn named_uploads_are_answered(rt: HostRuntime) -> Result<(), Fail> {
         "no S 0 60 0",
     ];
     let lines = answer_lines(alloc, &answers)?;
-    assert_eq!(rt; output.as_slice(), lines.as_bytes());
-    assert_eq!(rt; errors.as_slice(), b"cannot open none\n".as_slice());
+    assert_eq!(rt; output.inner.as_slice(), lines.as_bytes());
+    assert_eq!(rt; errors.inner.as_slice(), b"cannot open none\n".as_slice());
     Ok(())
 }
 

@@ -8,7 +8,7 @@ use jc_base::FromRead;
 use jc_collect::Delivery;
 use jc_collector::{Closed, Opened, OpenedFiles, Unopened, show};
 use jc_command_args::Tables;
-use jc_command_shared::{Failure, Host, Status};
+use jc_command_shared::{Failure, Host, Status, Text};
 use jc_database::{OpenFromFiles, OverFiles, over_files};
 use jc_file::SliceSpace;
 use jc_ledger::MapLedger;
@@ -88,8 +88,12 @@ fn deliveries_of(alloc: Global, uploads: &[Vec<u8>]) -> io::Result<Vec<Upload<'_
 // The calls stand alone, so that no more than one function has their contracts to bear.
 
 fn union_stops<F: OpenFromFiles>(run: Stopping<'_>, start: F::Start) -> Told {
-    let mut output = Output::new(run.rt.alloc(), run.flushes);
-    let mut errors = Vec::new(run.rt.alloc());
+    let mut output = Text {
+        inner: Output::new(run.rt.alloc(), run.flushes),
+    };
+    let mut errors = Text {
+        inner: Vec::new(run.rt.alloc()),
+    };
     let mut names = run.names;
     let mut host = Host::new(run.rt);
     let came = match collect_into_union_and_stop::<_, F, MapLedger, Brand, _, _, _>(
@@ -109,12 +113,14 @@ fn union_stops<F: OpenFromFiles>(run: Stopping<'_>, start: F::Start) -> Told {
     };
     Told {
         came,
-        output: output.kept,
+        output: output.inner.kept,
     }
 }
 
 fn shows<F: OpenFromFiles>(run: Stopping<'_>, start: F::Start) -> Told {
-    let mut output = Output::new(run.rt.alloc(), run.flushes);
+    let mut output = Text {
+        inner: Output::new(run.rt.alloc(), run.flushes),
+    };
     let mut host = Host::new(run.rt);
     let came = shown(show::<_, F, _>(
         &mut host,
@@ -128,7 +134,7 @@ fn shows<F: OpenFromFiles>(run: Stopping<'_>, start: F::Start) -> Told {
     ));
     Told {
         came,
-        output: output.kept,
+        output: output.inner.kept,
     }
 }
 
@@ -145,7 +151,9 @@ fn deliveries_and_next<F: OpenFromFiles, G: OpenFromFiles>(
     start: F::Start,
     next: G::Start,
 ) -> Told {
-    let mut output = Output::new(run.rt.alloc(), run.flushes);
+    let mut output = Text {
+        inner: Output::new(run.rt.alloc(), run.flushes),
+    };
     let mut host = Host::new(run.rt);
     let came = match deliveries_of(run.rt.alloc(), run.uploads) {
         Ok(mut deliveries) => ended_and_found(open_after_stop::<_, F, G, _, _, _>(
@@ -162,7 +170,7 @@ fn deliveries_and_next<F: OpenFromFiles, G: OpenFromFiles>(
     };
     Told {
         came,
-        output: output.kept,
+        output: output.inner.kept,
     }
 }
 
@@ -171,8 +179,12 @@ fn lines_and_next<F: OpenFromFiles, G: OpenFromFiles>(
     start: F::Start,
     next: G::Start,
 ) -> Told {
-    let mut output = Output::new(run.rt.alloc(), run.flushes);
-    let mut errors = Vec::new(run.rt.alloc());
+    let mut output = Text {
+        inner: Output::new(run.rt.alloc(), run.flushes),
+    };
+    let mut errors = Text {
+        inner: Vec::new(run.rt.alloc()),
+    };
     let mut names = run.names;
     let mut host = Host::new(run.rt);
     let came = ended_and_found(open_after_lines::<_, F, G, _, _, _>(
@@ -188,7 +200,7 @@ fn lines_and_next<F: OpenFromFiles, G: OpenFromFiles>(
     ));
     Told {
         came,
-        output: output.kept,
+        output: output.inner.kept,
     }
 }
 

@@ -80,8 +80,12 @@ fn check_point<K: Keeper + Drop>(
 }
 
 /// Another database becomes the present one. What calls this has nothing of `turn_world`'s contract to prove with.
-fn turned(alloc: Global, world: World<First>) -> World<Second> {
-    turn_world(world, MapKeeper::new(alloc))
+fn turned(alloc: Global, world: World<First>) -> Result<World<Second>, Fail> {
+    let (world, finished) = turn_world(world, MapKeeper::new(alloc));
+    match finished {
+        Ok(()) => Ok(world),
+        Err(_) => Err(Fail::new("no turn")),
+    }
 }
 
 /// The machine made an upload of two entries, and one of the third.
@@ -128,6 +132,6 @@ fn after_the_turn<K: Keeper + Drop>(
 #[test]
 fn a_world_that_turns(rt: HostRuntime) -> Result<(), Fail> {
     let world = grown(&rt, first_world(rt.alloc())?)?;
-    let union = after_the_turn(&rt, turned(rt.alloc(), world))?;
+    let union = after_the_turn(&rt, turned(rt.alloc(), world)?)?;
     check_databases(&rt, union)
 }

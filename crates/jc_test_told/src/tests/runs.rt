@@ -1,12 +1,12 @@
 //! The list of runs that jc_runs works out (`worked` in its `specs/Worked.antt`), over databases and notes in memory: two
-//! machines, three databases, a stop, an upload that can't be read, and a window of notes that goes. The answers and the
-//! owners are those that stand there.
+//! machines, four databases, two stops, an upload that can't be read, a database that is set aside, and a window of notes that
+//! goes. The answers that are printed, and the owners, are those that stand there.
 
 use crate::machines::OTHER;
 use crate::{Machines, Memory};
 use jc_base::{Ending, Id128, Key, Limits, ListSource};
 use jc_collector_answers::{NameLines, answer_names};
-use jc_command_shared::Status;
+use jc_command_shared::{Status, Text};
 use jc_export::read_all;
 use jc_keeper::{KeepStop, Keeper, MapKeeper};
 use jc_ledger::{
@@ -23,7 +23,7 @@ const IDS: [&str; 2] = [
     "02000000000000000000000000000000",
 ];
 
-/// The key of the first machine's entry, and of the other's.
+/// The key of the first machine's entry, of the other's, and of the one behind that.
 const OF_ONE: Key = Key {
     seqnum_id: Id128([1, 0, 0, 0, 0, 0, 0, 0, 0, 0, 0, 0, 0, 0, 0, 0]),
     seqnum: 1,
@@ -34,10 +34,19 @@ const OF_OTHER: Key = Key {
     seqnum: 262_145,
 };
 
+const OF_LOST: Key = Key {
+    seqnum_id: Id128([2, 0, 0, 0, 0, 0, 0, 0, 0, 0, 0, 0, 0, 0, 0, 0]),
+    seqnum: 262_146,
+};
+
 /// What is answered to the uploads that lines name, behind the machine that brings each.
 fn answered<K: Keeper>(alloc: Global, keeper: &mut K, lines: &str) -> Option<Vec<u8>> {
-    let mut output = Vec::new(alloc);
-    let mut errors = Vec::new(alloc);
+    let mut output = Text {
+        inner: Vec::new(alloc),
+    };
+    let mut errors = Text {
+        inner: Vec::new(alloc),
+    };
     answer_names(
         &Memory::<Machines>::new(alloc),
         keeper,
@@ -47,7 +56,7 @@ fn answered<K: Keeper>(alloc: Global, keeper: &mut K, lines: &str) -> Option<Vec
         &mut errors,
     )
     .ok()?;
-    Some(output)
+    Some(output.inner)
 }
 
 /// The first machine's upload is acknowledged, and its entry is new. Then it may be deleted.
@@ -65,7 +74,10 @@ fn run_of_one<K: Keeper>(rt: &(impl Abort + AllocGlobal), keeper: &mut K) -> Res
 /// Whether lines acknowledge all of the upload with a name.
 fn may_delete(alloc: Global, upload: &str, mut lines: &[u8]) -> bool {
     let files = Memory::<Machines>::new(alloc);
-    let told = acknowledged(&files, upload, &mut lines, &mut Vec::new(alloc));
+    let mut output = Text {
+        inner: Vec::new(alloc),
+    };
+    let told = acknowledged(&files, upload, &mut lines, &mut output);
     matches!(told, Ok(Status::Success))
 }
 
@@ -79,7 +91,7 @@ fn stopped_run<K: Keeper, S: Shelf>(
     let line = format!(in alloc; "ack {id} 0 1 1 0\n")?;
     let answers = answered(alloc, union, "\u{2}\t2");
     assert!(rt; answers.is_some_and(|it| it.as_slice() == line.as_bytes()));
-    assert!(rt; forget(&mut union.ledger, &OF_OTHER));
+    assert!(rt; union.waiting.remove(&OF_OTHER).is_some());
     Ok(())
 }
 
@@ -109,9 +121,30 @@ fn caught_up<K: Keeper, L: Ledger, S: Shelf>(
 
 fn turned<K: Keeper, L: Ledger, S: Shelf>(
     alloc: Global,
-    union: UnionKeeper<K, L, S>,
+    mut union: UnionKeeper<K, L, S>,
 ) -> UnionKeeper<MapKeeper, L, Behind<S, K>> {
+    let _settled = union.settle();
+    let _noted = union.note_waiting();
     union.turn(MapKeeper::new(alloc))
+}
+
+/// A run stores one more upload of the other machine, and is stopped before it has a note and a line is printed.
+fn stopped_unanswered<K: Keeper, S: Shelf>(
+    rt: &impl Abort,
+    alloc: Global,
+    union: &mut UnionKeeper<K, MapLedger, S>,
+) {
+    let _unprinted = answered(alloc, union, "\u{2}\t3");
+    assert!(rt; has(&mut union.present, &OF_LOST));
+    assert!(rt; union.waiting.remove(&OF_LOST).is_some());
+}
+
+/// The present database can't be opened, and another one is.
+fn set_aside<K: Keeper + Drop, L: Ledger, S: Shelf>(
+    alloc: Global,
+    union: UnionKeeper<K, L, S>,
+) -> UnionKeeper<MapKeeper, L, S> {
+    UnionKeeper::new(alloc, MapKeeper::new(alloc), union.ledger, union.shelf)
 }
 
 fn has<K: Keeper>(keeper: &mut K, key: &Key) -> bool {
@@ -129,7 +162,7 @@ fn owns<L: Ledger>(ledger: &mut L, key: &Key, name: u8) -> bool {
     matches!(owner, Ok(Some(machine)) if machine == MachineDigest::of(&[name]))
 }
 
-/// At last the first machine's entry is in the first and in the third database, and the other's in the second. The
+/// At last the first machine's entry is in the first and in the fourth database, and the other's in the second. The
 /// sequences are the machines' own.
 fn check_databases<K: Keeper, L: Ledger, S: Shelf, A: Keeper, B: Keeper>(
     rt: &impl Abort,
@@ -156,8 +189,11 @@ fn worked_runs_are_answered_so(rt: HostRuntime) -> Result<(), Fail> {
     assert!(rt; matches!(caught_up(alloc, &mut second), Some(CaughtUp::Done)));
     run_behind_unread(&rt, &mut second)?;
     let mut third = turned(alloc, second);
-    assert!(rt; forget(&mut third.ledger, &OF_ONE));
-    run_of_one(&rt, &mut third)?;
-    check_databases(&rt, &mut third);
+    stopped_unanswered(&rt, alloc, &mut third);
+    let mut fourth = set_aside(alloc, third);
+    assert!(rt; !forget(&mut fourth.ledger, &OF_LOST));
+    assert!(rt; forget(&mut fourth.ledger, &OF_ONE));
+    run_of_one(&rt, &mut fourth)?;
+    check_databases(&rt, &mut fourth);
     Ok(())
 }

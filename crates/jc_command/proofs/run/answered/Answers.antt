@@ -1,7 +1,7 @@
 -- A request is performed; what clap answers in place of one is printed.
 use Rattle.std.proofs.Common.{inr, map, string_bytes}
 use Rattle.clap.specs.Words.{kind_of}
-use Rattle.jc_command.proofs.Runs.{at_ok, err_any, err_of, failed, left_answered, performed, ends_as, ends_words, ok_of, stops_answered, IfErr-both, IfErr-each, IfOk-both}
+use Rattle.jc_command.proofs.Runs.{at_ok, err_of, failed, left_answered, performed, ends_as, ends_words, ok_of, stops_answered, IfErr-both, IfErr-each, IfOk-both}
 use Rattle.jc_command.specs.Run.{begins_with, devices}
 use Rattle.jc_command.proofs.run.answered.Goals as goal
 
@@ -53,12 +53,13 @@ returns-in-Ok-clause-touched g c = inr (c.in-Ok.request, c.in-Ok.ensures.request
 
 pub returns-in-Ok-clause-left : goal.returns-in-Ok-clause-left
 returns-in-Ok-clause-left g c =
-    IfErr-each c.perform.result _ _ (λ run leaves. inr (inr (c.in-Ok.request, c.in-Ok.ensures.request, leaves))) c.perform.ensures.left
+    IfErr-each c.perform.result _ _ (λ run leaves. inr (c.in-Ok.request, c.in-Ok.ensures.request, leaves)) c.perform.ensures.left
 
 pub returns-in-Err-clause-left : goal.returns-in-Err-clause-left
 returns-in-Err-clause-left g c =
     let prints = c.answer_words.ensures in
-    err_any c.without.result _
-    (λ run. left_answered (begins_with g.F.OpenFromFiles.first g.S.Begun.windows g.S.Begun.finished g.S.Begun.aside g.S.Begun.came g.Y.System.told (g.Y.System.deeds c.args.rt.now)) (devices g.F.StoreInFiles.in_files g.N.Notes.Ledger)
+    IfErr-each c.without.result _ _
+    (λ run none. left_answered (begins_with g.F.OpenFromFiles.first g.S.Begun.windows g.S.Begun.finished g.S.Begun.aside g.S.Begun.came g.Y.System.told (g.Y.System.deeds c.args.rt.now)) (devices g.F.StoreInFiles.in_files g.N.Notes.Ledger)
     (map string_bytes c.args.words.now) (kind_of c.in-Err.answer) c.answer_words.result (g.I.Read.remaining c.args.input.now)
-    (g.O.Write.contents c.args.output.now) (g.O.Write.contents c.answer_words.new.output) run.left c.in-Err.ensures.answer prints.mistaken prints.memory)
+    (g.O.Write.contents c.args.output.now) (g.O.Write.contents c.answer_words.new.output) run.left none c.in-Err.ensures.answer prints.mistaken prints.memory)
+    c.without.ensures.left

@@ -1,9 +1,9 @@
 -- What each request comes to, from what its command does, and what is made of that.
-use Rattle.std.proofs.Common.{None, ◌∙◌, sym, refl}
+use Rattle.std.proofs.Common.{None, ◌∙◌, inl, sym, refl}
 use Rattle.std.proofs.KnownBytes.{Keeps-refl}
-use Rattle.jc_collector.specs.UnionRunLaws.{runs_left, runs_printed, runs_quiet, runs_stored, runs_untouched}
+use Rattle.jc_collector.specs.UnionRunLaws.{runs_left, runs_noted, runs_printed, runs_quiet, runs_stored, runs_untouched}
 use Rattle.jc_command.proofs.NotesFailing.{by_name}
-use Rattle.jc_command.proofs.Runs.{IfErr-each, at_ok, collects_as, does_as, err_and, err_any, err_is, err_of, fails_of, leads_from, leaves_as, leaves_one, ok_of, performs_as, same_start, stays_quiet, unless_failed, write_fails}
+use Rattle.jc_command.proofs.Runs.{IfErr-each, at_ok, collects_as, does_as, err_and, err_is, err_of, fails_of, leads_from, leaves_as, leaves_one, ok_of, performs_as, same_start, stays_quiet, unless_failed, write_fails}
 use Rattle.jc_command.specs.Run.{begins_with, devices}
 use Rattle.jc_command.proofs.run.perform.Goals as goal
 
@@ -120,6 +120,7 @@ returns-in_ok-run-in-CollectIntoUnion-clause-performed g c =
           stay = c.show_steady.ensures.stay;
           after = c.show_steady.ensures.stay_after;
         };
+        noted = runs_noted _ _ _ _ _ _ _ _ _ _ _ _ _ _ _ runs;
       },
       leads_from _ _ _ _ _ _ (λ before asked. (same_start opened.known (λ e came. (opened.came e).1 came) asked.0, asked.1, asked.2))
           c.in_ok-run-in-CollectIntoUnion.ensures.exported,
@@ -418,89 +419,89 @@ pub returns-in_err-ledger-in-CollectIntoUnion-clause-left : goal.returns-in_err-
 returns-in_err-ledger-in-CollectIntoUnion-clause-left g c =
     err_and c.from_residual.result _ _ c.from_residual.ensures.1
     (λ run is. leaves_one (begins_with g.F.OpenFromFiles.first g.S.Begun.windows g.S.Begun.finished g.S.Begun.aside g.S.Begun.came g.Y.System.told (g.Y.System.deeds c.args.rt.now)) (devices g.F.StoreInFiles.in_files g.N.Notes.Ledger)
-    _ _ (g.I.Read.remaining c.args.input.now) _ _ None run.left c.in-CollectIntoUnion.is is.1 (Keeps-refl (g.O.Write.contents c.args.output.now)))
+    _ _ (g.I.Read.remaining c.args.input.now) _ _ None run.left c.in-CollectIntoUnion.is is.1 (inl (refl, Keeps-refl (g.O.Write.contents c.args.output.now))))
 
 pub returns-in-Verify-clause-left : goal.returns-in-Verify-clause-left
 returns-in-Verify-clause-left g c =
     leaves_as (begins_with g.F.OpenFromFiles.first g.S.Begun.windows g.S.Begun.finished g.S.Begun.aside g.S.Begun.came g.Y.System.told (g.Y.System.deeds c.args.rt.now)) (devices g.F.StoreInFiles.in_files g.N.Notes.Ledger)
-    _ _ _ (g.I.Read.remaining c.args.input.now) (g.O.Write.contents c.args.output.now) (g.O.Write.contents c.verify.new.output) c.in-Verify.is (err_any _ _ (λ run. tt))
+    _ _ _ (g.I.Read.remaining c.args.input.now) (g.O.Write.contents c.args.output.now) (g.O.Write.contents c.verify.new.output) c.in-Verify.is c.without.ensures.left
 
 pub returns-in-Inspect-clause-left : goal.returns-in-Inspect-clause-left
 returns-in-Inspect-clause-left g c =
     leaves_as (begins_with g.F.OpenFromFiles.first g.S.Begun.windows g.S.Begun.finished g.S.Begun.aside g.S.Begun.came g.Y.System.told (g.Y.System.deeds c.args.rt.now)) (devices g.F.StoreInFiles.in_files g.N.Notes.Ledger)
-    _ _ _ (g.I.Read.remaining c.args.input.now) (g.O.Write.contents c.args.output.now) (g.O.Write.contents c.inspect.new.output) c.in-Inspect.is (err_any _ _ (λ run. tt))
+    _ _ _ (g.I.Read.remaining c.args.input.now) (g.O.Write.contents c.args.output.now) (g.O.Write.contents c.inspect.new.output) c.in-Inspect.is c.without-in-Inspect.ensures.left
 
 pub returns-in-Upload-clause-left : goal.returns-in-Upload-clause-left
 returns-in-Upload-clause-left g c =
     leaves_as (begins_with g.F.OpenFromFiles.first g.S.Begun.windows g.S.Begun.finished g.S.Begun.aside g.S.Begun.came g.Y.System.told (g.Y.System.deeds c.args.rt.now)) (devices g.F.StoreInFiles.in_files g.N.Notes.Ledger)
-    _ _ _ (g.I.Read.remaining c.args.input.now) (g.O.Write.contents c.args.output.now) (g.O.Write.contents c.upload.new.output) c.in-Upload.is (err_any _ _ (λ run. tt))
+    _ _ _ (g.I.Read.remaining c.args.input.now) (g.O.Write.contents c.args.output.now) (g.O.Write.contents c.upload.new.output) c.in-Upload.is c.succeeded.ensures.left
 
 pub returns-in-Ack-clause-left : goal.returns-in-Ack-clause-left
 returns-in-Ack-clause-left g c =
     leaves_as (begins_with g.F.OpenFromFiles.first g.S.Begun.windows g.S.Begun.finished g.S.Begun.aside g.S.Begun.came g.Y.System.told (g.Y.System.deeds c.args.rt.now)) (devices g.F.StoreInFiles.in_files g.N.Notes.Ledger)
-    _ _ _ (g.I.Read.remaining c.args.input.now) (g.O.Write.contents c.args.output.now) (g.O.Write.contents c.ack.new.output) c.in-Ack.is (err_any _ _ (λ run. tt))
+    _ _ _ (g.I.Read.remaining c.args.input.now) (g.O.Write.contents c.args.output.now) (g.O.Write.contents c.ack.new.output) c.in-Ack.is c.succeeded-in-Ack.ensures.left
 
 pub returns-in-Collect-clause-left : goal.returns-in-Collect-clause-left
 returns-in-Collect-clause-left g c =
     leaves_as (begins_with g.F.OpenFromFiles.first g.S.Begun.windows g.S.Begun.finished g.S.Begun.aside g.S.Begun.came g.Y.System.told (g.Y.System.deeds c.args.rt.now)) (devices g.F.StoreInFiles.in_files g.N.Notes.Ledger)
-    _ _ _ (g.I.Read.remaining c.args.input.now) (g.O.Write.contents c.args.output.now) (g.O.Write.contents c.collect-closed.new.output) c.in-Collect.is (err_any _ _ (λ run. tt))
+    _ _ _ (g.I.Read.remaining c.args.input.now) (g.O.Write.contents c.args.output.now) (g.O.Write.contents c.collect-closed.new.output) c.in-Collect.is c.closed.ensures.left
 
 pub returns-in-CollectListed-clause-left : goal.returns-in-CollectListed-clause-left
 returns-in-CollectListed-clause-left g c =
     leaves_as (begins_with g.F.OpenFromFiles.first g.S.Begun.windows g.S.Begun.finished g.S.Begun.aside g.S.Begun.came g.Y.System.told (g.Y.System.deeds c.args.rt.now)) (devices g.F.StoreInFiles.in_files g.N.Notes.Ledger)
-    _ _ _ (g.I.Read.remaining c.args.input.now) (g.O.Write.contents c.args.output.now) (g.O.Write.contents c.collect_from_list-closed.new.output) c.in-CollectListed.is (err_any _ _ (λ run. tt))
+    _ _ _ (g.I.Read.remaining c.args.input.now) (g.O.Write.contents c.args.output.now) (g.O.Write.contents c.collect_from_list-closed.new.output) c.in-CollectListed.is c.closed-in-CollectListed.ensures.left
 
 pub returns-in-Export-clause-left : goal.returns-in-Export-clause-left
 returns-in-Export-clause-left g c =
     leaves_as (begins_with g.F.OpenFromFiles.first g.S.Begun.windows g.S.Begun.finished g.S.Begun.aside g.S.Begun.came g.Y.System.told (g.Y.System.deeds c.args.rt.now)) (devices g.F.StoreInFiles.in_files g.N.Notes.Ledger)
-    _ _ _ (g.I.Read.remaining c.args.input.now) (g.O.Write.contents c.args.output.now) (g.O.Write.contents c.export-closed.new.output) c.in-Export.is (err_any _ _ (λ run. tt))
+    _ _ _ (g.I.Read.remaining c.args.input.now) (g.O.Write.contents c.args.output.now) (g.O.Write.contents c.export-closed.new.output) c.in-Export.is c.listed.ensures.left
 
 pub returns-in-Show-clause-left : goal.returns-in-Show-clause-left
 returns-in-Show-clause-left g c =
     leaves_as (begins_with g.F.OpenFromFiles.first g.S.Begun.windows g.S.Begun.finished g.S.Begun.aside g.S.Begun.came g.Y.System.told (g.Y.System.deeds c.args.rt.now)) (devices g.F.StoreInFiles.in_files g.N.Notes.Ledger)
-    _ _ _ (g.I.Read.remaining c.args.input.now) (g.O.Write.contents c.args.output.now) (g.O.Write.contents c.show-closed.new.output) c.in-Show.is (err_any _ _ (λ run. tt))
+    _ _ _ (g.I.Read.remaining c.args.input.now) (g.O.Write.contents c.args.output.now) (g.O.Write.contents c.show-closed.new.output) c.in-Show.is c.listed-in-Show.ensures.left
 
 pub returns-in-Check-clause-left : goal.returns-in-Check-clause-left
 returns-in-Check-clause-left g c =
     leaves_as (begins_with g.F.OpenFromFiles.first g.S.Begun.windows g.S.Begun.finished g.S.Begun.aside g.S.Begun.came g.Y.System.told (g.Y.System.deeds c.args.rt.now)) (devices g.F.StoreInFiles.in_files g.N.Notes.Ledger)
-    _ _ _ (g.I.Read.remaining c.args.input.now) (g.O.Write.contents c.args.output.now) (g.O.Write.contents c.check-examined.new.output) c.in-Check.is (err_any _ _ (λ run. tt))
+    _ _ _ (g.I.Read.remaining c.args.input.now) (g.O.Write.contents c.args.output.now) (g.O.Write.contents c.check-examined.new.output) c.in-Check.is c.examined.ensures.left
 
 pub returns-in-Migrate-clause-left : goal.returns-in-Migrate-clause-left
 returns-in-Migrate-clause-left g c =
     leaves_as (begins_with g.F.OpenFromFiles.first g.S.Begun.windows g.S.Begun.finished g.S.Begun.aside g.S.Begun.came g.Y.System.told (g.Y.System.deeds c.args.rt.now)) (devices g.F.StoreInFiles.in_files g.N.Notes.Ledger)
-    _ _ _ (g.I.Read.remaining c.args.input.now) (g.O.Write.contents c.args.output.now) (g.O.Write.contents c.migrate-examined.new.output) c.in-Migrate.is (err_any _ _ (λ run. tt))
+    _ _ _ (g.I.Read.remaining c.args.input.now) (g.O.Write.contents c.args.output.now) (g.O.Write.contents c.migrate-examined.new.output) c.in-Migrate.is c.examined-in-Migrate.ensures.left
 
 pub returns-in-ListCodes-clause-left : goal.returns-in-ListCodes-clause-left
 returns-in-ListCodes-clause-left g c =
     leaves_as (begins_with g.F.OpenFromFiles.first g.S.Begun.windows g.S.Begun.finished g.S.Begun.aside g.S.Begun.came g.Y.System.told (g.Y.System.deeds c.args.rt.now)) (devices g.F.StoreInFiles.in_files g.N.Notes.Ledger)
-    _ _ _ (g.I.Read.remaining c.args.input.now) (g.O.Write.contents c.args.output.now) (g.O.Write.contents c.list_codes.new.output) c.in-ListCodes.is (err_any _ _ (λ run. tt))
+    _ _ _ (g.I.Read.remaining c.args.input.now) (g.O.Write.contents c.args.output.now) (g.O.Write.contents c.list_codes.new.output) c.in-ListCodes.is c.succeeded-in-ListCodes.ensures.left
 
 pub returns-in-Acknowledged-clause-left : goal.returns-in-Acknowledged-clause-left
 returns-in-Acknowledged-clause-left g c =
     leaves_as (begins_with g.F.OpenFromFiles.first g.S.Begun.windows g.S.Begun.finished g.S.Begun.aside g.S.Begun.came g.Y.System.told (g.Y.System.deeds c.args.rt.now)) (devices g.F.StoreInFiles.in_files g.N.Notes.Ledger)
-    _ _ _ (g.I.Read.remaining c.args.input.now) (g.O.Write.contents c.args.output.now) (g.O.Write.contents c.acknowledged.new.output) c.in-Acknowledged.is (err_any _ _ (λ run. tt))
+    _ _ _ (g.I.Read.remaining c.args.input.now) (g.O.Write.contents c.args.output.now) (g.O.Write.contents c.acknowledged.new.output) c.in-Acknowledged.is c.without-in-Acknowledged.ensures.left
 
 pub returns-in-CheckNoted-clause-left : goal.returns-in-CheckNoted-clause-left
 returns-in-CheckNoted-clause-left g c =
     leaves_as (begins_with g.F.OpenFromFiles.first g.S.Begun.windows g.S.Begun.finished g.S.Begun.aside g.S.Begun.came g.Y.System.told (g.Y.System.deeds c.args.rt.now)) (devices g.F.StoreInFiles.in_files g.N.Notes.Ledger)
-    _ _ _ (g.I.Read.remaining c.args.input.now) (g.O.Write.contents c.args.output.now) (g.O.Write.contents c.check_noted-examined.new.output) c.in-CheckNoted.is (err_any _ _ (λ run. tt))
+    _ _ _ (g.I.Read.remaining c.args.input.now) (g.O.Write.contents c.args.output.now) (g.O.Write.contents c.check_noted-examined.new.output) c.in-CheckNoted.is c.examined-in-CheckNoted.ensures.left
 
 pub returns-in-Notes-clause-left : goal.returns-in-Notes-clause-left
 returns-in-Notes-clause-left g c =
     leaves_as (begins_with g.F.OpenFromFiles.first g.S.Begun.windows g.S.Begun.finished g.S.Begun.aside g.S.Begun.came g.Y.System.told (g.Y.System.deeds c.args.rt.now)) (devices g.F.StoreInFiles.in_files g.N.Notes.Ledger)
-    _ _ _ (g.I.Read.remaining c.args.input.now) (g.O.Write.contents c.args.output.now) (g.O.Write.contents c.work_on_notes.new.output) c.in-Notes.is (err_any _ _ (λ run. tt))
+    _ _ _ (g.I.Read.remaining c.args.input.now) (g.O.Write.contents c.args.output.now) (g.O.Write.contents c.work_on_notes.new.output) c.in-Notes.is c.without-in-Notes.ensures.left
 
 pub returns-in-ListOwners-clause-left : goal.returns-in-ListOwners-clause-left
 returns-in-ListOwners-clause-left g c =
     leaves_as (begins_with g.F.OpenFromFiles.first g.S.Begun.windows g.S.Begun.finished g.S.Begun.aside g.S.Begun.came g.Y.System.told (g.Y.System.deeds c.args.rt.now)) (devices g.F.StoreInFiles.in_files g.N.Notes.Ledger)
-    _ _ _ (g.I.Read.remaining c.args.input.now) (g.O.Write.contents c.args.output.now) (g.O.Write.contents c.list_all_owners.new.output) c.in-ListOwners.is (err_any _ _ (λ run. tt))
+    _ _ _ (g.I.Read.remaining c.args.input.now) (g.O.Write.contents c.args.output.now) (g.O.Write.contents c.list_all_owners.new.output) c.in-ListOwners.is c.without-in-ListOwners.ensures.left
 
 pub returns-in-RenameOwner-clause-left : goal.returns-in-RenameOwner-clause-left
 returns-in-RenameOwner-clause-left g c =
     leaves_as (begins_with g.F.OpenFromFiles.first g.S.Begun.windows g.S.Begun.finished g.S.Begun.aside g.S.Begun.came g.Y.System.told (g.Y.System.deeds c.args.rt.now)) (devices g.F.StoreInFiles.in_files g.N.Notes.Ledger)
-    _ _ _ (g.I.Read.remaining c.args.input.now) (g.O.Write.contents c.args.output.now) (g.O.Write.contents c.rename_all.new.output) c.in-RenameOwner.is (err_any _ _ (λ run. tt))
+    _ _ _ (g.I.Read.remaining c.args.input.now) (g.O.Write.contents c.args.output.now) (g.O.Write.contents c.rename_all.new.output) c.in-RenameOwner.is c.succeeded-in-RenameOwner.ensures.left
 
 pub returns-in-ReleaseSequence-clause-left : goal.returns-in-ReleaseSequence-clause-left
 returns-in-ReleaseSequence-clause-left g c =
     leaves_as (begins_with g.F.OpenFromFiles.first g.S.Begun.windows g.S.Begun.finished g.S.Begun.aside g.S.Begun.came g.Y.System.told (g.Y.System.deeds c.args.rt.now)) (devices g.F.StoreInFiles.in_files g.N.Notes.Ledger)
-    _ _ _ (g.I.Read.remaining c.args.input.now) (g.O.Write.contents c.args.output.now) (g.O.Write.contents c.release_sequence.new.output) c.in-ReleaseSequence.is (err_any _ _ (λ run. tt))
+    _ _ _ (g.I.Read.remaining c.args.input.now) (g.O.Write.contents c.args.output.now) (g.O.Write.contents c.release_sequence.new.output) c.in-ReleaseSequence.is c.succeeded-in-ReleaseSequence.ensures.left

@@ -1,7 +1,7 @@
 use Rattle.jc_runs.proofs.Acknowledging.{deletes_safely, tells_all}
 use Rattle.jc_runs.proofs.Course.{keeps_on, stands_at_first, turns_whole}
 use Rattle.jc_runs.proofs.Stepping.{Laws}
-use Rattle.jc_runs.proofs.WorkedFiles.{starts_third}
+use Rattle.jc_runs.proofs.WorkedFiles.{starts}
 use Rattle.jc_runs.proofs.WorkedSteps.{it_is_worked}
 use Rattle.jc_runs.proofs.law.runs_keep.Goals as goal
 
@@ -56,5 +56,5 @@ returns-clause-starts c =
       };
       same = c.union_laws.ensures.same;
     } in
-    starts_third (record { read = c.one_reading-2.ensures.read; known = c.owners_are_no_harm.ensures.known }) laws
+    starts (record { read = c.one_reading-2.ensures.read; known = c.owners_are_no_harm.ensures.known }) laws
     (record { some = c.one_reading.ensures.some; back = c.canonical_texts_read_back.ensures.whole })

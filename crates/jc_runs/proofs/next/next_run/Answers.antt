@@ -1,18 +1,19 @@
-use Rattle.std.proofs.Common.{◌∙◌, inl, refl, sym}
+use Rattle.std.proofs.Common.{◌∙◌, refl, sym}
 use Rattle.jc_runs.proofs.Following.{begins_alike, end_step, leaves_earlier, stop_step}
 use Rattle.jc_runs.proofs.next.next_run.Goals as goal
 
 pub returns-clause-ended : goal.returns-clause-ended
 returns-clause-ended g c =
-    λ told done made kind list most_windows given old new status b windows image came deeds does clean sound began begins found.
+    λ told done made kind list most_windows given old new status b windows image came deeds does clean l_clean began begins found.
+    let sound = does.noted l_clean in
     let ends = does.stores clean kind b.now began.holds (
       begins_alike (sym began.past) began.noted began.came begins,
-      sound,
+      l_clean,
       λ e f here there. found.apart e f (found.have_come e here) (found.have_come f there),
     ) in
     let left = c.show_files.ensures.known windows found.files_left in
     let leaves = leaves_earlier made kind _ b ends.found windows came _ began
-    (does.owners.after (g.met.N.Notes.Ledger.clean_if_sound c.args.notes.now sound))
+    (does.owners.after l_clean)
     (c.show_files.ensures.owners windows found.files_left) found.had_come in
     record {
       now = ends.found;
@@ -43,4 +44,4 @@ returns-clause-stopped g c =
 
 pub returns-clause-begins : goal.returns-clause-begins
 returns-clause-begins g c = λ made kind b now finished aside windows image came told deeds holds same.
-    record { holds = inl holds; noted = λ k key. refl; owner = λ s. refl; past = same; came = λ e has. has }
+    record { holds = holds; noted = λ k key. refl; owner = λ s. refl; past = same; came = λ e has. has }
