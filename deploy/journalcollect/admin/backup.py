@@ -7,7 +7,6 @@
 import contextlib
 import os
 import shutil
-import sqlite3
 import threading
 import time
 from collections.abc import Iterator
@@ -30,8 +29,7 @@ def make(folder: Folder, to: Path) -> Iterator[str]:
     try:
         new = to / "state.sqlite.new"
         new.unlink(missing_ok=True)
-        with contextlib.closing(sqlite3.connect(f"file:{folder.state}?mode=ro", uri=True, timeout=60.0)) as rows:
-            rows.execute("VACUUM INTO ?", (str(new),))
+        looking.answer(folder.state, "ro", "VACUUM INTO ?", str(new))
         known = looking.answer(new, "ro", "SELECT name, standing, digest FROM database")
         finished = {name: digest for name, standing, digest in known if standing == "finished"}
         bad = [name for name, digest in finished.items() if not copied(folder, name, digest, there)]

@@ -1,22 +1,33 @@
-"""What people have the service do. Each says in lines what came of it, and ends with a status."""
+"""What people have the service do, and the socket by which their commands reach it: a request in JSON, and lines of
+JSON for an answer, which say what came of it and end with a status.
+
+    {"do": NAME, "words": [..]}        and an open file, of `take`
+    {"say": LINE}..  {"status": 0}     or {"status": 1, "no": WHY}
+"""
+import json
 import os
+import socket
 import subprocess
 import sys
+import threading
 import time
-from collections.abc import Callable, Iterator, Sequence
+from collections.abc import Iterator, Sequence
 from pathlib import Path
 from typing import Any
 
 from .. import VERSION
 from ..collector import databases
+from ..collector.doors import bind
 from ..collector.gate import Gate
 from ..collector.keeping import Keeping
+from ..collector.state import log
 from ..collector.store import Store
 from ..collector.turns import Waiting
 from ..common import files, program
 from ..setup import keys
 
-PIECE = 1 << 20
+PIECE, LONGEST_REQUEST = 1 << 20, 1 << 16
+ASKED = "status", "finish", "rename", "release", "take", "moved", "passed", "head", "check", "rebuild", "journals"
 LIBRARY = Path(__file__).resolve().parents[2]
 # So long the connections may take to end of a machine whose key is gone.
 GONE_SECONDS = 30.0
@@ -34,11 +45,9 @@ class Operations:
         self.folder, self.state = store.folder, store.state
 
     def do(self, name: str, words: Sequence[str], handles: Sequence[int] = ()) -> Iterator[Any]:
-        known: dict[str, Callable[..., Iterator[Any] | None]] = {
-            "status": self.status, "finish": self.finish, "rename": self.rename, "release": self.release,
-            "take": self.take, "moved": self.moved, "passed": self.passed, "head": self.head, "check": self.check,
-            "rebuild": self.rebuild, "journals": self.journals}
-        return known[name](*words, *handles) or iter(())
+        if name not in ASKED:
+            raise No(f"nobody can ask for {name}")
+        return getattr(self, name)(*words, *handles) or iter(())
 
     def status(self) -> Iterator[dict[str, Any]]:
         """What is so at the moment; what outlives the service is in state.sqlite."""
@@ -59,14 +68,14 @@ class Operations:
             time.sleep(0.1)
 
         def do() -> None:
-            program.rename_owner(self.folder.sequences, old, new)
+            program.change_owners(self.folder.sequences, "--rename", old, new)
             self.state.rename(old, new)
 
         self.store.alone(do)
 
     def release(self, sequence: str) -> None:
         """A sequence is nobody's, until a machine brings a new entry of it."""
-        self.store.alone(lambda: program.release(self.folder.sequences, sequence))
+        self.store.alone(lambda: program.change_owners(self.folder.sequences, "--release", sequence))
         self.state.ask("INSERT OR IGNORE INTO sequence VALUES(?, '')", sequence)
 
     def take(self, machine: str, handle: int) -> Iterator[str]:
@@ -127,4 +136,48 @@ class Operations:
         making = subprocess.run([sys.executable, "-B", *words], cwd=LIBRARY, capture_output=True, text=True)
         if making.returncode:
             raise No(making.stderr.strip())
+        self.state.over("journals")
         yield "journal files are made anew"
+
+
+class Door(threading.Thread):
+    """Listens for commands, each in a thread of its own."""
+
+    def __init__(self, operations: Operations) -> None:
+        super().__init__(name="admin", daemon=True)
+        self.operations, path = operations, operations.folder.admin
+        path.unlink(missing_ok=True)
+        self.listening = socket.socket(socket.AF_UNIX)
+        bind(self.listening, path)
+        path.chmod(0o600)
+        self.listening.listen()
+
+    def run(self) -> None:
+        while True:
+            try:
+                threading.Thread(target=self.answer, args=self.listening.accept()[:1], daemon=True).start()
+            except (OSError, RuntimeError):
+                time.sleep(1.0)                        # there are too many open files, or threads
+
+    def answer(self, one: socket.socket) -> None:
+        """Does what a connection asks."""
+        with one:
+            try:
+                for each in self.done(*socket.recv_fds(one, LONGEST_REQUEST, 1)[:2]):
+                    one.sendall(json.dumps(each).encode() + b"\n")
+            except (OSError, ValueError, KeyError, TypeError) as error:
+                log(f"a command: {type(error).__name__}: {error}")
+
+    def done(self, line: bytes, handles: list[int]) -> Iterator[dict[str, object]]:
+        try:
+            asked = json.loads(line)
+            for said in self.operations.do(asked["do"], asked["words"], handles):
+                yield {"say": said}
+            yield {"status": 0}
+        except No as error:
+            yield {"status": 1, "no": str(error)}
+        except Exception as error:
+            yield {"status": 3, "no": f"{type(error).__name__}: {error}"}
+        finally:
+            for handle in handles:
+                os.close(handle)

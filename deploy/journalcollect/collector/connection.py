@@ -48,7 +48,7 @@ class Connection(threading.Thread):
         """Whether an entry that was acknowledged is known still. Of another machine's sequence nothing is told."""
         if not {self.machine, ""} & (self.store.state.came_with(key.sequence) or {""}):
             return protocol.Known.LOST
-        if self.store.knows(key.sequence, key.number):
+        if self.store.knows(self.machine, key.sequence, key.number):
             return protocol.Known.HAD
         self.store.state.tell(f"lost {self.machine}", f"{self.machine}: entry {key.number} of {key.sequence} was "
                               "acknowledged, and isn't here: what its journal still has comes once more")

@@ -59,6 +59,7 @@ def bytes_of(path: Path) -> int:
     return files.size(path) + files.size(beside(path))
 
 
+@files.reading()
 def has_nothing(path: Path) -> bool:
     """Whether its program was stopped before it had tables."""
     return files.size(path) <= NO_TABLES and files.size(beside(path)) <= EMPTY_LOG
@@ -71,7 +72,7 @@ def digest_of(path: Path) -> str:
 
 def told_digest(path: Path) -> str | None:
     """The digest that lies beside a database; None if it isn't finished."""
-    with contextlib.suppress(FileNotFoundError):
+    with contextlib.suppress(FileNotFoundError, files.Unreadable), files.reading():
         return beside(path, ".sha256").read_text(encoding="ascii", errors="replace").partition(" ")[0]
     return None
 
@@ -81,6 +82,7 @@ def finished(folder: Folder) -> list[str]:
     return [path.name.removesuffix(".db.sha256") for path in folder.databases.glob("*.db.sha256")]
 
 
+@files.reading()
 def own(path: Path) -> None:
     """What somebody linked elsewhere, as a backup by hard links does, isn't written to: a copy takes its name."""
     for each in (path, beside(path)):
@@ -91,6 +93,7 @@ def own(path: Path) -> None:
             files.move(copy, each)
 
 
+@files.reading()
 def finish(path: Path) -> str:
     """A closed database doesn't change any more: its log, which is empty, goes, and its digest is beside it."""
     if files.size(beside(path)) > EMPTY_LOG:
@@ -102,6 +105,7 @@ def finish(path: Path) -> str:
     return digest
 
 
+@files.reading()
 def summary(folder: Folder, name: str, digest: str) -> Summary:
     """What a finished database has, by its tables."""
     path = path_of(folder, name)
@@ -120,7 +124,8 @@ def summary(folder: Folder, name: str, digest: str) -> Summary:
 
 def delete(folder: Folder, name: str) -> None:
     for end in (".db", ".db.zst", ".db-wal", ".db.sha256"):
-        (folder.databases / f"{name}{end}").unlink(missing_ok=True)
+        with contextlib.suppress(files.Unreadable), files.reading():
+            (folder.databases / f"{name}{end}").unlink(missing_ok=True)
     files.sync(folder.databases)
 
 

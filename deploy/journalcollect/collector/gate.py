@@ -9,6 +9,7 @@ from collections.abc import Iterator
 
 from ..common import program
 from ..common.protocol import COUNT, HEADER, MOST_WINDOWS, START, WHOLE, WINDOW, Put, Verdict
+from .notes import Unnoted
 from .settings import CONNECTIONS, LARGE, MIB, UPLOAD_BYTES, WINDOWS_A_DAY, Settings
 from .state import State
 
@@ -20,8 +21,8 @@ LOOKED_UP = 2
 
 
 class Gate:
-    def __init__(self, settings: Settings, state: State) -> None:
-        self.settings, self.folder, self.state = settings, state.folder, state
+    def __init__(self, settings: Settings, state: State, counted: Unnoted) -> None:
+        self.settings, self.folder, self.state, self.counted = settings, state.folder, state, counted
         self.lock = threading.Lock()
         self.connections: dict[str, collections.deque[socket.socket]] = {}
 
@@ -75,7 +76,7 @@ class Gate:
         if len(header) < HEADER or not header.startswith(WHOLE) or any(header[START]):
             return self.refuse(machine, Verdict.NEVER, "it is no upload of a stream that is to be whole")
         if size <= LARGE:
-            touched, new = self.windows(handle, size)
+            touched, new = self.windows(machine, handle, size)
             if touched > MOST_WINDOWS:
                 return self.refuse(machine, Verdict.NEVER, f"it touches over {MOST_WINDOWS} files of notes")
             self.state.machine(machine).windows += new
@@ -84,15 +85,22 @@ class Gate:
             return self.refuse(machine, Verdict.NEVER, f"it has over {LARGE // MIB} MiB, and more than one entry")
         return 1
 
-    def windows(self, handle: int, size: int) -> tuple[int, int]:
-        """How many files of notes an upload touches, and how many of them it makes: all of them, if they are many."""
+    def windows(self, machine: str, handle: int, size: int) -> tuple[int, int]:
+        """How many files of notes an upload touches, and how many of them it makes that weren't counted: all of them if
+        its lines show others, too."""
         body = os.pread(handle, size, HEADER)
         numbers = {int(number) // WINDOW for number in NUMBERS.findall(body)}
         ids = {each.decode("ascii").lower() for each in IDS.findall(body)}
-        if (few := len(ids) * len(numbers)) > LOOKED_UP:
-            touched = program.touched(handle)
+        shown = len(ids) * len(numbers)
+        touched = program.touched(handle) if shown > LOOKED_UP else shown
+        if touched != shown or touched > MOST_WINDOWS:
             return touched, touched
-        return few, sum(not (self.folder.sequences / each / str(number)).exists() for each in ids for number in numbers)
+        return touched, sum(self.is_made(machine, each, number) for each in ids for number in numbers)
+
+    def is_made(self, machine: str, sequence: str, window: int) -> bool:
+        """Whether a file of notes isn't there that wasn't counted. It is from now on, and made as a database ends."""
+        is_there = (self.folder.sequences / sequence / str(window)).exists()
+        return not is_there and self.counted.add(machine, sequence, window)
 
     def refuse(self, machine: str, verdict: Verdict, why: str) -> Put:
         self.state.tell(f"{verdict} {machine}", f"{machine}: {why}")

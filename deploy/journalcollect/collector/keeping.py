@@ -1,9 +1,11 @@
 """What is done now and then beside storing: old databases go, and finished ones are packed and looked at."""
 import os
+import subprocess
 import threading
 import time
 
 from ..common import program
+from ..reading import remote
 from ..reading.places import Places
 from . import databases
 from .settings import Settings
@@ -38,6 +40,8 @@ class Keeping(threading.Thread):
         if age.uncounted >= 1:
             self.state.tell("days", f"by the clock {age.uncounted:.0f} days more went by than the collector ran: they "
                             f"don't count. If they went by: journal-collect-admin passed {int(age.uncounted)}")
+        if not self.folder.is_roomy(self.settings):
+            self.drop_journals()
         if (lock := self.folder.locked("backup.lock")) is not None:
             try:
                 self.delete_old(age.days)
@@ -48,6 +52,17 @@ class Keeping(threading.Thread):
             self.notes_day = int(age.days)
             self.mend_notes(REST)
         self.check_databases(age.days - 1)
+
+    def drop_journals(self) -> None:
+        """Journal files go, of the oldest days first, until there is room. That they were made stays known."""
+        places, finished = Places(self.folder.path), set(databases.finished(self.folder))
+        for path in sorted(places.journals.glob("[!.]*/*.journal")):
+            if self.folder.is_roomy(self.settings):
+                break
+            if path.parent != places.present or remote.stem(path) in finished:
+                path.unlink(missing_ok=True)
+        self.state.tell("journals", "not twice FREE_BYTES were free: no journal files were made, and the oldest went: "
+                        "make room; then journal-collect-admin rebuild --journals")
 
     def delete_old(self, age: float) -> None:
         """Databases go KEEP_DAYS after they were finished, and the oldest if all have over KEEP_BYTES."""
@@ -74,12 +89,13 @@ class Keeping(threading.Thread):
         for name, digest in due:
             if self.store.stops.is_set():
                 return
-            if name not in shown:
+            if name not in shown and self.folder.is_roomy(self.settings):
                 continue
             try:
                 size = databases.pack(databases.path_of(self.folder, name), digest)
-            except databases.Damaged as error:
-                self.state.tell(f"damaged {name}", f"{error}: restore it from a backup")
+            except (databases.Damaged, OSError, subprocess.SubprocessError):
+                if not self.check(name):
+                    raise
                 continue
             self.state.ask("UPDATE database SET packed = ? WHERE name = ?", size, name)
 

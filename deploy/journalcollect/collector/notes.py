@@ -11,6 +11,7 @@ import shutil
 import stat
 import threading
 import time
+from collections import OrderedDict
 from collections.abc import Iterable, Iterator
 from pathlib import Path
 
@@ -24,6 +25,8 @@ from .state import State, Window, log
 NOTE, OPEN, OWNED = 41, b"\1", str(2**63 // WINDOW)
 # In place of the digest of a window that has to be made anew.
 UNMADE = ""
+# The program notes all once so many notes wait, and each upload with something new has one: so the latest are enough.
+MOST_UNNOTED = 50_000
 
 Name = tuple[str, int]
 
@@ -157,3 +160,37 @@ class Notes:
                 self.state.ask("DELETE FROM sequence WHERE id = ?", sequence)
         if old:
             log(f"notes of {len(old)} windows went, their days are over")
+
+
+class Unnoted:
+    """Keys, or windows, by the machines that brought them since the present database began. They may be in no file of
+    notes yet: the program notes what it stores as it ends its database. Every thread may ask."""
+
+    def __init__(self) -> None:
+        self.lock, self.count = threading.Lock(), 0
+        self.machines: dict[str, OrderedDict[Name, None]] = {}
+
+    def __len__(self) -> int:
+        return self.count
+
+    def add(self, machine: str, sequence: str, number: int) -> bool:
+        """Whether it wasn't there. If there are too many, the machine with the most loses its oldest, and no other."""
+        with self.lock:
+            there = self.machines.setdefault(machine, OrderedDict())
+            if (sequence, number) in there:
+                return False
+            there[sequence, number] = None
+            if self.count < MOST_UNNOTED:
+                self.count += 1
+            else:
+                max(self.machines.values(), key=len).popitem(last=False)
+            return True
+
+    def has(self, machine: str, sequence: str, number: int) -> bool:
+        with self.lock:
+            return (sequence, number) in self.machines.get(machine, {})
+
+    def forget(self) -> None:
+        with self.lock:
+            self.machines.clear()
+            self.count = 0

@@ -2,9 +2,11 @@
 
 What a stop or a failure left is taken up here. All of it is called while no process of the program stores.
 """
+import contextlib
 import hashlib
 import threading
 import time
+from collections.abc import Iterator
 from pathlib import Path
 
 from ..common import files, program
@@ -38,7 +40,7 @@ class Recovery:
         """A database that has its digest is known from now on. If it is alone, all notes are those of finished ones."""
         try:
             had = databases.summary(self.folder, name, digest)
-        except databases.Damaged as error:
+        except (databases.Damaged, files.Unreadable) as error:
             self.state.stands(name, "damaged")
             self.state.tell(f"damaged {name}", f"{error}: restore it from a backup")
             return
@@ -96,16 +98,26 @@ class Recovery:
 
     def recover(self, path: Path) -> list[tuple[str, Path]]:
         """Takes up a database; if it has to be set aside, the uploads to be stored again, with their machines."""
+        try:
+            fault = self.take_up(path)
+        except files.Unreadable as error:
+            fault = str(error)
+        return self.quarantine(path, fault) if fault else []
+
+    def take_up(self, path: Path) -> str | None:
+        """Why a database has to be set aside; None if it is sealed."""
+        if path.stem in self.state.names("quarantined"):
+            return "it was to be set aside"
         if databases.has_nothing(path):
             self.seal(path)
-            return []
+            return None
         databases.own(path)
         for _ in range(TRIES):
             process = Process(self.folder, path, self.lock, "/dev/null")
             status = process.finish(self.stops)
             if status == 0:
                 self.seal(path)
-                return []
+                return None
             if self.stops.is_set():
                 raise databases.Unrecovered("the service stops")
             is_mended = self.mend(process.said())
@@ -114,7 +126,7 @@ class Recovery:
             time.sleep(0.0 if is_mended else 1.0)
         if status != REFUSED and (why := self.folder.room(self.settings)):
             raise databases.Unrecovered(why)
-        return self.quarantine(path, process.said() or f"status {status}")
+        return process.said() or f"status {status}"
 
     def mend(self, said: str) -> bool:
         """What failed may be a file of notes, and no fault of the database: whether one was made anew."""
@@ -125,7 +137,7 @@ class Recovery:
     def quarantine(self, path: Path, why: str) -> list[tuple[str, Path]]:
         """A database that can't be opened is set aside, and the notes forget what it had. Its uploads come again."""
         for each in (databases.beside(path), path):
-            if each.exists():
+            with contextlib.suppress(FileNotFoundError), self.left(each):
                 files.move(each, self.folder.quarantine / each.name)
         self.state.stands(path.stem, "quarantined")
         self.state.tell(f"quarantined {path.stem}", f"{path.name} can't be opened, and is set aside in "
@@ -133,9 +145,24 @@ class Recovery:
         self.notes.forget()
         return self.uploads(path.stem)
 
+    @contextlib.contextmanager
+    def left(self, path: Path) -> Iterator[None]:
+        """What the disk can't read is told, and stays where it is until a start at which it can be read."""
+        try:
+            with files.reading():
+                yield
+        except files.Unreadable as error:
+            self.state.tell(f"unreadable {path}", f"{error}: what was acknowledged of it may be missing: stop the "
+                            "service, let fsck mend the disk, and start it")
+
     def uploads(self, name: str) -> list[tuple[str, Path]]:
         """The uploads that were stored in a database that isn't finished, with their machines, in order."""
-        return [(path.name.partition(".")[2], path) for path in sorted((self.folder.recent / name).glob("*.*"))]
+        folder, found = self.folder.recent / name, list[tuple[str, Path]]()
+        with self.left(folder):
+            for path in sorted(folder.glob("*.*")):
+                with self.left(path), files.opened(path):
+                    found.append((path.name.partition(".")[2], path))
+        return found
 
     def again(self) -> list[tuple[str, Path]]:
         """The uploads of databases that were set aside which aren't all stored again yet; those of others go."""

@@ -8,8 +8,7 @@ import time
 from pathlib import Path
 
 from .. import VERSION
-from ..admin.door import Door
-from ..admin.operations import Operations
+from ..admin.operations import Door, Operations
 from ..common import program
 from ..common.settings import Wrong
 from ..reading.present import Present
@@ -24,42 +23,6 @@ from .store import Store
 
 STACK = 256 << 10
 FLUSH_SECONDS = 5.0
-
-
-class Service:
-    def __init__(self, chosen: settings.Settings, folder: settings.Folder, lock: int) -> None:
-        folder.make()
-        self.state = State(folder)
-        self.present = Present(folder.path, log, chosen.read_keys)
-        self.store = Store(chosen, Recovery(chosen, self.state, lock, self.present))
-        self.stops, self.gate = self.store.stops, Gate(chosen, self.state)
-        self.keeping = Keeping(chosen, self.store)
-
-    def run(self) -> None:
-        signal.signal(signal.SIGTERM, lambda *_: self.stops.set())
-        signal.signal(signal.SIGINT, lambda *_: self.stops.set())
-        signal.signal(signal.SIGHUP, lambda *_: self.store.is_asked_to_finish.set())
-        threading.stack_size(STACK)
-        doors = Doors(self.state.folder, self.gate)
-        self.present.start()
-        self.store.start()
-        self.keeping.start()
-        Door(Operations(self.store, self.keeping, self.gate)).start()
-        flushed = time.monotonic()
-        while not self.stops.is_set():
-            for machine, one in doors.came(1.0):
-                try:
-                    Connection(one, machine, self.store, self.gate).start()
-                except RuntimeError as error:
-                    self.state.tell("threads", f"connections are refused: {error}: raise TasksMax of the service")
-                    one.close()
-            if time.monotonic() - flushed > FLUSH_SECONDS:
-                flushed = time.monotonic()
-                self.state.flush()
-        doors.close()
-        self.store.stop()
-        self.state.flush()
-        self.present.stop()
 
 
 def main() -> int:
@@ -81,7 +44,7 @@ def main() -> int:
 
 
 def serve(chosen: settings.Settings) -> None:
-    """With as many open files as it may have: each connection has up to two."""
+    """With as many open files as it may have: each connection has up to three."""
     _, hard = resource.getrlimit(resource.RLIMIT_NOFILE)
     resource.setrlimit(resource.RLIMIT_NOFILE, (hard, hard))
     folder = settings.Folder(Path(chosen.folder))
@@ -89,7 +52,37 @@ def serve(chosen: settings.Settings) -> None:
         log(f"another service, or a process that it began, stores in {folder.path}: this one waits for its end")
         lock = folder.locked(is_waiting=True)
     assert lock is not None
-    Service(chosen, folder, lock).run()
+    folder.make()
+    state, present = State(folder), Present(folder.path, log, chosen.read_keys)
+    store = Store(chosen, Recovery(chosen, state, lock, present))
+    gate, keeping = Gate(chosen, state, store.windows), Keeping(chosen, store)
+    signal.signal(signal.SIGTERM, lambda *_: store.stops.set())
+    signal.signal(signal.SIGINT, lambda *_: store.stops.set())
+    signal.signal(signal.SIGHUP, lambda *_: store.is_asked_to_finish.set())
+    threading.stack_size(STACK)
+    doors = Doors(folder, gate)
+    for thread in (present, store, keeping, Door(Operations(store, keeping, gate))):
+        thread.start()
+    let_in(doors, store, gate)
+    doors.close()
+    store.stop()
+    state.flush()
+    present.stop()
+
+
+def let_in(doors: Doors, store: Store, gate: Gate) -> None:
+    """Whoever comes has a connection, until the service is told to stop."""
+    flushed = time.monotonic()
+    while not store.stops.is_set():
+        for machine, one in doors.came(1.0):
+            try:
+                Connection(one, machine, store, gate).start()
+            except RuntimeError as error:
+                store.state.tell("threads", f"connections are refused: {error}: raise TasksMax of the service")
+                one.close()
+        if time.monotonic() - flushed > FLUSH_SECONDS:
+            flushed = time.monotonic()
+            store.state.flush()
 
 
 def look_at_program() -> None:

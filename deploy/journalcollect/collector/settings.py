@@ -47,15 +47,9 @@ def read() -> Settings:
 
 class Folder:
     def __init__(self, path: Path) -> None:
-        self.path = path
-        self.databases = path / "databases"
-        self.sequences = path / "sequences"
-        self.recent = path / "recent"
-        self.quarantine = path / "quarantine"
-        self.scratch = path / "scratch"
-        self.sockets = path / "sockets"
-        self.state = path / "state.sqlite"
-        self.admin = path / "admin"
+        self.path, self.state, self.admin, self.sockets = path, path / "state.sqlite", path / "admin", path / "sockets"
+        self.databases, self.sequences, self.recent = path / "databases", path / "sequences", path / "recent"
+        self.quarantine, self.scratch = path / "quarantine", path / "scratch"
 
     def make(self) -> None:
         """Makes the folders that aren't there. In `scratch` nothing outlives a service."""
@@ -74,6 +68,10 @@ class Folder:
             os.close(handle)
             return None
         return handle
+
+    def is_roomy(self, chosen: Settings) -> bool:
+        """Whether there is room for journal files, too: storing comes first."""
+        return files.free(self.path)[0] > 2 * chosen.free_bytes
 
     def room(self, chosen: Settings) -> str | None:
         """Why nothing more can be stored; None if there is room."""

@@ -2,6 +2,7 @@
 import collections
 import contextlib
 import itertools
+import mmap
 import os
 import shutil
 import threading
@@ -10,10 +11,11 @@ from collections.abc import Callable
 from concurrent.futures import Future
 from pathlib import Path
 
-from ..common import files, program
-from ..common.protocol import HEADER, MOST_WINDOWS, Answer, Put, Verdict
+from ..common import entries, files, program
+from ..common.protocol import HEADER, KIND, MOST_WINDOWS, STREAM, Answer, Put, Verdict
 from . import databases
 from .gate import IDS
+from .notes import Unnoted
 from .process import OWN, Ended, Process
 from .recovery import Recovery
 from .settings import NOTES_DAYS, Settings
@@ -26,6 +28,8 @@ KILLS = 3
 LAST_SECONDS, REST_SECONDS = 30.0, 3.0
 # An upload waits for its turn as long as this: less than its machine waits for an answer.
 LONGEST_WAIT = 60.0
+# Files of notes are made as a database ends, with some eight syncs each: of so many that takes some seconds.
+MOST_FILES = 512
 CLOSED_WELL, UNREADABLE = (0, 1), "it couldn't be read"
 
 
@@ -43,9 +47,12 @@ class Store(threading.Thread):
         self.is_asked_to_finish, self.is_begun = threading.Event(), threading.Event()
         # Whoever reads notes has this, and whoever changes what isn't only added.
         self.notes = threading.Lock()
+        # The last keys of uploads that were acknowledged, and the windows that were counted.
+        self.keys, self.windows = Unnoted(), Unnoted()
 
     def ask(self, upload: Waiting) -> Answer | Put:
         """Has an upload stored, and waits for what becomes of it. It comes again if its turn doesn't come for long."""
+        upload.last = last_key(upload)
         self.turns.put(upload)
         with contextlib.suppress(TimeoutError):
             return upload.reply.result(LONGEST_WAIT)
@@ -60,8 +67,11 @@ class Store(threading.Thread):
         self.turns.wake()
         done.result()
 
-    def knows(self, sequence: str, number: int) -> bool:
+    def knows(self, machine: str, sequence: str, number: int) -> bool:
+        """Whether an entry is known with which an upload of a machine ended. Its note may be in no file yet."""
         self.is_begun.wait()
+        if self.keys.has(machine, sequence, number):
+            return True
         with self.notes:
             return program.has_note(self.folder.sequences, sequence, number)
 
@@ -81,6 +91,7 @@ class Store(threading.Thread):
                 group = self.turns.group(1.0)
                 self.store(group)
                 self.turn()
+                self.forget()
                 self.state.over("store")
             except databases.Unrecovered as error:
                 self.fail(group, f"nothing can be stored: {error}")
@@ -102,8 +113,9 @@ class Store(threading.Thread):
 
     def take_up(self) -> None:
         """Whatever isn't finished is finished or set aside."""
+        done = set(self.state.ask("SELECT name FROM database WHERE standing NOT IN ('missing', 'quarantined')"))
         for path in sorted(self.folder.databases.glob("*.db")):
-            if databases.told_digest(path) is None:
+            if (path.stem,) not in done and databases.told_digest(path) is None:
                 with self.notes:
                     uploads = self.recovery.recover(path)
                 self.store_again(uploads)
@@ -230,8 +242,10 @@ class Store(threading.Thread):
             upload.reply.set_result(Put(Verdict.LATER, UNREADABLE) if is_unread else answer)
 
     def account(self, upload: Waiting, answer: Answer) -> None:
-        """What an answer means to the present, to the bounds of a machine, and to people."""
+        """What an answer means to what is known, to the present, to the bounds of a machine, and to people."""
         assert upload.path
+        if upload.last and not answer.code:
+            self.keys.add(upload.machine, *upload.last)
         machine = self.state.saw(upload.machine)
         machine.bytes += upload.size
         machine.entries += answer.new
@@ -266,10 +280,16 @@ class Store(threading.Thread):
                     self.is_taken_up = False           # what it left is looked at
                     done.set_exception(error)
 
+    def forget(self) -> None:
+        """Once all databases are finished, and all is stored again that was set aside, files have all notes."""
+        if self.is_taken_up and not self.present and self.keys:
+            self.keys.forget()
+            self.windows.forget()
+
     def is_full(self) -> bool:
         process = self.present
         return process is not None and (
-            time.monotonic() - process.begun > self.settings.database_seconds
+            time.monotonic() - process.begun > self.settings.database_seconds or len(self.windows) > MOST_FILES
             or max(databases.bytes_of(process.path), self.recent_bytes // 2) > self.settings.database_bytes)
 
     def close(self) -> None:
@@ -295,3 +315,10 @@ class Store(threading.Thread):
         return {"database": process.path.name if process else None,
                 "database_bytes": databases.bytes_of(process.path) if process else 0, "waiting": self.turns.length(),
                 "program": str(program.path()), "process": os.getpid()}
+
+
+def last_key(upload: Waiting) -> tuple[str, int] | None:
+    """The key of the last entry of a stream: a machine asks for this one. None if there is none that can be read."""
+    with contextlib.suppress(ValueError), mmap.mmap(upload.handle, upload.size, prot=mmap.PROT_READ) as data:
+        return entries.last_key(data, HEADER) if data[KIND] == STREAM else None
+    return None

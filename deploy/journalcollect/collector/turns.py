@@ -18,19 +18,20 @@ MOST, HEAVY = 64, 0.2
 # After a heavy one others have the store for themselves, so many times as long as it took.
 REST = 2.0
 # Seconds that an upload is likely to take, and each of its bytes, its lines, and the files that are made for its notes:
-# each of these has some 13 syncs.
+# each of these has some 8 syncs as the database ends, and one of a new sequence as many at once.
 OF_AN_UPLOAD, OF_A_BYTE, OF_A_LINE, OF_A_FILE = 5e-3, 5e-8, 4e-6, 25e-3
 
 
 @dataclass(eq=False)
 class Waiting:
-    """An upload that waits; so many files are made for its notes."""
+    """An upload that waits; so many files are made for its notes, and `last` is the key of its last entry, if known."""
     machine: str
     handle: int
     size: int
     lines: int = 0
     files: int = 0
     path: Path | None = None
+    last: tuple[str, int] | None = None
     reply: Future[Answer | Put] = field(default_factory=Future)
 
     @property

@@ -3,6 +3,8 @@
 An entry that is short and has only lines NAME=VALUE, as nearly all have, is taken at once by regular expressions.
 Others go field by field: from a file each in parts, so a reader holds a block and what is made of the parts.
 """
+import collections
+import contextlib
 import re
 from collections.abc import Iterator
 from io import BufferedReader, BytesIO, RawIOBase
@@ -27,15 +29,11 @@ BOOT, BOOT_ID, NO_BOOT = re.compile(rb"\n_BOOT_ID=([^\n]*)"), re.compile(rb"[0-9
 # What systemd-journal-remote takes: at a time that isn't below it ends, without a word and with status 0.
 TIMES = range(1, 1 << 55)
 MOST_FIELDS = 1_000
+DAMAGED = "this isn't an export stream, or it is damaged"
 
 
 class Unfit(ValueError):
     """The stream can't be followed any more."""
-
-
-class Damaged(Unfit):
-    def __str__(self) -> str:
-        return f"{self.args[0]}: this isn't an export stream, or it is damaged"
 
 
 class CutOff(Unfit):
@@ -54,25 +52,25 @@ def parts(source: BufferedReader, line: bytes) -> Iterator[Part]:
     """The parts of the field that begins with this line, as far as the stream goes."""
     name, equals, value = line.partition(b"=")
     if not name:
-        raise Damaged("a field has no name")
+        raise Unfit(f"a field has no name: {DAMAGED}")
     if equals:
         yield name, line, value.removesuffix(b"\n")
         while not line.endswith(b"\n") and (line := source.readline(BLOCK)):
             yield b"", line, line.removesuffix(b"\n")
         return
     if len(line) == BLOCK and not line.endswith(b"\n"):
-        raise Damaged("a name is too long")
+        raise Unfit(f"a name is too long: {DAMAGED}")
     length = source.read(8)
     count = int.from_bytes(length, "little") if len(length) == 8 else 0
     if count > LONGEST:
-        raise Damaged(f"a value of {count} bytes")
+        raise Unfit(f"a value of {count} bytes: {DAMAGED}")
     yield line.removesuffix(b"\n"), line + length, b""
     left = count + 1
     while left and (piece := source.read(min(left, BLOCK))):
         left -= len(piece)
         yield b"", piece, piece if left else piece[:-1]
     if not left and not piece.endswith(b"\n"):
-        raise Damaged("no newline after a value")
+        raise Unfit(f"no newline after a value: {DAMAGED}")
 
 
 class Untaken(Exception):
@@ -114,6 +112,15 @@ def spans(data: Data, at: int = 0) -> Iterator[Span]:
         end = plain.end() if plain else at + sum(len(spelled) for _, _, spelled in fields(data, at)) + 1
         yield Span(at, end, plain is not None)
         at = end
+
+
+def last_key(data: Data, at: int) -> tuple[str, int] | None:
+    """The key of the last entry; None if there is none that can be followed."""
+    with contextlib.suppress(KeyError, ValueError):
+        for last in collections.deque(spans(data, at), 1):
+            about = {name: value for name, value, _ in fields(data, last.begin) if name.startswith(b"__SEQNUM")}
+            return about[b"__SEQNUM_ID"].decode("ascii").lower(), int(about[b"__SEQNUM"])
+    return None
 
 
 def entry(data: Data, span: Span) -> Entry:

@@ -1,9 +1,28 @@
 """Files that are on the disk when a call returns, files without a name, what is in a folder, and what is damaged."""
+import errno
 import os
 import sqlite3
 from collections.abc import Iterator
 from contextlib import AbstractContextManager, contextmanager, suppress
 from pathlib import Path
+
+# What a disk says of what it can't read any more, as a loss of power may leave it.
+UNREADABLE = errno.EIO, errno.EBADMSG, errno.EUCLEAN
+
+
+class Unreadable(OSError):
+    """The disk can't read what a file is, or has, as a loss of power may leave it. Nor can it move or remove it."""
+
+
+@contextmanager
+def reading() -> Iterator[None]:
+    """What the disk can't read is told apart from what may pass, as a full disk."""
+    try:
+        yield
+    except OSError as error:
+        if error.errno in UNREADABLE:
+            raise Unreadable(str(error)) from error
+        raise
 
 
 @contextmanager

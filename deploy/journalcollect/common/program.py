@@ -1,13 +1,13 @@
 """The program journal-collect: every call of it is made here."""
 import enum
 import os
+import re
 import subprocess
 from collections.abc import Iterable
 from pathlib import Path
 
-# The environment variable that names another program than the installed one, as tests do.
-VARIABLE = "JOURNAL_COLLECT"
 OK, REFUSED, USAGE, FAILED, NONE = range(5)
+BAD = re.compile(rb"bad ([0-9]+) ([0-9]+)")
 
 
 class Code(enum.IntEnum):
@@ -27,9 +27,18 @@ class Failed(Exception):
     """The program couldn't do what was asked, and what it said."""
 
 
+class Bad(Failed):
+    """The program can't take what is at this place of a stream, and the code that says why."""
+
+    def __init__(self, why: str, code: int, place: int) -> None:
+        super().__init__(why)
+        self.code, self.place = code, place
+
+
 def path() -> Path:
-    """The program beside the library that this module is in: PREFIX/bin for PREFIX/lib/journal-collect."""
-    named = os.environ.get(VARIABLE)
+    """The program beside the library that this module is in: PREFIX/bin for PREFIX/lib/journal-collect. The environment
+    may name another one, as tests do."""
+    named = os.environ.get("JOURNAL_COLLECT")
     return Path(named) if named else Path(__file__).resolve().parents[4] / "bin" / "journal-collect"
 
 
@@ -37,10 +46,13 @@ def run(*words: str | Path, given: bytes = b"", allowed: Iterable[int] = (OK,),
         out: int = subprocess.PIPE) -> subprocess.CompletedProcess[bytes]:
     """Calls the program with some words and an input; how it ended, if the status is allowed."""
     ended = subprocess.run([path(), *words], input=given, stdout=out, stderr=subprocess.PIPE, check=False)
-    if ended.returncode not in allowed:
-        raise Failed(f"journal-collect {' '.join(map(str, words))}: status {ended.returncode}: "
-                     f"{ended.stderr.decode(errors='replace').strip()}")
-    return ended
+    if ended.returncode in allowed:
+        return ended
+    why = f"journal-collect {' '.join(map(str, words))}: status {ended.returncode}: "
+    why += ended.stderr.decode(errors="replace").strip()
+    if bad := BAD.match(ended.stdout or ended.stderr):
+        raise Bad(why, int(bad[1]), int(bad[2]))
+    raise Failed(why)
 
 
 def said(*words: str | Path, given: bytes = b"", allowed: Iterable[int] = (OK,)) -> str:
@@ -75,14 +87,9 @@ def owners(sequences: Path) -> dict[str, str]:
     return dict(line.split(" ") for line in lines if not line.startswith("bad "))
 
 
-def rename_owner(sequences: Path, old: str, new: str) -> None:
-    """What was a machine's is its own under another name. Nobody may store meanwhile."""
-    said("owners", "--sequences", sequences, "--rename", old, new)
-
-
-def release(sequences: Path, sequence: str) -> None:
-    """A sequence is nobody's, and then the machine's that brings a new entry of it. Nobody may store meanwhile."""
-    said("owners", "--sequences", sequences, "--release", sequence)
+def change_owners(sequences: Path, *words: str) -> None:
+    """Gives a machine another name, or leaves a sequence to who brings it next. Nobody may store meanwhile."""
+    said("owners", "--sequences", sequences, *words)
 
 
 def differs(sequences: Path, database: Path) -> str | None:
@@ -107,30 +114,12 @@ def touched(upload: int) -> int:
     return int(ended.stdout.split()[7]) if ended.returncode == OK else 0
 
 
-class Bad(Exception):
-    """The program can't take what is at this place of a stream, and the code that says why."""
-
-    def __init__(self, code: int, place: int) -> None:
-        super().__init__(f"bad {code} {place}")
-        self.code, self.place = code, place
-
-
 def upload(stream: Path, source: str, out: int) -> None:
     """Writes all of an export stream to an open file, as an upload that is to be whole; a Bad if it has a fault."""
     bounds = ["--resume", str(stream.with_name(stream.name + ".resume")), "--limit", str(2**63 - 1), "--whole"]
-    ended = run("upload", "--source", source, *bounds, "export", stream, out=out, allowed=(OK, REFUSED))
-    raise_if_bad(ended.returncode, ended.stderr)
+    run("upload", "--source", source, *bounds, "export", stream, out=out)
 
 
 def look_at(upload: Path) -> None:
     """Returns if the program can take an upload as far as that doesn't depend on what is stored; otherwise a Bad."""
-    ended = run("inspect", upload, allowed=(OK, REFUSED))
-    raise_if_bad(ended.returncode, ended.stdout)
-
-
-def raise_if_bad(status: int, said: bytes) -> None:
-    match said.split():
-        case [b"bad", code, place, *_] if status:
-            raise Bad(int(code), int(place))
-    if status:
-        raise Failed(f"journal-collect: status {status}: {said.decode(errors='replace').strip()}")
+    run("inspect", upload)

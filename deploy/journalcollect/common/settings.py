@@ -1,4 +1,5 @@
-"""Settings: lines NAME=VALUE in the files `*.conf` of a folder. A later file, by its name, has the last word.
+"""Settings: lines NAME=VALUE in the files `*.conf` of a folder. A later file, by its name, has the last word. Empty
+lines, and those with `#`, set nothing.
 
 The settings of a program are a frozen dataclass, which has each under its name in small letters, with its type (`str`,
 `bool`, `int` or `float`) and its default.
@@ -7,7 +8,6 @@ import dataclasses
 import os
 import re
 import subprocess
-from collections.abc import Iterator
 from pathlib import Path
 from typing import Any, TypeVar
 
@@ -27,7 +27,17 @@ def read(folder: Path, kind: type[S]) -> S:
     types = {field.name: field.type for field in dataclasses.fields(kind)}
     values: dict[str, Any] = {}
     for path in sorted(folder.glob("*.conf")):
-        for number, name, value in assignments(path):
+        try:
+            lines = path.read_text(encoding="utf-8").splitlines()
+        except (OSError, UnicodeDecodeError) as error:
+            raise Wrong(f"{path} can't be read: {error}") from error
+        for number, line in enumerate(map(str.strip, lines), 1):
+            if not line or line.startswith("#"):
+                continue
+            name, equals, value = line.partition("=")
+            value = value.strip()
+            if not equals or name != name.strip():
+                raise Wrong(f"{path}: line {number} isn't NAME=VALUE: {line}")
             if name != name.upper() or name.lower() not in types:
                 raise Wrong(f"{path}: line {number}: {name} is no setting")
             of_type = types[name.lower()]
@@ -36,22 +46,6 @@ def read(folder: Path, kind: type[S]) -> S:
                 raise Wrong(f"{path}: line {number}: {name} isn't {what}: {value}")
             values[name.lower()] = value == "yes" if of_type is bool else of_type(value)
     return kind(**values)
-
-
-def assignments(path: Path) -> Iterator[tuple[int, str, str]]:
-    """The number of each line that sets something, the name and the value. Empty lines, and those with `#`, don't."""
-    try:
-        lines = path.read_text(encoding="utf-8").splitlines()
-    except (OSError, UnicodeDecodeError) as error:
-        raise Wrong(f"{path} can't be read: {error}") from error
-    for number, line in enumerate(lines, 1):
-        text = line.strip()
-        if not text or text.startswith("#"):
-            continue
-        name, equals, value = text.partition("=")
-        if not equals or name != name.strip():
-            raise Wrong(f"{path}: line {number} isn't NAME=VALUE: {text}")
-        yield number, name, value.strip()
 
 
 def time_of(words: str) -> int | None:

@@ -26,6 +26,8 @@ MACHINE_ID = Path("/etc/machine-id")
 SIGNATURE, HEADER_BYTES, ARCHIVED = b"LPKSHHRH", 208, 2
 # Files are listed anew after so long, whatever has changed; sooner if one couldn't be read.
 LISTED_SECONDS, UNREAD_SECONDS = 60.0, 5.0
+# What has been written to sooner may be a copy that isn't whole yet.
+COPIED_SECONDS = 60.0
 # Behind what can't be read so many numbers are tried one by one, and then each at twice the distance.
 ONE_BY_ONE = 32
 
@@ -41,6 +43,7 @@ class JournalFile(NamedTuple):
     tail_realtime: int
     entries: int
     is_archived: bool
+    is_cut: bool
 
     @property
     def kind(self) -> str:
@@ -53,11 +56,15 @@ def read_header(path: Path, handle: int) -> JournalFile:
     header = os.pread(handle, HEADER_BYTES, 0)
     if len(header) < HEADER_BYTES or header[:8] != SIGNATURE:
         raise ValueError("it has no header of a journal file")
+    begins, holds = struct.unpack_from("<2Q", header, 88)
     entries, tail, head, _, head_realtime, tail_realtime = struct.unpack_from("<6Q", header, 152)
     # journald renames a file before it begins the next one, and writes nothing more to it.
     is_archived = header[16] == ARCHIVED or "@" in path.name or path.name.endswith("~")
+    # journalctl opens none that has fewer bytes than its header says, as a loss of power may leave it.
+    there = os.fstat(handle)
+    is_cut = is_archived and there.st_size < begins + holds and time.time() - there.st_mtime > COPIED_SECONDS
     return JournalFile(path, header[24:40].hex(), header[72:88].hex(), head, tail, head_realtime, tail_realtime,
-                       entries, is_archived)
+                       entries, is_archived, is_cut)
 
 
 def looked_at(path: Path) -> JournalFile:

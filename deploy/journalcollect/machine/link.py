@@ -61,7 +61,7 @@ class Link:
     def open(self) -> protocol.Greeting:
         self.errors = open(os.memfd_create("errors"), "w+b")
         self.socket, theirs = socket.socketpair()
-        self.socket.setblocking(False)
+        self.socket.settimeout(PATIENCE)
         with theirs:
             self.process = subprocess.Popen(command(self.settings), stdin=theirs.fileno(), stdout=theirs.fileno(),
                                             stderr=self.errors)
@@ -77,24 +77,20 @@ class Link:
             raise self.lost(f"it answers with {error}") from None
 
     def line(self, data: bytes) -> str:
-        """Sends some bytes and reads a line. If that came before all were sent, no more are read there."""
+        """Sends some bytes, all of which are read there whatever is answered, and reads a line."""
         left, line = memoryview(data), b""
-        while not line.endswith(b"\n"):
-            ready, free, _ = select.select([self.socket], [self.socket] if left else [], [], PATIENCE)
-            try:
-                if ready:
-                    if not (piece := self.socket.recv(protocol.LONGEST_LINE + 1 - len(line))):
-                        raise ConnectionError("the connection ended")
-                    line += piece
-                elif free:
-                    left = left[self.socket.send(left[:PIECE]):]
-                else:
-                    raise TimeoutError(f"nothing came for {PATIENCE:.0f} s")
-            except OSError as error:
-                raise self.lost(error.strerror or str(error), len(data) - len(left)) from None
+        try:
+            while left:
+                left = left[self.socket.send(left[:PIECE]):]
+            while not line.endswith(b"\n"):
+                if not (piece := self.socket.recv(protocol.LONGEST_LINE + 1 - len(line))):
+                    raise ConnectionError("the connection ended")
+                line += piece
+        except TimeoutError:
+            raise self.lost(f"nothing came for {PATIENCE:.0f} s", len(data) - len(left)) from None
+        except OSError as error:
+            raise self.lost(error.strerror or str(error), len(data) - len(left)) from None
         self.used = time.monotonic()
-        if left:
-            self.close()
         return protocol.decoded(line)
 
     def lost(self, why: str, went_out: int = 0) -> Lost:

@@ -6,7 +6,6 @@ on the disk before it has its name, and has its name on the disk before `put` re
 as new stays as `had`, and the last that was stored before as `repeated`: so a loss of power leaves it to be sent or to
 be asked for.
 """
-import errno
 import math
 import os
 import re
@@ -24,8 +23,6 @@ from journalcollect.common.protocol import HEADER, MOST_WINDOWS, WINDOW
 from journalcollect.common.report import LOOK, Report
 from journalcollect.machine.places import Places
 
-# What a disk says of what it can't read any more, as a loss of power may leave it.
-UNREADABLE = errno.EIO, errno.EBADMSG, errno.EUCLEAN
 KEPT = "had", "repeated"
 # The collector notes for longer than this what it stored, whatever it keeps.
 HAD_SECONDS = 7 * 86_400
@@ -145,15 +142,15 @@ class Outbox:
         """If something can't be read any more, it is put aside with the folder, since such a file can't be moved by
         itself. What can be read comes back, and what the journal has goes out once more."""
         try:
-            yield
-        except OSError as error:
-            if error.errno in UNREADABLE:
-                aside = self.refused.folder / f"outbox-{time.time_ns()}"
-                self.places.forget_all()
-                files.move(self.folder, aside)
-                self.open()
-                self.report.say(LOOK, f"{error}: what can't be read any more of the outbox is put aside in "
-                                f"{aside}, and what the journal has goes out once more")
+            with files.reading():
+                yield
+        except files.Unreadable as error:
+            aside = self.refused.folder / f"outbox-{time.time_ns()}"
+            self.places.forget_all()
+            files.move(self.folder, aside)
+            self.open()
+            self.report.say(LOOK, f"{error}: what can't be read any more of the outbox is put aside in "
+                            f"{aside}, and what the journal has goes out once more")
             raise
 
     def acknowledged(self, number: int, is_new: bool) -> None:

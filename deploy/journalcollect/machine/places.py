@@ -84,9 +84,16 @@ class Place:
         return cursor_parts(self.cursor)[1]
 
 
+def newest(folder: Path) -> Path:
+    """The file of places that is used, behind those that could neither be read nor moved."""
+    return max(folder.glob("places*.sqlite"), default=folder / "places.sqlite")
+
+
 class Places:
     def __init__(self, folder: Path, report: Report) -> None:
-        self.path, self.report = folder / "places.sqlite", report
+        # One that can't be opened is none, and what is said is noted in it.
+        self.path, self.database, self.report = newest(folder), sqlite3.connect(":memory:"), report
+        report.note = self.tell
         try:
             self.open()
         except sqlite3.DatabaseError as error:
@@ -107,19 +114,41 @@ class Places:
             "SELECT sequence, number, new FROM fork ORDER BY number, rowid").fetchall()
 
     def mend(self, error: sqlite3.DatabaseError) -> bool:
-        """Puts aside a file that isn't what was made here, and begins another; whether the error says that."""
-        if not files.is_damaged(error):
+        """Puts aside a file that isn't what was made here, or that the disk can't read, and begins another; whether it
+        is such a one."""
+        if not (files.is_damaged(error) or self.is_unreadable()):
             return False
         self.database.close()
-        aside = self.path.with_name("places.damaged")
-        if self.path.exists():
-            os.replace(self.path, aside)
-        for end in ("-wal", "-shm"):
-            self.path.with_name(self.path.name + end).unlink(missing_ok=True)
+        old, aside = self.path, self.path.parent / "refused" / f"places-{time.time_ns()}"
+        try:
+            aside.mkdir(parents=True)
+            with files.reading():
+                for part in self.parts():
+                    files.move(part, aside / part.name)
+            told = f"is put aside in {aside}"
+        except files.Unreadable:
+            with suppress(OSError):
+                aside.rmdir()
+            self.path = old.with_name(f"places_{time.time_ns()}.sqlite")
+            told = f"can't be moved either, so {self.path.name} takes its place"
         self.open()
-        self.report.say(LOOK, f"{self.path} can't be used, and is kept as {aside.name}: {error}. What the journal has "
-                        "goes out once more, and is stored once")
+        self.report.say(LOOK, f"{old} can't be used ({error}), and {told}. What the journal has goes out once more, "
+                        "and is stored once")
         return True
+
+    def parts(self) -> list[Path]:
+        """The file itself, and what SQLite has beside it."""
+        return sorted(self.path.parent.glob(f"{self.path.name}*"))
+
+    def is_unreadable(self) -> bool:
+        """The disk can't read something of it any more: by its own word, since of a full disk SQLite says the same."""
+        try:
+            with files.reading():
+                for part in self.parts():
+                    part.read_bytes()
+        except OSError as error:
+            return isinstance(error, files.Unreadable)
+        return False
 
     def do(self, statement: str, rows: Iterable[Sequence[object]] = ((),), is_synced: bool = False) -> None:
         self.database.execute(f"PRAGMA synchronous={'FULL' if is_synced else 'NORMAL'}")

@@ -34,7 +34,6 @@ class Machine:
     def __init__(self, chosen: settings.Settings, report: Report) -> None:
         folder = Path(chosen.folder)
         self.chosen, self.report, self.places = chosen, report, Places(folder, report)
-        report.note = self.places.tell
         self.outbox = Outbox(folder, chosen.folder_bytes, self.places)
         self.gathering, self.sending = Gathering(chosen, self.outbox), Sending(chosen, self.outbox)
         self.has_more, self.gathers_at = True, 0.0
@@ -60,7 +59,8 @@ class Machine:
         """Gathers for so long at most, and takes answers that came by hand."""
         self.has_more, self.gathers_at = True, time.monotonic() + FIRST_PAUSE
         if answers := self.places.value("answers"):
-            self.sending.take_answers(answers)
+            for number in sorted(self.outbox.sizes):
+                self.sending.take_answer(number, self.outbox.read(number), answers)
             self.places.set(answers="")
         self.has_more = self.gathering.gather(time.monotonic() + seconds)
         is_idle = self.has_more and self.sending.next() is None and not self.gathering.is_full()

@@ -136,11 +136,6 @@ class Sending:
             self.rest(number, "the collector answers to another upload")
         return status == program.OK
 
-    def take_answers(self, lines: str) -> None:
-        """What answers that were brought by hand mean to what waits."""
-        for number in sorted(self.outbox.sizes):
-            self.take_answer(number, self.outbox.read(number), lines)
-
     def lost(self, number: int, size: int, lost: Lost) -> None:
         """No answer came. What the link didn't carry twice in a row has too many bytes for it, and comes in parts."""
         if lost.went_out > protocol.LONGEST_LINE:

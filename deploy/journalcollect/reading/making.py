@@ -19,6 +19,7 @@ from pathlib import Path
 
 from ..collector import databases, settings
 from ..common import entries, files, program
+from ..status import looking
 from . import places, remote
 from .places import ABOUT, ALL, DAY, About, Places
 
@@ -59,7 +60,7 @@ class Maker:
     def __init__(self, folder: Path, chosen: settings.Settings) -> None:
         self.places, self.folder, self.chosen = Places(folder), settings.Folder(folder), chosen
         # The machine of each sequence; of what came by hand there may be none.
-        self.owners: dict[str, str] = dict(places.known(folder, "SELECT id, machine FROM sequence"))
+        self.owners: dict[str, str] = dict(looking.rows(self.folder.state, "SELECT id, machine FROM sequence"))
 
     def run(self, is_anew: bool) -> int:
         """One run at a time, up to the end of its process: who comes while another one is under way leaves it that, if
@@ -76,8 +77,8 @@ class Maker:
         self.clean()
         status = 0
         for what, make in self.waiting():
-            if files.free(self.places.folder)[0] <= self.chosen.free_bytes:
-                status = told(f"FREE_BYTES is {self.chosen.free_bytes}, and fewer are free: none are made")
+            if not self.folder.is_roomy(self.chosen):
+                status = told(f"FREE_BYTES is {self.chosen.free_bytes}, and not twice as many are free: none are made")
                 break
             try:
                 make(what)
@@ -114,20 +115,15 @@ class Maker:
         about.write(self.places.today / f"{name}.json")
 
     def by_time(self, data: entries.Data, about: About, spool: gzip.GzipFile) -> Iterator[bytes]:
-        """The entries of an export in the order of their times. What can't be in a journal file is told."""
+        """The entries of an export in the order of their times."""
         found = sorted((int(data[span.begin + len("__REALTIME_TIMESTAMP="):data.find(b"\n", span.begin)]), span)
                        for span in entries.spans(data))
-        for realtime, span in found:
-            try:
-                entry = entries.entry(data, span)
-            except entries.Untaken as reason:
-                about.untaken[str(reason)] += 1
-                continue
+        for entry in about.taken(data, (span for _, span in found)):
             machine = self.owners.get(entry.sequence, "")
             about.entries += 1
-            about.add(machine, entry.boot, realtime, realtime)
+            about.add(machine, entry.boot, entry.realtime)
             text = entry.text(machine, self.chosen.read_keys)
-            spool.write(b"%d %d\n%s" % (realtime, len(text), text))
+            spool.write(b"%d %d\n%s" % (entry.realtime, len(text), text))
             yield text
 
     def make_day(self, day: str) -> None:
@@ -152,7 +148,7 @@ class Maker:
         stands = {name for name, path in self.places.made().items() if path.parent == self.places.today}
         for path in self.places.today.iterdir():
             if remote.stem(path) not in stands:
-                path.unlink()
+                path.unlink(missing_ok=True)
 
     def forget(self) -> None:
         """Days that are over READ_DAYS days go."""

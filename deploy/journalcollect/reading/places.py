@@ -13,13 +13,14 @@ import json
 import re
 import resource
 from collections import Counter
-from collections.abc import Iterable
-from contextlib import ExitStack, closing, suppress
+from collections.abc import Iterable, Iterator
+from contextlib import ExitStack, suppress
 from dataclasses import dataclass, field
 from pathlib import Path
-from typing import Any, NamedTuple
+from typing import NamedTuple
 
 from ..common import files
+from ..common.entries import Data, Entry, Span, Untaken, entry
 from ..machine.journal import JournalFile, read_header
 from . import remote
 
@@ -41,21 +42,28 @@ class About:
     untaken: Counter[str] = field(default_factory=Counter)
     boots: dict[str, dict[str, list[int]]] = field(default_factory=dict)
 
-    def add(self, machine: str, boot: str, first: int, last: int) -> None:
+    def add(self, machine: str, boot: str, *times: int) -> None:
         """Entries of a boot are in the files."""
         boots = self.boots.setdefault(machine, {})
-        if times := boots.get(boot):
-            times[:] = min(times[0], first), max(times[1], last)
-        elif len(boots) < MOST_BOOTS:
-            boots[boot] = [first, last]
+        if boot in boots or len(boots) < MOST_BOOTS:
+            known = boots.get(boot, times)
+            boots[boot] = [min(*known, *times), max(*known, *times)]
+
+    def taken(self, data: Data, spans: Iterable[Span]) -> Iterator[Entry]:
+        """The entries of some spans. What can't be in a journal file is told."""
+        for span in spans:
+            try:
+                yield entry(data, span)
+            except Untaken as reason:
+                self.untaken[str(reason)] += 1
 
     def join(self, other: "About") -> None:
         """What the other has is added, but for its databases."""
         self.entries += other.entries
         self.untaken.update(other.untaken)
         for machine, boots in other.boots.items():
-            for boot, (first, last) in boots.items():
-                self.add(machine, boot, first, last)
+            for boot, times in boots.items():
+                self.add(machine, boot, *times)
 
     def write(self, path: Path) -> None:
         files.replace(path, json.dumps(vars(self), separators=(",", ":")).encode(), MODE)
@@ -153,13 +161,3 @@ def open_all(paths: Iterable[Path], opened: ExitStack) -> list[File]:
         with suppress(ValueError):
             found.append(File(handle, read_header(path, handle)))
     return [file for file in found if file.header.entries]
-
-
-def known(folder: Path, query: str) -> list[Any]:
-    """What the service knows of a collector; nothing, if that can't be read."""
-    import sqlite3                                      # here, since most searches do without
-    try:
-        with closing(sqlite3.connect(f"file:{folder}/state.sqlite?mode=ro", uri=True)) as rows:
-            return rows.execute(query).fetchall()
-    except sqlite3.Error:
-        return []

@@ -4,6 +4,7 @@ All of it is one sequence: its id stays, and the number of an entry depends on n
 So the files can be made anew at any time, as they are when a process was killed, which loses or doubles what it held:
 `journalctl --follow` shows each entry once, also one that came late, since it goes by numbers.
 """
+import glob
 import hashlib
 import queue
 import shutil
@@ -14,7 +15,7 @@ import time
 from collections.abc import Callable, Iterator
 from pathlib import Path
 
-from ..common import entries
+from ..common import entries, files
 from ..common.protocol import HEADER, KIND, STREAM
 from . import remote
 from .places import About, Places
@@ -42,22 +43,20 @@ class Live(remote.Remote):
 
     def add(self, upload: Path) -> None:
         """The entries of an upload that weren't there before."""
-        self.write(self.texts(upload.read_bytes(), upload.name.partition(".")[2]))
+        self.write(self.texts(upload))
         self.is_told = False
 
-    def texts(self, data: bytes, machine: str) -> Iterator[bytes]:
+    def texts(self, upload: Path) -> Iterator[bytes]:
+        machine = upload.name.partition(".")[2]
         try:
-            for span in entries.spans(data, HEADER) if data[KIND] == STREAM else ():
-                try:
-                    entry = entries.entry(data, span)
-                except entries.Untaken as reason:
-                    self.about.untaken[str(reason)] += 1
-                    continue
+            with files.reading():
+                data = upload.read_bytes()
+            for entry in self.about.taken(data, entries.spans(data, HEADER) if data[KIND] == STREAM else ()):
                 if (entry.sequence, entry.number) not in self.keys:
                     self.keys.add((entry.sequence, entry.number))
-                    self.about.add(machine, entry.boot, entry.realtime, entry.realtime)
+                    self.about.add(machine, entry.boot, entry.realtime)
                     yield entry.text(machine, self.with_keys)
-        except entries.Unfit as fault:
+        except (files.Unreadable, entries.Unfit) as fault:
             self.about.untaken[f"their upload can't be read: {fault}"] += 1
 
     def say(self) -> None:
@@ -133,18 +132,23 @@ class Present(threading.Thread):
         return (self.databases / f"{name}.db.sha256").exists()
 
     def begin(self) -> None:
-        """All that waits is known by recent/, so what the queue has of it would come twice: keys tell."""
+        """All that waits is known by recent/, so what the queue has of it would come twice: keys tell. What had numbers
+        comes first, by these: a name is a time, and a clock may have been set back."""
         for live in self.lives.values():
             live.kill()
         self.lives.clear()
-        for folder in sorted(self.recent.glob("*")):
-            for upload in sorted(folder.iterdir()):
-                self.live(folder.name).add(upload)
+        for folder in sorted(sorted(self.recent.glob("*")), key=lambda each: before(self.places, each.name)):
+            for upload in sorted(glob.glob("*", root_dir=folder)):
+                self.live(folder.name).add(folder / upload)
             if self.is_finished(folder.name):
                 self.end(folder.name)
 
     def live(self, name: str) -> Live:
+        """The present of a database. Who follows passes over lower numbers: what others have is written first."""
         if name not in self.lives:
+            for other in self.lives.values():
+                other.finish()
+                other.start()
             self.lives[name] = Live(self.places, name, self.with_keys)
         return self.lives[name]
 

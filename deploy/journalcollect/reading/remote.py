@@ -43,8 +43,7 @@ def begin(path: Path, sequence: str, last_number: int) -> None:
     that at each moment a file says which number comes first."""
     new = path.with_name(f".{path.name}")
     new.unlink(missing_ok=True)
-    if started(new, subprocess.DEVNULL).wait():
-        raise Failed(f"systemd-journal-remote can't make {path}")
+    Remote(new).finish()
     with open(new, "r+b") as file:
         os.pwrite(file.fileno(), bytes.fromhex(sequence), SEQUENCE_AT)
         os.pwrite(file.fileno(), last_number.to_bytes(8, "little"), LAST_AT)
@@ -53,19 +52,20 @@ def begin(path: Path, sequence: str, last_number: int) -> None:
         part.unlink()
 
 
-def started(path: Path, given: int) -> subprocess.Popen[bytes]:
-    try:
-        return subprocess.Popen([REMOTE, f"--output={path}", "-"], bufsize=1 << 18, stdin=given, umask=0o027,
-                                stdout=subprocess.DEVNULL, stderr=subprocess.DEVNULL, start_new_session=True)
-    except OSError as error:
-        raise Failed(f"systemd-journal-remote, of the package of that name, can't be run: {error}") from error
-
-
 class Remote:
     """One that writes NAME.journal, with numbers that go on from those there, and further files when one is full."""
 
     def __init__(self, path: Path) -> None:
-        self.process = started(path, subprocess.PIPE)
+        self.path = path
+        self.start()
+
+    def start(self) -> None:
+        try:
+            self.process = subprocess.Popen(
+                [REMOTE, f"--output={self.path}", "-"], bufsize=1 << 18, umask=0o027, stdin=subprocess.PIPE,
+                stdout=subprocess.DEVNULL, stderr=subprocess.DEVNULL, start_new_session=True)
+        except OSError as error:
+            raise Failed(f"systemd-journal-remote, of the package of that name, can't be run: {error}") from error
 
     def write(self, texts: Iterable[bytes]) -> None:
         assert self.process.stdin
@@ -76,10 +76,10 @@ class Remote:
             raise Failed("systemd-journal-remote ended") from error
 
     def finish(self) -> None:
-        """All that was written is in files that are closed."""
+        """All that was written is in files that are closed. It may be started again."""
         self.process.communicate()
         if self.process.returncode:
-            raise Failed(f"systemd-journal-remote ended with status {self.process.returncode}")
+            raise Failed(f"systemd-journal-remote can't write {self.path}: status {self.process.returncode}")
 
     def kill(self) -> None:
         self.process.kill()

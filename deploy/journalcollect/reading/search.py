@@ -16,7 +16,7 @@ from pathlib import Path
 
 from ..collector import settings
 from ..common.settings import Wrong, time_of
-from . import journalctl, places, words
+from . import journalctl, words
 from .journalctl import Counts, Values, Window
 from .places import FOREVER, About, File, Places
 from .words import BEHIND, Call
@@ -164,7 +164,9 @@ class Search:
 
     def list_machines(self) -> None:
         """Each machine with its first and last entry, when it was seen last, and how far its clock is ahead."""
-        known = places.known(self.at.folder, "SELECT name, ifnull(seen, 0), ifnull(skew, 0) FROM machine")
+        from ..status import looking                    # here, since most searches do without sqlite3
+        known = looking.rows(self.at.folder / "state.sqlite",
+                             "SELECT name, ifnull(seen, 0), ifnull(skew, 0) FROM machine")
         seen = {name: (at, skew) for name, at, skew in known}
         print(f"{'MACHINE':<24} {'FIRST ENTRY':<27} {'LAST ENTRY':<27} {'SEEN':<27} CLOCK AHEAD")
         for name in self.names or sorted({*self.about.boots, *seen} - {""}):

@@ -4,6 +4,7 @@ import re
 from pathlib import Path
 
 from journalcollect.collector.settings import Settings
+from journalcollect.common import files
 from journalcollect.setup import keys
 from journalcollect.setup.deeds import Deeds, Stopped, is_true, output
 
@@ -20,10 +21,7 @@ def set_up(deeds: Deeds, etc: Path) -> int:
     deeds.users()
     folders(deeds, etc)
     bound_logins(deeds)
-    if deeds.write(SSHD, (LIBRARY / "sshd.conf").read_text()):
-        reload_sshd(deeds)
-    if not deeds.is_rehearsal:
-        check_sshd(etc)
+    set_sshd(deeds, etc)
     deeds.runs(SERVICE, is_new=False)
     if not deeds.count:
         print("this is a collector already; nothing was to do")
@@ -56,18 +54,26 @@ def bound_logins(deeds: Deeds) -> None:
         output("systemctl", "daemon-reload")
 
 
-def reload_sshd(deeds: Deeds) -> None:
-    if not deeds.is_rehearsal:
-        Path("/run/sshd").mkdir(exist_ok=True)      # sshd looks for it also when it only checks
-        output("/usr/sbin/sshd", "-t")
-    if not is_true("systemctl", "is-active", "ssh.service"):
-        deeds.call("enables and starts ssh.service", "systemctl", "enable", "--quiet", "--now", "ssh.service")
-    else:
-        deeds.call("reloads ssh.service", "systemctl", "reload", "ssh.service")
+def set_sshd(deeds: Deeds, etc: Path) -> None:
+    """sshd reads its settings for machines. What it doesn't take is as it was before, so that a next call goes on."""
+    before = SSHD.read_bytes() if SSHD.exists() else None
+    is_new = deeds.write(SSHD, (LIBRARY / "sshd.conf").read_text())
+    try:
+        if not deeds.is_rehearsal:
+            check_sshd(etc)
+        if is_new and is_true("systemctl", "is-active", "ssh.service"):
+            deeds.call("reloads ssh.service", "systemctl", "reload", "ssh.service")
+        elif is_new:
+            deeds.call("enables and starts ssh.service", "systemctl", "enable", "--quiet", "--now", "ssh.service")
+    except Stopped:
+        if is_new:
+            SSHD.unlink() if before is None else files.replace(SSHD, before, 0o644)
+        raise
 
 
 def check_sshd(etc: Path) -> None:
     """sshd takes machines' logins as it is set up, with all that its other settings say."""
+    Path("/run/sshd").mkdir(exist_ok=True)          # sshd looks for it also when it only checks
     told_by = output("/usr/sbin/sshd", "-T", "-C", f"user={LOGIN},host=any,addr=127.0.0.1").lower()
     found = dict(line.partition(" ")[::2] for line in told_by.splitlines())
     if found.get("authorizedkeysfile") != str(etc / "authorized_keys").lower():
@@ -75,4 +81,5 @@ def check_sshd(etc: Path) -> None:
                       "Include /etc/ssh/sshd_config.d/*.conf, before all others")
     allowed = re.findall(r"^allow(users|groups) (.*)$", told_by, re.MULTILINE)
     if allowed and not any(LOGIN in names.split() for _, names in allowed):
-        raise Stopped(f"sshd's Allow{allowed[0][0]} keeps machines out: add {LOGIN} there, and call this again")
+        raise Stopped(f"sshd's Allow{allowed[0][0]} keeps machines out: add {LOGIN} there, reload sshd, and call this "
+                      "again")

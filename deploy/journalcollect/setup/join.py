@@ -41,12 +41,7 @@ def main() -> int:
 
 class Joining:
     def __init__(self, asked: argparse.Namespace, etc: Path) -> None:
-        self.host: str = asked.host
-        self.port: int = asked.port
-        self.via: str | None = asked.via
-        self.host_keys: str | None = asked.host_keys
-        self.wants_new_key: bool = asked.new_key
-        self.deeds = Deeds(asked.dry_run)
+        self.asked, self.deeds = asked, Deeds(asked.dry_run)
         self.etc, self.key, self.public, self.known = etc, etc / "key", etc / "key.pub", etc / "known_hosts"
         self.name: str = asked.name or self.known_name() or socket.gethostname()
         if not keys.is_machine(self.name):
@@ -55,10 +50,10 @@ class Joining:
     def join(self) -> int:
         self.deeds.users()
         self.make_key()
-        where = self.host if self.port == 22 else f"{self.host}:{self.port}"
+        where = self.asked.host if self.asked.port == 22 else f"{self.asked.host}:{self.asked.port}"
         is_new = self.learn_host_keys() | self.deeds.write(self.etc / SETTINGS, f"COLLECTOR={where}\n")
-        if self.via and (is_new or self.refusal()):
-            self.deeds.call(f"has its key admitted by {self.via}", *SSH, self.via,
+        if self.asked.via and (is_new or self.refusal()):
+            self.deeds.call(f"has its key admitted by {self.asked.via}", *SSH, self.asked.via,
                             f"journal-collect-admin admit {self.name}", given=f"{self.public_key()}\n".encode())
         if is_new and is_true("systemctl", "is-active", "systemd-journald.service"):
             # it keeps as many files as the package has it keep
@@ -75,7 +70,7 @@ class Joining:
         return self.public.read_text().strip() if self.public.exists() else ""
 
     def make_key(self) -> None:
-        is_kept = self.key.exists() and not self.wants_new_key and self.known_name() == self.name
+        is_kept = self.key.exists() and not self.asked.new_key and self.known_name() == self.name
         if not is_kept and self.deeds.begin(f"makes {self.key}, the key of {self.name}"):
             self.etc.mkdir(exist_ok=True)
             for path in (self.key, self.public):
@@ -85,27 +80,32 @@ class Joining:
 
     def learn_host_keys(self) -> bool:
         """They are asked for anew by --via and --host-keys, and else only where none are known."""
-        where = self.host if self.port == 22 else f"[{self.host}]:{self.port}"
-        if self.host_keys:
-            found = Path(self.host_keys).read_text()
-        elif self.via:
-            found = told_by_login(self.via)
+        where = self.asked.host if self.asked.port == 22 else f"[{self.asked.host}]:{self.asked.port}"
+        if self.asked.host_keys:
+            found = Path(self.asked.host_keys).read_text()
+        elif self.asked.via:
+            try:
+                # as root's own ssh is told them there
+                found = output(*SSH, self.asked.via, "cat /etc/ssh/ssh_host_*_key.pub")
+            except Stopped as error:
+                raise Stopped(f"{error}\nlog in there by `ssh {self.asked.via}` once, and call this again; "
+                              "or leave --via out, and compare the host keys") from None
         elif is_true("ssh-keygen", "-F", where, "-f", self.known):
             return False
         else:
-            found = self.compared(output("ssh-keyscan", "-p", str(self.port), self.host))
+            found = self.compared(output("ssh-keyscan", "-p", str(self.asked.port), self.asked.host))
         # ssh-keygen writes a key's kind and bytes first, and ssh-keyscan behind the host
         texts = {keys.of_text(line) or keys.of_text(line.strip().partition(" ")[2]) for line in found.splitlines()}
         lines = [f"{where} {text}" for text in sorted(texts - {""})]
         if not lines:
-            raise Stopped(f"{self.host_keys or self.via or self.host} has no host keys")
+            raise Stopped(f"{self.asked.host_keys or self.asked.via or self.asked.host} has no host keys")
         return self.deeds.write(self.known, "\n".join(lines) + "\n")
 
     def compared(self, scanned: str) -> str:
         """Whoever is at the terminal compares what came with what `journal-collect-admin setup` prints."""
         if not scanned.strip():
-            raise Stopped(f"no sshd answers at {self.host}, port {self.port}")
-        print(f"{self.host} has these host keys; journal-collect-admin setup prints them there:")
+            raise Stopped(f"no sshd answers at {self.asked.host}, port {self.asked.port}")
+        print(f"{self.asked.host} has these host keys; journal-collect-admin setup prints them there:")
         by_kind = "\n".join(sorted(scanned.splitlines()))      # in the order in which setup prints them
         print(output("ssh-keygen", "-l", "-f", "-", given=by_kind.encode()), end="", flush=True)
         if self.deeds.is_rehearsal:
@@ -125,7 +125,7 @@ class Joining:
         what else there is may be over in a moment."""
         end = time.monotonic() + PATIENCE
         while why := self.refusal():
-            if REFUSED in why and not self.via or time.monotonic() > end:
+            if REFUSED in why and not self.asked.via or time.monotonic() > end:
                 return self.tell_what_to_do(why)
             time.sleep(1.0)
         while time.monotonic() < end:
@@ -134,21 +134,12 @@ class Joining:
             time.sleep(0.5)
         if not self.deeds.count:
             print("nothing was to do")
-        print(f"{self.name} sends to {self.host}")
+        print(f"{self.name} sends to {self.asked.host}")
         return 0
 
     def tell_what_to_do(self, why: str) -> int:
         if REFUSED not in why:
-            print(f"{self.host} isn't reached yet: {why}", file=sys.stderr)
-        print(f"on {self.host}, as root:\n  echo '{self.public_key()}' | journal-collect-admin admit {self.name}")
+            print(f"{self.asked.host} isn't reached yet: {why}", file=sys.stderr)
+        print(f"on {self.asked.host}, as root:\n  echo '{self.public_key()}' | journal-collect-admin admit {self.name}")
         print(f"then {self.name} sends by itself, within a minute; journal-collect-status says how it stands")
         return 1
-
-
-def told_by_login(via: str) -> str:
-    """The collector's host keys, as root's own ssh is told them there."""
-    try:
-        return output(*SSH, via, "cat /etc/ssh/ssh_host_*_key.pub")
-    except Stopped as error:
-        raise Stopped(f"{error}\nlog in there by `ssh {via}` once, and call this again; "
-                      "or leave --via out, and compare the host keys") from None

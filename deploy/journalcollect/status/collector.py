@@ -4,6 +4,7 @@ from dataclasses import dataclass, field
 from pathlib import Path
 
 from journalcollect.collector.settings import FREE_FILES, Settings, read as read_settings
+from journalcollect.collector.state import Machine
 from journalcollect.common import files, settings
 from journalcollect.reading import places
 from journalcollect.setup import keys
@@ -14,17 +15,6 @@ from journalcollect.status.findings import DAY, HOUR, Findings
 # A machine whose journal grows is seen within a minute; a quiet one logs something within hours.
 SILENT_SECONDS, LEAST_DAYS, BEHIND_SECONDS = 2 * HOUR, 7.0, HOUR
 REBUILD = "journal-collect-admin check; then put back a backup, or: journal-collect-admin rebuild"
-
-
-@dataclass
-class Machine:
-    """A machine that has a key. Times are seconds since 1970, 0 for never."""
-    name: str
-    seen: float = 0.0
-    stored: float = 0.0
-    entries: int = 0
-    refused: int = 0
-    skew: float = 0.0
 
 
 @dataclass
@@ -86,32 +76,27 @@ def look_at_service(found: Collector, folder: Path, findings: Findings) -> None:
 
 def look_at_machines(found: Collector, folder: Path, now: float, findings: Findings) -> None:
     """Those that have a key: a retired one is none."""
-    known = {row[0]: Machine(*row) for row in looking.rows(
-        folder / "state.sqlite", "SELECT name, seen, stored, entries, refused, skew FROM machine")}
+    known = {row[0]: Machine(*row) for row in looking.rows(folder / "state.sqlite", "SELECT * FROM machine")}
     etc = settings.FOLDER
-    found.machines = [known.get(name, Machine(name)) for name in keys.machines(etc)]
+    names = keys.machines(etc)
+    found.machines = [known.get(name, Machine(name)) for name in names]
     path = etc / "authorized_keys"
     admitted = path.read_text(errors="replace") if path.exists() else ""
-    for machine in found.machines:
-        if f"/{machine.name}\",restrict" not in admitted:
-            findings.failed("key", machine.name, f"{etc / 'keys' / machine.name}.pub is no key that sshd takes",
-                            f"journal-collect-admin admit {machine.name} < KEY.pub")
-        judge_machine(machine, now, findings)
-
-
-def judge_machine(machine: Machine, now: float, findings: Findings) -> None:
-    name = machine.name
-    if not machine.seen:
-        findings.look("never", name, "it never called", f"wait a minute, then on {name}: journal-collect-status; "
-                      f"no more a machine: journal-collect-admin retire {name}")
-    elif now - machine.seen > SILENT_SECONDS:
-        findings.look("silent", name, f"it called {words.ago(machine.seen, now)} for the last time",
-                      f"on {name}: journal-collect-status; gone for good: journal-collect-admin retire {name}")
-    elif machine.stored and now - machine.stored > DAY:
-        findings.look("old", name, f"its last new entry came {words.ago(machine.stored, now)}, though it calls",
-                      f"on {name}: journal-collect-status")
-    if machine.seen:
-        findings.clock(name, machine.skew, "its clock", "this one")
+    for name, machine in zip(names, found.machines):
+        if f"/{name}\",restrict" not in admitted:
+            findings.failed("key", name, f"{etc / 'keys' / name}.pub is no key that sshd takes",
+                            f"journal-collect-admin admit {name} < KEY.pub")
+        if not machine.seen:
+            findings.look("never", name, "it never called", f"wait a minute, then on {name}: journal-collect-status; "
+                          f"no more a machine: journal-collect-admin retire {name}")
+        elif now - machine.seen > SILENT_SECONDS:
+            findings.look("silent", name, f"it called {words.ago(machine.seen, now)} for the last time",
+                          f"on {name}: journal-collect-status; gone for good: journal-collect-admin retire {name}")
+        elif machine.stored and now - machine.stored > DAY:
+            findings.look("old", name, f"its last new entry came {words.ago(machine.stored, now)}, though it calls",
+                          f"on {name}: journal-collect-status")
+        if machine.seen:
+            findings.clock(name, machine.skew, "its clock", "this one")
 
 
 STANDINGS = {"missing": "it is gone, and nobody said so", "quarantined": "it can't be opened, and is set aside",
@@ -170,10 +155,12 @@ TOLD = {
     "never": "on {about}: journal-collect-status; what isn't taken is in refused/ there",
     "connections": "another computer may have its key: on each journal-collect-join --name NEW --new-key HOST",
     "damaged": REBUILD,
+    "journals": "make room; then journal-collect-admin rebuild --journals",
     "notes": "nothing, if it was once; if it comes again, look at the disk",
+    "unreadable": "stop the service, let fsck mend the disk, and start it",
 }
 # Causes that are about a file, and not about a machine. A damaged one is to be put back, so it is said for longer.
-OF_FILES, SECONDS_SAID = ("damaged", "notes"), {"damaged": 7 * DAY}
+OF_FILES, SECONDS_SAID = ("again", "damaged", "notes", "unreadable"), {"damaged": 7 * DAY, "journals": 7 * DAY}
 
 
 def look_at_what_was_told(found: Collector, folder: Path, now: float, findings: Findings) -> None:

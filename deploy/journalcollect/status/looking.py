@@ -1,4 +1,5 @@
 """Looks at what others write meanwhile: their tables, and what systemd says of their units."""
+import os
 import sqlite3
 import subprocess
 import tempfile
@@ -36,19 +37,19 @@ def service(name: str, about: str, findings: Findings) -> str:
     return "runs"
 
 
-def answer(path: Path, mode: str, query: str) -> list[Any]:
+def answer(path: Path, mode: str, query: str, *values: str) -> list[Any]:
     with closing(sqlite3.connect(f"file:{path}?mode={mode}", uri=True, timeout=SECONDS)) as table:
-        return table.execute(query).fetchall()
+        return table.execute(query, values).fetchall()
 
 
 def rows(path: Path, query: str) -> list[Any]:
     """What a question finds; nothing of a file that isn't there, or has no such table. The file stays as it is: if
     nobody has it open, its log can't be read there, and a copy is read."""
-    if not path.exists():
+    if not os.path.exists(path):                    # or the disk can't say so
         return []
     with suppress(sqlite3.DatabaseError):
         return answer(path, "ro", query)
-    with tempfile.TemporaryDirectory() as folder, suppress(sqlite3.DatabaseError):
+    with tempfile.TemporaryDirectory() as folder, suppress(OSError, sqlite3.DatabaseError):
         for each in path.parent.glob(f"{path.name}*"):
             (Path(folder) / each.name).write_bytes(each.read_bytes())
         return answer(Path(folder) / path.name, "rw", query)

@@ -6,6 +6,7 @@ from pathlib import Path
 
 from journalcollect.common import files, settings
 from journalcollect.machine import settings as machine_settings
+from journalcollect.machine.places import newest
 from journalcollect.status import looking, words
 from journalcollect.status.findings import CLOCK, DAY, HOUR, Findings
 
@@ -21,7 +22,7 @@ REMEDIES = (
     (r"'s clock is", CLOCK),
     (r"^a gap: ", "raise SystemMaxUse= of journald, so that it keeps more"),
     (r"no space left", "make room on this machine's disk"),
-    (r"can't be read any more", "let fsck look at this machine's disk; then remove what was put aside"),
+    (r"is put aside|can't be used", "let fsck look at this machine's disk; then remove what was put aside"),
     (r"host key verification failed|host identification has changed",
      "somebody else answers, or the collector has new host keys: compare them, then journal-collect-join "
      "{host} --host-keys FILE"),
@@ -92,7 +93,7 @@ def look_at_folder(found: Machine, folder: Path, now: float, findings: Findings)
             found.waiting, found.waiting_bytes = found.waiting + 1, found.waiting_bytes + told.st_size
             found.waiting_since = min(found.waiting_since or told.st_mtime, told.st_mtime)
     found.refused = len(list((folder / "refused").glob("*")))
-    places = folder / "places.sqlite"
+    places = newest(folder)
     values = dict(looking.rows(places, "SELECT name, value FROM value"))
     found.acknowledged, found.answered, found.skew = (
         float(values.get(name) or 0) for name in ("acknowledged", "answered", "skew"))
