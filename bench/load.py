@@ -4,13 +4,14 @@
 usage: load.py PROGRAM KIND [--machines N] [--seconds S] [--entries N] [--ssh] [--folder FOLDER]
 
 `each` and `kept`: N machines with an upload each minute, over a connection of its own for each upload, or one that is
-kept. `burst`: N machines bring uploads of five entries, 20,000 in a minute, and whoever is told `later` comes again.
-`idle`: N connections that carry nothing, and what memory they take. `syncs`: N machines wait at once; how often the
-program syncs for them.
+there before and kept. `burst`: N machines bring uploads of five entries, 20,000 in a minute, and whoever is told
+`later` comes again. `idle`: N connections that carry nothing, and what memory they take. `syncs`: N machines wait at
+once; how often the program syncs for them.
 
-All of the collector (sshd, nc, the service and its program) is bound to the last processor, the machines to the others;
-`--processors 0` binds nothing. With --ssh machines come by sshd, otherwise by the service's sockets. What is told is
-processor time, besides the clock's, which says nothing of a computer that does other things.
+All of the collector (sshd, nc, the service and its programs) is bound to the last processor, which it has before all
+else, and the machines to the others; `--processor -1` binds nothing. With --ssh machines come by sshd, as an account
+whose shell is /bin/sh, otherwise by the service's sockets. It takes root. What is told is processor time, besides the
+clock's: machines share the other processors with all else, and a disk's syncs with all that syncs.
 """
 from __future__ import annotations
 
@@ -28,14 +29,15 @@ import sys
 import tempfile
 import threading
 import time
-from collections.abc import Callable
+from collections.abc import Callable, Iterator
+from concurrent.futures import ThreadPoolExecutor
 from pathlib import Path
-from typing import BinaryIO
 
 ROOT = Path(__file__).resolve().parents[1]
 sys.path[:0] = [str(ROOT / "tests/machine"), str(ROOT / "tests")]
 from samples import second_head  # noqa: E402
 from sshd import CONFIG, SSHD  # noqa: E402
+from waiting import free_port, listens, wait_until  # noqa: E402
 
 OPTIONS = ("BatchMode=yes", "IdentitiesOnly=yes", "ControlPath=none", "UserKnownHostsFile=/dev/null",
            "StrictHostKeyChecking=no", "LogLevel=ERROR")
@@ -87,25 +89,21 @@ class Line:
         self.own: socket.socket | None = None
         if collector.sshd:
             self.process = subprocess.Popen(collector.ssh(machine), stdin=subprocess.PIPE, stdout=subprocess.PIPE,
-                                            bufsize=0, stderr=subprocess.DEVNULL)
+                                            stderr=subprocess.DEVNULL)
             assert self.process.stdin and self.process.stdout
-            self.writes: BinaryIO = self.process.stdin                    # type: ignore[assignment]
-            self.reads: BinaryIO = self.process.stdout                    # type: ignore[assignment]
+            self.writes, self.reads = self.process.stdin, self.process.stdout
         else:
             self.own = socket.socket(socket.AF_UNIX)
             self.own.settimeout(300)
             self.own.connect(str(collector.folder / "var/sockets" / f"m{machine}"))
-            self.writes = self.reads = self.own.makefile("rwb", buffering=0)  # type: ignore[assignment]
+            self.writes, self.reads = self.own.makefile("wb"), self.own.makefile("rb")
         if not self.line().startswith("journal-collect 1 "):
             raise OSError("no greeting")
 
     def line(self) -> str:
-        line = b""
-        while not line.endswith(b"\n"):
-            piece = self.reads.read(1)
-            if not piece:
-                raise OSError("the connection ended")
-            line += piece
+        line = self.reads.readline()
+        if not line.endswith(b"\n"):
+            raise OSError("the connection ended")
         return line.decode()
 
     def send(self, data: bytes) -> str:
@@ -114,9 +112,8 @@ class Line:
 
     def put(self, data: bytes) -> None:
         head = f"upload {len(data)} {hashlib.sha256(data).hexdigest()} {time.time_ns() // 1000}\n".encode()
-        view = memoryview(head + data)
-        while view:
-            view = view[self.writes.write(view) or 0:]
+        self.writes.write(head + data)
+        self.writes.flush()
 
     def close(self) -> None:
         self.writes.close()
@@ -149,16 +146,15 @@ class Collector:
             self.begin_sshd(machines)
 
     def bind(self) -> None:
+        """It has that processor before all else that the computer does."""
         if self.processor is not None:
             os.sched_setaffinity(0, {self.processor})
+            os.sched_setscheduler(0, os.SCHED_RR, os.sched_param(1))
 
     def begin_sshd(self, machines: int) -> None:
         folder = self.folder / "sshd"
         folder.mkdir()
-        with socket.socket() as free:
-            free.bind(("127.0.0.1", 0))
-            self.port = free.getsockname()[1]
-        keys = []
+        self.port, keys = free_port(), []
         for name in ["host", *(f"m{machine}" for machine in range(machines))]:
             subprocess.run(["ssh-keygen", "-q", "-t", "ed25519", "-N", "", "-f", folder / name], check=True)
             command = f'command="/usr/bin/nc.openbsd -NU {self.folder}/var/sockets/{name}",restrict'
@@ -166,9 +162,9 @@ class Collector:
         (folder / "authorized_keys").write_text("".join(keys[1:]))
         (folder / "config").write_text(f"{CONFIG.format(port=self.port, folder=folder)}MaxStartups 1000\n")
         os.makedirs("/run/sshd", exist_ok=True)
-        self.sshd = subprocess.Popen([SSHD, "-D", "-e", "-f", folder / "config"], stderr=subprocess.DEVNULL,
-                                     preexec_fn=self.bind)
-        time.sleep(1.0)
+        self.sshd = subprocess.Popen([*with_plain_shells(folder), SSHD, "-D", "-e", "-f", folder / "config"],
+                                     stderr=subprocess.DEVNULL, preexec_fn=self.bind)
+        wait_until(lambda: listens(self.port))
 
     def ssh(self, machine: int) -> list[str]:
         options = [word for option in (*OPTIONS, f"Port={self.port}") for word in ("-o", option)]
@@ -176,19 +172,31 @@ class Collector:
 
     def processes(self) -> dict[str, list[int]]:
         """All that runs now of the collector, by what it is."""
-        found = {"service": [self.service.pid], "others": below(self.service.pid)}
+        found = {"service": [self.service.pid], "its programs": below(self.service.pid)}
         if self.sshd:
             found["sshd and nc"] = [self.sshd.pid, *below(self.sshd.pid)]
         return found
 
+    def used(self) -> dict[str, float]:
+        """The seconds of a processor that each part took so far. What ended counts for who began it, but that the
+        service's programs count for themselves."""
+        used = {name: sum(sum(seconds(each)) for each in processes) for name, processes in self.processes().items()}
+        ended = seconds(self.service.pid)[1]
+        return used | {"service": used["service"] - ended, "its programs": used["its programs"] + ended}
+
     def end(self) -> None:
-        """Ends all, and says what processor time it took."""
-        for name, process in (("service and program", self.service), ("sshd and nc", self.sshd)):
+        for process in (self.service, self.sshd):
             if process:
                 process.terminate()
-                used = os.wait4(process.pid, 0)[2]
-                print(f"{name}: {used.ru_utime + used.ru_stime:.1f} s of a processor, and at most "
-                      f"{used.ru_maxrss >> 10} MiB in one process")
+                process.wait()
+
+
+def with_plain_shells(folder: Path) -> list[str | Path]:
+    """What begins a program for which each account has /bin/sh, as machines' login has: root's own shell may read much
+    of what its home has, at each login."""
+    accounts = [line.rpartition(":")[0] for line in Path("/etc/passwd").read_text().splitlines()]
+    (folder / "passwd").write_text("".join(f"{each}:/bin/sh\n" for each in accounts))
+    return ["unshare", "--mount", "sh", "-c", 'mount --bind "$0" /etc/passwd && exec "$@"', folder / "passwd"]
 
 
 def below(process: int) -> list[int]:
@@ -198,6 +206,15 @@ def below(process: int) -> list[int]:
         for child in map(int, (task / "children").read_text().split()):
             found += [child, *below(child)]
     return found
+
+
+def seconds(process: int) -> tuple[float, float]:
+    """What a process took of a processor itself, and what those took that it began and that ended."""
+    with contextlib.suppress(ProcessLookupError, FileNotFoundError):        # it has just ended
+        words = Path(f"/proc/{process}/stat").read_text().rpartition(")")[2].split()
+        own, ended = (sum(map(int, words[first:first + 2])) / os.sysconf("SC_CLK_TCK") for first in (11, 13))
+        return own, ended
+    return 0.0, 0.0
 
 
 def pss(processes: list[int]) -> float:
@@ -234,29 +251,48 @@ def in_threads(count: int, does: Callable[[int], None]) -> None:
         thread.join()
 
 
-def fleet(collector: Collector, asked: argparse.Namespace, answers: Answers, is_kept: bool) -> None:
-    """Each machine has an upload each minute, at a time of its own."""
-    begun, minute = time.monotonic(), 60.0
+def fleet(collector: Collector, asked: argparse.Namespace, answers: Answers) -> None:
+    """Each machine has an upload each minute, at a time of its own. Those that keep a connection have it before."""
+    lines = dict(enumerate(opened(collector, asked.machines))) if asked.kind == "kept" else {}
+    minute = 60.0
+    with measured(collector) as begun:
 
-    def machine(number: int) -> None:
-        line, due, first = None, begun + minute * number / asked.machines, 1
-        while due < begun + asked.seconds:
-            time.sleep(max(0.0, due - time.monotonic()))
-            data, before = upload(number, first, asked.entries), time.monotonic()
-            try:
-                line = line or Line(collector, number)
-                first = told(line.send(data), before, answers, first, asked.entries)
-                if not is_kept:
-                    line.close()
-                    line = None
-            except OSError:
-                answers.lost += 1
-                line = None
-            due += minute
-        if line:
-            line.close()
+        def machine(number: int) -> None:
+            due, first = begun + minute * number / asked.machines, 1
+            while due < begun + asked.seconds:
+                time.sleep(max(0.0, due - time.monotonic()))
+                data, before = upload(number, first, asked.entries), time.monotonic()
+                try:
+                    line = lines.pop(number, None) or Line(collector, number)
+                    first = told(line.send(data), before, answers, first, asked.entries)
+                    if asked.kind == "kept":
+                        lines[number] = line
+                    else:
+                        line.close()
+                except OSError:
+                    answers.lost += 1
+                due += minute
 
-    in_threads(asked.machines, machine)
+        in_threads(asked.machines, machine)
+    for line in lines.values():
+        line.close()
+
+
+def opened(collector: Collector, machines: int) -> list[Line]:
+    """A connection of each machine; a few of them are being made at a time."""
+    with ThreadPoolExecutor(8) as pool:
+        return list(pool.map(lambda number: Line(collector, number), range(machines)))
+
+
+@contextlib.contextmanager
+def measured(collector: Collector) -> Iterator[float]:
+    """Gives when it begins, and says what the collector's parts took meanwhile."""
+    begun, before, load = time.monotonic(), collector.used(), os.getloadavg()[0]
+    yield begun
+    parts = {name: used - before[name] for name, used in collector.used().items()}
+    print(f"{time.monotonic() - begun:.0f} s, in which the collector took {sum(parts.values()):.1f} s of a processor: "
+          + ", ".join(f"{name} {used:.1f} s" for name, used in parts.items())
+          + f"; load {load:.0f} before and {os.getloadavg()[0]:.0f} after")
 
 
 def told(answer: str, before: float, answers: Answers, first: int, entries: int) -> int:
@@ -273,26 +309,27 @@ def told(answer: str, before: float, answers: Answers, first: int, entries: int)
 
 def burst(collector: Collector, asked: argparse.Namespace, answers: Answers) -> None:
     """Uploads of five entries, spread over a minute; each machine has its next one when the last was answered."""
-    begun, each = time.monotonic(), BURST * asked.seconds / 60 / asked.machines
+    lines, each = opened(collector, asked.machines), BURST * asked.seconds / 60 / asked.machines
+    made = [[upload(number, 1 + 5 * turn, 5) for turn in range(round(each))] for number in range(asked.machines)]
+    with measured(collector) as begun:
 
-    def machine(number: int) -> None:
-        line, first = Line(collector, number), 1
-        for turn in range(round(each)):
-            due = begun + asked.seconds * (turn + number / asked.machines) / each
-            time.sleep(max(0.0, due - time.monotonic()))
-            first = told(line.send(upload(number, first, 5)), max(due, begun), answers, first, 5)
-        line.close()
+        def machine(number: int) -> None:
+            first = 1
+            for turn in range(round(each)):
+                due = begun + asked.seconds * (turn + number / asked.machines) / each
+                time.sleep(max(0.0, due - time.monotonic()))
+                first = told(lines[number].send(made[number][first // 5]), max(due, begun), answers, first, 5)
+            lines[number].close()
 
-    in_threads(asked.machines, machine)
+        in_threads(asked.machines, machine)
     print(f"{len(answers.taken) + answers.later} of {round(each) * asked.machines} uploads were answered "
           f"{time.monotonic() - begun:.0f} s after the first of them was there, the last of which came after "
           f"{asked.seconds} s")
 
 
 def idle(collector: Collector, asked: argparse.Namespace, answers: Answers) -> None:
-    lines = [Line(collector, number) for number in range(asked.machines)]
-    answers.taken.append(0.0)
-    lines[0].send(upload(0, 1, 5))
+    lines = opened(collector, asked.machines)
+    told(lines[0].send(upload(0, 1, 5)), time.monotonic(), answers, 1, 5)
     time.sleep(2.0)
     sizes = {name: pss(processes) for name, processes in collector.processes().items()}
     print("Pss: " + ", ".join(f"{name} {size:.0f} MiB" for name, size in sizes.items())
@@ -303,10 +340,9 @@ def idle(collector: Collector, asked: argparse.Namespace, answers: Answers) -> N
 
 def syncs(collector: Collector, asked: argparse.Namespace, answers: Answers) -> None:
     """All wait at once: first with sequences that nobody knows, and once more with more of them."""
-    lines = [Line(collector, number) for number in range(asked.machines)]
+    lines = opened(collector, asked.machines)
     told(lines[0].send(upload(0, 1, 5)), time.monotonic(), answers, 1, 5)
-    program = next(each for each in below(collector.service.pid)
-                   if b"collect\0" in Path(f"/proc/{each}/cmdline").read_bytes() and not below(each))
+    program = next(each for each in below(collector.service.pid) if is_collecting(each))
     for first, known in ((6, "new"), (11, "known")):
         before = len(synced(collector))
         os.kill(program, signal.SIGSTOP)
@@ -322,6 +358,13 @@ def syncs(collector: Collector, asked: argparse.Namespace, answers: Answers) -> 
         print(f"{count} syncs, one after the other, for {len(lines)} uploads of {known} sequences")
     for line in lines:
         line.close()
+
+
+def is_collecting(process: int) -> bool:
+    """It is the program that stores, and not the one that traces it."""
+    with contextlib.suppress(ProcessLookupError, FileNotFoundError):        # it has just ended
+        return b"collect\0" in Path(f"/proc/{process}/cmdline").read_bytes() and not below(process)
+    return False
 
 
 def synced(collector: Collector) -> list[str]:
@@ -359,18 +402,9 @@ def main() -> int:
         collector = Collector(Path(folder), program, asked.machines, processor, asked.ssh)
         if processor is not None:
             os.sched_setaffinity(0, others)
-        begun = time.monotonic()
         try:
-            match asked.kind:
-                case "burst":
-                    burst(collector, asked, answers)
-                case "idle":
-                    idle(collector, asked, answers)
-                case "syncs":
-                    syncs(collector, asked, answers)
-                case kind:
-                    fleet(collector, asked, answers, kind == "kept")
-            print(f"{asked.machines} machines, {time.monotonic() - begun:.0f} s, load {os.getloadavg()[0]:.0f}")
+            print(f"{asked.kind}: {asked.machines} machines{' by ssh' if asked.ssh else ''}", flush=True)
+            {"burst": burst, "idle": idle, "syncs": syncs}.get(asked.kind, fleet)(collector, asked, answers)
         finally:
             collector.end()
         answers.say()

@@ -7,6 +7,7 @@ from __future__ import annotations
 
 import os
 import resource
+import shutil
 import stat
 import subprocess
 from collections.abc import Sequence
@@ -74,8 +75,7 @@ def folder_is_made(trial: Trial) -> None:
     trial.expect("sequences", os.listdir(union.folder), [machine.seqnum_id.hex()])
     below = os.path.join(union.folder, machine.seqnum_id.hex())
     trial.expect("its folder's mode", stat.S_IMODE(os.stat(below).st_mode), 0o700)
-    windows = {name for name in os.listdir(below) if not name.endswith("-wal")}
-    trial.expect("windows", windows, {"0", "1", str(2**51 - 1), str(2**51)})
+    trial.expect("windows", set(os.listdir(below)), {"0", "1", str(2**51 - 1), str(2**51)})
     read = [union.path(entry).read_bytes() for entry in far]
     trial.expect("their files", read, [note_of(entry) + CLOSED for entry in far])
     owner = file_of(union.folder, machine.seqnum_id)
@@ -184,28 +184,54 @@ def no_file(trial: Trial) -> None:
 
 
 def at_once(trial: Trial) -> None:
-    """A second run that needs a file which the first has open, of notes or of whose a sequence is, answers 62. So no
-    two machines have one sequence."""
+    """A second run ends before it answers anything, as long as the first one has the folder."""
     union = Union(trial)
-    machine = Machine(trial.dice, 2 * WINDOW)
+    machine = Machine(trial.dice, 4)
     process = start(*union.words(trial.database()), stdin=subprocess.PIPE)
     first = Brought(WEB, machine.stream(0, 2))
     process.stdin.write(as_lines(trial.put([first.upload]), [first]))
     trial.expect("the first", next_line(process), as_output([union.journal.take(first.upload, WEB)]))
-    last = 2 * WINDOW - 1
-    of_notes, of_owner = Brought(None, machine.stream(1, 4)), Brought(MAIL, machine.stream(last, last + 1))
-    closed = [f"no {machine.source.hex()} {at} 62 0" for at in (1, 1, last)]
-    trial.expect("meanwhile", union.run(of_notes, of_notes, of_owner), (as_output(closed), "", 3))
+    closed = (b"", f"cannot open {union.folder}\n", 3)
+    trial.expect("meanwhile", union.run(Brought(MAIL, machine.stream(1, 4))), closed)
     output, errors = process.communicate()
     trial.expect("its end", (output, errors, process.returncode), (b"", b"", 0))
     union.take("later", machine.stream(1, 4), machine=WEB)
     refused(union, "later", machine)
 
 
+def looking_makes_none(trial: Trial) -> None:
+    """A window that was only looked into has no file, nor has one whose notes wait. If somebody makes one then, the run
+    doesn't add to it, and fails as it ends. A next run over its database notes what waited."""
+    union = Union(trial)
+    machine = Machine(trial.dice, 4)
+    machine.entries = at_numbers(machine, (7, WINDOW + 7, WINDOW + 8, WINDOW + 9))
+    database = trial.database()
+    process = start(*union.words(database), stdin=subprocess.PIPE)
+
+    def told(upload: bytes) -> bytes:
+        process.stdin.write(as_lines(trial.put([upload]), [Brought(None, upload)]))
+        return next_line(process)
+
+    stored, differs = machine.stream(0, 1), machine.stream(1, 2) + machine.other(0)[len(machine.stream(0, 0)):]
+    for upload in (stored, differs):
+        trial.expect("a run", told(upload), as_output([union.journal.take(upload, None)]))
+    trial.expect("files of notes", list(Path(union.folder).glob("*/*")), [])
+    second, third = machine.stream(1, 2), machine.stream(2, 3)
+    elsewhere = Union(trial)
+    taken = elsewhere.run(Brought(None, second))
+    trial.expect("elsewhere", taken, (as_output([union.journal.take(second, None)]), "", 0))
+    shutil.copytree(elsewhere.folder, union.folder, dirs_exist_ok=True)
+    trial.expect("the run again", told(third), as_output([union.journal.take(third, None)]))
+    output, errors = process.communicate()
+    trial.expect("its end", (output, errors, process.returncode), (b"", b"store failed\n", 3))
+    trial.expect("a next run over its database", run(*union.words(database)), (b"", "", 0))
+    union.take("later", machine.stream(1, 4))
+
+
 def main() -> None:
     with Trial("sequences") as trial:
         rows = (folder_is_made, many_windows, more_than_are_open, behind_notes, owners_that_are_none, owners_that_hold,
-                no_file, at_once)
+                no_file, at_once, looking_makes_none)
         for row in rows:
             row(trial)
         trial.finish(f"{len(rows)} kinds of rows over the files of notes")

@@ -14,8 +14,9 @@ from pathlib import Path
 import pytest
 
 ROOT = Path(__file__).resolve().parents[2]
-sys.path[:0] = [str(ROOT / "deploy"), str(ROOT / "tests")]
+sys.path[:0] = [str(ROOT / "deploy"), str(ROOT / "tests"), str(ROOT / "tests" / "world")]
 import processes  # noqa: E402
+from disks import COLLECTOR_INODES, COLLECTOR_SIZE, Disk, can_mount  # noqa: E402
 from waiting import PATIENCE, wait_until  # noqa: E402
 
 PROGRAM = Path(os.environ["JOURNAL_COLLECT"])
@@ -215,7 +216,8 @@ class Collector:
             subprocess.run(["umount", "--lazy", disk], check=True)
 
     def databases(self) -> list[Path]:
-        return sorted((self.folder / "databases").glob("*.db"))
+        """Those that the disk can read."""
+        return [path for path in sorted((self.folder / "databases").glob("*.db")) if os.path.isfile(path)]
 
     def stored(self) -> list[tuple[str, int, bytes]]:
         """All entries of all finished databases: sequence, number and text, as the program exports them."""
@@ -235,6 +237,21 @@ def collector(tmp_path: Path) -> Iterator[Collector]:
     yield made
     if made.runs():
         made.kill()
+
+
+@pytest.fixture
+def disk(collector: Collector, tmp_path: Path) -> Iterator[Disk]:
+    """The collector's folder is on a disk of its own."""
+    if os.geteuid() or not can_mount(tmp_path):
+        pytest.skip("no disk can be mounted here")
+    disk = Disk(tmp_path / "disk", size=COLLECTOR_SIZE, inodes=COLLECTOR_INODES)
+    collector.folder = disk.at / "var"
+    collector.folder.mkdir()
+    collector.values["FOLDER"] = str(collector.folder)
+    yield disk
+    if collector.runs():
+        collector.kill()
+    disk.remove()
 
 
 def texts(numbers: range) -> list[tuple[str, int, bytes]]:

@@ -103,6 +103,38 @@ def test_new_files_of_notes_have_a_share_of_the_day(collector: Collector) -> Non
     assert collector.stop() == 0
 
 
+def test_a_file_of_notes_counts_once_though_it_is_made_later(collector: Collector) -> None:
+    collector.start("web")
+    web = collector.connect("web")
+
+    def counted(*numbers: int) -> object:
+        assert web.send(upload(entries(A, list(numbers)), len(numbers))).startswith("ack")
+        collector.ask("status")
+        return collector.rows("SELECT windows FROM machine")[0][0]
+
+    spread = [1 + 4096 * number for number in range(4)]
+    assert [counted(1), counted(2), counted(*spread), counted(*spread)] == [1, 1, 4, 4]
+    assert not (collector.folder / "sequences" / A / "0").exists()
+    collector.ask("finish")
+    assert (collector.folder / "sequences" / A / "0").exists()
+    assert [counted(3), counted(*spread), counted(4 * 4096), counted(4 * 4096 + 1)] == [4, 4, 5, 5]
+    assert collector.stop() == 0
+
+
+def test_a_database_is_finished_before_it_has_many_files_of_notes_to_make(collector: Collector) -> None:
+    """Whatever else comes waits for these."""
+    collector.start("web")
+    web = collector.connect("web")
+    for first in range(0, 528, 16):
+        assert not list((collector.folder / "databases").glob("*.sha256"))
+        spread = [1 + 4096 * number for number in range(first, first + 16)]
+        assert web.send(upload(entries(A, spread), 16)) == f"ack {ID} 0 16 16 0"
+    wait_until(lambda: list((collector.folder / "databases").glob("*.sha256")))
+    assert len([path for path in (collector.folder / "sequences" / A).iterdir()]) == 528 + 1
+    assert web.send(upload(entries(A, [1, 2]), 2)) == f"ack {ID} 0 2 1 0"
+    assert collector.stop() == 0
+
+
 def test_a_message_that_looks_like_many_entries_counts_for_none(collector: Collector) -> None:
     """A user of a machine logs lines that look like numbers of entries."""
     collector.start("web")

@@ -1,11 +1,16 @@
 """How long things are kept, and how finished databases are packed."""
 import os
+import shutil
 import subprocess
 from pathlib import Path
 
 import pytest
 from conftest import A, B, ID, Collector, entries, store_and_stop, upload
+from disks import Disk
 from waiting import wait_until
+
+NEEDS_REMOTE = pytest.mark.skipif(not Path("/lib/systemd/systemd-journal-remote").exists(),
+                                  reason="there is no systemd-journal-remote")
 
 
 def grow_older(collector: Collector, days: float) -> None:
@@ -74,10 +79,53 @@ def test_the_oldest_go_if_all_have_too_many_bytes(collector: Collector) -> None:
     assert collector.stop() == 0
 
 
+@NEEDS_REMOTE
+def test_journal_files_leave_their_room_to_what_is_stored(collector: Collector) -> None:
+    """Packing doesn't wait for them then. Those of the present stay."""
+    journals = collector.folder / "journals"
+    store_and_stop(collector, range(1, 4))
+    [first] = collector.databases()
+    made = journals / "today" / f"{first.stem}.journal"
+    collector.start()
+    wait_until(made.with_suffix(".json").exists)
+    wait_until(collector.is_begun)
+    assert collector.stop() == 0
+    collector.values |= {"FREE_BYTES": str(shutil.disk_usage(collector.folder).free * 3 // 4), "PACK_DAYS": "0"}
+    store_and_stop(collector, range(4, 7))
+    second = collector.databases()[-1]
+    collector.start()
+    assert collector.send("web", upload(entries(A, range(7, 10)), 3)) == f"ack {ID} 0 3 3 0"
+    wait_until(lambda: not made.exists() and second.with_name(second.name + ".zst").exists())
+    wait_until(lambda: len(list((journals / "present").glob("*.journal"))) == 1)
+    assert collector.stop() == 0
+    assert not (journals / "today" / f"{second.stem}.json").exists()
+    assert collector.rows("SELECT 1 FROM told WHERE cause = 'journals'")
+    collector.values["FREE_BYTES"] = "0"
+    assert collector.admin("rebuild", "--journals").returncode == 0
+    assert made.exists() and (journals / "today" / f"{second.stem}.journal").exists()
+    assert not collector.rows("SELECT 1 FROM told WHERE cause = 'journals'")
+
+
+@NEEDS_REMOTE
+def test_a_database_that_the_disk_cannot_read_holds_up_no_packing(collector: Collector, disk: Disk) -> None:
+    store_and_stop(collector, range(1, 4))
+    store_and_stop(collector, range(4, 7))
+    first, second = collector.databases()
+    collector.start()
+    wait_until(lambda: len(list((collector.folder / "journals" / "today").glob("*.json"))) == 2)
+    wait_until(collector.is_begun)
+    assert collector.stop() == 0
+    disk.damage(first)
+    collector.values["PACK_DAYS"] = "0"
+    collector.start()
+    wait_until(second.with_name(second.name + ".zst").exists)
+    assert collector.stop() == 0
+    assert collector.rows("SELECT 1 FROM told WHERE cause = ?", f"damaged {first.stem}")
+
+
+@NEEDS_REMOTE
 def test_a_finished_database_is_packed_once_journal_files_are_made(
         collector: Collector, tmp_path: Path) -> None:
-    if not Path("/lib/systemd/systemd-journal-remote").exists():
-        pytest.skip("there is no systemd-journal-remote")
     store_and_stop(collector, range(1, 400))
     [path] = collector.databases()
     collector.values["PACK_DAYS"] = "0"

@@ -4,6 +4,7 @@ import signal
 import time
 from pathlib import Path
 
+import processes
 import pytest
 from conftest import A, ID, PROGRAM, Collector, Machine, comes_again, entries, store_and_stop, texts, upload
 from journalcollect.collector.recovery import Recovery
@@ -140,13 +141,37 @@ def test_the_process_that_notes_is_killed(emptied: Collector) -> None:
 
 def test_a_window_that_is_emptied_while_the_program_has_it(collector: Collector) -> None:
     """What the program adds stands where it was to stand, so the file is as long as it ought to be."""
-    collector.start("web")
-    assert collector.send("web", upload(entries(A, range(1, 4)), 3)) == f"ack {ID} 0 3 3 0"
+    store_and_stop(collector, range(1, 4))
+    collector.start()
+    assert collector.send("web", upload(entries(A, range(4, 7)), 3)) == f"ack {ID} 0 3 3 0"
     os.truncate(window(collector), 0)
-    assert collector.send("web", upload(entries(A, range(4, 7)), 3)).startswith(f"ack {ID} 0 3 3 ")
+    assert collector.send("web", upload(entries(A, range(7, 10)), 3)).startswith(f"ack {ID} 0 3 3 ")
     assert collector.stop() == 0
-    comes_again(collector, range(1, 7), 0)
+    comes_again(collector, range(1, 10), 0)
     assert f"{window(collector)}: " in collector.said()
+
+
+def test_what_was_acknowledged_is_known_until_it_is_noted(collector: Collector) -> None:
+    """The program is killed, its database is damaged, and it takes a while until the uploads are stored again."""
+    between(collector, "-", {1: ":", 2: wait_for(collector)})
+    collector.start("web")
+    asks = collector.connect("web")
+    assert asks.send(upload(entries(A, range(1, 4)), 3)) == f"ack {ID} 0 3 3 0"
+    assert not window(collector).exists()
+    for each in collector.programs():
+        processes.kill(each)
+    [database] = collector.databases()
+    database.write_bytes(b"x" * 20480)
+    database.with_name(database.name + "-wal").unlink(missing_ok=True)
+    machine = collector.connect("web")
+    machine.put(upload(entries(A, range(4, 7)), 3))
+    wait_until((collector.folder.parent / "calls/2").exists)
+    assert asks.had(A, 3) == "had"
+    go(collector)
+    assert machine.line() == f"ack {ID} 0 3 3 0"
+    assert (asks.had(A, 3), asks.had(A, 6), asks.had(A, 7)) == ("had", "had", "lost")
+    assert collector.stop() == 0
+    assert collector.stored() == texts(range(1, 7))
 
 
 def test_uploads_of_a_damaged_database_are_stored_again_though_nothing_is_known(collector: Collector) -> None:

@@ -3,7 +3,9 @@ import os
 from pathlib import Path
 
 import processes
+import pytest
 from conftest import A, B, ID, Collector, comes_again, entries, store_and_stop, texts, upload
+from disks import Disk
 from waiting import wait_until
 
 
@@ -43,6 +45,63 @@ def test_an_unfinished_database_that_is_damaged_is_stored_again_from_its_uploads
     assert (collector.folder / "quarantine" / database.name).read_bytes() == b"x" * 20480
     assert collector.stored() == [*texts(range(1, 4)), (B, 5, b"m5")]
     assert collector.rows("SELECT cause FROM told WHERE cause LIKE 'quarantined %'")
+
+
+@pytest.mark.parametrize("name", ["databases/{}.db", "databases/{}.db-wal", "recent/{}/000000001.web", "recent/{}"])
+def test_what_the_disk_cannot_read_of_an_unfinished_database(collector: Collector, disk: Disk, name: str) -> None:
+    """It can't be moved either. It holds nothing up, is told, and what was acknowledged is stored."""
+    begun(collector)
+    assert collector.send("web", upload(entries(B, [5]), 1)) == f"ack {ID} 0 1 1 0"
+    collector.kill()
+    [database] = collector.databases()
+    damaged = collector.folder / name.format(database.stem)
+    disk.damage(damaged)
+    for _ in range(2):
+        collector.start()
+        assert collector.send("web", upload(entries(A, range(1, 4)), 3)) == f"ack {ID} 0 3 0 0"
+        assert collector.stop() == 0
+    assert collector.stored() == [*texts(range(1, 4)), (B, 5, b"m5")]
+    assert ("recent" in name) or collector.rows("SELECT 1 FROM told WHERE cause = ?", f"unreadable {damaged}")
+
+
+def test_what_the_disk_cannot_read_is_stored_once_it_can(collector: Collector, disk: Disk) -> None:
+    """An upload of a database that has to be set aside."""
+    begun(collector)
+    assert collector.send("web", upload(entries(B, [5]), 1)) == f"ack {ID} 0 1 1 0"
+    collector.kill()
+    [database] = collector.databases()
+    damaged = collector.folder / "recent" / database.stem / "000000001.web"
+    disk.damage(damaged)
+    disk.damage(database)
+    collector.start()
+    assert collector.send("web", upload(entries(B, [5]), 1)) == f"ack {ID} 0 1 0 0"
+    assert collector.stop() == 0
+    assert collector.stored() == [(B, 5, b"m5")]
+    told = "SELECT 1 FROM told WHERE cause = ?"
+    assert all(collector.rows(told, f"unreadable {path}") for path in (damaged, database))
+    disk.mend()
+    collector.start()
+    assert collector.send("web", upload(entries(A, range(1, 4)), 3)) == f"ack {ID} 0 3 0 0"
+    assert collector.stop() == 0
+    assert collector.stored() == [*texts(range(1, 4)), (B, 5, b"m5")]
+    assert not damaged.exists() and (collector.folder / "quarantine" / database.name).exists()
+
+
+@pytest.mark.parametrize("end", [".db", ".db.sha256"])
+def test_what_the_disk_cannot_read_of_a_finished_database(collector: Collector, disk: Disk, end: str) -> None:
+    """It holds nothing up, is told, and still goes after its days."""
+    store_and_stop(collector, range(1, 4))
+    [database] = collector.databases()
+    disk.damage(database.with_suffix(end))
+    store_and_stop(collector, range(1, 7))
+    answers = collector.admin("check")
+    assert answers.returncode == 1 and database.stem in answers.stdout
+    collector.rows("UPDATE database SET age = -100 WHERE name = ?", database.stem)
+    for numbers in (range(7, 10), range(10, 13)):
+        collector.start()
+        wait_until(lambda: collector.rows("SELECT 1 FROM database WHERE standing = 'deleted'"))
+        assert collector.send("web", upload(entries(A, numbers), 3)) == f"ack {ID} 0 3 3 0"
+        assert collector.stop() == 0
 
 
 def test_the_notes_of_a_window_are_made_anew_whatever_became_of_it(collector: Collector) -> None:

@@ -7,6 +7,7 @@ import time
 
 import pytest
 from conftest import A, B, ID, Collector, entries, entry, upload
+from journalcollect.collector import notes
 from journalcollect.collector.recovery import Recovery
 from journalcollect.collector.settings import Folder, Settings
 from journalcollect.collector.state import State
@@ -29,6 +30,35 @@ def test_an_upload_is_stored_once_and_acknowledged_each_time(collector: Collecto
     assert web.had(A, 6) == "lost"
     assert collector.stop() == 0
     assert collector.stored() == [(A, number, b"m%d" % number) for number in range(1, 6)]
+
+
+def test_what_an_upload_ended_with_is_known_before_it_is_noted(collector: Collector) -> None:
+    """Also if it was stored before. What somebody logged is no entry, and what another machine brought isn't told."""
+    collector.start("web", "mail")
+    web, mail = collector.connect("web"), collector.connect("mail")
+    text = b"x\n\n__SEQNUM=9\n__SEQNUM_ID=%s\n" % B.encode()
+    last = b"MESSAGE\n" + len(text).to_bytes(8, "little") + text + b"\n" + entry(A, 6)
+    assert web.send(upload(entries(A, range(1, 6)) + last, 6)) == f"ack {ID} 0 6 6 0"
+    assert web.send(upload(entries(A, range(1, 4)), 3)) == f"ack {ID} 0 3 0 0"
+    assert not (collector.folder / "sequences" / A / "0").exists()
+    for _ in range(2):
+        assert [web.had(A, number) for number in (3, 6, 7)] == ["had", "had", "lost"]
+        assert (web.had(B, 9), mail.had(A, 6)) == ("lost", "lost")
+        collector.ask("finish")
+    assert (collector.folder / "sequences" / A / "0").exists()
+    assert web.had(A, 2) == "had"
+    assert collector.stop() == 0
+
+
+def test_of_too_many_keys_the_machine_with_the_most_loses_its_oldest(monkeypatch: pytest.MonkeyPatch) -> None:
+    monkeypatch.setattr(notes, "MOST_UNNOTED", 4)
+    keys = notes.Unnoted()
+    assert [keys.add("web", A, 1), keys.add("web", A, 1), keys.add("mail", A, 1)] == [True, False, True]
+    assert all(keys.add("hostile", B, number) for number in range(1, 9))
+    assert [number for number in range(1, 9) if keys.has("hostile", B, number)] == [7, 8]
+    assert (keys.has("web", A, 1), keys.has("mail", A, 1), keys.has("other", A, 1)) == (True, True, False)
+    keys.forget()
+    assert not keys.has("web", A, 1)
 
 
 def test_a_cut_upload_leaves_nothing(collector: Collector) -> None:

@@ -60,6 +60,17 @@ def called_again(collector: Booted, web: Booted) -> None:
 
 
 @event
+def set_up_behind_a_mistake(collector: Booted, web: Booted) -> None:
+    """Somebody's mistake in sshd's settings stops a set-up. Without it the next one has sshd take machines' logins."""
+    etc = "/etc/ssh/sshd_config.d"
+    for line, why in (("Mistake yes", "Bad configuration option: Mistake"), ("AllowUsers root", "keeps machines out")):
+        does(collector, f"rm {etc}/journal-collect.conf && systemctl restart ssh && echo {line} > {etc}/0.conf")
+        assert why in does(collector, "! journal-collect-admin setup")
+        does(collector, f"rm {etc}/0.conf && journal-collect-admin setup")
+        does(web, "for second in 1 2 3 4 5; do sleep $second; journal-collect-send --check && exit; done; exit 1")
+
+
+@event
 def rehearsed(collector: Booted, web: Booted) -> None:
     """With --dry-run nothing is done, and what would be is said."""
     keys = "find /etc/journal-collect -type f | xargs sha256sum"

@@ -76,9 +76,6 @@ journal union
 catch ENTRY => differs 0
     done and not differs 0 (union)
 journal union
-recover ENTRY => differs 0
-    done and not differs 0 (union)
-journal union
 present-add ENTRY => taken 1 0 0
     taken 1 1 0 and not taken 1 0 0 (union)
 journal union

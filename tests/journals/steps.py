@@ -13,7 +13,6 @@
 | `present PIECES` | those of the union's present database |
 | `present-add PIECES => TEXT` | what becomes of a reading there |
 | `catch PIECES => TEXT` | what becomes of a database's entries that are to be noted |
-| `recover PIECES => TEXT` | what becomes of a stopped union whose present database had these entries |
 | `turn` | an empty database becomes the present one |
 | `machine NAME` | the machine of this name brings what comes next |
 | `nobody` | no machine is named |
@@ -130,5 +129,4 @@ READINGS = {
     "add": ("add {}", added),
     "present-add": ("present add {}", added),
     "catch": ("catch {}", line),
-    "recover": ("recover {}", line),
 }

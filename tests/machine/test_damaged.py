@@ -1,18 +1,20 @@
 """Journal files that are damaged, and odd or large entries: what can be read of them comes, the rest is said."""
+import contextlib
 import gzip
 import os
 import random
 import re
 import shutil
+import sqlite3
 import subprocess
 from pathlib import Path
 
 import pytest
 from collector import Collector
-from conftest import ROOT, Machine
+from conftest import ROOT, SENDER, Machine
 from disks import Disk
 from journals import BEGIN, Entry, entries, offsets, write
-from test_sending import rest
+from test_sending import entries_of, rest
 from test_stops import settle
 
 REAL = shutil.which("journalctl")
@@ -129,6 +131,18 @@ def test_files_that_cannot_be_read(machine: Machine, collector: Collector) -> No
     assert numbers(collector) == sorted([1, 2, 3, 4, 5, 6] * 3 + [1])
 
 
+def test_a_file_that_a_loss_of_power_cut(machine: Machine, collector: Collector) -> None:
+    """Its header names entries that no byte is there of. That is told once; a copy may become whole yet."""
+    put(machine, "other", fixture(254, "regular"))
+    path = put(machine, "system@1", fixture(252, "regular")[:264])
+    assert machine.send() == 1 and "journalctl can't read" in machine.said
+    os.utime(path, (BEGIN // 10**6,) * 2)
+    assert machine.send() == 1
+    assert f"left out, for {path} has fewer bytes than its header says" in machine.said
+    assert machine.send() == 0 and machine.said == ""
+    assert numbers(collector) == [1, 2, 3, 4, 5, 6]
+
+
 def test_removed_while_it_is_read(machine: Machine, collector: Collector) -> None:
     """journalctl opens no file that is removed: the others are gathered, and a gap is told once."""
     path = put(machine, "system", fixture(252, "regular"))
@@ -236,3 +250,66 @@ def test_what_the_disk_cannot_read_any_more(machine: Machine, collector: Collect
         *entries("one", 2), *entries("two", 12, pad=200), *entries("three", 2)])
     aside = list((machine.folder / "refused").glob("outbox-*"))
     assert [sum(path.suffix == ".upload" for path in each.iterdir()) for each in aside] == [name == "upload"]
+
+
+@pytest.mark.parametrize("part", ["", "-wal", "-shm"])
+def test_places_that_the_disk_cannot_read(machine: Machine, collector: Collector, disk: Disk, part: str) -> None:
+    """A file that can't be opened can't be moved either: another one takes its place, which is told once, and what the
+    journal has goes out once more."""
+    write(machine.journal / "system.journal", entries("one", 2))
+    assert machine.send() == 0, machine.said
+    path = machine.folder / f"places.sqlite{part}"
+    path.touch()
+    disk.damage(path)
+    write(machine.journal / "system.journal", entries("two", 2, BEGIN + 60_000_000))
+    assert machine.send() == 1
+    assert re.search(r"places.sqlite can't be used .*, and can't be moved either, so places_\d+.sqlite takes its place",
+                     machine.said)
+    assert collector.messages() == ["one 0", "one 1", "two 0", "two 1"]
+    assert sum(entries_of(data) for data in collector.uploads) == 6
+    write(machine.journal / "system.journal", entries("three", 2, BEGIN + 120_000_000))
+    assert machine.send() == 0 and machine.said == ""
+    assert collector.messages() == ["one 0", "one 1", "three 0", "three 1", "two 0", "two 1"]
+    assert sum(entries_of(data) for data in collector.uploads) == 8
+    assert any("can't be moved either" in text for text in told(machine))
+
+
+def told(machine: Machine) -> list[str]:
+    """What the sender noted for `journal-collect-status`."""
+    with contextlib.closing(sqlite3.connect(max(machine.folder.glob("places*.sqlite")))) as rows:
+        return [row[0] for row in rows.execute("SELECT text FROM told")]
+
+
+def disturbed(machine: Machine, calls: str, error: str) -> tuple[str | Path, ...]:
+    """A sender for which the first of such calls on its places fails."""
+    names = [word for end in ("", "-wal", "-shm") for word in ("-P", machine.folder / f"places.sqlite{end}")]
+    injected = [word for call in calls.split(",") for word in ("-e", f"inject={call}:error={error}:when=1")]
+    return ("strace", "-f", "-qqq", "-o", "/dev/null", *names, *injected, *SENDER)
+
+
+@pytest.mark.skipif(not shutil.which("strace"), reason="there is no strace")
+def test_places_of_which_a_part_cannot_be_read(machine: Machine, collector: Collector) -> None:
+    """The disk can't read what is in the file, which can be moved: it is put aside whole, and told."""
+    write(machine.journal / "system.journal", entries("one", 2))
+    assert machine.send() == 0, machine.said
+    before = (machine.folder / "places.sqlite").read_bytes()
+    assert machine.send("--once", command=disturbed(machine, "pread64,read", "EIO")) == 1, machine.said
+    aside = next((machine.folder / "refused").glob("places-*"))
+    assert f"places.sqlite can't be used (disk I/O error), and is put aside in {aside}" in machine.said
+    assert (aside / "places.sqlite").read_bytes() == before
+    assert len(told(machine)) == 1
+    assert [entries_of(data) for data in collector.uploads] == [2, 2] and len(collector.messages()) == 2
+    assert machine.send() == 0 and machine.said == ""
+
+
+@pytest.mark.skipif(not shutil.which("strace"), reason="there is no strace")
+@pytest.mark.parametrize("call", ["pwrite64", "ftruncate"])
+def test_places_on_a_full_disk_stay(machine: Machine, collector: Collector, call: str) -> None:
+    """SQLite says of a full disk what it says of one that can't be read. Nothing is put aside, or sent again."""
+    write(machine.journal / "system.journal", entries("one", 2))
+    assert machine.send() == 0, machine.said
+    assert machine.send("--once", command=disturbed(machine, call, "ENOSPC")) == 3, machine.said
+    assert machine.said == "disk I/O error\n"
+    write(machine.journal / "system.journal", entries("two", 2, BEGIN + 60_000_000))
+    assert machine.send() == 0 and machine.refused() == [], machine.said
+    assert [entries_of(data) for data in collector.uploads] == [2, 2]

@@ -99,7 +99,8 @@ def test_places_that_are_damaged_while_it_runs(machine: Machine, collector: Coll
         said = process.communicate()[1]
     assert "Traceback" not in said
     machine.send()
-    assert "places.damaged" in said + machine.said
+    assert "places.sqlite can't be used (" in said + machine.said
+    assert any(name.startswith("places-") for name in machine.refused())
     settle(machine)
     assert collector.messages() == ["one 0", "one 1", "one 2", "two 0", "two 1", "two 2"]
 

@@ -9,7 +9,7 @@ from pathlib import Path
 
 import processes
 import pytest
-from collecting import BEGIN, SEARCH, Collector, Present, plain
+from collecting import BEGIN, REMOTE, SEARCH, Collector, Present, plain
 from waiting import wait_until
 
 # Of a day that isn't over, whenever this runs: what is made of it stands by itself.
@@ -86,6 +86,34 @@ def test_what_comes_again_in_another_upload_is_shown_once(collector: Collector, 
             assert each.lines == [f"m{number}" for number in range(1, 21)]
 
 
+def test_what_waits_in_two_databases_is_followed_in_their_order(
+        collector: Collector, followed: list[Followed], monkeypatch: pytest.MonkeyPatch) -> None:
+    """What writes the first one's is slow to begin."""
+    slow = collector.path / "remote"
+    slow.write_text(f'#!/bin/sh\ncase $* in *present/{NAMES[0]}*) sleep 1 ;; esac\nexec {REMOTE} "$@"\n')
+    slow.chmod(0o755)
+    monkeypatch.setattr("journalcollect.reading.remote.REMOTE", slow)
+    for number, name in enumerate(NAMES[:2]):
+        collector.recent(name, [plain("web", number + 1, f"m{number}")])
+    with present(collector):
+        for each in followed:
+            wait_until(lambda: "m1" in each.lines)
+            assert each.lines == ["m0", "m1"]
+
+
+def test_a_clock_that_was_set_back_costs_no_entry(collector: Collector, followed: list[Followed]) -> None:
+    """A database that was begun later has an earlier name."""
+    with present(collector) as running:
+        running.feed(collector.recent(NAMES[1], [plain("web", 1, "m1")]))
+        wait_until(lambda: all(each.lines == ["m1"] for each in followed))
+    collector.recent(NAMES[1], [plain("web", 2, "m2")])
+    collector.recent(NAMES[0], [plain("web", 3, "m3")])
+    with present(collector):
+        for each in followed:
+            wait_until(lambda: "m3" in each.lines)
+            assert each.lines == ["m1", "m2", "m3"]
+
+
 def test_each_entry_once_through_kills_turns_and_restarts(collector: Collector, followed: list[Followed]) -> None:
     """Fifty moments: the remote is killed, the service is killed and begins anew, or a database is finished."""
     choose, expected, number = random.Random(5), [], 0
@@ -102,7 +130,7 @@ def test_each_entry_once_through_kills_turns_and_restarts(collector: Collector, 
                                    BEGIN + number * 1000 - choose.randrange(5_000_000)))
             batch = [each for each in batch if each.machine == batch[0].machine]
             expected += [each.fields["MESSAGE"] for each in batch]
-            running.feed(collector.recent(NAMES[0] + f"-{turn}", batch))
+            running.feed(collector.recent(NAMES[0] + f"-{turn:02}", batch))
         time.sleep(choose.random() * 0.05)
         match choose.randrange(3):
             case 0:
@@ -114,7 +142,7 @@ def test_each_entry_once_through_kills_turns_and_restarts(collector: Collector, 
                 running = Present(collector.path, print)
                 running.start()
             case 2 if moment % 3 == 0:
-                running.turn(NAMES[0] + f"-{turn}")
+                running.turn(NAMES[0] + f"-{turn:02}")
                 turn += 1
     wait_until(lambda: all(len(each.lines) >= len(expected) for each in followed))
     running.stop()
@@ -166,6 +194,10 @@ def test_an_upload_that_cant_be_read_costs_no_other(collector: Collector) -> Non
             path = collector.recent(NAMES[0], pair)
             path.write_bytes(path.read_bytes()[:-cut])
             running.feed(path)
+        unreadable = collector.recent(NAMES[0], [plain("web", 7, "m7")])
+        unreadable.unlink()
+        unreadable.symlink_to("/proc/self/mem")         # what reads it is told what a disk tells
+        running.feed(unreadable)
         running.feed(collector.recent(NAMES[0], [plain("web", 8, "m8")]))
         wait_until(lambda: collector.messages() == ["m2", "m4", "m8"])
 

@@ -32,11 +32,11 @@ def collector(computer: Computer, seen: float = NOW, stored: float = NOW, skew: 
     computer.write("data/databases/.keep", "")
     rows = sqlite3.connect(computer.folder / "data/state.sqlite")
     rows.executescript("""
-        CREATE TABLE machine(name, seen, stored, entries, refused, skew);
+        CREATE TABLE machine(name, seen, stored, entries, refused, skew, day, bytes, windows);
         CREATE TABLE database(name, standing, finished, entries, bytes);
         CREATE TABLE told(cause, text, first, last, count);""")
     with rows:
-        rows.execute("INSERT INTO machine VALUES('web', ?, ?, 7, 0, ?)", (seen, stored, skew))
+        rows.execute("INSERT INTO machine VALUES('web', ?, ?, 7, 0, ?, '', 0, 0)", (seen, stored, skew))
     return rows
 
 
@@ -80,11 +80,21 @@ def test_what_mends_each_trouble(computer: Computer, trouble: str, mends: str) -
     ("the collector's clock is +259200 s from this machine's: set the one that is wrong", "timedatectl"),
     ("a gap: journald removed a file that wasn't gathered to its end", "SystemMaxUse="),
     ("failed, and is tried again: [Errno 28] No space left on device", "make room on this machine's disk"),
+    ("places.sqlite can't be used (disk I/O error), and can't be moved either, so places_1.sqlite takes its place",
+     "fsck"),
     ("[Errno 74] Bad message: 'x': what can't be read any more of the outbox is put aside in y", "fsck")])
 def test_what_mends_what_a_machine_told(computer: Computer, told: str, mends: str) -> None:
     machine(computer, ("acknowledged", NOW - 1), told=told)
     finding = computer.told()["findings"][0]
     assert (finding["name"], mends in finding["remedy"]) == ("told", True)
+
+
+def test_places_that_could_not_be_moved(computer: Computer) -> None:
+    """What took their place is read."""
+    machine(computer, ("acknowledged", 1_700_000_000))
+    (computer.folder / "send/places.sqlite").rename(computer.folder / "send/places_1796000000000000000.sqlite")
+    computer.write("send/places.sqlite", "what can't be read")
+    assert computer.told()["machine"]["acknowledged"] == 1_700_000_000
 
 
 def test_a_connection_that_was_lost_for_a_while_is_over(computer: Computer) -> None:
@@ -133,8 +143,9 @@ def test_a_machine_that_is_silent_old_or_wrong_of_clock(
 def test_what_the_service_told_but_not_of_a_retired_machine(computer: Computer) -> None:
     with collector(computer) as rows:
         rows.executemany("INSERT INTO told VALUES(?, 'it is so', 0, ?, 2)", [
-            ("refused web", NOW), ("refused old", NOW), ("notes /x/1", NOW), ("room", NOW - 200_000)])
-    assert computer.found() == {("refused", "web"), ("notes", "/x/1")}
+            ("refused web", NOW), ("refused old", NOW), ("notes /x/1", NOW), ("room", NOW - 200_000),
+            ("unreadable /x/2", NOW), ("again /x/3", NOW)])
+    assert computer.found() == {("refused", "web"), ("notes", "/x/1"), ("unreadable", "/x/2"), ("again", "/x/3")}
     assert "on web: journal-collect-status" in computer.call().stdout
 
 

@@ -120,6 +120,11 @@ class Machine(Computer):
                 "CONNECT": f"{HERE / 'link.py'} {self.collector.socket(self.name)} {self.fault} {self.ledger}",
                 "EVERY_SECONDS": 1, "IDLE_SECONDS": 3, "FOLDER_BYTES": 3_000_000}
 
+    @property
+    def places(self) -> Path:
+        """The last file of places that was begun: one that the disk can't read any more has its name still."""
+        return max(self.data.glob("places*.sqlite"), default=self.data / "places.sqlite")
+
     def rename(self, name: str) -> None:
         self.name = name
         self.write(self.settings(self.folder, self.disk))

@@ -72,6 +72,9 @@ class Disk:
         words = ["umount", str(self.at)]
         wait_until(lambda: subprocess.run(words, stderr=subprocess.DEVNULL, check=False).returncode == 0,
                    f"{self.at} isn't used by {self.group}: that")
+        # who made a namespace of mounts meanwhile has it mounted still, for a moment
+        words = ["losetup", "--associated", str(self.image)]
+        wait_until(lambda: not subprocess.run(words, capture_output=True, check=True).stdout, f"{self.at} is free")
 
     def begin(self, unit: str, words: Sequence[str | Path], **options: Any) -> subprocess.Popen[bytes]:
         """A process of a unit."""
@@ -119,6 +122,12 @@ class Disk:
         with self.image.open("r+b") as file:
             file.seek(int(block) * size + int(offset, 16) + 8)
             file.write(b"\xff" * 4)                 # its sum isn't that of these bytes
+        self.mount()
+
+    def mend(self) -> None:
+        """What its computer can't read any more it can: nothing of it was lost."""
+        self.unmount()
+        subprocess.run(["e2fsck", "-fy", self.image], capture_output=True, check=False)
         self.mount()
 
     def sync(self) -> None:

@@ -147,7 +147,12 @@ class World:
     def machine_loses_places(self) -> None:
         machine = self.any()
         machine.stop(signal.SIGKILL)
-        self.take_away(machine.data, "places.sqlite")
+        self.take_away(machine.data, machine.places.name)
+
+    def machine_places_damaged(self) -> None:
+        machine = self.any()
+        if os.path.isfile(machine.places):
+            machine.disk.damage(machine.places)
 
     def machine_upload_damaged(self) -> None:
         machine = self.any()
@@ -260,7 +265,7 @@ class World:
     def take_away(self, folder: Path, name: str) -> None:
         """A file with what belongs to it is gone, or was cut, or has something else in it."""
         path = folder / name
-        if not path.exists():
+        if not os.path.isfile(path):                # or its disk can't read it any more
             return
         match self.dice.choice(("gone", "cut", "overwritten")):
             case "gone":
