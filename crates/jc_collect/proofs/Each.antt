@@ -1,5 +1,5 @@
 -- Deliveries one after the other, whether their bytes are known or not.
-use Rattle.std.proofs.Common.{◌≡◌, ℕ, zero, suc, ◌+◌, ◌≤◌, IsTrue, List, [], ◌∷◌, ◌++◌, Option, Some, None, length, map, take, refl, sym, ap, subst, ◌∙◌, inl, inr, ⊎_elim, arith}
+use Rattle.std.proofs.Common.{◌≡◌, ℕ, zero, suc, ◌+◌, ◌≤◌, IsTrue, List, [], ◌∷◌, ◌++◌, Option, Some, None, length, map, take, refl, sym, ap, subst, ◌∙◌, inr, arith}
 use Rattle.std.specs.List.{slice_get}
 use Rattle.std.specs.FinMap.{len}
 use Rattle.std.specs.Io.KnownBytes.{Appends}
@@ -18,8 +18,8 @@ use Rattle.jc_upload.specs.declared.answer.Answer.TheVariants.{Ack, No}
 use Rattle.jc_collect.specs.Answer.{IsTaken}
 use Rattle.jc_collect.specs.Chain.{is_acknowledged}
 use Rattle.jc_collect.specs.Crash.{TakesUpload}
-use Rattle.jc_collect.specs.Each.{CollectsEach, Held, HoldsCollected, KeepsCollected, RanEach, StoppedEach}
-use Rattle.jc_collect.specs.EachLaws.{collected_none, collected_then}
+use Rattle.jc_collect.specs.Each.{Held, HoldsCollected, RanEach, StoppedEach}
+use Rattle.jc_collect.specs.EachLaws.{collected_none, collected_one, collected_then}
 use Rattle.jc_collect.specs.Position.{Collects, Joins, LeavesUnknown}
 use Rattle.jc_collect.specs.Run.{lines_of_answers}
 use Rattle.jc_collect.proofs.Lists.{some_same, none_not_some, length_more, take_more}
@@ -53,70 +53,6 @@ unknown_of once limits (Some upload) before (Ack source start count new left) af
             grown = ap (λ (m : Journal). len m) one ∙ t.grown.2;
           },
         )
-
-pub collected_one : (limits : Limits) (known : Option (List ℕ)) (before now : Held) (answer : Answer)
-    → (now.Sound → Collects limits known before.journal answer now.journal)
-    → AddsOnly before.may_leave now.may_leave (λ found. before.Sound × TakesUpload limits known before.journal answer found)
-    → (IsTrue (is_acknowledged answer) → now.Sound) → (now.Sound → before.Sound)
-    → (IsTrue (is_acknowledged answer) → now.Sound → (found : Journal) → now.may_leave found → found ≡ now.journal)
-    → HoldsCollected limits (known ∷ []) before now (answer ∷ [])
-collected_one limits known before now (Ack source start count new left) position crash acks earlier durable =
-    let sound : now.Sound = acks refl in
-    let collected : CollectsEach limits (known ∷ []) before.journal (Ack source start count new left ∷ []) now.journal =
-    (now.journal, position sound, refl) in
-    record {
-      collected = λ _. collected;
-      found = λ found may. inr (
-        earlier sound,
-        record {
-          ahead = known ∷ [];
-          others = [];
-          are = refl;
-          front = Ack source start count new left ∷ [];
-          behind = [];
-          whole = refl;
-          last = now.journal;
-          collected = collected;
-          none = tt;
-          is = inl (durable refl sound found may);
-        },
-      );
-    }
-collected_one limits known before now (No of code place) position crash acks earlier durable = record {
-  collected = λ sound. (now.journal, position sound, refl);
-  found = λ found may. ⊎_elim (λ was. inl (was, tt)) (λ added. inr (added.0, one_more found added.1)) (crash found may);
-}
-  where
-    one_more : (found : Journal) → TakesUpload limits known before.journal (No of code place) found
-        → KeepsCollected limits (known ∷ []) before.journal (No of code place ∷ []) found
-    one_more found t = record {
-      ahead = [];
-      others = known ∷ [];
-      are = refl;
-      front = [];
-      behind = No of code place ∷ [];
-      whole = refl;
-      last = before.journal;
-      collected = refl;
-      none = tt;
-      is = inr (record {
-        upload = known;
-        others = [];
-        are = refl;
-        of = of;
-        code = code;
-        place = place;
-        behind = [];
-        whole = refl;
-        may = t.answered;
-        source = t.source;
-        start = t.start;
-        count = t.count;
-        new = t.new;
-        left = t.left;
-        collects = t.collects;
-      });
-    }
 
 -- ---- a run
 

@@ -1,5 +1,5 @@
 -- What follows of deliveries one after the other.
-use Rattle.std.proofs.Common.{◌≡◌, ℕ, zero, suc, List, [], ◌∷◌, ◌++◌, Option, Some, length, map, refl, sym, ap, subst, ◌∙◌, inl, inr, ⊎_elim}
+use Rattle.std.proofs.Common.{◌≡◌, ℕ, zero, suc, List, [], ◌∷◌, ◌++◌, Option, Some, length, map, refl, sym, ap, subst, ◌∙◌, inl, inr}
 use Rattle.std.specs.List.{All, slice_get}
 use Rattle.std.proofs.lemmas.List.Elements.{All-contains_itself}
 use Rattle.jc_base.specs.declared.id.Id128.{Id128}
@@ -10,7 +10,7 @@ use Rattle.jc_base.specs.Reading.{Reading}
 use Rattle.jc_keeper.specs.Agree.{IsStored}
 use Rattle.jc_upload.specs.declared.answer.Answer.{Answer}
 use Rattle.jc_upload.specs.declared.answer.Answer.TheVariants.{Ack, No}
-use Rattle.jc_collect.specs.Each.{CollectsEach, CollectsOneMore, HasAcknowledged, IsKnownChain, KeepsCollected, KeepsEach, NoneAcknowledged, StoresEach, TakesOneMore}
+use Rattle.jc_collect.specs.Each.{CollectsEach, HasAcknowledged, IsKnownChain, KeepsCollected, KeepsEach, NoneAcknowledged, StoresEach}
 use Rattle.jc_collect.specs.Position.{LeavesUnknown}
 use Rattle.jc_collect.proofs.Each.{unknown_of}
 use Rattle.jc_collect.proofs.Lists.{none_not_some, some_same}
@@ -39,40 +39,19 @@ stores_of once limits (k ∷ known) start last [] none = absurd none
 stores_of once limits (k ∷ known) start last (answer ∷ answers) (after, position, more) =
     (after, unknown_of once limits k start answer after position, stores_of once limits known after last answers more)
 
-stores_behind : (start last : Journal) (answers others : List Answer) → StoresEach start answers last → NoneAcknowledged others
-    → StoresEach start (answers ++ others) last
-stores_behind start last [] [] same none = same
-stores_behind start last [] (Ack source from count new left ∷ others) same none = absurd none
-stores_behind start last [] (No of code place ∷ others) same none = (start, refl, stores_behind start last [] others same none)
-stores_behind start last (answer ∷ answers) others (after, leaves, more) none = (after, leaves, stores_behind after last answers others more none)
-
 pub keeps_of : SaysOnce → (limits : Limits) (known : List (Option (List ℕ))) (start found : Journal) (answers : List Answer)
     → KeepsCollected limits known start answers found → KeepsEach start answers found
 keeps_of once limits known start found answers keeps = record {
+  front = keeps.front;
+  behind = keeps.behind;
+  whole = keeps.whole;
   last = keeps.last;
-  stored = subst (λ (l : List Answer). StoresEach start l keeps.last) (sym keeps.whole)
-      (stores_behind start keeps.last keeps.front keeps.behind (stores_of once limits keeps.ahead start keeps.last keeps.front keeps.collected) keeps.none);
-  is = ⊎_elim (λ same. inl same) (λ (t : CollectsOneMore limits keeps.others keeps.behind keeps.last found). inr (one_more t)) keeps.is;
+  stored = stores_of once limits keeps.ahead start keeps.last keeps.front keeps.collected;
+  none = keeps.none;
+  would = keeps.more.would;
+  begin = keeps.more.begin;
+  more = stores_of once limits keeps.more.ahead keeps.last found keeps.more.would keeps.more.collected;
 }
-  where
-    one_more : CollectsOneMore limits keeps.others keeps.behind keeps.last found → TakesOneMore answers keeps.last found
-    one_more t =
-        let taken = unknown_of once limits t.upload keeps.last (Ack t.source t.start t.count t.new t.left) found t.collects in
-        record {
-          front = keeps.front;
-          of = t.of;
-          code = t.code;
-          place = t.place;
-          behind = t.behind;
-          whole = keeps.whole ∙ ap (λ (l : List Answer). keeps.front ++ l) t.whole;
-          may = t.may;
-          none = subst (λ (l : List Answer). NoneAcknowledged l) t.whole keeps.none;
-          reading = taken.0;
-          count = t.count;
-          new = t.new;
-          left = t.left;
-          takes = taken.1;
-        }
 
 kept_one : (start : Journal) (answer : Answer) (after : Journal) → LeavesUnknown start answer after → (e : LogEntry) → IsStored start e → IsStored after e
 kept_one start (Ack source from count new left) after h e s = (h.1.has e).1 (inl s)
@@ -106,16 +85,31 @@ acks_each start (answer ∷ answers) last (after, leaves, more) (suc i) source f
 pub acks_of : (start last : Journal) (answers : List Answer) → StoresEach start answers last → HasAcknowledged start answers last
 acks_of start last answers stored = record { kept = kept_each start answers last stored; acknowledged = acks_each start answers last stored }
 
+-- ---- what a crash leaves
+
+none_here : (answers : List Answer) → NoneAcknowledged answers → (i : ℕ) (source : Id128) (from count new left : ℕ)
+    → ¬ (slice_get answers i ≡ Some (Ack source from count new left))
+none_here [] none i source from count new left at = none_not_some _ at
+none_here (Ack s f n m l ∷ answers) none i source from count new left at = none
+none_here (No of code place ∷ answers) none zero source from count new left at =
+    let is : No of code place ≡ Ack source from count new left = some_same _ _ at in
+    cc
+none_here (No of code place ∷ answers) none (suc i) source from count new left at = none_here answers none i source from count new left at
+
+in_front : (front behind : List Answer) → NoneAcknowledged behind → (i : ℕ) (source : Id128) (from count new left : ℕ)
+    → slice_get (front ++ behind) i ≡ Some (Ack source from count new left) → slice_get front i ≡ Some (Ack source from count new left)
+in_front [] behind none i source from count new left at = absurd (none_here behind none i source from count new left at)
+in_front (a ∷ front) behind none zero source from count new left at = at
+in_front (a ∷ front) behind none (suc i) source from count new left at = in_front front behind none i source from count new left at
+
 pub acks_found : (start found : Journal) (answers : List Answer) → KeepsEach start answers found → HasAcknowledged start answers found
 acks_found start found answers keeps =
-    let all = acks_of start keeps.last answers keeps.stored in
+    let first = acks_of start keeps.last keeps.front keeps.stored in
+    let has = kept_each keeps.last keeps.would found keeps.more in
     record {
-      kept = λ e s. has e (all.kept e s);
-      acknowledged = λ i source from count new left h.
-          let a = all.acknowledged i source from count new left h in (a.0, a.1, λ k d within. has _ (a.2 k d within));
+      kept = λ e s. has e (first.kept e s);
+      acknowledged = λ i source from count new left at.
+          let a = first.acknowledged i source from count new left (in_front keeps.front keeps.behind keeps.none i source from count new left
+          (subst (λ (l : List Answer). slice_get l i ≡ Some (Ack source from count new left)) keeps.whole at)) in
+          (a.0, a.1, λ k d within. has _ (a.2 k d within));
     }
-  where
-    has : (e : LogEntry) → IsStored keeps.last e → IsStored found e
-    has e s =
-        ⊎_elim (λ same. subst (λ (m : Journal). IsStored m e) (sym same) s)
-        (λ (t : TakesOneMore answers keeps.last found). (t.takes.has e).1 (inl s)) keeps.is

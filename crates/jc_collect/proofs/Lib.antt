@@ -24,5 +24,4 @@ pub mod Losing
 pub mod Each
 pub mod EachKnown
 pub mod GatheredUploads
-pub mod WrittenTogether
 pub mod Widening

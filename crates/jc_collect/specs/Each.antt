@@ -38,50 +38,41 @@ NoneAcknowledged [] = ⊤
 NoneAcknowledged (Ack source start count new left ∷ answers) = ⊥
 NoneAcknowledged (No of code place ∷ answers) = NoneAcknowledged answers
 
--- One more reading was taken up whole, which was answered 62 or 63: the store failed, or was refused memory. No answer
--- behind that one acknowledges.
-pub record TakesOneMore (answers : List Answer) (last found : Journal) : Type 0 where
-  pub front : List Answer
-  pub of : Option (Id128 × ℕ)
-  pub code : ℕ
-  pub place : ℕ
-  pub behind : List Answer
-  pub whole : answers ≡ front ++ No of code place ∷ behind
-  pub may : MayBeKept (No of code place)
-  pub none : NoneAcknowledged behind
-  pub reading : Reading
-  pub count : ℕ
-  pub new : ℕ
-  pub left : ℕ
-  pub takes : TakesWhole last reading count new left found
+-- An upload that would be answered so may be answered so: where it would be acknowledged, that storing failed, too.
+abbrev pub MayAnswer : (would answer : Answer) → Type 0
+MayAnswer (Ack source start count new left) answer = MayBeKept answer
+MayAnswer (No of code place) answer = answer ≡ No of code place
 
--- A journal is what the answers made of the first one; or it has all of one more reading.
+-- The first of these answers may be given to uploads that would be answered so.
+abbrev pub BeginWith : (would answers : List Answer) → Type 0
+BeginWith [] answers = ⊤
+BeginWith (w ∷ would) [] = ⊥
+BeginWith (w ∷ would) (a ∷ answers) = MayAnswer w a × BeginWith would answers
+
+-- A journal is what the first of these answers made of the first one; or it has some more readings, too, whole ones and in
+-- order, none of which an answer acknowledges: where one would, the store failed, or was refused memory.
 pub record KeepsEach (start : Journal) (answers : List Answer) (found : Journal) : Type 0 where
-  pub last : Journal
-  pub stored : StoresEach start answers last
-  pub is : (found ≡ last) ⊎ TakesOneMore answers last found
-
--- ... and what it reads as is known, if its bytes are: it is the first of these uploads, and was given the first of these
--- answers.
-pub record CollectsOneMore (limits : Limits) (known : List (Option (List ℕ))) (answers : List Answer) (last found : Journal) : Type 0 where
-  pub upload : Option (List ℕ)
-  pub others : List (Option (List ℕ))
-  pub are : known ≡ upload ∷ others
-  pub of : Option (Id128 × ℕ)
-  pub code : ℕ
-  pub place : ℕ
+  pub front : List Answer
   pub behind : List Answer
-  pub whole : answers ≡ No of code place ∷ behind
-  pub may : MayBeKept (No of code place)
-  pub source : Id128
-  pub start : ℕ
-  pub count : ℕ
-  pub new : ℕ
-  pub left : ℕ
-  pub collects : Collects limits upload last (Ack source start count new left) found
+  pub whole : answers ≡ front ++ behind
+  pub last : Journal
+  pub stored : StoresEach start front last
+  pub none : NoneAcknowledged behind
+  pub would : List Answer
+  pub begin : BeginWith would behind
+  pub more : StoresEach last would found
 
--- A journal is what the first of these uploads made of the first journal; or it has all of the next one, too. No answer
--- behind theirs acknowledges.
+-- A journal is what the first of these uploads made of another one, each of them whole. They may be answered so.
+pub record Gathers (limits : Limits) (known : List (Option (List ℕ))) (start : Journal) (answers : List Answer) (found : Journal) : Type 0 where
+  pub ahead : List (Option (List ℕ))
+  pub others : List (Option (List ℕ))
+  pub are : known ≡ ahead ++ others
+  pub would : List Answer
+  pub begin : BeginWith would answers
+  pub collected : CollectsEach limits ahead start would found
+
+-- A journal is what the first of these uploads made of the first journal, and they were answered so; or it has some of the next
+-- ones, too, whole ones and in order. No answer behind the first ones acknowledges.
 pub record KeepsCollected (limits : Limits) (known : List (Option (List ℕ))) (start : Journal) (answers : List Answer) (found : Journal) : Type 0 where
   pub ahead : List (Option (List ℕ))
   pub others : List (Option (List ℕ))
@@ -92,7 +83,7 @@ pub record KeepsCollected (limits : Limits) (known : List (Option (List ℕ))) (
   pub last : Journal
   pub collected : CollectsEach limits ahead start front last
   pub none : NoneAcknowledged behind
-  pub is : (found ≡ last) ⊎ CollectsOneMore limits others behind last found
+  pub more : Gathers limits others last behind found
 
 -- ---- over a keeper
 
@@ -108,7 +99,7 @@ held journal Sound may_leave = record { journal = journal; Sound = Sound; may_le
 -- Uploads were answered so between two moments of a keeper, of each of which the bytes are known or not. While its device is
 -- sound, it has stored what they made of the first journal. What a crash leaves now was possible before, and none of the
 -- answers acknowledges; or the device was sound before, and the crash leaves what the first of them made of the first journal,
--- or that with one more.
+-- or that with some of the next ones.
 pub record HoldsCollected (limits : Limits) (known : List (Option (List ℕ))) (before now : Held) (answers : List Answer) : Type 0 where
   pub collected : now.Sound → CollectsEach limits known before.journal answers now.journal
   pub found : (left : Journal) → now.may_leave left

@@ -19,3 +19,4 @@ pub mod Wide
 pub mod Each
 pub mod EachLaws
 pub mod Together
+pub mod TogetherLaws

@@ -1,6 +1,6 @@
 -- Uploads that touch too many windows of sequences. (own)
 use Rattle.std.specs.Prelude.{◌≡◌, ◌≢◌, ◌⊎◌, ◌^◌, ◌-◌, ℕ, List, IsTrue}
-use Rattle.jc_base.specs.declared.fault.Code.TheVariants.{NotTheOwner}
+use Rattle.jc_base.specs.declared.fault.Code.TheVariants.{NotTheOwner, StoreFailed}
 use Rattle.jc_base.specs.Fault.{number_of}
 use Rattle.jc_base.specs.Reading.{Reading}
 use Rattle.jc_base.specs.declared.limits.Limits.{Limits}
@@ -31,7 +31,7 @@ abbrev pub RefusesOver : Limits → Bounds → (upload : List ℕ) → Answer �
 RefusesOver limits bounds upload (Ack source start count new left) = ⊥
 RefusesOver limits bounds upload (No of code place) = ((code ≡ over_bounds) × IsOver limits bounds upload place) ⊎ IsTrue (is_failure_code code)
 
--- It says that nothing was stored, and not since a sequence belongs to another machine.
+-- It says that nothing was stored, and neither since a sequence belongs to another machine, nor since the store failed.
 abbrev pub IsRefusal : Answer → Type 0
 IsRefusal (Ack source start count new left) = ⊥
-IsRefusal (No of code place) = code ≢ number_of NotTheOwner
+IsRefusal (No of code place) = (code ≢ number_of NotTheOwner) × (code ≢ number_of StoreFailed)

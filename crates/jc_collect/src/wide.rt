@@ -1,7 +1,7 @@
 //! Uploads that touch too many windows of sequences.
 
 ghost use Rattle.std.specs.Prelude.{◌≡◌, ◌≢◌, ◌≤◌, ℕ, List, Option, Ok, Err, Some, IfSome, IsTrue, MatchOption};
-ghost use Rattle.jc_base.specs.declared.fault.Code.TheVariants.{NotTheOwner};
+ghost use Rattle.jc_base.specs.declared.fault.Code.TheVariants.{NotTheOwner, StoreFailed};
 ghost use Rattle.jc_base.specs.Fault.{number_of};
 ghost use Rattle.jc_base.specs.declared.limits.Limits.{Limits as LimitsValue};
 ghost use Rattle.jc_collect.specs.Answer.{is_failure_code, named_by};
@@ -101,6 +101,7 @@ fn refusal_of(head: UploadHead, inspected: Inspected) -> Option<Answer>
 fn stop_code(stop: Stop) -> u16
     ensures failed { IsTrue (is_failure_code result) }
     ensures other { result ≢ number_of NotTheOwner }
+    ensures stored { result ≢ number_of StoreFailed }
 {
     match stop {
         Stop::ReadFailed => Code::ReadFailed.number(),

@@ -1,67 +1,36 @@
 -- Uploads, of each of which the bytes are known or not, one after the other, and the answers to them.
-use Rattle.std.proofs.Common.{◌≡◌, ◌∙◌, ◌+◌, ◌≤◌, ℕ, zero, suc, List, [], ◌∷◌, ◌++◌, Option, Some, None, Result, Ok, Err, length, map, refl, sym, ap, ap₂, subst, take, drop, inl, inr, ⊎_elim, arith}
-use Rattle.std.specs.Prelude.{IfSome, IsErr, ⊤}
-use Rattle.std.proofs.lemmas.List.{append-nil, append_assoc, length-append, take-append-drop}
-use Rattle.std.proofs.Props.{props}
+use Rattle.std.proofs.Common.{◌≡◌, ◌∙◌, ◌+◌, ◌≤◌, ℕ, zero, suc, Bool, List, [], ◌∷◌, ◌++◌, Option, Some, None, Result, Ok, Err, length, refl, sym, ap, ap₂, subst, take, drop, arith}
+use Rattle.std.specs.Prelude.{IfSome, IsErr}
+use Rattle.std.proofs.lemmas.List.{append-nil, length-append, take-append-drop}
 use Rattle.jc_base.specs.declared.limits.Limits.{Limits}
-use Rattle.jc_base.specs.LimitBounds.{AreDefaults, AreLimits}
-use Rattle.jc_base.specs.Journal.{Journal}
-use Rattle.jc_collect.specs.Each.{CollectsEach, Held, HoldsCollected, KeepsCollected, RunsEach}
-use Rattle.jc_collect.specs.EachLaws.{collected_none, collected_refused, collected_then}
-use Rattle.jc_collect.specs.Position.{Collects}
+use Rattle.jc_base.specs.LimitBounds.{AreDefaults}
+use Rattle.jc_collect.specs.Each.{Held, HoldsCollected, RunsEach}
+use Rattle.jc_collect.specs.EachLaws.{collected_none, collected_then}
 use Rattle.jc_collect.specs.Run as run
 use Rattle.jc_collect.specs.Run.{OnlyIfOwned}
 use Rattle.jc_collect.specs.RunLaws.{owned_none, owned_then}
 use Rattle.jc_collect.specs.declared.runs.RunEnd.{RunEnd}
 use Rattle.jc_collect.specs.declared.runs.RunEnd.TheVariants.{Done, Stopped}
+use Rattle.jc_collect.proofs.OneMore.{SaysOnce}
 use Rattle.jc_keeper.specs.declared.keeper.Keeper as keepers
-use Rattle.jc_keeper.specs.Brought.{StoresFor}
 use Rattle.jc_upload.specs.declared.answer.Answer.{Answer}
-use Rattle.jc_upload.specs.declared.answer.Answer.TheVariants.{No}
 use Rattle.jc_command_shared.specs.declared.status.Status.{Status}
 use Rattle.jc_command_shared.specs.declared.status.Status.TheVariants.{Success}
 use Rattle.jc_collector_answers.specs.Answered.{worse}
 use Rattle.jc_collector_answers.specs.Brought.{CollectsText}
-use Rattle.jc_collector_answers.specs.Collected.{ByDefault, HoldsFirstOf, LosesName, just, those_named, upload_in, uploads_named}
-use Rattle.jc_collector_answers.specs.Kept.{AnswersHold, HasKept, HoldsPrinted, Printing, held_by}
-use Rattle.jc_collector_answers.specs.Named.{HasParts, LosesLine}
+use Rattle.jc_collector_answers.specs.Collected.{ByDefault, HoldsFirstOf, just, names_in, those_named, uploads_named}
+use Rattle.jc_collector_answers.specs.Grouped.{GivesAnswers, LinesCome, TakesLines, these, uploads_of}
+use Rattle.jc_collector_answers.specs.Kept.{AnswersHold, HasKept, Printing, held_by}
+use Rattle.jc_collector_answers.specs.PrintedLaws.{front_none, named}
+use Rattle.jc_collector_answers.specs.Tied.{NamedWith, PrintsFront, PrintsWith}
 use Rattle.jc_collector_answers.specs.declared.name_lines.NameLines.{NameLines}
-use Rattle.jc_collector_answers.specs.PrintedLaws.{front_none, many, many_other, named}
-use Rattle.jc_collector_answers.specs.Tied.{AreUnread, NamedWith, PrintsWith}
-use Rattle.jc_collector_answers.proofs.Machines.{IsOfOne, LinesUpTo, just_one, one_line, up_to_all, up_to_more, up_to_none}
-use Rattle.jc_collector_answers.proofs.Successive.{HoldsSoFar, holds_first, holds_front, holds_front_on, holds_named, holds_on_to}
-use Rattle.jc_collector_answers.proofs.Tying.{unread_owned, unread_refused}
-
--- ---- there is one set of default limits
-
-made : (name value fields entry file : ℕ) → AreLimits name value fields entry file → Limits
-made name value fields entry file lawful = record { name = name; value = value; fields = fields; entry = entry; file = file; lawful = lawful }
-
-limits_prop : (name value fields entry file : ℕ) → IsProp (AreLimits name value fields entry file)
-limits_prop name value fields entry file = Prim.hlevel props
-
-one_made : (n v f e l n' v' f' e' l' : ℕ) → n ≡ n' → v ≡ v' → f ≡ f' → e ≡ e' → l ≡ l' → (p : AreLimits n v f e l) (q : AreLimits n' v' f' e' l')
-    → made n v f e l p ≡ made n' v' f' e' l' q
-one_made n v f e l n' v' f' e' l' is-n is-v is-f is-e is-l p =
-    subst (λ (n' : ℕ). (q : AreLimits n' v' f' e' l') → made n v f e l p ≡ made n' v' f' e' l' q) is-n
-    (subst (λ (v' : ℕ). (q : AreLimits n v' f' e' l') → made n v f e l p ≡ made n v' f' e' l' q) is-v
-    (subst (λ (f' : ℕ). (q : AreLimits n v f' e' l') → made n v f e l p ≡ made n v f' e' l' q) is-f
-    (subst (λ (e' : ℕ). (q : AreLimits n v f e' l') → made n v f e l p ≡ made n v f e' l' q) is-e
-    (subst (λ (l' : ℕ). (q : AreLimits n v f e l') → made n v f e l p ≡ made n v f e l' q) is-l
-    (λ q. ap (λ (x : AreLimits n v f e l). made n v f e l x) (limits_prop n v f e l p q))))))
-
-one_default : (limits other : Limits) → AreDefaults limits.name limits.value limits.fields limits.entry limits.file
-    → AreDefaults other.name other.value other.fields other.entry other.file → limits ≡ other
-unfolding made
-one_default limits other is also =
-    one_made limits.name limits.value limits.fields limits.entry limits.file other.name other.value other.fields other.entry other.file
-    (is.name_is ∙ sym also.name_is) (is.value_is ∙ sym also.value_is) (is.fields_is ∙ sym also.fields_is) (is.entry_is ∙ sym also.entry_is)
-    (is.file_is ∙ sym also.file_is) limits.lawful other.lawful
+use Rattle.jc_collector_answers.proofs.Defaults.{by_default}
+use Rattle.jc_collector_answers.proofs.Grouping.{IsGroup, group_from, kept_by_group}
+use Rattle.jc_collector_answers.proofs.Kept.{kept_then}
+use Rattle.jc_collector_answers.proofs.Machines.{LinesUpTo, come_none, come_on, uploads_on, up_to_all, up_to_more, up_to_none}
+use Rattle.jc_collector_answers.proofs.Successive.{HoldsSoFar, holds_first, holds_front, holds_front_on, holds_named, holds_on_to, lost_lines}
 
 module _ (limits : Limits) (defaults : AreDefaults limits.name limits.value limits.fields limits.entry limits.file) where
-  by_default : (Holds : Limits → Type 0) → Holds limits → ByDefault Holds
-  by_default Holds holds other also = subst Holds (one_default limits other defaults also) holds
-
   -- a run over deliveries, of each of which the bytes are known or not
   pub holds_of_run : (known : List (Option (List ℕ))) (before now : Held) (written sunk : Option (List ℕ)) (end : RunEnd)
       → RunsEach limits known before now written end sunk → run.WritesWith (HoldsFirstOf (just known) before now) (length known) written sunk end
@@ -72,7 +41,7 @@ module _ (limits : Limits) (defaults : AreDefaults limits.name limits.value limi
       others = [];
       are = append-nil known;
       each = sym ran.wrote.number;
-      holds = by_default (λ other. HoldsCollected other known before now ran.wrote.answers) ran.holds;
+      holds = by_default limits defaults (λ other. HoldsCollected other known before now ran.wrote.answers) ran.holds;
     },
   )
   holds_of_run known before now written sunk (Stopped done bytes) ran = (
@@ -83,7 +52,7 @@ module _ (limits : Limits) (defaults : AreDefaults limits.name limits.value limi
       others = drop (done + 1) known;
       are = take-append-drop (done + 1) known;
       each = as_many;
-      holds = by_default (λ other. HoldsCollected other (take (done + 1) known) before now (ran.wrote.answers ++ ran.wrote.last ∷ [])) ran.holds;
+      holds = by_default limits defaults (λ other. HoldsCollected other (take (done + 1) known) before now (ran.wrote.answers ++ ran.wrote.last ∷ [])) ran.holds;
     },
   )
     where
@@ -104,23 +73,6 @@ module _ (limits : Limits) (defaults : AreDefaults limits.name limits.value limi
 none_yet : (uploads : List (Option (List ℕ))) (now : Held) → HoldsFirstOf (just uploads) now now []
 none_yet uploads now = record { known = []; others = uploads; are = refl; each = refl; holds = λ limits defaults. collected_none limits now }
 
--- of an upload nothing could be read
-left_unread : (known : Option (List ℕ)) (now : Held) (answers : List Answer) → AreUnread answers → HoldsFirstOf (just (known ∷ [])) now now answers
-left_unread known now answers unread = record {
-  known = known ∷ [];
-  others = [];
-  are = refl;
-  each = sym (ap (λ (l : List Answer). length l) unread);
-  holds = λ limits defaults.
-      collected_refused limits (known ∷ []) now answers
-      (subst (λ (l : List Answer). CollectsEach limits (known ∷ []) now.journal l now.journal) (sym unread) (now.journal, left limits known, refl))
-      (unread_refused answers unread);
-}
-  where
-    left : (limits : Limits) (known : Option (List ℕ)) → Collects limits known now.journal (No None 61 0) now.journal
-    left limits None = refl
-    left limits (Some upload) = record { answers = record { failure = refl; at = refl }; leaves = refl }
-
 module _ {K F : Type 0} (k : keepers.Ghosts K) where
   -- nothing was printed
   pub answers_none : (Whole : Printing) (uploads : List (Option (List ℕ))) (keeper : K) (result : Result Status F) (old : Option (List ℕ)) → IsErr result
@@ -131,149 +83,40 @@ module _ {K F : Type 0} (k : keepers.Ghosts K) where
     owner = front_none (OnlyIfOwned k.has_owners) old (owned_none k.has_owners);
   }
 
-  pub answers_unread : (keeper : K) (known : Option (List ℕ)) (result : Result Status F) (old new : Option (List ℕ))
-      → HoldsPrinted (many 1) AreUnread result old new → AnswersHold k (many 1) (just (known ∷ [])) keeper keeper result old new
-  answers_unread keeper known result old new unread = record {
-    each = λ clean made.
-        many_other AreUnread (HoldsFirstOf (just (known ∷ [])) (held_by k keeper) (held_by k keeper)) (left_unread known (held_by k keeper)) 1 result old new unread;
-    owner = many_other AreUnread (OnlyIfOwned k.has_owners) (unread_owned k.has_owners) 1 result old new unread;
-  }
+-- ---- the lines of a text, some together
 
-  -- ---- the same answers, of uploads that are said in another way
-
-  -- of so many
-  pub answers_counted : {old new : K} {count : ℕ} {known : List (Option (List ℕ))} {result : Result Status F} {out now : Option (List ℕ)}
-      → AnswersHold k (many count) (just known) old new result out now → (size : ℕ) (uploads : List (Option (List ℕ)))
-      → count ≡ size → known ≡ uploads → AnswersHold k (many size) (just uploads) old new result out now
-  answers_counted {old = old} {new = new} {count = count} {result = result} {out = out} {now = now} holds size uploads is are =
-      subst (λ (n : ℕ). AnswersHold k (many n) (just uploads) old new result out now) is
-      (subst (λ (us : List (Option (List ℕ))). AnswersHold k (many count) (just us) old new result out now) are holds)
-
-  -- of the upload that has this name
-  pub answers_at : {old new : K} {result : Result Status F} {out now : Option (List ℕ)} (told : List ℕ → Option (List ℕ))
-      (name other : List ℕ) → name ≡ other → AnswersHold k (many 1) (just (told name ∷ [])) old new result out now
-      → AnswersHold k (many 1) (just (told other ∷ [])) old new result out now
-  answers_at {old = old} {new = new} {result = result} {out = out} {now = now} told name other same holds =
-      subst (λ (u : List ℕ). AnswersHold k (many 1) (just (told u ∷ [])) old new result out now) same holds
-
-  -- a keeper was told something before, of which nothing is seen
-  pub answers_told : (old told new : K) (count : ℕ) (uploads : List (Option (List ℕ))) (result : Result Status F) (out now : Option (List ℕ))
-      → k.journal told ≡ k.journal old → ((found : Journal) → k.may_leave told found → k.may_leave old found)
-      → HasKept k old told → AnswersHold k (many count) (just uploads) told new result out now
-      → AnswersHold k (many count) (just uploads) old new result out now
-  answers_told old told new count uploads result out now same back kept holds = record {
-    each = λ clean made.
-        many_other (HoldsFirstOf (just uploads) (held_by k told) (held_by k new)) (HoldsFirstOf (just uploads) (held_by k old) (held_by k new))
-        (λ answers h. record {
-          known = h.known;
-          others = h.others;
-          are = h.are;
-          each = h.each;
-          holds = λ limits defaults. before limits h.known answers (h.holds limits defaults);
-        })
-        count result out now (holds.each clean (kept.stays_made made));
-    owner = holds.owner;
-  }
-    where
-      before : (limits : Limits) (known : List (Option (List ℕ))) (answers : List Answer) → HoldsCollected limits known (held_by k told) (held_by k new) answers
-          → HoldsCollected limits known (held_by k old) (held_by k new) answers
-      before limits known answers h = record {
-        collected = λ sound. subst (λ (j : Journal). CollectsEach limits known j answers (k.journal new)) same (h.collected sound);
-        found = λ left may.
-            ⊎_elim (λ was. inl (back left was.0, was.1))
-            (λ keeps. inr (kept.was_sound keeps.0, subst (λ (j : Journal). KeepsCollected limits known j answers left) same keeps.1)) (h.found left may);
-      }
-
--- ---- names, one after the other
-
--- These uploads are those that a text names before this rest of it.
-abbrev pub HaveCome : (told : List ℕ → Option (List ℕ)) → NameLines → (text rest : Option (List ℕ)) → List (Option (List ℕ)) → Type 0
-HaveCome told lines None rest known = ⊤
-HaveCome told lines (Some text) None known = ⊥
-HaveCome told lines (Some text) (Some rest) known = uploads_named told lines text ≡ known ++ uploads_named told lines rest
-
+-- What is so of the uploads that a text names before this rest of it.
 pub record HoldsUpTo (told : List ℕ → Option (List ℕ)) (lines : NameLines) (text rest : Option (List ℕ)) (before now : Held) (answers : List Answer) : Type 0 where
-  pub known : List (Option (List ℕ))
-  pub came : HaveCome told lines text rest known
-  pub each : length known ≡ length answers
-  pub holds : ByDefault (λ limits. HoldsCollected limits known before now answers)
+  pub come : List (List ℕ)
+  pub are : LinesCome text rest come
+  pub each : length come ≡ length answers
+  pub holds : ByDefault (λ limits. HoldsCollected limits (uploads_of told lines come) before now answers)
 
 module _ (told : List ℕ → Option (List ℕ)) (lines : NameLines) (text : Option (List ℕ)) where
   first_of_all : (now : Held) → HoldsUpTo told lines text text now now []
-  first_of_all now = record { known = []; came = all text; each = refl; holds = λ limits defaults. collected_none limits now }
-    where
-      all : (text : Option (List ℕ)) → HaveCome told lines text text []
-      all None = tt
-      all (Some bytes) = refl
+  first_of_all now = record { come = []; are = come_none text; each = refl; holds = λ limits defaults. collected_none limits now }
 
-  -- one more: it has just one answer
-  module _ (rest next : Option (List ℕ)) (name : List ℕ) (loses : LosesName name rest next) (first mid late : Held)
-      (earlier : mid.Sound → first.Sound) (later : late.Sound → mid.Sound) where
-    both : (known others : List (Option (List ℕ))) (one more : List Answer) → ByDefault (λ limits. HoldsCollected limits known first mid one)
-        → ByDefault (λ limits. HoldsCollected limits others mid late more) → ByDefault (λ limits. HoldsCollected limits (known ++ others) first late (one ++ more))
-    both known others one more so then limits defaults =
-        collected_then limits known others first mid late one more (so limits defaults) (then limits defaults) earlier later
-
-    come_to : (text : Option (List ℕ)) (known : List (Option (List ℕ))) → HaveCome told lines text rest known
-        → HaveCome told lines text next (known ++ told (upload_in lines name) ∷ [])
-    come_to None known came = tt
-    come_to (Some bytes) known came = go rest next came loses
-      where
-        go : (rest next : Option (List ℕ)) → HaveCome told lines (Some bytes) rest known → LosesName name rest next
-            → HaveCome told lines (Some bytes) next (known ++ told (upload_in lines name) ∷ [])
-        go None next came loses = absurd came
-        go (Some left) None came loses = absurd loses
-        go (Some left) (Some less) came loses =
-            came ∙ ap (λ (ns : List (List ℕ)). known ++ map (λ line. told (upload_in lines line)) ns) loses
-            ∙ sym (append_assoc known (told (upload_in lines name) ∷ []) (uploads_named told lines less))
-
-    on_to : (one others : List Answer) → HoldsUpTo told lines text rest first mid one
-        → (HoldsFirstOf (just (told (upload_in lines name) ∷ [])) mid late others × (length others ≡ 1))
-        → HoldsUpTo told lines text next first late (one ++ others)
-    on_to one others so (then, alone) = record {
-      known = so.known ++ then.known;
-      came = subst (λ (ks : List (Option (List ℕ))). HaveCome told lines text next (so.known ++ ks))
-          (sym (just_one (told (upload_in lines name)) then.known then.others then.are (then.each ∙ alone))) (come_to text so.known so.came);
-      each = length-append so.known then.known ∙ ap₂ (λ (m n : ℕ). m + n) so.each then.each ∙ sym (length-append one others);
-      holds = both so.known then.known one others so.holds then.holds;
-    }
-
-    -- ... or printing it failed
-    front_on : (one others : List Answer) → HoldsUpTo told lines text rest first mid one
-        → HoldsFirstOf (just (told (upload_in lines name) ∷ [])) mid late others
-        → HoldsFirstOf (those_named told lines text) first late (one ++ others)
-    front_on one others so then = record {
-      known = so.known ++ then.known;
-      others = then.others ++ left_of next;
-      are = are_named text rest next so.came loses;
-      each = length-append so.known then.known ∙ ap₂ (λ (m n : ℕ). m + n) so.each then.each ∙ sym (length-append one others);
-      holds = both so.known then.known one others so.holds then.holds;
-    }
-      where
-        left_of : Option (List ℕ) → List (Option (List ℕ))
-        left_of None = []
-        left_of (Some less) = uploads_named told lines less
-
-        are_named : (text rest next : Option (List ℕ)) → HaveCome told lines text rest so.known → LosesName name rest next
-            → those_named told lines text ((so.known ++ then.known) ++ (then.others ++ left_of next))
-        are_named None rest next came loses = tt
-        are_named (Some bytes) None next came loses = absurd came
-        are_named (Some bytes) (Some left) None came loses = absurd loses
-        are_named (Some bytes) (Some left) (Some less) came loses =
-            append_assoc so.known then.known (then.others ++ uploads_named told lines less)
-            ∙ ap (λ (ks : List (Option (List ℕ))). so.known ++ ks) (sym (append_assoc then.known then.others (uploads_named told lines less))
-            ∙ ap (λ (ks : List (Option (List ℕ))). ks ++ uploads_named told lines less) then.are
-            ∙ sym (ap (λ (ns : List (List ℕ)). map (λ line. told (upload_in lines line)) ns) loses))
-            ∙ sym came
+  -- some more
+  on_to : (rest next : Option (List ℕ)) (come : List (List ℕ)) → LinesCome rest next come → (first mid late : Held) → (mid.Sound → first.Sound) → (late.Sound → mid.Sound)
+      → (one others : List Answer) → HoldsUpTo told lines text rest first mid one → length others ≡ length come
+      → ByDefault (λ limits. HoldsCollected limits (uploads_of told lines come) mid late others) → HoldsUpTo told lines text next first late (one ++ others)
+  on_to rest next come lost first mid late earlier later one others so many holds = record {
+    come = so.come ++ come;
+    are = come_on text rest next so.come come so.are lost;
+    each = length-append so.come come ∙ ap₂ (λ (m n : ℕ). m + n) so.each (sym many) ∙ sym (length-append one others);
+    holds = λ limits defaults.
+        subst (λ (ks : List (Option (List ℕ))). HoldsCollected limits ks first late (one ++ others)) (sym (uploads_on told lines so.come come))
+        (collected_then limits (uploads_of told lines so.come) (uploads_of told lines come) first mid late one others (so.holds limits defaults) (holds limits defaults) earlier later);
+  }
 
   -- all that were named so far
   holds_so_far : (rest : Option (List ℕ)) (first now : Held) (answers : List Answer) → HoldsUpTo told lines text rest first now answers
       → HoldsFirstOf (those_named told lines text) first now answers
   holds_so_far rest first now answers so = record {
-    known = so.known;
+    known = uploads_of told lines so.come;
     others = left_of rest;
-    are = are_named text rest so.came;
-    each = so.each;
+    are = are_named text rest so.are;
+    each = length_of so.come ∙ so.each;
     holds = so.holds;
   }
     where
@@ -281,10 +124,14 @@ module _ (told : List ℕ → Option (List ℕ)) (lines : NameLines) (text : Opt
       left_of None = []
       left_of (Some less) = uploads_named told lines less
 
-      are_named : (text rest : Option (List ℕ)) → HaveCome told lines text rest so.known → those_named told lines text (so.known ++ left_of rest)
+      length_of : (names : List (List ℕ)) → length (uploads_of told lines names) ≡ length names
+      length_of [] = refl
+      length_of (name ∷ names) = ap suc (length_of names)
+
+      are_named : (text rest : Option (List ℕ)) → LinesCome text rest so.come → those_named told lines text (uploads_of told lines so.come ++ left_of rest)
       are_named None rest came = tt
       are_named (Some bytes) None came = absurd came
-      are_named (Some bytes) (Some left) came = sym came
+      are_named (Some bytes) (Some left) came = sym (ap (uploads_of told lines) came ∙ uploads_on told lines so.come (names_in left))
 
   module _ {K : Type 0} (k : keepers.Ghosts K) where
     -- What is so of the names so far.
@@ -305,48 +152,48 @@ module _ (told : List ℕ → Option (List ℕ)) (lines : NameLines) (text : Opt
 
     module _ (first mid : K) (so : HasKept k first mid) (rest : Option (List ℕ)) (status : Status) (old was : Option (List ℕ))
         (holds : SoFar rest first mid status old was) where
-      pub so_far_on_to : {F : Type 0} (late : K) (next new : Option (List ℕ)) (name : List ℕ) (more : Status) → HasKept k mid late
-          → LosesLine rest next → LosesName name rest next
-          → AnswersHold {F = F} k (many 1) (just (told (upload_in lines name) ∷ [])) mid late (Ok more) was new
-          → (machine : Option (List ℕ)) → HasParts lines name machine (upload_in lines name) → StoresFor k.belongs k.journal k.sound k.made machine mid late
-          → SoFar next first late (worse status more) old new
-      so_far_on_to {F = F} late next new name more kept loses_line loses one machine parts stored = record {
-        each = λ clean made.
-            holds_on_to (HoldsUpTo told lines text rest (held_by k first) (held_by k mid)) (IsOfOne told lines name (held_by k mid) (held_by k late))
-            (HoldsUpTo told lines text next (held_by k first) (held_by k late))
-            (λ those others h then. on_to rest next name loses (held_by k first) (held_by k mid) (held_by k late) so.was_sound kept.was_sound those others h then)
-            text rest next status more old was new (holds.each (kept.was_clean clean) made) loses_line (alone clean made);
-        owner = holds_on_to (OnlyIfOwned k.has_owners) (OnlyIfOwned k.has_owners) (OnlyIfOwned k.has_owners) (owned_then k.has_owners)
-            text rest next status more old was new holds.owner loses_line one.owner;
-        brought = λ clean sound made.
-            holds_on_to (LinesUpTo told lines (k.belongs mid) text rest (k.journal first) (k.journal mid)) (IsOfOne told lines name (held_by k mid) (held_by k late))
-            (LinesUpTo told lines (k.belongs late) text next (k.journal first) (k.journal late))
-            (λ those others h then.
-            up_to_more told lines (k.belongs mid) (k.belongs late) (stored.stays sound) text rest next name loses (k.journal first) (k.journal mid) (k.journal late) those others h
-            (one_line told lines (k.belongs late) name machine parts (held_by k mid) (held_by k late) sound (stored.own sound (so.stays_made made)) others then))
-            text rest next status more old was new (holds.brought (kept.was_clean clean) (kept.was_sound sound) made) loses_line (alone clean made);
-      }
+      module _ (limits : Limits) (defaults : AreDefaults limits.name limits.value limits.fields limits.entry limits.file) (late : K) (next new : Option (List ℕ))
+          (come : List (List ℕ)) (lost : LinesCome rest next come) (given : List Answer) (group : IsGroup k limits told lines come mid late given)
         where
-          alone : k.clean late → k.made first → PrintsWith (IsOfOne told lines name (held_by k mid) (held_by k late)) 1 more was new
-          alone clean made =
-              let answered = one.each clean (so.stays_made made) in
-              record { shown = answered.shown; holds = (answered.holds, answered.shown.each) }
+          collects : k.clean late → k.made first → ByDefault (λ other. HoldsCollected other (uploads_of told lines come) (held_by k mid) (held_by k late) given)
+          collects clean made = by_default limits defaults (λ other. HoldsCollected other (uploads_of told lines come) (held_by k mid) (held_by k late) given)
+              (group.all.holds clean (so.stays_made made))
 
-      pub so_far_front_on : {E D : Type 0} (late : K) (next new : Option (List ℕ)) (name : List ℕ) (failure : E) (result : Result Status D) → HasKept k mid late
-          → LosesName name rest next
-          → AnswersHold k (many 1) (just (told (upload_in lines name) ∷ [])) mid late (Err failure) was new → IsErr result
-          → AnswersHold k (named text) (those_named told lines text) first late result old new
-      so_far_front_on late next new name failure (Ok more) kept loses one failed = cc
-      so_far_front_on late next new name failure (Err other) kept loses one failed = record {
-        each = λ clean made.
-            holds_front_on (HoldsUpTo told lines text rest (held_by k first) (held_by k mid))
-            (HoldsFirstOf (just (told (upload_in lines name) ∷ [])) (held_by k mid) (held_by k late))
-            (HoldsFirstOf (those_named told lines text) (held_by k first) (held_by k late))
-            (λ those others h then. front_on rest next name loses (held_by k first) (held_by k mid) (held_by k late) so.was_sound kept.was_sound those others h then)
-            text rest status old was new (holds.each (kept.was_clean clean) made) (one.each clean (so.stays_made made));
-        owner = holds_front_on (OnlyIfOwned k.has_owners) (OnlyIfOwned k.has_owners) (OnlyIfOwned k.has_owners) (owned_then k.has_owners)
-            text rest status old was new holds.owner one.owner;
-      }
+          pub so_far_on_to : (more : Status) → PrintsWith (these given) (length given) more was new → SoFar next first late (worse status more) old new
+          so_far_on_to more prints = record {
+            each = λ clean made.
+                holds_on_to (HoldsUpTo told lines text rest (held_by k first) (held_by k mid)) (these given) (HoldsUpTo told lines text next (held_by k first) (held_by k late))
+                (λ those others h same. subst (λ (l : List Answer). HoldsUpTo told lines text next (held_by k first) (held_by k late) (those ++ l)) (sym same)
+                (on_to rest next come lost (held_by k first) (held_by k mid) (held_by k late) so.was_sound group.all.was_sound those given h group.each (collects clean made)))
+                (length given) text rest next status more old was new (holds.each (group.all.was_clean clean) made) (lost_lines rest next come (length given) group.each lost) prints;
+            owner = holds_on_to (OnlyIfOwned k.has_owners) (these given) (OnlyIfOwned k.has_owners)
+                (λ those others h same. owned_then k.has_owners those others h (subst (OnlyIfOwned k.has_owners) (sym same) group.all.owner))
+                (length given) text rest next status more old was new holds.owner (lost_lines rest next come (length given) group.each lost) prints;
+            brought = λ clean sound made.
+                holds_on_to (LinesUpTo told lines (k.belongs mid) text rest (k.journal first) (k.journal mid)) (these given)
+                (LinesUpTo told lines (k.belongs late) text next (k.journal first) (k.journal late))
+                (λ those others h same. subst (λ (l : List Answer). LinesUpTo told lines (k.belongs late) text next (k.journal first) (k.journal late) (those ++ l)) (sym same)
+                (up_to_more told lines (k.belongs mid) (k.belongs late) (k.journal first) (k.journal mid) (k.journal late) text rest next come lost those given
+                (group.stays sound) h (group.own sound (so.stays_made made))))
+                (length given) text rest next status more old was new (holds.brought (group.all.was_clean clean) (group.all.was_sound sound) made) (lost_lines rest next come (length given) group.each lost) prints;
+          }
+
+          -- printing them failed
+          pub so_far_front_on : {D : Type 0} (result : Result Status D) → PrintsFront (these given) was new → IsErr result
+              → AnswersHold k (named text) (those_named told lines text) first late result old new
+          so_far_front_on (Ok more) prints failed = cc
+          so_far_front_on (Err other) prints failed = record {
+            each = λ clean made.
+                holds_front_on (HoldsUpTo told lines text rest (held_by k first) (held_by k mid)) (these given)
+                (HoldsFirstOf (those_named told lines text) (held_by k first) (held_by k late))
+                (λ those others h same. subst (λ (l : List Answer). HoldsFirstOf (those_named told lines text) (held_by k first) (held_by k late) (those ++ l)) (sym same)
+                (holds_so_far next (held_by k first) (held_by k late) (those ++ given)
+                (on_to rest next come lost (held_by k first) (held_by k mid) (held_by k late) so.was_sound group.all.was_sound those given h group.each (collects clean made))))
+                text rest status old was new (holds.each (group.all.was_clean clean) made) prints;
+            owner = holds_front_on (OnlyIfOwned k.has_owners) (these given) (OnlyIfOwned k.has_owners)
+                (λ those others h same. owned_then k.has_owners those others h (subst (OnlyIfOwned k.has_owners) (sym same) group.all.owner))
+                text rest status old was new holds.owner prints;
+          }
 
       weaker : k.clean mid → k.made first → HoldsSoFar (HoldsFirstOf (those_named told lines text) (held_by k first) (held_by k mid)) text rest status old was
       weaker clean made =
@@ -376,3 +223,25 @@ module _ (told : List ℕ → Option (List ℕ)) (lines : NameLines) (text : Opt
           let it = holds.brought (clean is_sound) is_sound is_made in
           holds_named (CollectsText told lines (k.belongs mid) text (k.journal first) (k.journal mid)) text rest status old was
           (it.0, up_to_all told lines (k.belongs mid) text rest none (k.journal first) (k.journal mid) it.0.1.answers it.1) none
+
+-- ---- a group of them
+
+module _ (once : SaysOnce) {told : List ℕ → Option (List ℕ)} {lines : NameLines} {text : Option (List ℕ)} {K : Type 0} {k : keepers.Ghosts K} {limits : Limits}
+    {first mid between late : K} {rest next : Option (List ℕ)} {status : Status} {old was new : Option (List ℕ)} {items : List Answer}
+    (kept : HasKept k first mid) (so : SoFar told lines text k rest first mid status old was) {E : Type 0} {read : Result Bool E}
+    (took : TakesLines k limits told lines rest next mid between items read) (defaults : AreDefaults limits.name limits.value limits.fields limits.entry limits.file)
+  where
+    pub kept_on : {F : Type 0} {result : Result Status F} → (k.sound late → k.clean late) → GivesAnswers k between late items result was new → HasKept k first late
+    kept_on clean gives = kept_then k first mid late kept
+        (kept_by_group once k limits (uploads_of told lines took.come) mid late gives.given clean (group_from k limits told lines rest next mid between late items was new took gives).all)
+
+    pub given_on : {F : Type 0} (answered : Status) → GivesAnswers {F = F} k between late items (Ok answered) was new
+        → SoFar told lines text k took.rest first late (worse status answered) old new
+    given_on answered gives = so_far_on_to told lines text k first mid kept rest status old was so limits defaults late took.rest new took.come took.are gives.given
+        (group_from k limits told lines rest next mid between late items was new took gives) answered gives.printed
+
+    -- printing them failed
+    pub front_on : {F D : Type 0} (failure : F) (result : Result Status D) → GivesAnswers k between late items (Err failure) was new → IsErr result
+        → AnswersHold k (named text) (those_named told lines text) first late result old new
+    front_on failure result gives failed = so_far_front_on told lines text k first mid kept rest status old was so limits defaults late took.rest new took.come took.are gives.given
+        (group_from k limits told lines rest next mid between late items was new took gives) result gives.printed failed

@@ -6,6 +6,9 @@ pub mod LeftPrinted
 pub mod Kept
 pub mod Tying
 pub mod Machines
+pub mod Defaults
+pub mod Grouping
+pub mod GroupLines
 pub mod Collecting
 pub mod Naming
 pub mod Refusing

@@ -1,159 +1,118 @@
--- What holds of a refusal of an upload that nothing was taken up of, and of uploads of which nothing is told.
-use Rattle.std.proofs.Common.{◌≡◌, ◌∙◌, ◌||◌, ◌++◌, ℕ, zero, suc, Bool, true, false, List, [], ◌∷◌, Option, None, Result, length, take, refl, sym, ap, subst, inl, inr, ⊎_elim, arith}
-use Rattle.std.specs.Prelude.{if◌then◌else◌}
-use Rattle.std.specs.List.{All}
+-- Uploads of which nothing is taken up, and such of which nothing is told.
+use Rattle.std.proofs.Common.{◌≡◌, ◌∙◌, ◌||◌, ◌++◌, ℕ, zero, suc, Bool, true, false, List, [], ◌∷◌, Option, Some, None, Result, Ok, Err, take, refl, sym, subst, inl, inr, ⊎_elim, arith}
+use Rattle.std.specs.Prelude.{OnOk, if◌then◌else◌}
+use Rattle.std.specs.List.{All, list_any}
 use Rattle.std.specs.Io.KnownBytes.{Appends, Keeps}
 use Rattle.std.proofs.lemmas.List.{append-nil}
-use Rattle.jc_base.specs.Journal.{Journal}
+use Rattle.jc_base.specs.declared.fault.Code.TheVariants.{NotTheOwner, ReadFailed, StoreFailed}
+use Rattle.jc_base.specs.Fault.{number_of}
+use Rattle.jc_base.specs.declared.id.Id128.{Id128}
 use Rattle.jc_base.specs.declared.limits.Limits.{Limits}
 use Rattle.jc_collect.specs.Answer.{is_failure_code}
-use Rattle.jc_collect.specs.Each.{CollectsEach, CollectsOneMore, Held, HoldsCollected, KeepsCollected, NoneAcknowledged}
-use Rattle.jc_collect.specs.EachLaws.{collected_refused}
-use Rattle.jc_collect.specs.Run.{OnlyIfOwned}
-use Rattle.jc_collect.specs.RunLaws.{owned_one}
+use Rattle.jc_collect.specs.Position.{Collects}
+use Rattle.jc_collect.specs.Taken.{HasCollected}
+use Rattle.jc_collect.specs.Together.{TakesUp}
 use Rattle.jc_collect.specs.Wide.{IsRefusal}
 use Rattle.jc_collect.proofs.Each.{unknown_of}
 use Rattle.jc_collect.proofs.OneMore.{SaysOnce}
 use Rattle.jc_keeper.specs.declared.keeper.Keeper as keepers
+use Rattle.jc_keeper.specs.BroughtLaws.{brought_none}
 use Rattle.jc_upload.specs.Answer.{IsAnswer, answer_text}
 use Rattle.jc_upload.specs.declared.answer.Answer.{Answer}
 use Rattle.jc_upload.specs.declared.answer.Answer.TheVariants.{Ack, No}
 use Rattle.jc_command_shared.specs.OutputLaws.{Appends-kept}
 use Rattle.jc_command_shared.specs.declared.status.Status.{Status}
 use Rattle.jc_command_shared.specs.declared.status.Status.TheVariants.{Success, Refused, Failed}
-use Rattle.jc_collector_answers.specs.Answered.{judged, status_with}
-use Rattle.jc_collector_answers.specs.Collected.{HoldsFirstOf, just}
-use Rattle.jc_collector_answers.specs.Kept.{AnswersHold, HoldsPrinted, held_by}
-use Rattle.jc_collector_answers.specs.PrintedLaws.{many, many_other}
+use Rattle.jc_collector_answers.specs.Answered.{is_refusal, judged, status_with}
 use Rattle.jc_collector_answers.specs.Tied.{IsAlone, PrintsFront, PrintsWith}
 
--- ---- an upload was refused
+-- ---- an upload of which nothing is taken up
 
-refused_collects : (limits : Limits) (start : Journal) (answer : Answer) → IsRefusal answer
-    → CollectsEach limits (None ∷ []) start (answer ∷ []) start
-refused_collects limits start (Ack source from count new left) refused = absurd refused
-refused_collects limits start (No of code place) refused = (start, refl, refl)
-
-refused_none : (answer : Answer) → IsRefusal answer → NoneAcknowledged (answer ∷ [])
-refused_none (Ack source start count new left) refused = absurd refused
-refused_none (No of code place) refused = tt
-
-refused_holds : (answer : Answer) → IsRefusal answer → (now : Held) (answers : List Answer) → IsAlone answer answers
-    → HoldsFirstOf (just (None ∷ [])) now now answers
-refused_holds answer refused now answers alone = record {
-  known = None ∷ [];
-  others = [];
-  are = refl;
-  each = sym (ap (λ (l : List Answer). length l) alone);
-  holds = λ limits defaults.
-      collected_refused limits (None ∷ []) now answers
-      (subst (λ (l : List Answer). CollectsEach limits (None ∷ []) now.journal l now.journal) (sym alone) (refused_collects limits now.journal answer refused))
-      (subst NoneAcknowledged (sym alone) (refused_none answer refused));
-}
-
-refused_owned : (answer : Answer) → IsRefusal answer → (Owners : Type 0) (answers : List Answer) → IsAlone answer answers → OnlyIfOwned Owners answers
-refused_owned (Ack source start count new left) refused Owners answers alone = absurd refused
-refused_owned (No of code place) refused Owners answers alone =
-    subst (λ (l : List Answer). OnlyIfOwned Owners l) (sym alone) (owned_one Owners (No of code place) (λ other. absurd (refused other)))
-
--- of a refusal that was printed over a keeper as it was
-pub answers_refused : {K F : Type 0} (k : keepers.Ghosts K) (keeper : K) (answer : Answer) → IsRefusal answer → (result : Result Status F) (old new : Option (List ℕ))
-    → HoldsPrinted (many 1) (IsAlone answer) result old new → AnswersHold k (many 1) (just (None ∷ [])) keeper keeper result old new
-answers_refused k keeper answer refused result old new printed = record {
-  each = λ clean made.
-      many_other (IsAlone answer) (HoldsFirstOf (just (None ∷ [])) (held_by k keeper) (held_by k keeper)) (refused_holds answer refused (held_by k keeper)) 1 result old new printed;
-  owner = many_other (IsAlone answer) (OnlyIfOwned k.has_owners) (refused_owned answer refused k.has_owners) 1 result old new printed;
-}
-
--- ---- uploads of which nothing is told
-
-abbrev pub untold : List (Option (List ℕ)) → List (Option (List ℕ))
-untold [] = []
-untold (known ∷ others) = None ∷ untold others
-
-untold_both : (one other : List (Option (List ℕ))) → untold (one ++ other) ≡ untold one ++ untold other
-untold_both [] other = refl
-untold_both (known ∷ one) other = ap (λ (l : List (Option (List ℕ))). None ∷ l) (untold_both one other)
-
-untold_as_many : (known : List (Option (List ℕ))) → length (untold known) ≡ length known
-untold_as_many [] = refl
-untold_as_many (known ∷ others) = ap suc (untold_as_many others)
-
-module _ (once : SaysOnce) (limits : Limits) where
-  collects_untold : (known : List (Option (List ℕ))) (start last : Journal) (answers : List Answer) → CollectsEach limits known start answers last
-      → CollectsEach limits (untold known) start answers last
-  collects_untold [] start last [] same = same
-  collects_untold [] start last (answer ∷ answers) none = absurd none
-  collects_untold (known ∷ others) start last [] none = absurd none
-  collects_untold (known ∷ others) start last (answer ∷ answers) (after, position, more) =
-      (after, unknown_of once limits known start answer after position, collects_untold others after last answers more)
-
-  keeps_untold : (known : List (Option (List ℕ))) (start found : Journal) (answers : List Answer) → KeepsCollected limits known start answers found
-      → KeepsCollected limits (untold known) start answers found
-  keeps_untold known start found answers keeps = record {
-    ahead = untold keeps.ahead;
-    others = untold keeps.others;
-    are = ap untold keeps.are ∙ untold_both keeps.ahead keeps.others;
-    front = keeps.front;
-    behind = keeps.behind;
-    whole = keeps.whole;
-    last = keeps.last;
-    collected = collects_untold keeps.ahead start keeps.last keeps.front keeps.collected;
-    none = keeps.none;
-    is = ⊎_elim (λ same. inl same) (λ (t : CollectsOneMore limits keeps.others keeps.behind keeps.last found). inr (record {
-      upload = None;
-      others = untold t.others;
-      are = ap untold t.are;
-      of = t.of;
-      code = t.code;
-      place = t.place;
-      behind = t.behind;
-      whole = t.whole;
-      may = t.may;
-      source = t.source;
-      start = t.start;
-      count = t.count;
-      new = t.new;
-      left = t.left;
-      collects = unknown_of once limits t.upload keeps.last (Ack t.source t.start t.count t.new t.left) found t.collects;
-    })) keeps.is;
+module _ {K : Type 0} (k : keepers.Ghosts K) (limits : Limits) (keeper : K) where
+  not_taken : (known : Option (List ℕ)) (of : Option (Id128 × ℕ)) (code place : ℕ) → Collects limits known (k.journal keeper) (No of code place) (k.journal keeper)
+      → ¬ (code ≡ number_of NotTheOwner) → ¬ (code ≡ number_of StoreFailed) → HasCollected k limits known keeper keeper (No of code place)
+  not_taken known of code place collects owned stored = record {
+    position = λ is is_made late. collects;
+    was_sound = λ is. is;
+    was_clean = λ is. is;
+    acknowledged = λ once is acks. cc;
+    crash = λ is is_made found may. inl may;
+    recovers = λ is is_made leaves. leaves;
+    stays_made = λ is. is;
+    settled = λ was. inr was;
+    owner = λ other. absurd (owned other);
+    brought = brought_none k.brings keeper;
+    store = record { never_falls = omega arith; failed = λ other. absurd (stored other) };
   }
 
-  holds_untold : (known : List (Option (List ℕ))) (before now : Held) (answers : List Answer) → HoldsCollected limits known before now answers
-      → HoldsCollected limits (untold known) before now answers
-  holds_untold known before now answers h = record {
-    collected = λ sound. collects_untold known before.journal now.journal answers (h.collected sound);
-    found = λ left may.
-        ⊎_elim (λ was. inl was) (λ kept. inr (kept.0, keeps_untold known before.journal left answers kept.1)) (h.found left may);
+  -- nothing could be read of it
+  pub unread_taken : (known : Option (List ℕ)) (answers more : List Answer) → more ≡ answers ++ No None (number_of ReadFailed) 0 ∷ []
+      → TakesUp k limits known keeper keeper answers more
+  unread_taken known answers more is = record {
+    answer = No None (number_of ReadFailed) 0;
+    behind = is;
+    collected = not_taken known None (number_of ReadFailed) 0 (left known) (λ other. absurd (omega (arith, other))) (λ other. absurd (omega (arith, other)));
   }
+    where
+      left : (known : Option (List ℕ)) → Collects limits known (k.journal keeper) (No None 61 0) (k.journal keeper)
+      left None = refl
+      left (Some upload) = record { answers = record { failure = refl; at = refl }; leaves = refl }
 
-first_untold : SaysOnce → (uploads : List (Option (List ℕ))) (before now : Held) (answers : List Answer) → HoldsFirstOf (just uploads) before now answers
-    → HoldsFirstOf (just (untold uploads)) before now answers
-first_untold once uploads before now answers h = record {
-  known = untold h.known;
-  others = untold h.others;
-  are = sym (untold_both h.known h.others) ∙ ap untold h.are;
-  each = untold_as_many h.known ∙ h.each;
-  holds = λ limits defaults. holds_untold once limits h.known before now answers (h.holds limits defaults);
-}
+  -- it was refused
+  pub refused_taken : (answer : Answer) → IsRefusal answer → (answers more : List Answer) → more ≡ answers ++ answer ∷ [] → TakesUp k limits None keeper keeper answers more
+  refused_taken (Ack source from count new left) refused answers more is = absurd refused
+  refused_taken (No of code place) refused answers more is =
+      record { answer = No of code place; behind = is; collected = not_taken None of code place refl refused.0 refused.1 }
 
-untold_one : (known : List (Option (List ℕ))) → length known ≡ 1 → untold known ≡ None ∷ []
-untold_one [] one = absurd (omega (arith, one))
-untold_one (known ∷ []) one = refl
-untold_one (known ∷ other ∷ others) one = absurd (omega (arith, one))
+-- ---- an upload of which nothing is told
 
--- what was answered to one upload, if nothing is told of it
-pub answers_untold : {K F : Type 0} (once : SaysOnce) (k : keepers.Ghosts K) {old new : K} {count : ℕ} {known : List (Option (List ℕ))} {result : Result Status F}
-    {out now : Option (List ℕ)} → AnswersHold k (many count) (just known) old new result out now → count ≡ 1 → length known ≡ 1
-    → AnswersHold k (many 1) (just (None ∷ [])) old new result out now
-answers_untold once k {old = old} {new = new} {count = count} {known = known} {result = result} {out = out} {now = now} holds is one =
-    subst (λ (n : ℕ). AnswersHold k (many n) (just (None ∷ [])) old new result out now) is (record {
-      each = λ clean made.
-          many_other (HoldsFirstOf (just known) (held_by k old) (held_by k new)) (HoldsFirstOf (just (None ∷ [])) (held_by k old) (held_by k new))
-          (λ answers h. subst (λ (us : List (Option (List ℕ))). HoldsFirstOf (just us) (held_by k old) (held_by k new) answers) (untold_one known one)
-          (first_untold once known (held_by k old) (held_by k new) answers h)) count result out now (holds.each clean made);
-      owner = holds.owner;
-    })
+pub untold_taken : SaysOnce → {K : Type 0} (k : keepers.Ghosts K) (limits : Limits) (known : Option (List ℕ)) (old new : K) (answers more : List Answer)
+    → TakesUp k limits known old new answers more → TakesUp k limits None old new answers more
+untold_taken once k limits known old new answers more took =
+    let one = took.collected in
+    record {
+      answer = took.answer;
+      behind = took.behind;
+      collected = record {
+        position = λ is is_made late. unknown_of once limits known (k.journal old) took.answer (k.journal new) (one.position is is_made late);
+        was_sound = one.was_sound;
+        was_clean = one.was_clean;
+        acknowledged = one.acknowledged;
+        crash = λ is is_made found may. ⊎_elim
+            (λ was. inl was)
+            (λ added. inr (
+              added.0,
+              record {
+                answered = added.1.answered;
+                source = added.1.source;
+                start = added.1.start;
+                count = added.1.count;
+                new = added.1.new;
+                left = added.1.left;
+                collects = unknown_of once limits known (k.journal old) (Ack added.1.source added.1.start added.1.count added.1.new added.1.left) found added.1.collects;
+              },
+            ))
+            (one.crash is is_made found may);
+        recovers = one.recovers;
+        stays_made = one.stays_made;
+        settled = one.settled;
+        owner = one.owner;
+        brought = one.brought;
+        store = one.store;
+      };
+    }
+
+-- ---- answers of which none refuses
+
+pub none_refused : (answers more : List Answer) → list_any is_refusal (answers ++ more) ≡ false → list_any is_refusal answers ≡ false
+none_refused [] more none = refl
+none_refused (Ack source from count new left ∷ answers) more none = none_refused answers more none
+none_refused (No of code place ∷ answers) more none = cc
+
+-- what is so if a call did it
+pub done_so : {T F P Q : Type 0} (result : Result T F) → (P → Q) → OnOk result P → OnOk result Q
+done_so (Ok value) so did = so did
+done_so (Err failure) so did = tt
 
 -- ---- the line of one answer
 
@@ -184,14 +143,13 @@ printed_alone answer bytes line status old mid new out keeps same is lawful judg
   holds = refl;
 }
 
-pub front_alone : (answer : Answer) (bytes : ℕ) (text line : List ℕ) (old mid new : Option (List ℕ)) → Appends old mid (take bytes text)
-    → Keeps mid new → text ≡ line → line ≡ answer_text answer → PrintsFront (IsAlone answer) old new
-front_alone answer bytes text line old mid new out keeps same is = record {
+pub front_alone : (answer : Answer) (bytes : ℕ) (text line : List ℕ) (old new : Option (List ℕ)) → Appends old new (take bytes text)
+    → text ≡ line → line ≡ answer_text answer → PrintsFront (IsAlone answer) old new
+front_alone answer bytes text line old new out same is = record {
   answers = [];
   more = answer ∷ [];
-  one = omega arith;
+  few = omega arith;
   bytes = bytes;
-  printed = subst (λ (l : List ℕ). Appends old new (take bytes l)) (same ∙ is ∙ sym (append-nil (answer_text answer)))
-      (Appends-kept old mid new (take bytes text) out keeps);
+  printed = subst (λ (l : List ℕ). Appends old new (take bytes l)) (same ∙ is ∙ sym (append-nil (answer_text answer))) out;
   holds = refl;
 }

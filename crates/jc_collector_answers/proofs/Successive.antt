@@ -2,27 +2,26 @@
 use Rattle.std.proofs.Common.{◌≡◌, ◌≢◌, ◌∙◌, ◌+◌, ◌<◌, ◌||◌, ◌==◌, ℕ, zero, suc, Bool, true, false, List, [], ◌∷◌, ◌++◌, Option, Some, None, length, refl, sym, ap, ap₂, subst, take, zero-add, arith}
 use Rattle.std.specs.Prelude.{IfSome, ⊤, if◌then◌else◌}
 use Rattle.std.specs.Io.BufRead.{DropsThrough, drop_through, take_through}
-use Rattle.std.specs.Io.KnownBytes.{Appends, Keeps}
-use Rattle.std.specs.List.{All, list_any}
+use Rattle.std.specs.Io.KnownBytes.{Appends}
+use Rattle.std.specs.List.{list_any}
 use Rattle.std.proofs.KnownBytes.{Appends-trans}
 use Rattle.std.proofs.lemmas.Grind.{flat_map-append}
 use Rattle.std.proofs.lemmas.List.{append-nil, append_assoc, length-append}
 use Rattle.std.proofs.lemmas.List.Elements.{All-append}
 use Rattle.std.proofs.lemmas.List.Folds.{list_any-append}
-use Rattle.jc_base.specs.declared.fault.Code.TheVariants.{ReadFailed}
-use Rattle.jc_base.specs.Fault.{number_of}
 use Rattle.jc_collect.specs.Answer.{is_failure}
 use Rattle.jc_collect.specs.Run as run
 use Rattle.jc_command_shared.specs.Lines.{lines_of, with_byte}
-use Rattle.jc_command_shared.specs.OutputLaws.{Appends-kept}
 use Rattle.jc_command_shared.specs.declared.status.Status.{Status}
 use Rattle.jc_command_shared.specs.declared.status.Status.TheVariants.{Success, Refused, Misused, Failed, Unanswered}
 use Rattle.jc_collector_answers.specs.Answered.{PrintsAnswers, is_refusal, judged, worse}
 use Rattle.jc_collector_answers.specs.Named.{LosesLine, PrintsNamed}
-use Rattle.jc_collector_answers.specs.Tied.{AreUnread, NamedWith, PrintsFront, PrintsWith}
+use Rattle.jc_collector_answers.specs.Tied.{NamedWith, PrintsFront, PrintsWith}
+use Rattle.jc_collector_answers.specs.Collected.{names_in}
+use Rattle.jc_collector_answers.specs.CollectedLaws.{as_many}
+use Rattle.jc_collector_answers.specs.Grouped.{LinesCome}
 use Rattle.jc_upload.specs.Answer.{IsAnswer, answer_text}
 use Rattle.jc_upload.specs.declared.answer.Answer.{Answer}
-use Rattle.jc_upload.specs.declared.answer.Answer.TheVariants.{No}
 
 by_either : (failed failed' refused refused' : Bool)
     → (if (failed || failed') then Failed else (if (refused || refused') then Refused else Success))
@@ -37,13 +36,13 @@ by_either false false true false = refl
 by_either false false false true = refl
 by_either false false false false = refl
 
-judged_both : (xs ys : List Answer) → judged (xs ++ ys) ≡ worse (judged xs) (judged ys)
+pub judged_both : (xs ys : List Answer) → judged (xs ++ ys) ≡ worse (judged xs) (judged ys)
 judged_both xs ys =
     rw (list_any-append is_failure xs ys, list_any-append is_refusal xs ys)
     (by_either (list_any is_failure xs) (list_any is_failure ys) (list_any is_refusal xs) (list_any is_refusal ys))
 
 -- the lines of some answers, and then those of others
-pub prints_both : (count count' : ℕ) (status status' : Status) (old mid new : Option (List ℕ)) → PrintsAnswers count status old mid
+unfoldable pub prints_both : (count count' : ℕ) (status status' : Status) (old mid new : Option (List ℕ)) → PrintsAnswers count status old mid
     → PrintsAnswers count' status' mid new → PrintsAnswers (count + count') (worse status status') old new
 prints_both count count' status status' old mid new one other = record {
   answers = one.answers ++ other.answers;
@@ -52,23 +51,6 @@ prints_both count count' status status' old mid new one other = record {
   is = ap₂ worse one.is other.is ∙ sym (judged_both one.answers other.answers);
   printed = subst (λ (l : List ℕ). Appends old new l) (sym (flat_map-append answer_text one.answers other.answers))
       (Appends-trans old mid new (run.lines_of_answers one.answers) (run.lines_of_answers other.answers) one.printed other.printed);
-}
-
-one_lawful : (answer : Answer) → IsAnswer answer → All IsAnswer (answer ∷ [])
-one_lawful answer is zero d below = is
-one_lawful answer is (suc k) d below = absurd (omega (arith, below))
-
--- the line of an upload of which nothing could be read
-pub unread_printed : (code : ℕ) (bytes line : List ℕ) (old mid new : Option (List ℕ)) → Appends old mid bytes → Keeps mid new
-    → bytes ≡ line → line ≡ answer_text (No None code 0) → IsAnswer (No None code 0) → code ≡ number_of ReadFailed
-    → PrintsAnswers 1 Failed old new
-unread_printed code bytes line old mid new out keeps same is lawful failed = record {
-  answers = No None code 0 ∷ [];
-  each = refl;
-  lawful = one_lawful (No None code 0) lawful;
-  is = subst (λ (n : ℕ). Failed ≡ judged (No None n 0 ∷ [])) (sym failed) refl;
-  printed = subst (λ (l : List ℕ). Appends old new l) (same ∙ is ∙ sym (append-nil (answer_text (No None code 0))))
-      (Appends-kept old mid new bytes out keeps);
 }
 
 -- ---- the lines of a text
@@ -123,24 +105,39 @@ HasCome count (Some text) (Some rest) = length (lines_of text) ≡ count + lengt
 abbrev pub IsUnderWay : (text rest : Option (List ℕ)) → Status → (old now : Option (List ℕ)) → Type 0
 IsUnderWay text rest status old now = (count : ℕ) × PrintsAnswers count status old now × HasCome count text rest
 
-nothing_more : (known : Option (List ℕ)) → Appends known known []
+pub nothing_more : (known : Option (List ℕ)) → Appends known known []
 nothing_more None = tt
 nothing_more (Some bytes) = sym (append-nil bytes)
 
-pub begins : (text old : Option (List ℕ)) → IsUnderWay text text Success old old
+unfoldable pub begins : (text old : Option (List ℕ)) → IsUnderWay text text Success old old
 begins text old = (0, record { answers = []; each = refl; lawful = λ k d below. absurd (omega (arith, below)); is = refl; printed = nothing_more old }, all text)
   where
     all : (text : Option (List ℕ)) → HasCome 0 text text
     all None = tt
     all (Some bytes) = sym (zero-add (length (lines_of bytes)))
 
-pub goes_on_to : (text rest next : Option (List ℕ)) (status more : Status) (old mid now : Option (List ℕ))
-    → IsUnderWay text rest status old mid → LosesLine rest next → PrintsAnswers 1 more mid now
+-- a text, if it is known, has lost so many lines
+abbrev pub LosesLines : (count : ℕ) → (old new : Option (List ℕ)) → Type 0
+LosesLines count None new = ⊤
+LosesLines count (Some text) None = ⊥
+LosesLines count (Some text) (Some rest) = length (lines_of text) ≡ count + length (lines_of rest)
+
+pub lost_lines : (rest next : Option (List ℕ)) (come : List (List ℕ)) (count : ℕ) → count ≡ length come → LinesCome rest next come → LosesLines count rest next
+lost_lines None next come count many lost = tt
+lost_lines (Some left) None come count many lost = absurd lost
+lost_lines (Some left) (Some less) come count many lost =
+    let here = as_many left in
+    let there = as_many less in
+    let both : length (names_in left) ≡ length come + length (names_in less) = ap (λ (ns : List (List ℕ)). length ns) lost ∙ length-append come (names_in less) in
+    omega (arith, here, there, both, many)
+
+pub goes_on_to : (size : ℕ) (text rest next : Option (List ℕ)) (status more : Status) (old mid now : Option (List ℕ))
+    → IsUnderWay text rest status old mid → LosesLines size rest next → PrintsAnswers size more mid now
     → IsUnderWay text next (worse status more) old now
-goes_on_to text rest next status more old mid now (count, printed, came) loses answered =
-    (count + 1, prints_both count 1 status more old mid now printed answered, further text rest next came loses)
+goes_on_to size text rest next status more old mid now (count, printed, came) loses answered =
+    (count + size, prints_both count size status more old mid now printed answered, further text rest next came loses)
   where
-    further : (text rest next : Option (List ℕ)) → HasCome count text rest → LosesLine rest next → HasCome (count + 1) text next
+    further : (text rest next : Option (List ℕ)) → HasCome count text rest → LosesLines size rest next → HasCome (count + size) text next
     further None rest next came loses = tt
     further (Some bytes) None next came loses = absurd came
     further (Some bytes) (Some left) None came loses = absurd loses
@@ -160,13 +157,6 @@ ends_named text rest status old now (count, printed, came) none = record { count
 
 -- ---- what holds of them
 
-pub unread_with : (code : ℕ) (bytes line : List ℕ) (old mid new : Option (List ℕ)) → Appends old mid bytes → Keeps mid new
-    → bytes ≡ line → line ≡ answer_text (No None code 0) → IsAnswer (No None code 0) → code ≡ number_of ReadFailed
-    → PrintsWith AreUnread 1 Failed old new
-unfolding unread_printed
-unread_with code bytes line old mid new out keeps same is lawful failed =
-    record { shown = unread_printed code bytes line old mid new out keeps same is lawful failed; holds = ap (λ (n : ℕ). No None n 0 ∷ []) failed }
-
 -- Each name so far was answered, and this holds of the answers.
 abbrev pub HoldsSoFar : (Holds : List Answer → Type 0) → (text rest : Option (List ℕ)) → Status → (old new : Option (List ℕ)) → Type 0
 HoldsSoFar Holds text rest status old new = (way : IsUnderWay text rest status old new) × Holds way.1.answers
@@ -177,12 +167,12 @@ holds_first Holds none text old = (begins text old, none)
 
 -- what holds of some answers, and of others behind them
 module _ (First Then Both : List Answer → Type 0) (joins : (one others : List Answer) → First one → Then others → Both (one ++ others)) where
-  pub holds_on_to : (text rest next : Option (List ℕ)) (status more : Status) (old was new : Option (List ℕ))
-      → HoldsSoFar First text rest status old was → LosesLine rest next → PrintsWith Then 1 more was new
+  pub holds_on_to : (size : ℕ) (text rest next : Option (List ℕ)) (status more : Status) (old was new : Option (List ℕ))
+      → HoldsSoFar First text rest status old was → LosesLines size rest next → PrintsWith Then size more was new
       → HoldsSoFar Both text next (worse status more) old new
   unfolding goes_on_to prints_both
-  holds_on_to text rest next status more old was new ((count, printed, came), holds) loses answered = (
-    goes_on_to text rest next status more old was new (count, printed, came) loses answered.shown,
+  holds_on_to size text rest next status more old was new ((count, printed, came), holds) loses answered = (
+    goes_on_to size text rest next status more old was new (count, printed, came) loses answered.shown,
     joins printed.answers answered.shown.answers holds answered.holds,
   )
 
@@ -198,7 +188,7 @@ module _ (First Then Both : List Answer → Type 0) (joins : (one others : List 
       record {
         answers = printed.answers ++ front.answers;
         more = front.more;
-        one = front.one;
+        few = front.few;
         bytes = front.bytes;
         printed = subst (λ (l : List ℕ). Appends old new l) (sym (append_assoc lines others part) ∙ ap (λ (l : List ℕ). l ++ part) (sym both))
             (Appends-trans old was new lines (others ++ part) printed.printed front.printed);
@@ -219,7 +209,7 @@ module _ (Holds : List Answer → Type 0) where
   holds_front text rest status old new ((count, printed, came), holds) = record {
     answers = printed.answers;
     more = [];
-    one = omega arith;
+    few = omega arith;
     bytes = 0;
     printed = subst (λ (l : List ℕ). Appends old new l) (sym (append-nil (run.lines_of_answers printed.answers))) printed.printed;
     holds = subst Holds (sym (append-nil printed.answers)) holds;

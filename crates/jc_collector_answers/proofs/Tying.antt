@@ -2,24 +2,17 @@
 use Rattle.std.proofs.Common.{◌≡◌, ◌∙◌, ℕ, List, [], ◌∷◌, ◌++◌, Option, Some, None, take, sym, ap, subst, arith}
 use Rattle.std.specs.Prelude.{IfSome}
 use Rattle.std.specs.List.{All}
-use Rattle.std.specs.Io.KnownBytes.{Appends, Keeps}
+use Rattle.std.specs.Io.KnownBytes.{Appends}
 use Rattle.std.proofs.lemmas.List.{append-nil}
-use Rattle.jc_base.specs.declared.fault.Code.TheVariants.{ReadFailed}
-use Rattle.jc_base.specs.Fault.{number_of}
 use Rattle.jc_collect.specs.declared.runs.RunEnd.{RunEnd}
 use Rattle.jc_collect.specs.declared.runs.RunEnd.TheVariants.{Done, Stopped}
-use Rattle.jc_collect.specs.Each.{NoneAcknowledged}
 use Rattle.jc_collect.specs.Run as run
-use Rattle.jc_collect.specs.Run.{OnlyIfOwned}
-use Rattle.jc_collect.specs.RunLaws.{owned_one}
 use Rattle.jc_collect.proofs.Lists.{some_same}
 use Rattle.jc_upload.specs.Answer.{IsAnswer, answer_text}
 use Rattle.jc_upload.specs.declared.answer.Answer.{Answer}
-use Rattle.jc_upload.specs.declared.answer.Answer.TheVariants.{No}
-use Rattle.jc_command_shared.specs.OutputLaws.{Appends-kept}
 use Rattle.jc_command_shared.specs.declared.status.Status.{Status}
 use Rattle.jc_collector_answers.specs.Answered.{begun, judged}
-use Rattle.jc_collector_answers.specs.Tied.{AreUnread, PrintsWith, PrintsFront}
+use Rattle.jc_collector_answers.specs.Tied.{PrintsWith, PrintsFront}
 use Rattle.jc_collector_answers.proofs.Printing.{begun_more, shows}
 
 -- ---- a run through a sink, as the writer behind the sink shows it
@@ -66,7 +59,7 @@ module _ (Holds : List Answer → Type 0) where
       record {
         answers = wrote.answers;
         more = [];
-        one = omega arith;
+        few = omega arith;
         bytes = 0;
         printed = subst (λ (l : List ℕ). Appends old final l) (sym (append-nil lines))
             (shows old final there written sunk lines begins wrote.lines ends same);
@@ -78,32 +71,9 @@ module _ (Holds : List Answer → Type 0) where
       record {
         answers = wrote.answers;
         more = wrote.last ∷ [];
-        one = omega arith;
+        few = omega arith;
         bytes = bytes;
         printed = subst (λ (l : List ℕ). Appends old final (lines ++ take bytes l)) (sym (append-nil last))
             (shows old final there written sunk (lines ++ take bytes last) begins wrote.lines ends same);
         holds = holds;
       }
-
--- ---- an upload of which nothing could be read
-
-pub unread_refused : (answers : List Answer) → AreUnread answers → NoneAcknowledged answers
-unread_refused answers unread = subst (λ (l : List Answer). NoneAcknowledged l) (sym unread) tt
-
-pub unread_owned : (Owners : Type 0) (answers : List Answer) → AreUnread answers → OnlyIfOwned Owners answers
-unread_owned Owners answers unread =
-    subst (λ (l : List Answer). OnlyIfOwned Owners l) (sym unread)
-    (owned_one Owners (No None (number_of ReadFailed) 0) (λ other. absurd (omega (arith, other))))
-
--- a front of the line of such an answer
-pub front_of_one : (answer : Answer) → AreUnread (answer ∷ []) → (bytes : ℕ) (text line : List ℕ) (old mid new : Option (List ℕ)) → Appends old mid (take bytes text)
-    → Keeps mid new → text ≡ line → line ≡ answer_text answer → PrintsFront AreUnread old new
-front_of_one answer unread bytes text line old mid new out keeps same is = record {
-  answers = [];
-  more = answer ∷ [];
-  one = omega arith;
-  bytes = bytes;
-  printed = subst (λ (l : List ℕ). Appends old new (take bytes l)) (same ∙ is ∙ sym (append-nil (answer_text answer)))
-      (Appends-kept old mid new (take bytes text) out keeps);
-  holds = unread;
-}

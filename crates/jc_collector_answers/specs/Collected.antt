@@ -74,8 +74,8 @@ pub record StoresFirstOf (AreUploads : List (Option (List ℕ)) → Type 0) (sta
   pub each : length known ≡ length answers
   pub collected : ByDefault (λ limits. CollectsEach limits known start answers last)
 
--- A journal that was found after a crash is what these answers made of the first one, or it has all of one more of these
--- uploads, which was answered 62 or 63.
+-- A journal that was found after a crash is what the first of these answers made of the first one, or it has some more of these
+-- uploads, whole ones and in order. None of those is acknowledged.
 pub record KeepsFirstOf (AreUploads : List (Option (List ℕ)) → Type 0) (start : Journal) (answers : List Answer) (found : Journal) : Type 0 where
   pub known : List (Option (List ℕ))
   pub others : List (Option (List ℕ))

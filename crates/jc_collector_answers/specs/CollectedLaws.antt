@@ -1,12 +1,11 @@
 -- What the answers to the uploads that a text names are, if all of them were printed. (own)
-use Rattle.std.proofs.Common.{◌≡◌, ◌∙◌, ◌==◌, ℕ, suc, Bool, true, false, List, [], ◌∷◌, ◌++◌, Option, Some, None, length, refl, sym, ap, subst, inl, ⊎_elim, arith}
-use Rattle.std.proofs.lemmas.List.{append-nil, length-append, length-map}
+use Rattle.std.proofs.Common.{◌≡◌, ◌==◌, ℕ, suc, Bool, true, false, List, [], ◌∷◌, ◌++◌, Option, Some, None, length, refl, ap, subst, ⊎_elim, arith}
+use Rattle.std.proofs.lemmas.List.{append-nil, length-append}
 use Rattle.jc_base.specs.Journal.{Journal}
-use Rattle.jc_collect.specs.Each.{CollectsEach, Held, KeepsCollected}
+use Rattle.jc_collect.specs.Each.{Held, KeepsCollected}
+use Rattle.jc_collect.specs.EachLaws.{gathers_none}
 use Rattle.jc_command_shared.specs.Lines.{lines_of, with_byte}
-use Rattle.jc_command_shared.specs.declared.status.Status.{Status}
-use Rattle.jc_collector_answers.specs.Collected.{ByDefault, HoldsFirstOf, KeepsFirstOf, StoresFirstOf, names_in, those_named, uploads_named}
-use Rattle.jc_collector_answers.specs.Tied.{NamedWith}
+use Rattle.jc_collector_answers.specs.Collected.{HoldsFirstOf, KeepsFirstOf, StoresFirstOf, names_in, those_named, uploads_named}
 use Rattle.jc_collector_answers.specs.declared.name_lines.NameLines.{NameLines}
 use Rattle.jc_upload.specs.declared.answer.Answer.{Answer}
 
@@ -17,7 +16,7 @@ with_one b (x ∷ xs) [] e = absurd (omega (arith, e))
 with_one b (x ∷ xs) (y ∷ ys) e = e
 
 -- one name in each line
-as_many : (text : List ℕ) → length (names_in text) ≡ length (lines_of text)
+pub as_many : (text : List ℕ) → length (names_in text) ≡ length (lines_of text)
 unfolding names_in lines_of
 as_many [] = refl
 as_many (b ∷ text) = go (b == 10) refl (as_many text)
@@ -62,7 +61,7 @@ module _ (AreUploads : List (Option (List ℕ)) → Type 0) (before now : Held) 
           last = start;
           collected = refl;
           none = was.1;
-          is = inl (left was.0);
+          more = gathers_none limits h.known start answers found (left was.0);
         })
         (λ kept. subst (λ (j : Journal). KeepsCollected limits h.known j answers found) same kept.1)
         ((h.holds limits defaults).found found may);
@@ -86,7 +85,7 @@ keeps_nothing AreUploads uploads are start found same = record {
     last = start;
     collected = refl;
     none = tt;
-    is = inl same;
+    more = gathers_none limits [] start [] found same;
   };
 }
 
@@ -99,15 +98,3 @@ stores_nothing AreUploads uploads are start last same =
 pub some_named : (told : List ℕ → Option (List ℕ)) (lines : NameLines) (text : Option (List ℕ)) → (uploads : List (Option (List ℕ))) × those_named told lines text uploads
 some_named told lines None = ([], tt)
 some_named told lines (Some text) = (uploads_named told lines text, refl)
-
--- Each upload that a text names was collected, in the order of the lines, and this is its line's answer.
-pub all_named : (told : List ℕ → Option (List ℕ)) (lines : NameLines) (text : List ℕ) (before after : Journal) (status : Status) (old new : Option (List ℕ))
-    → (named : NamedWith (λ answers. StoresFirstOf (those_named told lines (Some text)) before answers after) (Some text) status old new)
-    → ByDefault (λ limits. CollectsEach limits (uploads_named told lines text) before named.shown.printed.answers after)
-all_named told lines text before after status old new named =
-    let h = named.holds in
-    let count : length h.known ≡ length (names_in text) =
-    h.each ∙ named.shown.printed.each ∙ named.shown.each ∙ sym (as_many text) in
-    let all : length (h.known ++ h.others) ≡ length (names_in text) = ap (λ (l : List (Option (List ℕ))). length l) h.are ∙ length-map (names_in text) _ in
-    subst (λ (ks : List (Option (List ℕ))). ByDefault (λ limits. CollectsEach limits ks before named.shown.printed.answers after))
-    (sym (none_left h.known h.others (length (names_in text)) all count) ∙ h.are) h.collected

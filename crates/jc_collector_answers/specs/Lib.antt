@@ -7,3 +7,4 @@ pub mod Named
 pub mod Opened
 pub mod PrintedLaws
 pub mod Tied
+pub mod Grouped

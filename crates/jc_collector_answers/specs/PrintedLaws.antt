@@ -15,7 +15,7 @@ named text Holds = NamedWith Holds text
 
 -- nothing was printed
 pub front_none : (Holds : List Answer → Type 0) (known : Option (List ℕ)) → Holds [] → PrintsFront Holds known known
-front_none Holds known none = record { answers = []; more = []; one = omega arith; bytes = 0; printed = Appends-nil known; holds = none }
+front_none Holds known none = record { answers = []; more = []; few = omega arith; bytes = 0; printed = Appends-nil known; holds = none }
 
 -- what holds of answers holds of others too
 module _ (First Other : List Answer → Type 0) (each : (answers : List Answer) → First answers → Other answers) where
@@ -29,7 +29,7 @@ module _ (First Other : List Answer → Type 0) (each : (answers : List Answer) 
   front_other old new prints = record {
     answers = prints.answers;
     more = prints.more;
-    one = prints.one;
+    few = prints.few;
     bytes = prints.bytes;
     printed = prints.printed;
     holds = each (prints.answers ++ prints.more) prints.holds;

@@ -1,11 +1,8 @@
 -- What holds of the answers that were printed. (own)
-use Rattle.std.specs.Prelude.{ℕ, ◌≡◌, ◌≤◌, List, [], ◌∷◌, ◌++◌, Option, None, length, take}
+use Rattle.std.specs.Prelude.{ℕ, ◌≡◌, ◌≤◌, List, [], ◌∷◌, ◌++◌, Option, length, take}
 use Rattle.std.specs.Io.KnownBytes.{Appends}
-use Rattle.jc_base.specs.declared.fault.Code.TheVariants.{ReadFailed}
-use Rattle.jc_base.specs.Fault.{number_of}
 use Rattle.jc_collect.specs.Run.{lines_of_answers}
 use Rattle.jc_upload.specs.declared.answer.Answer.{Answer}
-use Rattle.jc_upload.specs.declared.answer.Answer.TheVariants.{No}
 use Rattle.jc_command_shared.specs.declared.status.Status.{Status}
 use Rattle.jc_collector_answers.specs.Answered.{PrintsAnswers}
 use Rattle.jc_collector_answers.specs.Named.{PrintsNamed}
@@ -15,11 +12,16 @@ pub record PrintsWith (Holds : List Answer → Type 0) (count : ℕ) (status : S
   pub shown : PrintsAnswers count status old new
   pub holds : Holds shown.answers
 
--- The lines of some answers were printed whole, and a front of the line of one more at most, and this holds of all of them.
+-- how many answers are printed together, at most
+abbrev pub most_together : ℕ
+most_together = 64
+
+-- The lines of some answers were printed whole, and a front of the lines of some more, of one group at most, and this holds of
+-- all of them.
 pub record PrintsFront (Holds : List Answer → Type 0) (old new : Option (List ℕ)) : Type 0 where
   pub answers : List Answer
   pub more : List Answer
-  pub one : length more ≤ 1
+  pub few : length more ≤ most_together
   pub bytes : ℕ
   pub printed : Appends old new (lines_of_answers answers ++ take bytes (lines_of_answers more))
   pub holds : Holds (answers ++ more)
@@ -32,7 +34,3 @@ pub record NamedWith (Holds : List Answer → Type 0) (text : Option (List ℕ))
 -- There is this answer alone.
 abbrev pub IsAlone : Answer → List Answer → Type 0
 IsAlone answer answers = answers ≡ answer ∷ []
-
--- There is one answer, and it says that reading failed before there was a header.
-abbrev pub AreUnread : List Answer → Type 0
-AreUnread answers = IsAlone (No None (number_of ReadFailed) 0) answers
