@@ -67,8 +67,8 @@ pub(crate) const COLLECT_MORE: &str =
   no - - CODE PLACE                the same, if the header of the upload can't be read
 `journal-collect help codes` lists the codes.
 
-With --files-from, each upload is opened when its turn comes, and answered before the next name is read. One that can't
-be opened is answered `no - - 61 0`, and the next one is taken.
+With --files-from, each upload is opened when its turn comes. Those whose names wait, 64 at most, are stored together, and
+then answered. One that can't be opened is answered `no - - 61 0`, and the next one is taken.
 
 With --sequences, which needs --files-from, each upload is answered as if DB and all databases whose entries are noted
 in FOLDER were one: NEW counts the entries that none of them has, and one that is noted isn't stored again. FOLDER is

@@ -1,17 +1,26 @@
 //! Where commands tell what they found, and why they fail.
 
-ghost use Rattle.std.specs.Prelude.{◌++◌, ◌∷◌, [], OnOk};
+ghost use Rattle.std.specs.Prelude.{◌≡◌, ◌++◌, ◌∷◌, [], OnOk};
 ghost use Rattle.std.specs.Io.KnownBytes.{Appends, Keeps};
+ghost use Rattle.jc_keeper.specs.declared.form.Shape.{Shape};
 ghost use Rattle.jc_command_shared.specs.Failure.{line_of};
 ghost use Rattle.jc_command_shared.specs.Found.{found_text};
 
 use crate::{Failure, Found};
+use jc_keeper::Shape;
 use jc_upload::Answer;
 use std::io;
 use std::io::Write;
 
 /// What takes what a command prints. Where it takes text, what was found is a line.
 pub trait Output: Write {
+    /// The shape in which it takes entries.
+    ghost entry_shape: { Self → Shape };
+
+    /// The shape in which entries are to be written to it.
+    fn shape(&self) -> Shape
+        ensures { result ≡ entry_shape self.now };
+
     /// Tells what was found.
     fn found(&mut self, found: &Found) -> io::Result<()>
         ensures { OnOk result (Appends (Self.contents self.old) (Self.contents self.new) (found_text found.now ++ 10 ∷ [])) };
@@ -33,6 +42,12 @@ pub trait Errors: Write {
 }
 
 impl<O: Output> Output for &mut O {
+    ghost entry_shape = { λ output. O.entry_shape output.now };
+
+    fn shape(&self) -> Shape {
+        (**self).shape()
+    }
+
     fn found(&mut self, found: &Found) -> io::Result<()> {
         (**self).found(found)
     }

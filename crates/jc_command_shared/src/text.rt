@@ -1,6 +1,9 @@
 //! Output that is text.
 
+ghost use Rattle.jc_keeper.specs.declared.form.Shape.TheVariants.{Line};
+
 use crate::{Errors, Failure, Found, Output};
+use jc_keeper::Shape;
 use jc_upload::Answer;
 use std::io;
 use std::io::Write;
@@ -24,6 +27,12 @@ impl<W: Write + Drop> Write for Text<W> {
 }
 
 impl<W: Write + Drop> Output for Text<W> {
+    ghost entry_shape = { λ _. Line };
+
+    fn shape(&self) -> Shape {
+        Shape::Line
+    }
+
     fn found(&mut self, found: &Found) -> io::Result<()> {
         writeln!(self.inner, "{found}")
     }

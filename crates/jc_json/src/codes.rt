@@ -1,6 +1,8 @@
 //! The objects of the table of codes.
 
-ghost use Rattle.std.specs.Prelude.{IfOk, IfSome, string_bytes};
+ghost use Rattle.std.specs.Prelude.{IfOk, MatchOption, string_bytes};
+ghost use Rattle.jc_codes.specs.Rows.{IsRow};
+ghost use Rattle.jc_codes.specs.declared.table.Coded.{Coded};
 ghost use Rattle.jc_json.specs.Codes.{IsCode};
 
 use crate::quoted::quoted;
@@ -8,16 +10,11 @@ use jc_codes::row_about;
 use jc_command_args::CODES;
 use std::alloc::{AllocError, Global};
 
-/// The object of the code that a line of the table begins with; none if it begins with none.
-pub(crate) fn object_of_code(alloc: Global, line: &str) -> Result<Option<String>, AllocError>
-    ensures { IfOk result (λ found. IfSome found (λ object. IsCode CODES.now (string_bytes object))) }
+/// The object of a code; none if the table lacks it.
+pub(crate) fn object_of_code(alloc: Global, code: u64) -> Result<Option<String>, AllocError>
+    ensures { IfOk result (λ found. MatchOption found ((row : Coded) → ¬ IsRow code CODES.now row)
+        (λ object. IsCode CODES.now code (string_bytes object))) }
 {
-    let Some((digits, _)) = line.split_once(' ') else {
-        return Ok(None);
-    };
-    let Ok(code) = digits.parse::<u64>() else {
-        return Ok(None);
-    };
     let Some(row) = row_about(alloc, code)? else {
         return Ok(None);
     };

@@ -3,8 +3,6 @@
 
 mod codes;
 mod commands;
-mod digits;
-mod entries;
 mod found;
 mod objects;
 mod quoted;
