@@ -6,10 +6,8 @@ use Rattle.std.proofs.lemmas.Bool.{ltb-false, ltb-true, ne_eqb}
 use Rattle.jc_base.specs.declared.id.Id128.{Id128}
 use Rattle.jc_base.specs.declared.id.Key.{Key}
 use Rattle.jc_base.specs.Journal.{Journal}
-use Rattle.jc_base.specs.LogEntry.{IsKey, LogEntry}
+use Rattle.jc_base.specs.LogEntry.{IsKey}
 use Rattle.jc_ledger.specs.Kept.{IsKnownBy}
-use Rattle.jc_ledger.specs.Known.{Known}
-use Rattle.jc_ledger.specs.Lagging.{MayCatchUp}
 use Rattle.jc_ledger_files.specs.declared.window_name.WindowName.{WindowName}
 use Rattle.jc_ledger_files.specs.declared.window_note.WindowNote.{WindowNote}
 use Rattle.jc_ledger_files.specs.Noted.{noted}
@@ -38,15 +36,6 @@ owners_are_no_harm notes owners journal known k key =
 pub owners_are_told : (notes : WindowName → List WindowNote) (owners : Id128 → List WindowNote) (s : Id128)
     → owner_in (with_owners notes owners) s ≡ owner_of (owners s)
 owners_are_told notes owners s = refl
-
--- What is known alike of entries' keys lags alike.
-pub lags_alike : {known found : Known} {past now : Journal} {came : LogEntry → Type 0} → MayCatchUp known past now came
-    → ((k : Key) → IsKey k → found k ≡ known k) → MayCatchUp found past now came
-lags_alike lag same = record {
-  noted = lag.noted;
-  kept = record { noted = λ k key. same k key ∙ lag.kept.noted k key; apart = lag.kept.apart; have_come = lag.kept.have_come };
-  lags = lag.lags;
-}
 
 -- these files of entries' windows, and what else was seen of the others
 abbrev pub files_of : (files seen : WindowName → List ℕ) → WindowName → List ℕ

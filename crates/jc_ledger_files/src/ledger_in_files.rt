@@ -25,10 +25,12 @@ pub trait LedgerInFiles: Ledger {
     /// What the file of a window may have after a crash at this moment, or if the process ends.
     ghost files_leave: { Self → WindowName → List ℕ → Type 0 };
 
-    /// Some files are left. Whatever is left of them tells of entries what a crash may leave of the ledger, and whom sequences
-    /// belong to. Does nothing.
+    /// Some files are left, as they read now: they tell what the ledger knows. Whatever is left of them tells of entries what a
+    /// crash may leave of the ledger, and whom sequences belong to. Does nothing.
     fn show_files(&self)
-        ensures some { (files : WindowName → List ℕ) × ((w : WindowName) → files_leave self.now w (files w)) }
+        ensures some { (files : WindowName → List ℕ) × (((w : WindowName) → files_leave self.now w (files w))
+            × (((k : Key) → IsKey k → known_in (λ w. notes_of (files w)) k ≡ Self.Ledger.known self.now k)
+            × ((s : Id128) → owner_found files s ≡ Self.Ledger.owner self.now s))) }
         ensures known { (files : WindowName → List ℕ) → ((w : WindowName) → files_leave self.now w (files w))
             → (left : Known) × (Self.Ledger.may_leave self.now left × ((k : Key) → IsKey k → known_in (λ w. notes_of (files w)) k ≡ left k)) }
         ensures owners { (files : WindowName → List ℕ) → ((w : WindowName) → files_leave self.now w (files w))

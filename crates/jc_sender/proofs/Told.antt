@@ -16,14 +16,6 @@ pub of_stream : (known : Option (List ℕ)) (Says : List ℕ → Type 0) → (by
 of_stream None Says some each = some
 of_stream (Some bytes) Says some each = each bytes refl
 
--- what was read of a journal file
-pub of_front : {T E : Type 0} (r : Result T E) (Says : T → List ℕ → Type 0) (held : Option (List ℕ)) (front : List ℕ)
-    → IfSome held (λ bytes. front ≡ take (most_file_bytes + 1) bytes) → IfOk r (λ x. Says x front)
-    → IfOk r (λ x. OfBytes (option_map (λ bytes. take (most_file_bytes + 1) bytes) held) (Says x))
-of_front (Ok x) Says None front is said = (front, said)
-of_front (Ok x) Says (Some bytes) front is said = subst (Says x) is said
-of_front (Err e) Says held front is said = tt
-
 -- ... and why nothing was
 pub front_fails : {T : Type 0} (r : Result T Failure) (Says : Failure → Type 0) (held : Option (List ℕ)) (front : List ℕ)
     → IfSome held (λ bytes. front ≡ take (most_file_bytes + 1) bytes)

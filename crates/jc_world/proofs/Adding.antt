@@ -1,11 +1,11 @@
 -- Answers that are added, and the causes of failures among them.
-use Rattle.std.proofs.Common.{◌≡◌, ◌∙◌, ◌<◌, ◌≤◌, ◌⊎◌, ℕ, Bool, List, [], ◌∷◌, ◌++◌, Result, Ok, Err, OnErr, sym, ap, append-nil, append_assoc, ⊎_elim, arith}
+use Rattle.std.proofs.Common.{◌≡◌, ◌∙◌, ◌<◌, ◌≤◌, ◌⊎◌, ℕ, Bool, List, ◌++◌, Result, Ok, Err, OnErr, ap, append_assoc, ⊎_elim, arith}
 use Rattle.std.proofs.lemmas.Bool.{cases_lt}
-use Rattle.std.proofs.lemmas.List.Elements.{All-append, All-nil, All-cons, All-weaker}
+use Rattle.std.proofs.lemmas.List.Elements.{All-append, All-weaker}
 use Rattle.jc_base.specs.Device.{Rose, most_failures}
 use Rattle.jc_base.specs.declared.fault.Code.TheVariants.{ReadFailed, StoreFailed}
 use Rattle.jc_upload.specs.declared.answer.Answer.{Answer}
-use Rattle.jc_collect.specs.Position.{HasCause, HasCode}
+use Rattle.jc_collect.specs.Position.{HasCode}
 use Rattle.jc_world.specs.State.{State}
 use Rattle.jc_world.specs.Stepped.{AddsAnswers, Steps}
 
@@ -27,25 +27,6 @@ rose_earlier a b c less h = record { never_falls = omega (arith, h.never_falls, 
         from below = omega (arith, less, below)
 
 -- ---- answers
-
-pub adds_none : (given now : List Answer) (before after : ℕ) → now ≡ given → after ≡ before → AddsAnswers given now before after
-adds_none given now before after same still = record {
-  added = [];
-  last = same ∙ sym (append-nil given);
-  never_falls = omega (arith, still);
-  read = All-nil _;
-  store = All-nil _;
-}
-
-pub adds_one : (given now : List Answer) (before after : ℕ) (answer : Answer) → now ≡ given ++ answer ∷ [] → ¬ HasCode answer ReadFailed
-    → HasCause StoreFailed before after answer → AddsAnswers given now before after
-adds_one given now before after answer last read store = record {
-  added = answer ∷ [];
-  last = last;
-  never_falls = store.never_falls;
-  read = All-cons (λ a. ¬ HasCode a ReadFailed) answer [] read (All-nil _);
-  store = All-cons (λ a. HasCode a StoreFailed → Rose before after) answer [] store.failed (All-nil _);
-}
 
 pub adds_then : (given mid now : List Answer) (before between after : ℕ) → AddsAnswers given mid before between
     → AddsAnswers mid now between after → AddsAnswers given now before after

@@ -150,6 +150,7 @@ impl<K: Keeper + Drop> World<K> {
             (K.failures (keeper_of self.old)) (K.failures (keeper_of self.new)) }
         ensures before { K.sound (keeper_of self.new) → K.sound (keeper_of self.old) }
         ensures made { K.made (keeper_of self.old) → K.made (keeper_of self.new) }
+        ensures settled { K.settled (keeper_of self.old) → K.settled (keeper_of self.new) }
         ensures limits { limits_of self.new ≡ limits_of self.old }
     {
         // Does nothing: from its contract the proof has what holds after any events.
@@ -168,6 +169,7 @@ impl<K: Keeper + Drop> World<K> {
             (K.failures (keeper_of self.old)) (K.failures (keeper_of self.new)) }
         ensures before { K.sound (keeper_of self.new) → K.sound (keeper_of self.old) }
         ensures made { K.made (keeper_of self.old) → K.made (keeper_of self.new) }
+        ensures settled { K.settled (keeper_of self.old) → K.settled (keeper_of self.new) }
         ensures limits { limits_of self.new ≡ limits_of self.old }
     {
         for (taken, event) in events.iter().enumerate() {
@@ -202,6 +204,7 @@ impl<K: Keeper + Drop> World<K> {
         ensures refused_keeper { OnErr result (keeper_of self.new ≡ keeper_of self.old) }
         ensures before { K.sound (keeper_of self.new) → K.sound (keeper_of self.old) }
         ensures made { K.made (keeper_of self.old) → K.made (keeper_of self.new) }
+        ensures settled { K.settled (keeper_of self.old) → K.settled (keeper_of self.new) }
         ensures limits { limits_of self.new ≡ limits_of self.old }
     {
         // Does nothing: from its contract the proof has what every event keeps.
@@ -219,6 +222,7 @@ impl<K: Keeper + Drop> World<K> {
         ensures refused_keeper { OnErr result (keeper_of self.new ≡ keeper_of self.old) }
         ensures before { K.sound (keeper_of self.new) → K.sound (keeper_of self.old) }
         ensures made { K.made (keeper_of self.old) → K.made (keeper_of self.new) }
+        ensures settled { K.settled (keeper_of self.old) → K.settled (keeper_of self.new) }
         ensures limits { limits_of self.new ≡ limits_of self.old }
     {
         match event {
@@ -305,6 +309,7 @@ impl<K: Keeper + Drop> World<K> {
         ensures refused_keeper { OnErr result (keeper_of self.new ≡ keeper_of self.old) }
         ensures before { K.sound (keeper_of self.new) → K.sound (keeper_of self.old) }
         ensures made { K.made (keeper_of self.old) → K.made (keeper_of self.new) }
+        ensures settled { K.settled (keeper_of self.old) → K.settled (keeper_of self.new) }
         ensures limits { limits_of self.new ≡ limits_of self.old }
     {
         let Some(bytes) = self.uploads.get(upload) else {
@@ -333,6 +338,7 @@ impl<K: Keeper + Drop> World<K> {
         ensures refused_keeper { OnErr result (keeper_of self.new ≡ keeper_of self.old) }
         ensures before { K.sound (keeper_of self.new) → K.sound (keeper_of self.old) }
         ensures made { K.made (keeper_of self.old) → K.made (keeper_of self.new) }
+        ensures settled { K.settled (keeper_of self.old) → K.settled (keeper_of self.new) }
         ensures limits { limits_of self.new ≡ limits_of self.old }
     {
         if !is_alien(&self.machines, bytes) {
@@ -397,6 +403,7 @@ fn collect<K: Keeper>(
     ensures answered { AddsAnswers answers.old.items answers.new.items (K.failures keeper.old) (K.failures keeper.new) }
     ensures before { K.sound keeper.new → K.sound keeper.old }
     ensures made { K.made keeper.old → K.made keeper.new }
+    ensures settled { K.settled keeper.old → K.settled keeper.new }
 {
     answers.reserve(1)?;
     let mut delivery: Delivery<SliceStream<'_>, SliceSpace<'_>> = Delivery::Space(SliceSpace {

@@ -1,6 +1,7 @@
-use Rattle.std.proofs.Common.{arith, refl}
+use Rattle.std.proofs.Common.{arith, refl, sym}
 use Rattle.jc_ledger_files.specs.NotesOf.{notes_of}
 use Rattle.jc_ledger_files.specs.Owned.{owner_window}
+use Rattle.jc_ledger_files.specs.OwnersLaws.{files_alike}
 use Rattle.jc_ledger_files.proofs.Leaving.{seen, seen_left}
 use Rattle.jc_ledger_files.proofs.ledger_in_files.FileLedgerDiskWindowsLedgerInFiles.show_files.Goals as goal
 
@@ -10,7 +11,10 @@ returns-clause-some g c =
     let owners = c.args.self.now.owners.folder in
     let stays = g.met.F.Folder.seen_may_stay in (
       seen (g.F.Folder.seen windows) (g.F.Folder.seen owners) (g.F.Folder.may_leave windows) (g.F.Folder.may_leave owners) (λ w. stays windows w) (λ w. stays owners w),
-      seen_left (g.F.Folder.seen windows) (g.F.Folder.seen owners) (g.F.Folder.may_leave windows) (g.F.Folder.may_leave owners) (λ w. stays windows w) (λ w. stays owners w),
+      (
+        seen_left (g.F.Folder.seen windows) (g.F.Folder.seen owners) (g.F.Folder.may_leave windows) (g.F.Folder.may_leave owners) (λ w. stays windows w) (λ w. stays owners w),
+        (λ k key. sym (files_alike (g.F.Folder.seen windows) (g.F.Folder.seen owners) k key), λ s. refl),
+      ),
     )
 
 pub returns-clause-known : goal.returns-clause-known

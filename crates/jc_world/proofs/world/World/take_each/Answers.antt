@@ -24,5 +24,6 @@ loop-taken-preserved g c = record {
       c.loop-taken.invariant.answers c.in_default.ensures.answers;
   before = λ sound. c.loop-taken.invariant.before (c.in_default.ensures.before sound);
   made = λ made. c.in_default.ensures.made (c.loop-taken.invariant.made made);
+  settled = λ settled. c.in_default.ensures.settled (c.loop-taken.invariant.settled settled);
   limits = c.in_default.ensures.limits ∙ c.loop-taken.invariant.limits;
 }

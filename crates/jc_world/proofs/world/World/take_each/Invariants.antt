@@ -13,5 +13,6 @@ invariant-loop-taken g l =
       answers : AddsAnswers (answers_of l.fn.self) (answers_of l.self) (g.K.Keeper.failures (keeper_of l.fn.self)) (g.K.Keeper.failures (keeper_of l.self));
       before : g.K.Keeper.sound (keeper_of l.self) → g.K.Keeper.sound (keeper_of l.fn.self);
       made : g.K.Keeper.made (keeper_of l.fn.self) → g.K.Keeper.made (keeper_of l.self);
+      settled : g.K.Keeper.settled (keeper_of l.fn.self) → g.K.Keeper.settled (keeper_of l.self);
       limits : limits_of l.self ≡ limits_of l.fn.self;
     }
