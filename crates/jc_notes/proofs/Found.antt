@@ -1,33 +1,17 @@
 -- What a file says, and the last note of a number.
 use Rattle.std.proofs.Common.{◌≡◌, ◌∙◌, ◌+◌, ◌<◌, ℕ, Bool, true, false, if◌then◌else◌, List, [], ◌∷◌, ◌++◌, Option, Some, None, length, take, get_or, refl, sym, ap, subst}
-use Rattle.std.specs.Prelude.{IfSome}
 use Rattle.std.specs.BTreeMap.{is_at}
 use Rattle.std.specs.Cmp.{eq_by_cmp_equiv}
 use Rattle.std.specs.Ordering.{nat_cmp}
 use Rattle.std.proofs.lemmas.Cmp.{nat_cmp_total}
 use Rattle.std.proofs.lemmas.List.{take_more}
-use Rattle.std.proofs.lemmas.List.Elements.{All-nil}
 use Rattle.std.proofs.lemmas.Map.Lookups.{exact_unsigned}
 use Rattle.std.proofs.lemmas.Map.Views.{tells_apart}
 use Rattle.jc_ledger.specs.declared.digest.EntryDigest.{EntryDigest}
-use Rattle.jc_ledger_files.specs.Blocks.{HasNotes, IsNote}
 use Rattle.jc_ledger_files.specs.Noted.{noted, noted_from, noted_over}
 use Rattle.jc_ledger_files.specs.declared.window_note.WindowNote.{WindowNote}
-use Rattle.jc_notes.specs.Found.{AreRead}
 
 -- ---- what a file says
-
-pub read_known : (told : Option (List ℕ)) (bytes : List ℕ) (notes : List WindowNote) → IfSome told (λ held. bytes ≡ held) → HasNotes bytes notes
-    → AreRead told notes
-read_known None bytes notes same has = record { known = tt; are = has.are }
-read_known (Some held) bytes notes same has = record { known = subst (λ (file : List ℕ). HasNotes file notes) same has; are = has.are }
-
--- a file that isn't there
-pub read_none : (told : Option (List ℕ)) → told ≡ None → AreRead told []
-read_none told none = record {
-  known = subst (λ (o : Option (List ℕ)). IfSome o (λ file. HasNotes file [])) (sym none) tt;
-  are = All-nil IsNote;
-}
 
 -- ---- the last note
 

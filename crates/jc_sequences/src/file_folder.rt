@@ -5,8 +5,10 @@ ghost use Rattle.jc_keeper.specs.declared.keeper.KeepStop.TheVariants.{ReadFaile
 ghost use Rattle.jc_base.specs.Device.{Rose};
 ghost use Rattle.jc_sequences.specs.Opened.{IsFound};
 
+use crate::faults::Faults;
 use crate::found_file::FoundFile;
 use crate::open_files::{OpenFiles, WindowFile};
+use crate::opening::Folders;
 use crate::placed::Place;
 use jc_keeper::KeepStop;
 use jc_ledger_files::{Folder, Found, WindowName};
@@ -24,12 +26,13 @@ pub struct WindowFolder<'a, D: WindowFile<F> + Drop, F: Found> {
     open: OpenFiles<D, F>,
     /// How often a file couldn't be opened, up to 2^64 - 1.
     failures: u64,
+    faults: &'a Faults,
 }
 
 impl<'a, D: WindowFile<F> + Drop, F: Found> WindowFolder<'a, D, F> {
     /// The folder at `path`, which is there, and what locks it. Takes no memory.
     pub(crate) fn new(
-        rt: &'a HostRuntime,
+        folders: Folders<'a>,
         path: String,
         lock: Option<fs::File>,
     ) -> WindowFolder<'a, D, F>
@@ -37,14 +40,15 @@ impl<'a, D: WindowFile<F> + Drop, F: Found> WindowFolder<'a, D, F> {
             (⟦<WindowFolder<'a, D, F> as Folder<D>>⟧.seen result) (⟦<WindowFolder<'a, D, F> as Folder<D>>⟧.may_leave result) }
     {
         WindowFolder {
-            place: Place::new(rt, path, lock),
-            open: OpenFiles::new(rt.alloc()),
+            place: Place::new(folders.runtime, path, lock),
+            open: OpenFiles::new(folders.runtime.alloc()),
             failures: 0,
+            faults: folders.faults,
         }
     }
 
-    /// Why no file is lent, which is counted unless memory was refused.
-    fn count(&mut self, error: io::Error) -> KeepStop
+    /// Why this file isn't lent, which is counted and noted unless memory was refused.
+    fn count(&mut self, name: WindowName, error: io::Error) -> KeepStop
         ensures never_read { result ≢ ReadFailed }
         ensures never_falls { self.old.failures ≤ self.new.failures }
         ensures store { result ≡ StoreFailed → Rose self.old.failures self.new.failures }
@@ -53,8 +57,16 @@ impl<'a, D: WindowFile<F> + Drop, F: Found> WindowFolder<'a, D, F> {
         if error.kind() == io::ErrorKind::OutOfMemory {
             return KeepStop::OutOfMemory;
         }
+        self.note(name, Some(error.kind()));
         self.failures = self.failures.saturating_add(1);
         KeepStop::StoreFailed
+    }
+
+    /// Notes that the file of a window failed, if it did.
+    fn note(&self, name: WindowName, kind: Option<io::ErrorKind>) {
+        if let Some(kind) = kind {
+            self.faults.note(self.place.path_of(name).ok(), kind);
+        }
     }
 }
 
@@ -79,11 +91,12 @@ impl<'a, D: WindowFile<F> + Drop, F: Found> Folder<D> for WindowFolder<'a, D, F>
     fn lend(&mut self, name: WindowName, makes: bool) -> Result<D, KeepStop> {
         match self.open.lend(&mut self.place, name, makes) {
             Ok(file) => Ok(file),
-            Err(error) => Err(self.count(error)),
+            Err(error) => Err(self.count(name, error)),
         }
     }
 
     fn give_back(&mut self, name: WindowName, file: D) {
+        self.note(name, file.last_error());
         self.open.put(name, file);
     }
 }

@@ -1,7 +1,8 @@
 //! A window's file that had something when it was asked for.
 
-ghost use Rattle.std.specs.Prelude.{◌≡◌, ◌<◌, [], ◌∷◌, true, false, is_ok, length, IfOk, IsTrue, MatchResult, OnOk};
-ghost use Rattle.sqlite_disk.specs.Disk.{Holds, Only};
+ghost use Rattle.std.specs.Prelude.{◌≡◌, ◌<◌, ◌≤◌, [], ◌∷◌, true, false, is_ok, length, IfOk, IsTrue, MatchResult, OnOk, Some};
+ghost use Rattle.std.specs.IoError.{error_kind};
+ghost use Rattle.sqlite_disk.specs.Disk.{Holds, MoreFaults, Only};
 ghost use Rattle.sqlite_disk.specs.Events.{flushed, measured, raised, read as was_read, replay, settled, written};
 ghost use Rattle.sqlite_disk.specs.Refusal.{as_number, finds_no_room, is_no_room as lacks_room};
 ghost use Rattle.jc_sequences.specs.Called.{Called};
@@ -40,11 +41,30 @@ pub struct FoundFile<D: Disk, F: Found> {
     is_usable: bool,
     /// A sync failed, so it isn't opened again.
     is_lost: bool,
-    /// How many calls have failed, up to 2^64 - 1.
-    faults: u64,
+    failed: Failed,
     tally: Tally,
     ghost usable: { is_usable ≡ (replay (F.found name) calls.events).is_usable },
     ghost away: { IsTrue is_away → IsTrue (replay (F.found name) calls.events).is_honest → (replay (F.found name) calls.events).seen ≡ [] },
+}
+
+/// The calls of a file that failed.
+#[derive(Drop)]
+struct Failed {
+    /// How many did, up to 2^64 - 1.
+    count: u64,
+    /// The kind of the last one's error.
+    last: Option<io::ErrorKind>,
+}
+
+impl Failed {
+    /// A call failed with this error.
+    fn add(&mut self, error: &io::Error)
+        ensures count { MoreFaults self.old.count self.new.count × (self.old.count ≤ self.new.count) }
+        ensures last { self.new.last ≡ Some (error_kind error.now) }
+    {
+        self.count = self.count.saturating_add(1);
+        self.last = Some(error.kind());
+    }
 }
 
 impl<D: Disk + Drop, F: Found> FoundFile<D, F> {
@@ -76,6 +96,8 @@ impl<F: Found> WindowFile<F> for FoundFile<File, F> {
 
     ghost is_open = { λ f. is_some f.disk };
 
+    ghost last_error = { λ f. f.failed.last };
+
     fn unopened(name: WindowName) -> FoundFile<File, F> {
         FoundFile {
             disk: None,
@@ -85,7 +107,10 @@ impl<F: Found> WindowFile<F> for FoundFile<File, F> {
             calls: FileRecord::new(),
             is_usable: false,
             is_lost: false,
-            faults: 0,
+            failed: Failed {
+                count: 0,
+                last: None,
+            },
             tally: Tally {
                 caught: 0,
                 refused: 0,
@@ -111,6 +136,10 @@ impl<F: Found> WindowFile<F> for FoundFile<File, F> {
             }
             Err(error) => Err(error),
         }
+    }
+
+    fn last_error(&self) -> Option<io::ErrorKind> {
+        self.failed.last
     }
 
     fn close(&mut self) {
@@ -253,7 +282,7 @@ impl<D: Disk, F: Found> Disk for FoundFile<D, F> {
 
     ghost is_usable = { λ f. (replay (F.found f.name) f.calls.events).is_usable };
 
-    ghost faults = { λ f. f.faults };
+    ghost faults = { λ f. f.failed.count };
 
     ghost tally_of = { λ f. f.tally };
 
@@ -291,7 +320,7 @@ impl<D: Disk, F: Found> Disk for FoundFile<D, F> {
         match measure(&mut self.disk, &mut self.calls) {
             Ok(len) => Ok(len),
             Err(error) => {
-                self.faults = self.faults.saturating_add(1);
+                self.failed.add(&error);
                 Err(error)
             }
         }
@@ -305,7 +334,7 @@ impl<D: Disk, F: Found> Disk for FoundFile<D, F> {
         match read(&mut self.disk, &mut self.calls, at, buf) {
             Ok(()) => Ok(()),
             Err(error) => {
-                self.faults = self.faults.saturating_add(1);
+                self.failed.add(&error);
                 Err(error)
             }
         }
@@ -319,8 +348,9 @@ impl<D: Disk, F: Found> Disk for FoundFile<D, F> {
         _at: usize,
         _buf: &mut [u8],
     ) -> io::Result<()> {
-        self.faults = self.faults.saturating_add(1);
-        Err(io::ErrorKind::Unsupported.into())
+        let error: io::Error = io::ErrorKind::Unsupported.into();
+        self.failed.add(&error);
+        Err(error)
     }
 
     fn write_at(&mut self, at: usize, bytes: &[u8]) -> io::Result<()> {
@@ -331,7 +361,7 @@ impl<D: Disk, F: Found> Disk for FoundFile<D, F> {
         match write(&mut self.disk, &mut self.calls, at, bytes) {
             Ok(()) => Ok(()),
             Err(error) => {
-                self.faults = self.faults.saturating_add(1);
+                self.failed.add(&error);
                 self.tally.refused = count_if(is_no_room(&error), self.tally.refused);
                 Err(error)
             }
@@ -341,7 +371,7 @@ impl<D: Disk, F: Found> Disk for FoundFile<D, F> {
     // The file of a window is only added to.
     fn set_len(&mut self, _len: usize) -> io::Result<()> {
         let error: io::Error = io::ErrorKind::Unsupported.into();
-        self.faults = self.faults.saturating_add(1);
+        self.failed.add(&error);
         self.tally.refused = count_if(is_no_room(&error), self.tally.refused);
         Err(error)
     }
@@ -353,7 +383,7 @@ impl<D: Disk, F: Found> Disk for FoundFile<D, F> {
             Err(error) => {
                 self.is_usable = false;
                 self.is_lost = true;
-                self.faults = self.faults.saturating_add(1);
+                self.failed.add(&error);
                 self.tally.refused = count_if(is_no_room(&error), self.tally.refused);
                 Err(error)
             }

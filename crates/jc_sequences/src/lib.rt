@@ -1,6 +1,7 @@
 //! The notes of sequences in the files of a folder.
 #![tactic(auto)]
 
+mod faults;
 mod file_folder;
 mod file_record;
 mod found_file;
@@ -9,6 +10,7 @@ mod open_files;
 mod opening;
 mod placed;
 
+pub use faults::{Fault, Faults};
 pub use file_folder::{FileFolder, WindowFolder};
 pub use file_record::FileRecord;
 pub use found_file::FoundFile;

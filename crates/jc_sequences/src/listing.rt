@@ -15,8 +15,7 @@ pub fn list_windows<'p>(folders: Folders<'_>, path: &'p str) -> Result<Vec<Windo
 {
     match listed(folders.runtime, path) {
         Ok(windows) => Ok(windows),
-        Err(error) if error.kind() == io::ErrorKind::OutOfMemory => Err(Failure::OutOfMemory),
-        Err(_) => Err(Failure::CannotOpen(path)),
+        Err(error) => Err(folders.cannot_open(path, &error)),
     }
 }
 

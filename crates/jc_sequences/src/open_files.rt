@@ -1,6 +1,7 @@
 //! The files of windows that are kept open.
 
-ghost use Rattle.std.specs.Prelude.{◌≡◌, ◌<◌, Bool, false, true, List, ℕ, IfOk, IsTrue, MatchResult, OnErr, OnOk, vec_len};
+ghost use Rattle.std.specs.Prelude.{◌≡◌, ◌<◌, Bool, false, true, List, ℕ, IfOk, IsTrue, MatchResult, OnErr, OnOk, Option as Maybe, vec_len};
+ghost use Rattle.std.specs.declared.io.ErrorKind.{ErrorKind};
 ghost use Rattle.jc_ledger_files.specs.declared.window_name.WindowName.{WindowName};
 ghost use Rattle.jc_ledger_files.specs.Files.{AreClean, IsAsFound, files_leave, files_seen};
 ghost use Rattle.jc_ledger_files.specs.Lent.{AllStay, IsBack, IsLent, OthersStay};
@@ -20,6 +21,9 @@ pub trait WindowFile<F: Found>: Disk + Sized {
     /// It isn't closed.
     ghost is_open: { Self → Bool };
 
+    /// The kind of the error of the last call that failed, if one did.
+    ghost last_error: { Self → Maybe ErrorKind };
+
     /// The file of a window of which nothing was asked yet. It is closed.
     fn unopened(name: WindowName) -> Self
         ensures seen { Self.Disk.seen result ≡ F.found name }
@@ -32,6 +36,10 @@ pub trait WindowFile<F: Found>: Disk + Sized {
     fn open(&mut self, place: &mut Place<'_>, makes: bool) -> io::Result<()>
         ensures asked { IsAsked Self.Disk.seen Self.Disk.may_leave Self.Disk.is_clean self.old self.new }
         ensures usable { OnOk result (IsTrue (Self.Disk.is_usable self.new)) };
+
+    /// The kind of the error of its last call that failed, if one did.
+    fn last_error(&self) -> Option<io::ErrorKind>
+        ensures { result ≡ last_error self.now };
 
     /// Closes it. What it has stays known.
     fn close(&mut self)

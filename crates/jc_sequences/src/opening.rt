@@ -9,6 +9,7 @@ ghost use Rattle.jc_ledger_files.specs.Owned.{owner_found};
 ghost use Rattle.jc_ledger_files.specs.Windows.{known_in};
 ghost use Rattle.jc_sequences.specs.Opened.{IsFound};
 
+use crate::faults::{Fault, Faults};
 use crate::file_folder::{FileFolder, WindowFolder};
 use crate::found_file::FoundFile;
 use crate::open_files::WindowFile;
@@ -34,12 +35,30 @@ pub type FileSequences<'a, F, A> = SteadyOwners<
 #[derive(Clone, Copy)]
 pub struct Folders<'a> {
     pub(crate) runtime: &'a HostRuntime,
+    pub(crate) faults: &'a Faults,
 }
 
 impl<'a> Folders<'a> {
-    /// The folders of this runtime's system.
-    pub fn new(runtime: &'a HostRuntime) -> Folders<'a> {
-        Folders { runtime }
+    /// The folders of this runtime's system. What fails of them is noted.
+    pub fn new(runtime: &'a HostRuntime, faults: &'a Faults) -> Folders<'a> {
+        Folders { runtime, faults }
+    }
+
+    /// What failed last. From here on nothing has.
+    pub fn take_fault(self) -> Option<Fault> {
+        self.faults.take()
+    }
+
+    /// Why the folder at `path` can't be opened, which is noted unless memory was refused.
+    pub(crate) fn cannot_open<'p>(self, path: &'p str, error: &io::Error) -> Failure<'p>
+        ensures { (result ≡ Failure.CannotOpen path.entry) ⊎ (result ≡ Failure.OutOfMemory) }
+    {
+        if error.kind() == io::ErrorKind::OutOfMemory {
+            return Failure::OutOfMemory;
+        }
+        let noted = String::from_str(self.runtime.alloc(), path).ok();
+        self.faults.note(noted, error.kind());
+        Failure::CannotOpen(path)
     }
 }
 
@@ -58,15 +77,14 @@ pub fn open_sequences<'a, 'p, F: Found, A: Arrivals>(
     ensures came { IfOk result (λ ledger. (e : LogEntry) → ⟦<FileSequences<'a, F, A> as Ledger>⟧.came ledger e ↔ A.before e) }
     ensures failed { IfErr result (λ failure. (failure ≡ Failure.CannotOpen path.entry) ⊎ (failure ≡ Failure.OutOfMemory)) }
 {
-    let rt = folders.runtime;
-    match lock(rt, path) {
+    match lock(folders, path) {
         Ok(
             Locked {
                 folder,
                 windows,
                 owners,
             },
-        ) => Ok(sequences_in::<FoundFile<File, F>, F, A>(rt, folder, windows, owners)),
+        ) => Ok(sequences_in::<FoundFile<File, F>, F, A>(folders, folder, windows, owners)),
         Err(failure) => Err(failure),
     }
 }
@@ -75,7 +93,7 @@ type NotesOver<D, W, F, A> = SteadyOwners<FileLedger<DiskWindows<D, W>, Recorded
 
 /// The notes of sequences in the folders at these paths: of all entries, and of owners. `folder` is locked as long.
 fn sequences_in<'a, D: WindowFile<F> + Drop, F: Found, A: Arrivals>(
-    rt: &'a HostRuntime,
+    folders: Folders<'a>,
     folder: fs::File,
     windows: String,
     owners: String,
@@ -86,9 +104,9 @@ fn sequences_in<'a, D: WindowFile<F> + Drop, F: Found, A: Arrivals>(
     ensures came { (e : LogEntry) → ⟦<NotesOver<D, WindowFolder<'a, D, F>, F, A> as Ledger>⟧.came result e ↔ A.before e }
 {
     sequences_over(
-        rt.alloc(),
-        WindowFolder::<D, F>::new(rt, windows, Some(folder)),
-        WindowFolder::<D, F>::new(rt, owners, None),
+        folders.runtime.alloc(),
+        WindowFolder::<D, F>::new(folders, windows, Some(folder)),
+        WindowFolder::<D, F>::new(folders, owners, None),
     )
 }
 
@@ -120,14 +138,13 @@ struct Locked {
 }
 
 /// The folder, locked, or why it can't be opened.
-fn lock<'p>(rt: &HostRuntime, path: &'p str) -> Result<Locked, Failure<'p>>
+fn lock<'p>(folders: Folders<'_>, path: &'p str) -> Result<Locked, Failure<'p>>
     ensures same { IfOk result (λ locked. (string_bytes locked.windows ≡ path.now) × (string_bytes locked.owners ≡ path.now)) }
     ensures failed { IfErr result (λ failure. (failure ≡ Failure.CannotOpen path.entry) ⊎ (failure ≡ Failure.OutOfMemory)) }
 {
-    match lock_folder(rt, path) {
+    match lock_folder(folders.runtime, path) {
         Ok(locked) => Ok(locked),
-        Err(error) if error.kind() == io::ErrorKind::OutOfMemory => Err(Failure::OutOfMemory),
-        Err(_) => Err(Failure::CannotOpen(path)),
+        Err(error) => Err(folders.cannot_open(path, &error)),
     }
 }
 
@@ -135,9 +152,7 @@ fn lock<'p>(rt: &HostRuntime, path: &'p str) -> Result<Locked, Failure<'p>>
 fn lock_folder(rt: &HostRuntime, path: &str) -> io::Result<Locked>
     ensures { IfOk result (λ locked. (string_bytes locked.windows ≡ path.now) × (string_bytes locked.owners ≡ path.now)) }
 {
-    if !is_folder(rt, path) {
-        make_lasting(rt, path)?;
-    }
+    make_lasting(rt, path)?;
     let folder = fs::open(rt, path)?;
     folder.try_lock()?;
     let windows = format!(in rt.alloc(); "{path}")?;
@@ -149,12 +164,9 @@ fn lock_folder(rt: &HostRuntime, path: &str) -> io::Result<Locked>
     })
 }
 
+/// Makes a folder if there is none. Its name lasts then, also if the process that made it was stopped before it saw to that.
 fn make_lasting(rt: &HostRuntime, path: &str) -> io::Result<()> {
     make_folder(rt, path)?;
     let parent = format!(in rt.alloc(); "{path}/..")?;
     sync_folder(rt, &parent)
-}
-
-fn is_folder(rt: &HostRuntime, path: &str) -> bool {
-    fs::metadata(rt, path).is_ok_and(|found| found.is_dir())
 }

@@ -64,7 +64,7 @@ impl<'a> Place<'a> {
         was_away: bool,
     ) -> io::Result<Option<File>> {
         let folder = folder_of(self.rt.alloc(), &self.path, name)?;
-        let path = window_path(self.rt.alloc(), &self.path, name)?;
+        let path = self.path_of(name)?;
         if makes && make_folder(self.rt, &folder)? {
             self.is_synced = false;
         }
@@ -87,6 +87,13 @@ impl<'a> Place<'a> {
         let file = open_file(self.rt, &path)?;
         self.synced.insert(name.sequence)?;
         Ok(Some(file))
+    }
+
+    /// The path of a window's file in it.
+    pub(crate) fn path_of(&self, name: WindowName) -> io::Result<String>
+        ensures { IfOk result (λ path. string_bytes path ≡ path_of (string_bytes self.now.path) name) }
+    {
+        window_path(self.rt.alloc(), &self.path, name)
     }
 
     /// Syncs the folder of a sequence, if it isn't. One that isn't there needs none.
