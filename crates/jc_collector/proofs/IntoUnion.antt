@@ -1,6 +1,7 @@
 -- A run over a union of databases: why it fails, and what it makes of the files.
-use Rattle.std.proofs.Common.{◌≡◌, ◌⊎◌, ℕ, List, [], Option, Result, Ok, Err, ap, inl, inr, refl, sym, subst}
-use Rattle.std.specs.Prelude.{IfOk}
+use Rattle.std.proofs.Common.{◌≡◌, ◌⊎◌, ℕ, List, [], Option, None, Result, Ok, Err, ap, inl, inr, refl, sym, subst}
+use Rattle.std.proofs.KnownBytes.{Keeps-refl}
+use Rattle.std.specs.Prelude.{IfOk, IfSome, IsSomeAnd}
 use Rattle.sqlite.specs.Store.{Ghosts}
 use Rattle.sqlite.specs.Effect.{Database}
 use Rattle.sqlite.specs.Recovery.{Image}
@@ -31,9 +32,31 @@ use Rattle.jc_collector.specs.Database.{DatabaseFailsBy, MayEndNames}
 use Rattle.jc_collector.specs.IntoUnion.{LeadsIf, UnionFailsBy, UnionStopsBy}
 use Rattle.jc_collector.specs.Kinds.{meaning_of}
 use Rattle.jc_collector.specs.Open.{IsFoundIn}
-use Rattle.jc_collector.specs.UnionRun.{IsFoundAs}
+use Rattle.jc_collector.specs.UnionRun.{FailsEarly, IsFoundAs}
+use Rattle.jc_collector.specs.Unopened.{LeavesBegun}
+use Rattle.jc_collector.specs.declared.into_union.closing.FailedRun.{FailedRun}
 use Rattle.jc_collector.proofs.Open.{front_named}
+use Rattle.jc_collector.proofs.Results.{some_each}
 use Rattle.jc_upload.specs.declared.answer.Answer.{Answer}
+
+-- ---- before its present database is open
+
+-- What is handed back of it, if that isn't opened.
+pub fails_early : {S C R N : Type 0} (o : InFiles S C R) (made : Tables) (first : Image) (ledger : N) (run : FailedRun R N) (files : Option R) (old : Option (List ℕ))
+    → IsSomeAnd run.left (λ it. (it.files ≡ files) × (it.ledger ≡ ledger)) → IfSome files (LeavesBegun o made first)
+    → FailsEarly o made first ledger (Err run) old old
+fails_early {R = R} o made first ledger run files old left begun = record {
+  run = run;
+  failed = refl;
+  left = some_each run.left _ _ left (λ it is. (is.1, subst (λ (f : Option R). IfSome f (LeavesBegun o made first)) (sym is.0) begun));
+  kept = Keeps-refl old;
+}
+
+-- ... or no file of it is.
+pub fails_first : {S C R N : Type 0} (o : InFiles S C R) (made : Tables) (first : Image) (ledger : N) (run : FailedRun R N) (files : Option R) (old : Option (List ℕ)) → files ≡ None
+    → IsSomeAnd run.left (λ it. (it.files ≡ files) × (it.ledger ≡ ledger)) → FailsEarly o made first ledger (Err run) old old
+fails_first {R = R} o made first ledger run files old none left =
+    fails_early o made first ledger run files old left (subst (λ (f : Option R). IfSome f (LeavesBegun o made first)) (sym none) tt)
 
 -- ---- why it fails
 

@@ -39,7 +39,7 @@ front_of_all : (H : List Answer → Type 0) (answers : List Answer) (old new : O
 front_of_all H answers old new printed holds = record {
   answers = answers;
   more = [];
-  one = omega arith;
+  few = omega arith;
   bytes = 0;
   printed = subst (λ (l : List ℕ). Appends old new l) (sym (append-nil (lines_of_answers answers))) printed;
   holds = subst H (sym (append-nil answers)) holds;

@@ -7,6 +7,7 @@ use Rattle.jc_base.specs.declared.fault.Fault.{Fault}
 use Rattle.jc_base.specs.declared.id.Id128.{Id128}
 use Rattle.jc_base.specs.Journal.{Journal}
 use Rattle.jc_keeper.specs.Listing.{field_text, show_text}
+use Rattle.jc_keeper.specs.declared.form.Shape.{Shape}
 use Rattle.jc_command_shared.specs.Ids.{IsIdOf, IsIdText}
 use Rattle.jc_command_shared.specs.Names.{IsFieldName}
 use Rattle.jc_command_shared.specs.declared.failure.Failure.{Failure}
@@ -70,10 +71,10 @@ AsksId None id = id ≡ None
 AsksId (Some digits) None = ⊥
 AsksId (Some digits) (Some id) = IsIdOf digits id
 
--- The lines of a journal's entries that are asked for, with the field of this name, or else with the message.
-abbrev pub asked_text : (name : Option (List ℕ)) → Journal → Option Id128 → (first last : ℕ) → List ℕ
-asked_text None m id first last = show_text m id first last
-asked_text (Some name) m id first last = field_text name m id first last
+-- The lines or objects of a journal's entries that are asked for, with the field of this name, or else with the message.
+abbrev pub asked_text : Shape → (name : Option (List ℕ)) → Journal → Option Id128 → (first last : ℕ) → List ℕ
+asked_text shape None m id first last = show_text shape m id first last
+asked_text shape (Some name) m id first last = field_text shape name m id first last
 
 -- Why `show` fails: no entry has a field of this name, the digits spell no id, or it fails as another command over a
 -- database does.

@@ -5,6 +5,7 @@ use Rattle.jc_base.specs.declared.id.Id128.{Id128}
 use Rattle.jc_base.specs.Journal.{Journal}
 use Rattle.jc_base.specs.LogEntry.{LogEntry}
 use Rattle.jc_keeper.specs.Agree.{IsStored}
+use Rattle.jc_keeper.specs.declared.form.Shape.{Shape}
 use Rattle.jc_collector.specs.Database.{AsksId, asked_text}
 use Rattle.jc_collect.specs.Run.{Seen}
 use Rattle.jc_collector_answers.specs.Answered.{RunsByDefault}
@@ -60,7 +61,7 @@ pub record Prints (text : Journal → List ℕ) (old new : Option (List ℕ)) (b
   pub stays : after ≡ before
 
 -- What `show` was asked for of the journal was printed, and it stays.
-pub record PrintsAsked (name digits : Option (List ℕ)) (first last : ℕ) (old new : Option (List ℕ)) (before after : Journal) : Type 0 where
+pub record PrintsAsked (shape : Shape) (name digits : Option (List ℕ)) (first last : ℕ) (old new : Option (List ℕ)) (before after : Journal) : Type 0 where
   pub id : Option Id128
   pub asks : AsksId digits id
-  pub prints : Prints (λ journal. asked_text name journal id first last) old new before after
+  pub prints : Prints (λ journal. asked_text shape name journal id first last) old new before after

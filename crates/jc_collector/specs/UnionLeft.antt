@@ -22,9 +22,9 @@ use Rattle.jc_upload.specs.declared.answer.Answer.{Answer}
 use Rattle.jc_collector.specs.Kinds.{BeginsIn, meaning_of}
 
 -- What a crash left of the present database's files has a journal, in tables of this meaning. Its union with the finished
--- databases has what these answers to the first ones of some uploads acknowledge, over what was stored, and all of one more of
--- them at most, which was answered 62 or 63. Whatever the crash leaves of the notes, these and the journal may be caught up: so no key is in both the finished
--- databases and the present one.
+-- databases has what these answers to the first ones of some uploads acknowledge, over what was stored, and all of some of the
+-- next ones, in order, none of which is acknowledged. Whatever the crash leaves of the notes, these and the journal may be caught
+-- up: so no key is in both the finished databases and the present one.
 pub record LeavesNoted (AreUploads : List (Option (List ℕ)) → Type 0) (m : Meaning) (past before : Journal) (came : LogEntry → Type 0) (ledgers : Known → Type 0) (answers : List Answer) (left : Image)
     : Type 0 where
   pub found : Journal

@@ -1,7 +1,7 @@
 -- What a run over a union whose uploads a list names comes to, by how it ends. (own)
 use Rattle.std.proofs.Common.{◌≡◌, ◌≢◌, ℕ, List, Option, Result, inl, inr, subst, sym}
 use Rattle.std.proofs.lemmas.Result.{IfErr-weaker, IfOk-weaker}
-use Rattle.std.specs.Prelude.{◌⊎◌, IfErr, IfOk, IsSomeAnd, None, Some}
+use Rattle.std.specs.Prelude.{◌⊎◌, IfErr, IfOk, IfSome, IsSomeAnd, None, Some}
 use Rattle.std.specs.Io.KnownBytes.{Keeps}
 use Rattle.sqlite.specs.Recovery.{Image}
 use Rattle.jc_base.specs.Journal.{Journal}
@@ -19,6 +19,7 @@ use Rattle.jc_collector.specs.IntoUnion.{LeadsIf, StoresNotedFromList}
 use Rattle.jc_collector.specs.OverFiles.{IsListed}
 use Rattle.jc_collector.specs.UnionLeft.{FilesLeft, HowPrinted, UnionIsLeft, handed_back}
 use Rattle.jc_collector.specs.UnionRun.{FailsEarly, ListIsLeft, RunsFromList}
+use Rattle.jc_collector.specs.Unopened.{LeavesBegun}
 use Rattle.jc_collector.specs.declared.into_union.closing.FailedRun.{FailedRun}
 use Rattle.jc_collector.specs.declared.into_union.closing.NotedLeft.{NotedLeft}
 use Rattle.jc_collector.specs.declared.into_union.closing.NotedRun.{NotedRun}
@@ -29,7 +30,7 @@ module _ {S C R N : Type 0} (o : InFiles S C R) (n : ledgers.Ghosts N) (made : T
     abbrev pub Runs : Type 0
     Runs = RunsFromList o n made first told most_windows past ledger list given result old new errors errors_now
 
-    early_ok : (P : NotedRun C N → Type 0) → FailsEarly result old new → IfOk result P
+    early_ok : (P : NotedRun C N → Type 0) → FailsEarly o made first ledger result old new → IfOk result P
     early_ok P early = subst (λ (r : Result (NotedRun C N) (FailedRun R N)). IfOk r P) (sym early.failed) tt
 
     pub runs_stored : Runs → IfOk result (λ run. LeadsIf made first o run.files
@@ -64,26 +65,44 @@ module _ {S C R N : Type 0} (o : InFiles S C R) (n : ledgers.Ghosts N) (made : T
     runs_noted (inl early) = early_ok _ early
     runs_noted (inr (text, listed, runs)) = runs.noted
 
-    -- what is left, under another premise on the notes, which says more
-    module _ (Noted : Journal → Type 0) (each : (before : Journal) → Noted before → MayCatchUp (n.known ledger) past before (n.came ledger) × n.sound ledger) where
-      listed_left : (text : Option (List ℕ)) → IsListed told list given text → (Prints : (text : Option (List ℕ)) → HowPrinted) (files : FilesLeft) (notes : N)
-          → UnionIsLeft n made first (told_within most_windows told) past (λ before. MayCatchUp (n.known ledger) past before (n.came ledger) × n.sound ledger) text (Prints text) files notes
-          → ListIsLeft n made first told most_windows past Noted list given Prints files notes
-      listed_left text listed Prints files notes left =
-          (text, listed, λ clean l_clean none kind before begin noted. left clean l_clean none kind before begin (each before noted))
+    -- what is left, under another premise on the notes, which says more, and by what is said of the notes as they were given
+    module _ (Noted : Journal → Type 0) (each : (before : Journal) → Noted before → MayCatchUp (n.known ledger) past before (n.came ledger) × n.sound ledger)
+        (AreGiven : N → Type 0) (given_so : AreGiven ledger)
+      where
+        listed_left : (text : Option (List ℕ)) → IsListed told list given text → (Prints : (text : Option (List ℕ)) → HowPrinted) (files : FilesLeft) (notes : N)
+            → UnionIsLeft n made first (told_within most_windows told) past (λ before. MayCatchUp (n.known ledger) past before (n.came ledger) × n.sound ledger) text (Prints text) files notes
+            → ListIsLeft n made first told most_windows past Noted list given Prints files notes
+        listed_left text listed Prints files notes left =
+            (text, listed, λ clean l_clean none kind before begin noted. left clean l_clean none kind before begin (each before noted))
 
-      abbrev pub Leaves : Option (NotedLeft R N) → Type 0
-      Leaves left = ((left ≡ None) × Keeps old new) ⊎ IsSomeAnd left (λ it. ListIsLeft n made first told most_windows past Noted list given
-          (λ text Holds. PrintsFront Holds old new) (handed_back o first it.files) it.ledger)
+        abbrev pub LeavesNotes : NotedLeft R N → Type 0
+        LeavesNotes it =
+            (AreGiven it.ledger × (IfSome it.files (LeavesBegun o made first) × Keeps old new))
+            ⊎ IsSomeAnd it.files (λ files. ListIsLeft n made first told most_windows past Noted list given
+            (λ text Holds. PrintsFront Holds old new) (handed_back o first files) it.ledger)
 
-      left_some : (text : Option (List ℕ)) → IsListed told list given text → (left : Option (NotedLeft R N))
-          → IsSomeAnd left (λ it. UnionIsLeft n made first (told_within most_windows told) past
-          (λ before. MayCatchUp (n.known ledger) past before (n.came ledger) × n.sound ledger) text (λ Holds. PrintsFront Holds old new) (handed_back o first it.files) it.ledger)
-          → Leaves left
-      left_some text listed None some = absurd some
-      left_some text listed (Some it) left = inr (listed_left text listed (λ text Holds. PrintsFront Holds old new) (handed_back o first it.files) it.ledger left)
+        left_early : (left : Option (NotedLeft R N)) → Keeps old new
+            → IsSomeAnd left (λ it. (it.ledger ≡ ledger) × IfSome it.files (LeavesBegun o made first)) → IsSomeAnd left LeavesNotes
+        left_early None kept some = absurd some
+        left_early (Some it) kept early = inl (subst AreGiven (sym early.0) given_so, (early.1, kept))
 
-      pub runs_left : Runs → IfErr result (λ run. Leaves run.left)
-      runs_left (inl early) =
-          subst (λ (r : Result (NotedRun C N) (FailedRun R N)). IfErr r (λ run. Leaves run.left)) (sym early.failed) (inl (early.left, early.kept))
-      runs_left (inr (text, listed, runs)) = IfErr-weaker result _ _ (λ run left. left_some text listed run.left left) runs.left
+        left_files : (text : Option (List ℕ)) → IsListed told list given text → (notes : N) → (files : Option R)
+            → IsSomeAnd files (λ files. UnionIsLeft n made first (told_within most_windows told) past
+            (λ before. MayCatchUp (n.known ledger) past before (n.came ledger) × n.sound ledger) text (λ Holds. PrintsFront Holds old new) (handed_back o first files) notes)
+            → IsSomeAnd files (λ files. ListIsLeft n made first told most_windows past Noted list given
+            (λ text Holds. PrintsFront Holds old new) (handed_back o first files) notes)
+        left_files text listed notes None some = absurd some
+        left_files text listed notes (Some files) left = listed_left text listed (λ text Holds. PrintsFront Holds old new) (handed_back o first files) notes left
+
+        left_some : (text : Option (List ℕ)) → IsListed told list given text → (left : Option (NotedLeft R N))
+            → IsSomeAnd left (λ it. IsSomeAnd it.files (λ files. UnionIsLeft n made first (told_within most_windows told) past
+            (λ before. MayCatchUp (n.known ledger) past before (n.came ledger) × n.sound ledger) text (λ Holds. PrintsFront Holds old new) (handed_back o first files) it.ledger))
+            → IsSomeAnd left LeavesNotes
+        left_some text listed None some = absurd some
+        left_some text listed (Some it) left = inr (left_files text listed it.ledger it.files left)
+
+        pub runs_left : Runs → IfErr result (λ run. IsSomeAnd run.left LeavesNotes)
+        runs_left (inl early) =
+            subst (λ (r : Result (NotedRun C N) (FailedRun R N)). IfErr r (λ run. IsSomeAnd run.left LeavesNotes)) (sym early.failed)
+            (left_early early.run.left early.kept early.left)
+        runs_left (inr (text, listed, runs)) = IfErr-weaker result _ _ (λ run left. left_some text listed run.left left) runs.left

@@ -22,13 +22,12 @@ use crate::then_export::export_after;
 use crate::uploads::{Deliveries, NamedUploads, Uploads};
 use jc_base::ByteStream;
 use jc_collect::Delivery;
-use jc_collector_answers::NameLines;
+use jc_collector_answers::{NameLines, ReadyLines};
 use jc_command_args::Tables;
 use jc_command_shared::{Errors, Failure, Output, Status, System};
 use jc_database::{Databases, OpenFromFiles, StoreInFiles, sound_leaves_journals};
 use jc_file::ByteSpace;
 use jc_store::{Listed, TableKeeper};
-use std::io::BufRead;
 
 /// What a run answered, and the keeper of its database, which is still open.
 #[derive(Drop)]
@@ -79,8 +78,8 @@ pub fn answer_deliveries<
     answer_uploads::<_, F, _, _, _>(rt, target, Deliveries { deliveries }, output, &mut ())
 }
 
-/// The same of the uploads that lines name, each answered before the next name is read.
-pub fn answer_lines<'a, Y: Databases, F: OpenFromFiles, L: BufRead, O: Output, E: Errors>(
+/// The same of the uploads that lines name. Those whose names wait are stored together, and then answered.
+pub fn answer_lines<'a, Y: Databases, F: OpenFromFiles, L: ReadyLines, O: Output, E: Errors>(
     rt: &mut Y,
     start: F::Start,
     database: &'a str,

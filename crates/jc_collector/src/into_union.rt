@@ -34,8 +34,9 @@ use crate::database::{Opened, open_or_make};
 use crate::from_list::list_source;
 use crate::target::Target;
 use crate::then_export::{check_names, export_after};
+use crate::unopened::Unopened;
 pub use closing::{AnsweredUnion, FailedRun, NotedLeft, NotedRun};
-use jc_collector_answers::{NameLines, answer_names_within};
+use jc_collector_answers::{NameLines, ReadyLines, answer_names_within};
 use jc_command_args::Tables;
 use jc_command_shared::{Errors, Failure, Output, Status, System};
 use jc_database::{Databases, OpenFromFiles, StoreInFiles};
@@ -47,13 +48,13 @@ use jc_store::{Listed, TableKeeper};
 pub(crate) use listing::list_present;
 pub use opening::{OpenStop, OpenedUnion, TableUnion, open_union};
 use sqlite::Alter;
-use std::io::{BufRead, BufReader, Read};
+use std::io::{BufReader, Read};
 
 /// Takes the uploads that the lines of a list name up into the union of the databases that are finished and the present
 /// one, which is made if there is none, and prints an answer for each line. The export and the status are as
 /// `collect_from_list` has them, and so is the list, but that a line may name the machine before a tab. It fails besides with
 /// a fault if an entry of the present database isn't the one that is noted, or is over the limits. If windows of sequences
-/// are bounded, an upload that touches more is refused.
+/// are bounded, an upload that touches more is refused. If the present database isn't opened, the ledger goes back as it came.
 pub fn collect_into_union<
     'a,
     Y: Databases,
@@ -88,8 +89,13 @@ pub fn collect_into_union<
     ensures touched { OpensAndMayReplace database.now (option_map (λ name. name.now) then_export.entry)
         (Y.deeds rt.old) (Y.deeds rt.new) }
 {
-    check_names(rt, database, then_export)?;
-    let source = list_source(rt, list, &mut *input)?;
+    if let Err(failure) = check_names(rt, database, then_export) {
+        return Err(FailedRun::unopened(Unopened::early(failure), ledger));
+    }
+    let source = match list_source(rt, list, &mut *input) {
+        Ok(source) => source,
+        Err(failure) => return Err(FailedRun::unopened(Unopened::early(failure), ledger)),
+    };
     let target = Target {
         start,
         database,
@@ -129,7 +135,8 @@ fn join_lines<
         (Y.deeds rt.old) (Y.deeds rt.new) }
 {
     let Ok(mut names) = BufReader::new(rt.alloc(), list) else {
-        return Err(FailedRun::from(Failure::OutOfMemory));
+        let early = Unopened::early(Failure::OutOfMemory);
+        return Err(FailedRun::unopened(early, ledger));
     };
     join_names::<_, F, L, P, _, _, _>(rt, target, ledger, &mut names, most_windows, output, errors)
 }
@@ -141,7 +148,7 @@ fn join_names<
     F: OpenFromFiles,
     L: Ledger + Drop,
     P: Past,
-    N: BufRead,
+    N: ReadyLines,
     O: Output,
     E: Errors,
 >(
@@ -168,7 +175,11 @@ fn join_names<
         tables,
         then_export,
     } = target;
-    match open_or_make::<_, F>(rt, database, start, tables)? {
+    let opened = match open_or_make::<_, F>(rt, database, start, tables) {
+        Ok(opened) => opened,
+        Err(unopened) => return Err(FailedRun::unopened(unopened, ledger)),
+    };
+    match opened {
         Opened::ByKey(keeper) => join_over::<_, F, SchemaTwo, L, P, _, _, _>(
             rt,
             keeper,
@@ -200,7 +211,7 @@ fn join_over<
     T: Listed + Drop,
     L: Ledger + Drop,
     P: Past,
-    N: BufRead,
+    N: ReadyLines,
     O: Output,
     E: Errors,
 >(
@@ -247,7 +258,7 @@ pub fn join_open<
     T: Listed + Drop,
     L: Ledger + Drop,
     P: Past,
-    N: BufRead,
+    N: ReadyLines,
     O: Output,
     E: Errors,
 >(

@@ -15,11 +15,10 @@ ghost use Rattle.jc_collector.specs.OverFiles.{CollectsAll};
 
 use jc_base::ByteStream;
 use jc_collect::Delivery;
-use jc_collector_answers::{NameLines, answer_all, answer_names};
+use jc_collector_answers::{NameLines, ReadyLines, answer_all, answer_names};
 use jc_command_shared::{Errors, Failure, Output, Status, System};
 use jc_file::ByteSpace;
 use jc_keeper::Keeper;
-use std::io::BufRead;
 
 /// Uploads that are to be answered over any keeper. `E` is what is told beside the answers.
 pub(crate) trait Uploads<E> {
@@ -94,13 +93,13 @@ impl<R: ByteStream, B: ByteSpace> Uploads<()> for Deliveries<'_, R, B> {
     }
 }
 
-/// The uploads that lines name, each answered before the next name is read.
+/// The uploads that lines name. Those whose names wait are stored together, and then answered.
 #[derive(Drop)]
 pub(crate) struct NamedUploads<L> {
     pub(crate) names: L,
 }
 
-impl<L: BufRead + Drop, E: Errors> Uploads<E> for NamedUploads<L> {
+impl<L: ReadyLines + Drop, E: Errors> Uploads<E> for NamedUploads<L> {
     ghost counts = { λ uploads n. IfSome (L.remaining uploads.names) (λ text. n ≡ length (lines_of text)) };
 
     ghost are = { λ told uploads. those_named told name_lines.Uploads (L.remaining uploads.names) };

@@ -19,12 +19,11 @@ use jc_collect::Delivery;
 use jc_collector::{
     Answered, Opened, OpenedFiles, Unopened, answer_deliveries, answer_lines, open_or_make,
 };
-use jc_collector_answers::NameLines;
+use jc_collector_answers::{NameLines, ReadyLines};
 use jc_command_args::Tables;
 use jc_command_shared::{Errors, Failure, Output, Status};
 use jc_database::{Databases, OpenFromFiles, StoreInFiles, stop_keeper};
 use jc_file::ByteSpace;
-use std::io::BufRead;
 use std::snapshot::Snapshot;
 
 /// What a run had answered when it was stopped, and what it left of its database's files, which proofs alone see.
@@ -80,8 +79,15 @@ pub fn collect_and_stop<'a, Y: Databases, F: OpenFromFiles, R: ByteStream, B: By
     })
 }
 
-/// The same of the uploads that lines name.
-pub fn collect_lines_and_stop<'a, Y: Databases, F: OpenFromFiles, L: BufRead, O: Output, E: Errors>(
+/// The same of the uploads that lines name, but that there may be more of the next ones, each whole, and in order.
+pub fn collect_lines_and_stop<
+    'a,
+    Y: Databases,
+    F: OpenFromFiles,
+    L: ReadyLines,
+    O: Output,
+    E: Errors,
+>(
     rt: &mut Y,
     start: F::Start,
     database: &'a str,
@@ -161,7 +167,7 @@ pub fn open_after_lines<
     Y: Databases,
     F: OpenFromFiles,
     G: OpenFromFiles,
-    L: BufRead,
+    L: ReadyLines,
     O: Output,
     E: Errors,
 >(

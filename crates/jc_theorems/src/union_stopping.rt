@@ -20,7 +20,7 @@ ghost use Rattle.jc_theorems.specs.StoppedUnion.{WhenNoted};
 
 use crate::stopping::let_go;
 use jc_collector::{AnsweredUnion, Opened, join_open, open_or_make};
-use jc_collector_answers::NameLines;
+use jc_collector_answers::{NameLines, ReadyLines};
 use jc_command_args::Tables;
 use jc_command_shared::{Errors, Failure, Output, Status, System};
 use jc_database::{Databases, OpenFromFiles, StoreInFiles, stop_keeper};
@@ -28,7 +28,6 @@ use jc_ledger::{Ledger, Past, UnionKeeper};
 use jc_schema_three::SchemaThree;
 use jc_schema_two::SchemaTwo;
 use jc_store::{Listed, TableKeeper};
-use std::io::BufRead;
 use std::snapshot::Snapshot;
 
 /// What a run over a union had answered when it was stopped, and what it left of the files of its present database and of
@@ -49,7 +48,7 @@ pub fn collect_into_union_and_stop<
     F: OpenFromFiles,
     L: Ledger + Drop,
     P: Past,
-    N: BufRead,
+    N: ReadyLines,
     O: Output,
     E: Errors,
 >(
@@ -106,7 +105,7 @@ fn stop_over<
     T: Listed + Drop,
     L: Ledger + Drop,
     P: Past,
-    N: BufRead,
+    N: ReadyLines,
     O: Output,
     E: Errors,
 >(

@@ -24,14 +24,14 @@ pub struct NotedRun<C: Drop, L: Ledger + Drop> {
     pub ledger: L,
 }
 
-/// What is left of a run over a union that failed: of its present database's files, and the ledger.
+/// What is left of a run over a union that failed: of its present database's files, if they were opened, and the ledger.
 #[derive(Drop)]
 pub struct NotedLeft<R: Drop, L: Ledger + Drop> {
-    pub files: R,
+    pub files: Option<R>,
     pub ledger: L,
 }
 
-/// Why a run over a union failed, and what is left of it, if its present database was open.
+/// Why a run over a union failed, and what is left of it, if it had a ledger.
 #[derive(Drop)]
 pub struct FailedRun<'a, R: Drop, L: Ledger + Drop> {
     pub failure: Failure<'a>,
@@ -51,13 +51,20 @@ impl<'a, R: Drop, L: Ledger + Drop> From<Failure<'a>> for FailedRun<'a, R, L> {
     }
 }
 
-impl<'a, R: Drop, L: Ledger + Drop> From<Unopened<'a, R>> for FailedRun<'a, R, L> {
-    ghost use Rattle.std.specs.Prelude.{◌≡◌, None};
-
-    ghost from_gives = { λ unopened run. (run.failure ≡ unopened.failure) × (run.left ≡ None) };
-
-    fn from(unopened: Unopened<'a, R>) -> Self {
-        FailedRun::from(Failure::from(unopened))
+impl<'a, R: Drop, L: Ledger + Drop> FailedRun<'a, R, L> {
+    /// One whose present database wasn't opened: the ledger goes back as it is.
+    pub(super) fn unopened(unopened: Unopened<'a, R>, ledger: L) -> FailedRun<'a, R, L>
+        ensures failure { result.failure ≡ unopened.entry.failure }
+        ensures left { IsSomeAnd result.left (λ it. (it.files ≡ unopened.entry.left) × (it.ledger ≡ ledger)) }
+    {
+        let Unopened {
+            failure,
+            left: files,
+        } = unopened;
+        FailedRun {
+            failure,
+            left: Some(NotedLeft { files, ledger }),
+        }
     }
 }
 
@@ -80,7 +87,7 @@ pub(super) fn close_union<'a, F: StoreInFiles, T: Listed + Drop, L: Ledger + Dro
         → KeepsAlways T.meaning F.in_files run.files (journal_of T.meaning F.Store union.present.conn)) }
     ensures failed { IfErr result (λ run. (answered.entry ≡ Err run.failure) ⊎ (run.failure ≡ Failure.StoreFailed)) }
     ensures left { IfErr result (λ run. IsSomeAnd run.left (λ left. (left.ledger ≡ union.ledger)
-        × ((first : Image) → IsLeftAs T.meaning F.Store union.present.conn (handed_back F.in_files first left.files)))) }
+        × IsSomeAnd left.files (λ files. (first : Image) → IsLeftAs T.meaning F.Store union.present.conn (handed_back F.in_files first files)))) }
 {
     let UnionKeeper {
         present,
@@ -100,7 +107,7 @@ pub(super) fn close_union<'a, F: StoreInFiles, T: Listed + Drop, L: Ledger + Dro
                 ledger,
             }),
             Err(failure) => {
-                let files = F::left_files(files);
+                let files = Some(F::left_files(files));
                 Err(FailedRun {
                     failure,
                     left: Some(NotedLeft { files, ledger }),
@@ -108,7 +115,7 @@ pub(super) fn close_union<'a, F: StoreInFiles, T: Listed + Drop, L: Ledger + Dro
             }
         },
         Err(failed) => {
-            let files = failed.store.left_store();
+            let files = Some(failed.store.left_store());
             Err(FailedRun {
                 failure: first_failure(answered),
                 left: Some(NotedLeft { files, ledger }),

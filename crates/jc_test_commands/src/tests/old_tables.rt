@@ -7,7 +7,7 @@ use jc_base::faulty::FailSink;
 use jc_base::{ByteSink, ByteStream, Code, Limits, SliceStream, VecSink};
 use jc_collect::{Delivery, collect_one};
 use jc_file::{ByteSpace, SliceSpace};
-use jc_keeper::{Keeper, OutStop};
+use jc_keeper::{Keeper, OutStop, Shape};
 use jc_schema_one::SqlKeeper1;
 use jc_store::{Listed, TableKeeper};
 use jc_test_samples::{ENTRY, Slow};
@@ -199,7 +199,7 @@ fn shown<S: Alter, L: Listed, W: ByteSink>(
     first: u64,
     last: u64,
 ) -> Result<(), OutStop> {
-    keeper.show(sink, None, first, last)
+    keeper.show(sink, Shape::Line, None, first, last)
 }
 
 /// A keeper exports these entries in the order of their keys, and counts them.

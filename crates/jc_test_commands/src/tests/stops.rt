@@ -109,7 +109,8 @@ const ROWS: [Row; 14] = [
         comes: Came::Stopped,
         prints: &["ack S 0 1 0 0", "ack S 0 1 1 0"],
     },
-    // An answer counts as printed once it is flushed: nothing is taken up behind one that isn't.
+    // An answer counts as printed once it is flushed: nothing is taken up behind one that isn't. Names that wait together
+    // are one group, whose answers are flushed at once.
     Row {
         of: "an answer that isn't flushed",
         run: Run::Deliveries,
@@ -144,7 +145,7 @@ const ROWS: [Row; 14] = [
         uploads: &["head:1:0 ENTRY_2", "head:1:0 ENTRY_3"],
         flushes: 0,
         comes: Came::Unwritten,
-        prints: &["ack S 0 1 0 0"],
+        prints: &["ack S 0 1 0 0", "ack S 0 1 1 0"],
     },
     Row {
         of: "answers that are all flushed",
@@ -153,7 +154,7 @@ const ROWS: [Row; 14] = [
         uploads: &["head:1:0 ENTRY_2", "head:1:0 ENTRY_3"],
         flushes: 2,
         comes: Came::Found(3),
-        prints: &["ack S 0 1 0 0", "ack S 0 1 1 0"],
+        prints: &["ack S 0 1 0 0", "ack S 0 1 0 0"],
     },
     Row {
         of: "one entry",

@@ -1,12 +1,12 @@
 -- The list is standard input, or a file.
 use Rattle.std.proofs.Common.{[], ◌∷◌, inl, inr, ⊎_elim}
 use Rattle.jc_collector.specs.ExportedLaws.{does_nothing}
-use Rattle.jc_collector.proofs.IntoUnion.{by_union}
+use Rattle.jc_collector.proofs.IntoUnion.{by_union, fails_first}
 use Rattle.jc_collector.proofs.Results.{IfErr-each}
 use Rattle.jc_collector.proofs.into_union.collect_into_union.Goals as goal
 
 pub returns-clause-runs : goal.returns-clause-runs
-returns-clause-runs g c = ⊎_elim (λ early. inl early) (λ runs. inr (_, c.in_ok-source.ensures.listed, runs)) c.join_lines.ensures.runs
+returns-clause-runs g c = ⊎_elim (λ early. inl early) (λ runs. inr (_, c.in-Ok.ensures.listed, runs)) c.join_lines.ensures.runs
 
 pub returns-clause-failed : goal.returns-clause-failed
 returns-clause-failed g c =
@@ -15,11 +15,23 @@ returns-clause-failed g c =
 pub returns-clause-touched : goal.returns-clause-touched
 returns-clause-touched g c = c.join_lines.ensures.touched
 
-pub returns-in_err-check_names-clause-touched : goal.returns-in_err-check_names-clause-touched
-returns-in_err-check_names-clause-touched g c = does_nothing _
+-- ---- nothing is opened
 
-pub returns-in_err-source-clause-touched : goal.returns-in_err-source-clause-touched
-returns-in_err-source-clause-touched g c = does_nothing _
+pub returns-in-Err-clause-touched : goal.returns-in-Err-clause-touched
+returns-in-Err-clause-touched g c = does_nothing _
+
+pub returns-in-Err-clause-runs : goal.returns-in-Err-clause-runs
+returns-in-Err-clause-runs g c =
+    inl (fails_first g.F.StoreInFiles.in_files c.args.tables g.F.OpenFromFiles.first c.args.ledger c.unopened.result _ (g.O.Write.contents c.args.output.now)
+    c.early.ensures.left c.unopened.ensures.left)
+
+pub returns-in-Err-list_source-clause-touched : goal.returns-in-Err-list_source-clause-touched
+returns-in-Err-list_source-clause-touched g c = does_nothing _
+
+pub returns-in-Err-list_source-clause-runs : goal.returns-in-Err-list_source-clause-runs
+returns-in-Err-list_source-clause-runs g c =
+    inl (fails_first g.F.StoreInFiles.in_files c.args.tables g.F.OpenFromFiles.first c.args.ledger c.unopened-in-Err-list_source.result _ (g.O.Write.contents c.args.output.now)
+    c.early-in-Err-list_source.ensures.left c.unopened-in-Err-list_source.ensures.left)
 
 pub returns-clause-exported : goal.returns-clause-exported
 returns-clause-exported g c = c.join_lines.ensures.exported

@@ -1,7 +1,8 @@
 -- A buffer that is empty gives what its reader gives.
-use Rattle.std.proofs.Common.{ℕ, List, Option, subst}
+use Rattle.std.proofs.Common.{ℕ, List, Option, inl, subst}
 use Rattle.jc_collector_answers.specs.Collected.{told_within}
 use Rattle.jc_collector.specs.UnionRun.{RunsNotedOrNot}
+use Rattle.jc_collector.proofs.IntoUnion.{fails_first}
 use Rattle.jc_collector.proofs.OverFiles.{prepend_nothing}
 use Rattle.jc_collector.proofs.into_union.join_lines.Goals as goal
 
@@ -12,3 +13,8 @@ returns-clause-runs g c =
     c.join_names.result (g.O.Write.contents c.args.output.now) (g.O.Write.contents c.join_names.new.output) (g.E.Write.contents c.args.errors.now) (g.E.Write.contents c.join_names.new.errors))
     (prepend_nothing given)
     (rw (c.in-Ok.ensures.capacity, c.in-Ok.ensures.empty, c.in-Ok.ensures.inner) at c.join_names.ensures.runs)
+
+pub returns-in_default-clause-runs : goal.returns-in_default-clause-runs
+returns-in_default-clause-runs g c =
+    inl (fails_first g.F.StoreInFiles.in_files c.args.target.tables g.F.OpenFromFiles.first c.args.ledger c.unopened.result _ (g.O.Write.contents c.args.output.now)
+    c.early-early.ensures.left c.unopened.ensures.left)

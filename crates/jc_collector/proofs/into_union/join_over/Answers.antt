@@ -84,8 +84,9 @@ returns-clause-runs g c = λ lawful made first found.
           closed.answered closed.ledger;
       left = IfErr-each c.close_union.result _ _
           (λ run some. some_each run.left _ _ some
-          (λ it back. λ clean l_clean none kind before begin noted. front_any _ text old new answered
-          (left (handed_back g.F.StoreInFiles.in_files first it.files) (back.1 first) it.ledger back.0 clean l_clean none kind before begin noted)))
+          (λ it back. some_each it.files _ _ back.1
+          (λ files leaves. λ clean l_clean none kind before begin noted. front_any _ text old new answered
+          (left (handed_back g.F.StoreInFiles.in_files first files) (leaves first) it.ledger back.0 clean l_clean none kind before begin noted))))
           closed.left;
       untouched = failure_in_other c.close_union.result answered (λ run. run.failure) _ _ closed.failed
           c.join_open-union.ensures.untouched (λ failure is judged. absurd (judged (failed failure (inr (inl is)))));

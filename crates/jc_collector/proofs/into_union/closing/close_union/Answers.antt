@@ -10,7 +10,7 @@ returns-in-Ok-answered-clause-answered g c = search rules
 pub returns-in-Ok-clause-left : goal.returns-in-Ok-clause-left
 returns-in-Ok-clause-left g c =
     let conn = c.args.union.present.conn in
-    let files = c.left_files-files.ensures in (
+    let files = c.left_files.ensures in (
       refl,
       λ first. record {
         was_clean = λ clean. (c.in-Ok.ensures.sound (files.clean clean.0)).clean;
