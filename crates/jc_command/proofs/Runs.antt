@@ -1,5 +1,5 @@
 -- How a run ends, from what its parts promise.
-use Rattle.std.proofs.Common.{◌≡◌, ◌≢◌, ◌⊎◌, ◌∙◌, ap, refl, sym, subst, inl, inr, Bool, true, false, List, ℕ, Option}
+use Rattle.std.proofs.Common.{◌≡◌, ◌≢◌, ◌⊎◌, ◌∙◌, ◌∷◌, [], ap, refl, sym, subst, inl, inr, Bool, true, false, List, ℕ, Option}
 use Rattle.std.specs.Prelude.{IfOk, IfErr, IsErrAnd, IsOkAnd, None, Result, Ok, Err, if◌then◌else◌}
 use Rattle.std.specs.List.{list_any}
 use Rattle.std.specs.Borrow.{Bor}
@@ -13,7 +13,7 @@ use Rattle.jc_base.specs.LogEntry.{LogEntry}
 use Rattle.jc_ledger.specs.Known.{Known}
 use Rattle.jc_ledger.specs.Lagging.{MayCatchUp}
 use Rattle.jc_command_args.specs.declared.request.Tables.{Tables}
-use Rattle.jc_collector.specs.IntoUnion.{LeadsIf}
+use Rattle.jc_collector.specs.IntoUnion.{LeadsIf, UnionFailsBy}
 use Rattle.jc_database.specs.Files.{InFiles}
 use Rattle.clap.specs.declared.error.kind.ErrorKind.{ErrorKind}
 use Rattle.clap.specs.declared.error.kind.ErrorKind.TheVariants as kind
@@ -23,6 +23,8 @@ use Rattle.jc_command_shared.specs.declared.failure.Failure.{Failure}
 use Rattle.jc_command_shared.specs.declared.failure.Failure.TheVariants as failures
 use Rattle.jc_command_shared.specs.declared.status.Status.{Status}
 use Rattle.jc_command_shared.specs.declared.status.Status.TheVariants.{Success, Refused, Misused, Failed, Unanswered}
+use Rattle.jc_command_args.specs.declared.request.NotesTask.TheVariants.{Has, ForgetAfter}
+use Rattle.jc_command_args.specs.declared.request.NotesTask.TheVariants as tasks
 use Rattle.jc_command_args.specs.declared.request.Request.{Request}
 use Rattle.jc_command_args.specs.declared.request.Request.TheVariants.{Verify, Upload, Ack}
 use Rattle.jc_command_args.specs.declared.request.Request.TheVariants as requests
@@ -36,9 +38,10 @@ use Rattle.jc_command_shared.specs.Failure.{status_of}
 use Rattle.jc_command_shared.specs.Found.{found_status, reading_found}
 use Rattle.jc_command_shared.specs.declared.found.Found.{Found}
 use Rattle.jc_command_shared.specs.declared.found.Found.TheVariants as found
-use Rattle.jc_command.specs.Failed.{FailsAsked, FailsLeaving}
-use Rattle.jc_command.specs.Run.{Begins, Collects, Devices, DoesFor, Ends, FailsBy, Leaves, leaves, Performs, PerformsAsked, Stops, StopsAsked}
+use Rattle.jc_command.specs.Failed.{FailsAsked, FailsLeaving, HasFailed}
+use Rattle.jc_command.specs.Run.{Begins, Collects, Devices, DoesFor, Ends, FailsBy, FileFailsBy, HasPerformed, Leaves, leaves, Performs, PerformsAsked, Stops, StopsAsked, UploadFileFailsBy}
 use Rattle.jc_command_shared.specs.Status.{number_of}
+use Rattle.jc_notes.specs.Each.{all_well}
 use Rattle.jc_sender.proofs.Outcomes.{told_not_misused}
 use Rattle.jc_command_args.specs.Words.{AreAnswered, AskFor}
 
@@ -52,6 +55,10 @@ judged_not_misused : (failed refused : Bool) → Misused ≡ (if failed then Fai
 judged_not_misused true refused same = cc
 judged_not_misused false true same = cc
 judged_not_misused false false same = cc
+
+each_not_misused : (well : Bool) → Misused ≡ (if well then Success else Refused) → ⊥
+each_not_misused true same = cc
+each_not_misused false same = cc
 
 one_not_misused : (Misused ≡ Success) ⊎ (Misused ≡ Refused) → ⊥
 one_not_misused (inl same) = cc
@@ -80,10 +87,12 @@ performed begun g left words (requests.CollectIntoUnion database tables list seq
     absurd (judged_not_misused (list_any is_failure printed.answers) (list_any is_refusal printed.answers) printed.is)
 performed begun g left words (requests.Acknowledged upload) given output output' errors errors' Misused asks does quiet = absurd (told_not_misused given output output' does.0)
 performed begun g left words (requests.CheckNoted database sequences) given output output' errors errors' Misused asks does quiet = absurd (one_not_misused does)
-performed begun g left words (requests.Notes sequences task) given output output' errors errors' Misused asks does quiet = absurd (one_not_misused does)
-performed begun g left words (requests.ListOwners sequences) given output output' errors errors' Misused asks does quiet = absurd (one_not_misused does)
-performed begun g left words (requests.RenameOwner sequences name other) given output output' errors errors' Misused asks does quiet = let same : Misused ≡ Success = does in cc
-performed begun g left words (requests.ReleaseSequence sequences sequence) given output output' errors errors' Misused asks does quiet = let same : Misused ≡ Success = does in cc
+performed begun g left words (requests.Notes sequences Has) given output output' errors errors' Misused asks does quiet = let same : Misused ≡ Success = does.0 in cc
+performed begun g left words (requests.Notes sequences ForgetAfter) given output output' errors errors' Misused asks does quiet = let same : Misused ≡ Success = does.0 in cc
+performed begun g left words (requests.Notes sequences tasks.Verify) given output output' errors errors' Misused asks does quiet = absurd (each_not_misused (all_well does.1.found) does.1.judged)
+performed begun g left words (requests.ListOwners sequences) given output output' errors errors' Misused asks does quiet = absurd (each_not_misused (all_well does.1.found) does.1.judged)
+performed begun g left words (requests.RenameOwner sequences name other) given output output' errors errors' Misused asks does quiet = let same : Misused ≡ Success = does.0 in cc
+performed begun g left words (requests.ReleaseSequence sequences sequence) given output output' errors errors' Misused asks does quiet = let same : Misused ≡ Success = does.0 in cc
 performed begun g left words (requests.Export database) given output output' errors errors' Misused asks does quiet = let same : Misused ≡ Success = does.0 in cc
 performed begun g left words (requests.Show database field id first last) given output output' errors errors' Misused asks does quiet = let same : Misused ≡ Success = does.0 in cc
 performed begun g left words requests.ListCodes given output output' errors errors' Misused asks does quiet = let same : Misused ≡ Success = does in cc
@@ -105,19 +114,10 @@ pub unless_failed : {T : Type 0} (r : Result T Failure) (output output' : Option
 unless_failed (Ok x) output output' keeps = tt
 unless_failed (Err failure) output output' keeps = λ other. keeps (λ is. other (ap status_of is))
 
-pub IfOk-both : {T E : Type 0} (r : Result T E) (P Q R : T → Type 0) → ((x : T) → P x → Q x → R x) → IfOk r P → IfOk r Q
-    → IfOk r R
-IfOk-both (Ok x) P Q R both p q = both x p q
-IfOk-both (Err e) P Q R both p q = tt
-
 pub IfErr-both : {T E : Type 0} (r : Result T E) (P Q R : E → Type 0) → ((e : E) → P e → Q e → R e) → IfErr r P → IfErr r Q
     → IfErr r R
 IfErr-both (Ok x) P Q R both p q = tt
 IfErr-both (Err e) P Q R both p q = both e p q
-
-pub IfErr-each : {T E : Type 0} (r : Result T E) (P Q : E → Type 0) → ((e : E) → P e → Q e) → IfErr r P → IfErr r Q
-IfErr-each (Ok x) P Q each p = tt
-IfErr-each (Err e) P Q each p = each e p
 
 pub at_ok : {T E : Type 0} (r : Result T E) (x : T) (P : T → Type 0) → r ≡ Ok x → IfOk r P → P x
 at_ok r x P is p = subst (λ d. IfOk d P) is p
@@ -138,26 +138,21 @@ pub err_of : {T U L N : Type 0} (made : Result U (FailedRun L N)) (r : Result T 
 err_of (Ok u) r Q is p = tt
 err_of (Err run) r Q is p = at_err r run.failure Q is p
 
--- ... and the request fails by it
-pub fails_of : {T U L N : Type 0} (made : Result U (FailedRun L N)) (r : Result T Failure) (told : List ℕ → Option (List ℕ))
-    (request asked : Request) (given : Option (List ℕ)) → asked ≡ request → IfErr made (λ run. r ≡ Err run.failure)
-    → IfErr r (FailsBy told request given) → IfErr made (λ run. FailsBy told asked given run.failure)
-fails_of made r told request asked given same is p =
-    subst (λ (q : Request). IfErr made (λ run. FailsBy told q given run.failure)) (sym same) (err_of made r (FailsBy told request given) is p)
+pub fails_one : {S C L N : Type 0} (begun : Begins) (g : Devices S C L N) (request asked : Request) (given old new : Option (List ℕ)) (run : FailedRun L N)
+    → asked ≡ request → HasFailed begun g request given old new run → HasFailed begun g asked given old new run
+fails_one begun g request asked given old new run same fails = subst (λ (q : Request). HasFailed begun g q given old new run) (sym same) fails
 
--- what a request leaves that fails
-pub leaves_as : {S C L N U : Type 0} (begun : Begins) (g : Devices S C L N) (made : Result U (FailedRun L N)) (request asked : Request)
-    (given old new : Option (List ℕ)) → asked ≡ request → IfErr made (λ run. FailsLeaving begun g request given old new run.left)
-    → IfErr made (λ run. FailsLeaving begun g asked given old new run.left)
-leaves_as begun g made request asked given old new same leaves =
-    subst (λ (q : Request). IfErr made (λ run. FailsLeaving begun g q given old new run.left)) (sym same) leaves
-
-pub leaves_one : {S C L N : Type 0} (begun : Begins) (g : Devices S C L N) (request asked : Request) (given old new : Option (List ℕ))
-    (left is : Option (NotedLeft L N)) → asked ≡ request → is ≡ left → FailsLeaving begun g request given old new left
-    → FailsLeaving begun g asked given old new is
-leaves_one {L = L} {N = N} begun g request asked given old new left is same same_left leaves =
-    subst (λ (q : Request). FailsLeaving begun g q given old new is) (sym same)
-    (subst (λ (l : Option (NotedLeft L N)). FailsLeaving begun g request given old new l) (sym same_left) leaves)
+-- what is made of an error is what the request fails by
+pub fails_as : {S C L N T U : Type 0} (begun : Begins) (g : Devices S C L N) (made : Result U (FailedRun L N)) (r : Result T Failure) (request asked : Request) (given old new : Option (List ℕ))
+    → asked ≡ request → IfErr made (λ run. r ≡ Err run.failure) → IfErr made (λ run. FailsLeaving begun g request given old new run.left)
+    → IfErr r (FailsBy begun.told request given) → IfErr r (λ failure. status_of failure ≢ Failed → Keeps old new)
+    → IfErr made (HasFailed begun g asked given old new)
+fails_as begun g (Ok u) r request asked given old new same is leaves fails keeps = tt
+fails_as begun g (Err run) r request asked given old new same is leaves fails keeps = fails_one begun g request asked given old new run same (record {
+  why = at_err r run.failure (FailsBy begun.told request given) is fails;
+  leaves = leaves;
+  kept = at_err r run.failure (λ failure. status_of failure ≢ Failed → Keeps old new) is keeps;
+})
 
 pub err_and : {U E : Type 0} (made : Result U E) (P Q : E → Type 0) → IsErrAnd made P → ((e : E) → P e → Q e) → IfErr made Q
 err_and (Ok u) P Q is each = absurd is
@@ -167,11 +162,28 @@ pub err_is : {U E : Type 0} (made : Result U E) (run : E) (Q : E → Type 0) →
 err_is (Ok u) run Q is it = absurd is
 err_is (Err e) run Q is it = subst Q (sym is) it
 
--- what writes nothing there is quiet
-pub stays_quiet : {U E : Type 0} (made : Result U E) (Says : U → Type 0) (errors : Option (List ℕ))
-    → IfOk made (λ u. Says u → Keeps errors errors)
-stays_quiet (Ok u) Says errors = λ says. Keeps-refl errors
-stays_quiet (Err e) Says errors = tt
+-- why a file that is read fails a request, or an upload, or a folder of notes that isn't opened
+pub by_file : (file : Bor (List ℕ)) (failure : Failure)
+    → (failure ≡ failures.CannotOpen file) ⊎ ((failure ≡ failures.ReadFailed) ⊎ ((failure ≡ failures.WriteFailed) ⊎ (failure ≡ failures.OutOfMemory)))
+    → FileFailsBy file.now failure
+by_file file failure (inl is) = subst (FileFailsBy file.now) (sym is) refl
+by_file file failure (inr (inl is)) = subst (FileFailsBy file.now) (sym is) tt
+by_file file failure (inr (inr (inl is))) = subst (FileFailsBy file.now) (sym is) tt
+by_file file failure (inr (inr (inr is))) = subst (FileFailsBy file.now) (sym is) tt
+
+pub by_upload : (file : Bor (List ℕ)) (failure : Failure)
+    → (failure ≡ failures.CannotOpen file) ⊎ ((failure ≡ failures.BadUpload) ⊎ ((failure ≡ failures.ReadFailed) ⊎ ((failure ≡ failures.WriteFailed) ⊎ (failure ≡ failures.OutOfMemory))))
+    → UploadFileFailsBy file.now failure
+by_upload file failure (inl is) = subst (UploadFileFailsBy file.now) (sym is) refl
+by_upload file failure (inr (inl is)) = subst (UploadFileFailsBy file.now) (sym is) tt
+by_upload file failure (inr (inr (inl is))) = subst (UploadFileFailsBy file.now) (sym is) tt
+by_upload file failure (inr (inr (inr (inl is)))) = subst (UploadFileFailsBy file.now) (sym is) tt
+by_upload file failure (inr (inr (inr (inr is)))) = subst (UploadFileFailsBy file.now) (sym is) tt
+
+pub by_folder : (folder : Bor (List ℕ)) (database list : List ℕ) (is failure : Failure) → is ≡ failure
+    → (failure ≡ failures.CannotOpen folder) ⊎ (failure ≡ failures.OutOfMemory) → (is ≡ failures.CannotOpen folder) ⊎ UnionFailsBy database (list ∷ []) is
+by_folder folder database list is failure same (inl cannot) = inl (same ∙ cannot)
+by_folder folder database list is failure same (inr none) = inr (subst (UnionFailsBy database (list ∷ [])) (sym (same ∙ none)) tt)
 
 -- where nothing but a write fails a device does
 pub write_fails : {T : Type 0} (r : Result T Failure) (output output' : Option (List ℕ)) → IfErr r (λ failure. failure ≡ failures.WriteFailed)
@@ -179,9 +191,9 @@ pub write_fails : {T : Type 0} (r : Result T Failure) (output output' : Option (
 write_fails (Ok x) output output' fails = tt
 write_fails (Err failure) output output' fails = λ other. absurd (other (ap status_of fails))
 
-pub does_as : (request asked : Request) (old new : Option (List Deed)) → asked ≡ request → DoesFor request old new
-    → DoesFor asked old new
-does_as request asked old new same does = subst (λ (q : Request). DoesFor q old new) (sym same) does
+pub does_as : (told : List ℕ → Option (List ℕ)) (request asked : Request) (given : Option (List ℕ)) (old new : Option (List Deed)) → asked ≡ request
+    → DoesFor told request given old new → DoesFor told asked given old new
+does_as told request asked given old new same does = subst (λ (q : Request). DoesFor told q given old new) (sym same) does
 
 -- what was asked for fails
 pub failed : (told : List ℕ → Option (List ℕ)) (words : List Text) (request : Request) (given output output' : Option (List ℕ)) (failure : Failure)
@@ -422,13 +434,23 @@ leads_from made image files Asked Holds Step each leads clean kind before begin 
 -- ---- what was done, in other words
 
 pub performs_as : {S C L N : Type 0} (begun : Begins) (g : Devices S C L N) (files shown : Option C) (ledger noted : Option N) (deeds : Option (List Deed)) (request asked : Request)
-    (given old new : Option (List ℕ)) (status is : Status) → asked ≡ request → shown ≡ files → noted ≡ ledger → is ≡ status
-    → Performs begun g (leaves files ledger deeds) request given old new status → Performs begun g (leaves shown noted deeds) asked given old new is
-performs_as {S} {C} {L} {N} begun g files shown ledger noted deeds request asked given old new status is same_request same_files same_ledger same_status does =
-    subst (λ (r : Request). Performs begun g (leaves shown noted deeds) r given old new is) (sym same_request)
-    (subst (λ (f : Option C). Performs begun g (leaves f noted deeds) request given old new is) (sym same_files)
-    (subst (λ (l : Option N). Performs begun g (leaves files l deeds) request given old new is) (sym same_ledger)
-    (subst (Performs begun g (leaves files ledger deeds) request given old new) (sym same_status) does)))
+    (given old new errors errors' : Option (List ℕ)) (status is : Status) → asked ≡ request → shown ≡ files → noted ≡ ledger → is ≡ status → (status ≡ Success → Keeps errors errors')
+    → Performs begun g (leaves files ledger deeds) request given old new status → HasPerformed begun g (leaves shown noted deeds) asked given old new errors errors' is
+performs_as {S} {C} {L} {N} begun g files shown ledger noted deeds request asked given old new errors errors' status is same_request same_files same_ledger same_status quiet does = record {
+  performs =
+      subst (λ (r : Request). Performs begun g (leaves shown noted deeds) r given old new is) (sym same_request)
+      (subst (λ (f : Option C). Performs begun g (leaves f noted deeds) request given old new is) (sym same_files)
+      (subst (λ (l : Option N). Performs begun g (leaves files l deeds) request given old new is) (sym same_ledger)
+      (subst (Performs begun g (leaves files ledger deeds) request given old new) (sym same_status) does)));
+  quiet = λ success. quiet (sym same_status ∙ success);
+}
+
+-- ... by what writes nothing on standard error, and has no notes
+pub performs_still : {S C L N : Type 0} (begun : Begins) (g : Devices S C L N) (files shown : Option C) (ledger : Option N) (deeds : Option (List Deed)) (request asked : Request)
+    (given old new errors : Option (List ℕ)) (status is : Status) → asked ≡ request → shown ≡ files → is ≡ status
+    → Performs begun g (leaves files ledger deeds) request given old new status → HasPerformed begun g (leaves shown ledger deeds) asked given old new errors errors is
+performs_still begun g files shown ledger deeds request asked given old new errors status is same_request same_files same_status does =
+    performs_as begun g files shown ledger ledger deeds request asked given old new errors errors status is same_request same_files refl same_status (λ success. Keeps-refl errors) does
 
 pub collects_as : {S C L N : Type 0} (begun : Begins) (g : Devices S C L N) (left : Leaves C N) (database : List ℕ) (at : Option (List ℕ)) (made : Tables) (named uploads : List (Bor (List ℕ)))
     (given old new : Option (List ℕ)) (status : Status) → named ≡ uploads → Collects begun g left database at made named given old new status

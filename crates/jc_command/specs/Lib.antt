@@ -1,2 +1,3 @@
 pub mod Failed
+pub mod Notes
 pub mod Run

@@ -7,6 +7,7 @@ use Rattle.sqlite.specs.Recovery.{Image}
 use Rattle.jc_base.specs.Journal.{Journal}
 use Rattle.jc_base.specs.LogEntry.{LogEntry}
 use Rattle.jc_keeper.specs.Listing.{export_text}
+use Rattle.jc_keeper.specs.declared.form.Shape.{Shape}
 use Rattle.jc_database.specs.Files.{InFiles}
 use Rattle.jc_ledger.specs.declared.ledger.Ledger as ledgers
 use Rattle.jc_ledger.specs.Kept.{NoneCollide}
@@ -19,9 +20,9 @@ use Rattle.jc_ledger_files.specs.NotesOf.{notes_of}
 use Rattle.jc_ledger_files.specs.Owned.{owner_found}
 use Rattle.jc_ledger_files.specs.Windows.{known_in}
 use Rattle.jc_collector.specs.declared.health.Health.{Health}
-use Rattle.jc_command_shared.specs.Deeds.{ChangesOnly, Deed, OpensOnce}
+use Rattle.jc_command_shared.specs.Deeds.{Deed, OpensOnce}
 use Rattle.jc_command_shared.specs.declared.failure.Failure.{Failure}
-use Rattle.jc_command_shared.specs.declared.failure.Failure.TheVariants.{BadId, BadLine, BadUpload, CannotOpen, OutOfMemory, ReadFailed, WriteFailed}
+use Rattle.jc_command_shared.specs.declared.failure.Failure.TheVariants.{BadUpload, CannotOpen, OutOfMemory, ReadFailed, WriteFailed}
 use Rattle.jc_command_shared.specs.declared.status.Status.{Status}
 use Rattle.jc_command_shared.specs.declared.status.Status.TheVariants.{Success, Refused, Misused, Failed, Unanswered}
 use Rattle.jc_command_args.specs.declared.request.Request.{Request}
@@ -47,15 +48,16 @@ use Rattle.jc_sender.specs.Sent.{PrintsSomeUpload}
 use Rattle.jc_sender.specs.Acknowledged.{TellsOfSome, TellsOfUpload}
 use Rattle.jc_sender.specs.Failing.{AckFailsBy, UploadFailsBy}
 use Rattle.jc_sender.specs.Taken.{MayMoveOn, PrintsSomePoint}
-use Rattle.jc_notes.specs.Changed.{IsInFolder}
 use Rattle.jc_sender.specs.Verdict.{PrintsReadingIn, PrintsSomeReading}
 use Rattle.jc_command_args.specs.Words.{AreWrong, AskFor, AskForHelp}
+use Rattle.jc_command.specs.Notes.{ChangesNotes, ChangesOwners, ChangesSequence, FolderFailsBy, ListsOwners, NotesFailBy, ReleaseFailsBy, ReleasesSequence, RenamesOwner, WorksOnNotes}
 
 -- ---- what is done over a database
 
 -- What a run begins with: what its database's files have, what the files of sequences' windows note, the machines that
 -- sequences belong to, what is still noted of the finished databases, and of those that were set aside, the entries that came
--- in earlier runs, what is told of the files that are read, by their names, and what was done to files before.
+-- in earlier runs, what is told of the files that are read, by their names, what was done to files before, and how entries
+-- have to be shown.
 pub record Begins : Type 1 where
   pub image : Image
   pub noted : Known
@@ -65,9 +67,10 @@ pub record Begins : Type 1 where
   pub came : LogEntry → Type 0
   pub told : List ℕ → Option (List ℕ)
   pub deeds : Option (List Deed)
+  pub shape : Shape
 
-abbrev pub begins_with : Image → (windows : WindowName → List ℕ) → (finished aside : Journal) → (came : LogEntry → Type 0) → (told : List ℕ → Option (List ℕ)) → (deeds : Option (List Deed)) → Begins
-begins_with image windows finished aside came told deeds = record {
+abbrev pub begins_with : Image → (windows : WindowName → List ℕ) → (finished aside : Journal) → (came : LogEntry → Type 0) → (told : List ℕ → Option (List ℕ)) → (deeds : Option (List Deed)) → Shape → Begins
+begins_with image windows finished aside came told deeds shape = record {
   image = image;
   noted = known_in (λ w. notes_of (windows w));
   owner = owner_found windows;
@@ -76,6 +79,7 @@ begins_with image windows finished aside came told deeds = record {
   came = came;
   told = told;
   deeds = deeds;
+  shape = shape;
 }
 
 -- What is still noted of earlier databases. Notes may lag behind one that was set aside, and behind no other but the present
@@ -179,8 +183,8 @@ module _ {S C L N : Type 0} (begun : Begins) (g : Devices S C L N) (left : Leave
   -- What standard output gains when a request is performed, over what standard input gives and what is told of files, the status, and what becomes of
   -- the files of its database: from `verify` a reading, from `inspect` what an upload says, from `upload` an upload, from
   -- `ack` a resume point, from `acknowledged` what answers say of an upload, from `collect` an answer to each upload, from
-  -- `export` and `show` a listing, and from `check` and `migrate` what there is of a journal. Of notes and owners nothing is
-  -- said here but the status.
+  -- `export` and `show` a listing, from `check` and `migrate` what there is of a journal, and from `notes` and `owners` what
+  -- is noted in a folder.
   abbrev pub Performs : Request → (given old new : Option (List ℕ)) → Status → Type 0
   Performs (Verify kind file) given old new status =
       PrintsSomeReading kind status old new
@@ -204,15 +208,22 @@ module _ {S C L N : Type 0} (begun : Begins) (g : Devices S C L N) (left : Leave
   Performs (request.Export database) given old new status = (status ≡ Success) × LeadsOn (Prints export_text old new)
   Performs (Show database field id first last) given old new status =
       (status ≡ Success)
-      × LeadsOn (PrintsAsked (option_map (λ name. name.now) field) (option_map (λ digits. digits.now) id) first last old new)
+      × LeadsOn (PrintsAsked begun.shape (option_map (λ name. name.now) field) (option_map (λ digits. digits.now) id) first last old new)
   Performs (Check database) given old new status = Checks old new status
   Performs (CheckNoted database sequences) given old new status = IsJudged status
-  Performs (Notes sequences task) given old new status = IsJudged status
-  Performs (ListOwners sequences) given old new status = IsJudged status
-  Performs (RenameOwner sequences name other) given old new status = status ≡ Success
-  Performs (ReleaseSequence sequences sequence) given old new status = status ≡ Success
+  Performs (Notes sequences task) given old new status = WorksOnNotes begun.told sequences.now task given old new begun.deeds left.deeds status
+  Performs (ListOwners sequences) given old new status = ListsOwners begun.told sequences.now old new status
+  Performs (RenameOwner sequences name other) given old new status =
+      (status ≡ Success) × RenamesOwner begun.told sequences.now name.now other.now old new begun.deeds left.deeds
+  Performs (ReleaseSequence sequences sequence) given old new status =
+      (status ≡ Success) × ReleasesSequence begun.told sequences.now sequence.now old new begun.deeds left.deeds
   Performs (Migrate database tables) given old new status = Migrates tables old new status
   Performs ListCodes given old new status = status ≡ Success
+
+  -- It is performed, and nothing is printed on standard error if all is well.
+  pub record HasPerformed (request : Request) (given output output' errors errors' : Option (List ℕ)) (status : Status) : Type 0 where
+    pub performs : Performs request given output output' status
+    pub quiet : status ≡ Success → Keeps errors errors'
 
 -- ---- why nothing is done
 
@@ -223,17 +234,6 @@ FileFailsBy file ReadFailed = ⊤
 FileFailsBy file WriteFailed = ⊤
 FileFailsBy file OutOfMemory = ⊤
 FileFailsBy file _ = ⊥
-
--- Why a command over notes fails: their folder can't be opened, a line of standard input isn't one that it reads, or a
--- device or memory fails.
-abbrev pub NotesFailBy : (folder : List ℕ) → Failure → Type 0
-NotesFailBy folder (CannotOpen path) = path.now ≡ folder
-NotesFailBy folder (BadLine line) = ⊤
-NotesFailBy folder BadId = ⊤
-NotesFailBy folder ReadFailed = ⊤
-NotesFailBy folder WriteFailed = ⊤
-NotesFailBy folder OutOfMemory = ⊤
-NotesFailBy folder _ = ⊥
 
 -- Why `acknowledged` fails: its file can't be opened or read, or is no such upload.
 abbrev pub UploadFileFailsBy : (file : List ℕ) → Failure → Type 0
@@ -257,45 +257,45 @@ FailsBy told (Show database field id first last) given failure =
     ShowFailsBy database.now (option_map (λ name. name.now) field) (option_map (λ digits. digits.now) id) failure
 FailsBy told (Check database) given failure = CheckFailsBy database.now failure
 FailsBy told (CheckNoted database sequences) given failure = (failure ≡ ReadFailed) ⊎ CheckFailsBy database.now failure
-FailsBy told (Notes sequences task) given failure = NotesFailBy sequences.now failure
-FailsBy told (ListOwners sequences) given failure = NotesFailBy sequences.now failure
-FailsBy told (RenameOwner sequences old new) given failure = NotesFailBy sequences.now failure
-FailsBy told (ReleaseSequence sequences sequence) given failure = NotesFailBy sequences.now failure
+FailsBy told (Notes sequences task) given failure = NotesFailBy sequences.now task given failure
+FailsBy told (ListOwners sequences) given failure = FolderFailsBy sequences.now failure
+FailsBy told (RenameOwner sequences old new) given failure = FolderFailsBy sequences.now failure
+FailsBy told (ReleaseSequence sequences sequence) given failure = ReleaseFailsBy sequences.now sequence.now failure
 FailsBy told (Migrate database tables) given failure = CheckFailsBy database.now failure
 FailsBy told ListCodes given failure = failure ≡ WriteFailed
 
 -- ---- what is done to files
 
 -- What a request does to files, whether it is performed or fails: it opens its database, once or not at all, and makes,
--- renames or removes no other file but that of an export or of a resume point and the one beside it. That file stays as it
--- was, or a new one takes its place at once, in the case of a resume point one with the text of such a point, and no more.
--- Beside that `collect` notes sequences in a folder, of which the notes' ledger speaks.
-abbrev pub DoesFor : Request → (old new : Option (List Deed)) → Type 0
-DoesFor (Verify kind file) old new = new ≡ old
-DoesFor (Inspect file most_entries most_fields most_bytes most_windows) old new = new ≡ old
-DoesFor (Upload source limit most_bytes whole) old new = new ≡ old
-DoesFor (Ack source) old new = MayMoveOn source.resume.now old new
-DoesFor (Acknowledged upload) old new = new ≡ old
-DoesFor (Collect database tables uploads then_export) old new =
+-- renames or removes no other file but that of an export or of a resume point and the one beside it, or files of notes. That
+-- file stays as it was, or a new one takes its place at once, in the case of a resume point one with the text of such a
+-- point, and no more. Beside that `collect` notes sequences in a folder, of which the notes' ledger speaks.
+abbrev pub DoesFor : (told : List ℕ → Option (List ℕ)) → Request → (given : Option (List ℕ)) → (old new : Option (List Deed)) → Type 0
+DoesFor told (Verify kind file) given old new = new ≡ old
+DoesFor told (Inspect file most_entries most_fields most_bytes most_windows) given old new = new ≡ old
+DoesFor told (Upload source limit most_bytes whole) given old new = new ≡ old
+DoesFor told (Ack source) given old new = MayMoveOn source.resume.now old new
+DoesFor told (Acknowledged upload) given old new = new ≡ old
+DoesFor told (Collect database tables uploads then_export) given old new =
     OpensAndMayReplace database.now (option_map (λ name. name.now) then_export) old new
-DoesFor (CollectListed database tables list then_export) old new =
+DoesFor told (CollectListed database tables list then_export) given old new =
     OpensAndMayReplace database.now (option_map (λ name. name.now) then_export) old new
-DoesFor (CollectIntoUnion database tables list sequences most_windows then_export) old new =
+DoesFor told (CollectIntoUnion database tables list sequences most_windows then_export) given old new =
     OpensAndMayReplace database.now (option_map (λ name. name.now) then_export) old new
-DoesFor (request.Export database) old new = OpensOnce database.now old new
-DoesFor (Show database field id first last) old new = OpensOnce database.now old new
-DoesFor (Check database) old new = OpensOnce database.now old new
-DoesFor (CheckNoted database sequences) old new = OpensOnce database.now old new
-DoesFor (Notes sequences task) old new = ChangesOnly (IsInFolder sequences.now) old new
-DoesFor (ListOwners sequences) old new = new ≡ old
-DoesFor (RenameOwner sequences name other) old new = ChangesOnly (IsInFolder sequences.now) old new
-DoesFor (ReleaseSequence sequences sequence) old new = ChangesOnly (IsInFolder sequences.now) old new
-DoesFor (Migrate database tables) old new = OpensOnce database.now old new
-DoesFor ListCodes old new = new ≡ old
+DoesFor told (request.Export database) given old new = OpensOnce database.now old new
+DoesFor told (Show database field id first last) given old new = OpensOnce database.now old new
+DoesFor told (Check database) given old new = OpensOnce database.now old new
+DoesFor told (CheckNoted database sequences) given old new = OpensOnce database.now old new
+DoesFor told (Notes sequences task) given old new = ChangesNotes told sequences.now task given old new
+DoesFor told (ListOwners sequences) given old new = new ≡ old
+DoesFor told (RenameOwner sequences name other) given old new = ChangesOwners told sequences.now name.now other.now old new
+DoesFor told (ReleaseSequence sequences sequence) given old new = ChangesSequence told sequences.now sequence.now old new
+DoesFor told (Migrate database tables) given old new = OpensOnce database.now old new
+DoesFor told ListCodes given old new = new ≡ old
 
 -- What arguments have it do: nothing, unless they ask for something.
-abbrev pub DoesAsked : List Text → (old new : Option (List Deed)) → Type 0
-DoesAsked words old new = (new ≡ old) ⊎ ((request : Request) × AskFor words request × DoesFor request old new)
+abbrev pub DoesAsked : (told : List ℕ → Option (List ℕ)) → List Text → (given : Option (List ℕ)) → (old new : Option (List Deed)) → Type 0
+DoesAsked told words given old new = (new ≡ old) ⊎ ((request : Request) × AskFor words request × DoesFor told request given old new)
 
 -- ---- a run
 

@@ -1,12 +1,9 @@
 //! What commands do with the notes in a folder.
 
-ghost use Rattle.std.specs.Prelude.{◌≢◌, IfErr, IfOk};
+ghost use Rattle.std.specs.Prelude.{◌≢◌, IfErr, IfOk, OnOk};
 ghost use Rattle.std.specs.Io.KnownBytes.{Keeps};
-ghost use Rattle.jc_collector.specs.Compared.{IsJudged};
-ghost use Rattle.jc_command_shared.specs.Deeds.{ChangesOnly};
 ghost use Rattle.jc_command_shared.specs.Failure.{status_of};
-ghost use Rattle.jc_notes.specs.Changed.{IsInFolder};
-ghost use Rattle.jc_command.specs.Run.{NotesFailBy};
+ghost use Rattle.jc_command.specs.Notes.{ChangesNotes, ChangesOwners, FolderFailsBy, ListsOwners, NotesFailBy, RenamesOwner, WorksOnNotes};
 
 use crate::begun::Begun;
 use crate::note_folders::NoteFolders;
@@ -25,11 +22,12 @@ pub(crate) fn work_on_notes<'w, Y: System, S: Begun, N: NoteFolders<S>, I: Read,
     input: &mut I,
     output: &mut O,
 ) -> Result<Status, Failure<'w>>
-    ensures judged { IfOk result IsJudged }
-    ensures failed { IfErr result (NotesFailBy sequences.now) }
+    ensures worked { IfOk result (WorksOnNotes Y.told sequences.now task (I.remaining input.old)
+        (O.contents output.old) (O.contents output.new) (Y.deeds rt.old) (Y.deeds rt.new)) }
+    ensures failed { IfErr result (NotesFailBy sequences.now task (I.remaining input.old)) }
     ensures untouched { IfErr result (λ failure. status_of failure ≢ Status.Failed
         → Keeps (O.contents output.old) (O.contents output.new)) }
-    ensures touched { ChangesOnly (IsInFolder sequences.now) (Y.deeds rt.old) (Y.deeds rt.new) }
+    ensures touched { ChangesNotes Y.told sequences.now task (I.remaining input.old) (Y.deeds rt.old) (Y.deeds rt.new) }
 {
     match task {
         NotesTask::Has => {
@@ -55,8 +53,8 @@ pub(crate) fn list_all_owners<'w, Y: System, S: Begun, N: NoteFolders<S>, O: Wri
     sequences: &'w str,
     output: &mut O,
 ) -> Result<Status, Failure<'w>>
-    ensures judged { IfOk result IsJudged }
-    ensures failed { IfErr result (NotesFailBy sequences.now) }
+    ensures listed { IfOk result (ListsOwners Y.told sequences.now (O.contents output.old) (O.contents output.new)) }
+    ensures failed { IfErr result (FolderFailsBy sequences.now) }
     ensures untouched { IfErr result (λ failure. status_of failure ≢ Status.Failed
         → Keeps (O.contents output.old) (O.contents output.new)) }
 {
@@ -74,10 +72,12 @@ pub(crate) fn rename_all<'w, Y: System, S: Begun, N: NoteFolders<S>, O: Write>(
     new: &str,
     output: &mut O,
 ) -> Result<(), Failure<'w>>
-    ensures failed { IfErr result (NotesFailBy sequences.now) }
+    ensures renamed { OnOk result (RenamesOwner Y.told sequences.now old.now new.now
+        (O.contents output.old) (O.contents output.new) (Y.deeds rt.old) (Y.deeds rt.new)) }
+    ensures failed { IfErr result (FolderFailsBy sequences.now) }
     ensures untouched { IfErr result (λ failure. status_of failure ≢ Status.Failed
         → Keeps (O.contents output.old) (O.contents output.new)) }
-    ensures touched { ChangesOnly (IsInFolder sequences.now) (Y.deeds rt.old) (Y.deeds rt.new) }
+    ensures touched { ChangesOwners Y.told sequences.now old.now new.now (Y.deeds rt.old) (Y.deeds rt.new) }
 {
     let windows = folders.list(sequences)?;
     rename_owner(rt, sequences, &windows, old, new, output)

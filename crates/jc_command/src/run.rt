@@ -4,10 +4,9 @@ ghost use Rattle.std.specs.Prelude.{◌≡◌, ◌≢◌, ◌⊎◌, ◌≤◌, 
 ghost use Rattle.std.specs.Io.KnownBytes.{Appends, Keeps};
 ghost use Rattle.clap.specs.Words.{kind_of};
 ghost use Rattle.jc_command_args.specs.Answer.{IsAskedFor};
-ghost use Rattle.jc_command_shared.specs.Failure.{status_of};
 ghost use Rattle.jc_command_shared.specs.Status.{number_of};
-ghost use Rattle.jc_command.specs.Failed.{FailsAsked, FailsLeaving};
-ghost use Rattle.jc_command.specs.Run.{DoesAsked, DoesFor, Ends, EndsWithin, FailsBy, Performs, PerformsAsked, Stops, begins_with, devices, leaves};
+ghost use Rattle.jc_command.specs.Failed.{FailsAsked, HasFailed};
+ghost use Rattle.jc_command.specs.Run.{DoesAsked, DoesFor, Ends, EndsWithin, HasPerformed, PerformsAsked, Stops, begins_with, devices, leaves};
 
 use crate::begun::{Begun, BegunBy};
 use crate::note_folders::{NoteFolders, Sequences};
@@ -169,11 +168,11 @@ pub fn command<'a, Y: Databases, F: OpenFromFiles, S: Begun, I: Read, O: Output,
 ) -> u8
     ensures status { result ≤ 4 }
     ensures ended { (status : Status) → status ≢ Status.Failed → result ≡ number_of status
-        → EndsWithin (begins_with F.first S.windows S.finished S.aside S.came Y.told (Y.deeds rt.old))
+        → EndsWithin (begins_with F.first S.windows S.finished S.aside S.came Y.told (Y.deeds rt.old) (O.entry_shape output.old))
         (devices F.in_files ⟦<Sequences<'a, S> as Ledger>⟧) (Y.deeds rt.new) (map string_bytes words.items) (I.remaining input.old)
         (O.contents output.old) (O.contents output.new) (E.contents errors.old) (E.contents errors.new) status }
     // However it ends, this alone was done to files.
-    ensures touched { DoesAsked (map string_bytes words.items) (Y.deeds rt.old) (Y.deeds rt.new) }
+    ensures touched { DoesAsked Y.told (map string_bytes words.items) (I.remaining input.old) (Y.deeds rt.old) (Y.deeds rt.new) }
 {
     run_command::<_, F, S, _, _, _, _>(rt, folders, start, words, input, output, errors).status
 }
@@ -205,19 +204,20 @@ pub fn run_command<
     ensures status { result.status ≤ 4 }
     // Where something failed, it says so only if files come back: what was stored and printed before is there too.
     ensures ended { (status : Status) → (status ≡ Status.Failed → IsSome result.files) → result.status ≡ number_of status
-        → Ends (begins_with F.first S.windows S.finished S.aside S.came Y.told (Y.deeds rt.old))
+        → Ends (begins_with F.first S.windows S.finished S.aside S.came Y.told (Y.deeds rt.old) (O.entry_shape output.old))
         (devices F.in_files ⟦<N::Notes as Ledger>⟧) (leaves result.files result.ledger (Y.deeds rt.new)) (map string_bytes words.items) (I.remaining input.old)
         (O.contents output.old) (O.contents output.new) (E.contents errors.old) (E.contents errors.new) status }
-    // Whatever the status is, either what was asked for is performed, or what is left of a union has what was printed.
+    // Whatever the status is, either what was asked for is performed, or what is left of a union has what was printed, or is as it
+    // was opened.
     ensures failed { (status : Status) → result.status ≡ number_of status
-        → PerformsAsked (begins_with F.first S.windows S.finished S.aside S.came Y.told (Y.deeds rt.old))
+        → PerformsAsked (begins_with F.first S.windows S.finished S.aside S.came Y.told (Y.deeds rt.old) (O.entry_shape output.old))
         (devices F.in_files ⟦<N::Notes as Ledger>⟧) (leaves result.files result.ledger (Y.deeds rt.new)) (map string_bytes words.items) (I.remaining input.old)
         (O.contents output.old) (O.contents output.new) status
-        ⊎ FailsAsked (begins_with F.first S.windows S.finished S.aside S.came Y.told (Y.deeds rt.old))
+        ⊎ FailsAsked (begins_with F.first S.windows S.finished S.aside S.came Y.told (Y.deeds rt.old) (O.entry_shape output.old))
         (devices F.in_files ⟦<N::Notes as Ledger>⟧) (map string_bytes words.items) (I.remaining input.old)
         (O.contents output.old) (O.contents output.new) result.left }
     // However it ends, this alone was done to files.
-    ensures touched { DoesAsked (map string_bytes words.items) (Y.deeds rt.old) (Y.deeds rt.new) }
+    ensures touched { DoesAsked Y.told (map string_bytes words.items) (I.remaining input.old) (Y.deeds rt.old) (Y.deeds rt.new) }
 {
     match answered::<_, F, S, _, _, _, _>(
         rt,
@@ -262,15 +262,15 @@ fn answered<
     output: &mut O,
     errors: &mut E,
 ) -> Result<Done<F::Files, N::Notes>, FailedRun<'w, F::Left, N::Notes>>
-    ensures ended { IfOk result (λ done. Ends (begins_with F.first S.windows S.finished S.aside S.came Y.told (Y.deeds rt.old))
+    ensures ended { IfOk result (λ done. Ends (begins_with F.first S.windows S.finished S.aside S.came Y.told (Y.deeds rt.old) (O.entry_shape output.old))
         (devices F.in_files ⟦<N::Notes as Ledger>⟧) (leaves done.files done.ledger (Y.deeds rt.new)) (map string_bytes words.entry.now) (I.remaining input.old)
         (O.contents output.old) (O.contents output.new) (E.contents errors.old) (E.contents errors.new) done.status) }
     ensures stopped { IfErr result (λ run. Stops Y.told (map string_bytes words.entry.now) (I.remaining input.old) (O.contents output.old)
         (O.contents output.new) run.failure) }
-    ensures left { IfErr result (λ run. FailsAsked (begins_with F.first S.windows S.finished S.aside S.came Y.told (Y.deeds rt.old))
+    ensures left { IfErr result (λ run. FailsAsked (begins_with F.first S.windows S.finished S.aside S.came Y.told (Y.deeds rt.old) (O.entry_shape output.old))
         (devices F.in_files ⟦<N::Notes as Ledger>⟧) (map string_bytes words.entry.now) (I.remaining input.old)
         (O.contents output.old) (O.contents output.new) run.left) }
-    ensures touched { DoesAsked (map string_bytes words.entry.now) (Y.deeds rt.old) (Y.deeds rt.new) }
+    ensures touched { DoesAsked Y.told (map string_bytes words.entry.now) (I.remaining input.old) (Y.deeds rt.old) (Y.deeds rt.new) }
 {
     match parse(rt.alloc(), words) {
         Ok(request) => perform::<_, F, S, _, _, _, _>(
@@ -280,7 +280,7 @@ fn answered<
     }
 }
 
-#[tactic(auto, using(crate::proofs::Runs::unless_failed, jc_collector::specs::ExportedLaws::does_nothing))]
+#[tactic(auto, using(jc_collector::specs::ExportedLaws::does_nothing))]
 fn perform<
     'w,
     Y: Databases,
@@ -299,17 +299,13 @@ fn perform<
     output: &mut O,
     errors: &mut E,
 ) -> Result<Done<F::Files, N::Notes>, FailedRun<'w, F::Left, N::Notes>>
-    ensures performed { IfOk result (λ done. Performs (begins_with F.first S.windows S.finished S.aside S.came Y.told (Y.deeds rt.old))
+    ensures performed { IfOk result (λ done. HasPerformed (begins_with F.first S.windows S.finished S.aside S.came Y.told (Y.deeds rt.old) (O.entry_shape output.old))
         (devices F.in_files ⟦<N::Notes as Ledger>⟧) (leaves done.files done.ledger (Y.deeds rt.new)) request.entry (I.remaining input.old)
-        (O.contents output.old) (O.contents output.new) done.status) }
-    ensures quiet { IfOk result (λ done. done.status ≡ Status.Success → Keeps (E.contents errors.old) (E.contents errors.new)) }
-    ensures failed { IfErr result (λ run. FailsBy Y.told request.entry (I.remaining input.old) run.failure) }
-    ensures left { IfErr result (λ run. FailsLeaving (begins_with F.first S.windows S.finished S.aside S.came Y.told (Y.deeds rt.old))
-        (devices F.in_files ⟦<N::Notes as Ledger>⟧) request.entry (I.remaining input.old)
-        (O.contents output.old) (O.contents output.new) run.left) }
-    ensures untouched { IfErr result (λ run. status_of run.failure ≢ Status.Failed
-        → Keeps (O.contents output.old) (O.contents output.new)) }
-    ensures touched { DoesFor request.entry (Y.deeds rt.old) (Y.deeds rt.new) }
+        (O.contents output.old) (O.contents output.new) (E.contents errors.old) (E.contents errors.new) done.status) }
+    ensures failed { IfErr result (HasFailed (begins_with F.first S.windows S.finished S.aside S.came Y.told (Y.deeds rt.old) (O.entry_shape output.old))
+        (devices F.in_files ⟦<N::Notes as Ledger>⟧) request.entry (I.remaining input.old) (O.contents output.old) (O.contents output.new)) }
+    // However it ends, this alone was done to files.
+    ensures touched { DoesFor Y.told request.entry (I.remaining input.old) (Y.deeds rt.old) (Y.deeds rt.new) }
 {
     match request {
         Request::Verify { kind, file } => Done::without(verify(rt, kind, file, output)),

@@ -1,24 +1,25 @@
 -- A request is performed; what clap answers in place of one is printed.
 use Rattle.std.proofs.Common.{inr, map, string_bytes}
+use Rattle.std.proofs.lemmas.Result.{IfErr-weaker, IfOk-weaker}
 use Rattle.clap.specs.Words.{kind_of}
-use Rattle.jc_command.proofs.Runs.{at_ok, err_of, failed, left_answered, performed, ends_as, ends_words, ok_of, stops_answered, IfErr-both, IfErr-each, IfOk-both}
+use Rattle.jc_command.proofs.Runs.{at_ok, err_of, failed, left_answered, performed, ends_as, ends_words, ok_of, stops_answered}
 use Rattle.jc_command.specs.Run.{begins_with, devices}
 use Rattle.jc_command.proofs.run.answered.Goals as goal
 
 pub returns-in-Ok-clause-ended : goal.returns-in-Ok-clause-ended
 returns-in-Ok-clause-ended g c =
-    IfOk-both c.perform.result _ _ _
-    (λ done does quiet. performed _ _ _ (map string_bytes c.args.words.now) c.in-Ok.request (g.I.Read.remaining c.args.input.now)
+    IfOk-weaker c.perform.result _ _
+    (λ done it. performed _ _ _ (map string_bytes c.args.words.now) c.in-Ok.request (g.I.Read.remaining c.args.input.now)
     (g.O.Write.contents c.args.output.now) (g.O.Write.contents c.perform.new.output) (g.E.Write.contents c.args.errors.now)
-    (g.E.Write.contents c.perform.new.errors) done.status c.in-Ok.ensures.request does quiet)
-    c.perform.ensures.performed c.perform.ensures.quiet
+    (g.E.Write.contents c.perform.new.errors) done.status c.in-Ok.ensures.request it.performs it.quiet)
+    c.perform.ensures.performed
 
 pub returns-in-Ok-clause-stopped : goal.returns-in-Ok-clause-stopped
 returns-in-Ok-clause-stopped g c =
-    IfErr-both c.perform.result _ _ _
-    (λ run why keeps. failed g.Y.System.told (map string_bytes c.args.words.now) c.in-Ok.request (g.I.Read.remaining c.args.input.now)
-    (g.O.Write.contents c.args.output.now) (g.O.Write.contents c.perform.new.output) run.failure c.in-Ok.ensures.request why keeps)
-    c.perform.ensures.failed c.perform.ensures.untouched
+    IfErr-weaker c.perform.result _ _
+    (λ run it. failed g.Y.System.told (map string_bytes c.args.words.now) c.in-Ok.request (g.I.Read.remaining c.args.input.now)
+    (g.O.Write.contents c.args.output.now) (g.O.Write.contents c.perform.new.output) run.failure c.in-Ok.ensures.request it.why it.kept)
+    c.perform.ensures.failed
 
 pub returns-in-Err-clause-ended : goal.returns-in-Err-clause-ended
 returns-in-Err-clause-ended g c =
@@ -53,13 +54,13 @@ returns-in-Ok-clause-touched g c = inr (c.in-Ok.request, c.in-Ok.ensures.request
 
 pub returns-in-Ok-clause-left : goal.returns-in-Ok-clause-left
 returns-in-Ok-clause-left g c =
-    IfErr-each c.perform.result _ _ (λ run leaves. inr (c.in-Ok.request, c.in-Ok.ensures.request, leaves)) c.perform.ensures.left
+    IfErr-weaker c.perform.result _ _ (λ run it. inr (c.in-Ok.request, c.in-Ok.ensures.request, it.leaves)) c.perform.ensures.failed
 
 pub returns-in-Err-clause-left : goal.returns-in-Err-clause-left
 returns-in-Err-clause-left g c =
     let prints = c.answer_words.ensures in
-    IfErr-each c.without.result _ _
-    (λ run none. left_answered (begins_with g.F.OpenFromFiles.first g.S.Begun.windows g.S.Begun.finished g.S.Begun.aside g.S.Begun.came g.Y.System.told (g.Y.System.deeds c.args.rt.now)) (devices g.F.StoreInFiles.in_files g.N.Notes.Ledger)
+    IfErr-weaker c.without.result _ _
+    (λ run none. left_answered (begins_with g.F.OpenFromFiles.first g.S.Begun.windows g.S.Begun.finished g.S.Begun.aside g.S.Begun.came g.Y.System.told (g.Y.System.deeds c.args.rt.now) (g.O.Output.entry_shape c.args.output.now)) (devices g.F.StoreInFiles.in_files g.N.Notes.Ledger)
     (map string_bytes c.args.words.now) (kind_of c.in-Err.answer) c.answer_words.result (g.I.Read.remaining c.args.input.now)
     (g.O.Write.contents c.args.output.now) (g.O.Write.contents c.answer_words.new.output) run.left none c.in-Err.ensures.answer prints.mistaken prints.memory)
     c.without.ensures.left
