@@ -9,7 +9,7 @@ use jc_database::{OpenFromFiles, OverFiles, over_files};
 use jc_explain::{EXPLAIN, Noting, explained, take_option};
 use jc_json::{JSON, Json, has_objects};
 use jc_progress::{Counted, Masked, Wiping, board_for};
-use jc_sequences::Folders;
+use jc_sequences::{Faults, Folders};
 use sqlite::Unknown;
 use std::io::{IsTerminal, Stderr};
 use std::process::ExitCode;
@@ -83,16 +83,17 @@ impl<'a, O: Output> OverFiles for Asked<'a, O> {
             errors,
         } = self;
         let input = &mut rt.reader();
+        let faults = Faults::new();
+        let folders = Folders::new(rt, &faults);
         if !explains {
             let mut host = Host::new(rt);
-            let folders = Folders::new(rt);
             return command::<_, F, Unknown, _, _, _>(
                 &mut host, folders, start, words, input, output, errors,
             );
         }
         let mut output = Noting::new(rt.alloc(), output);
         let mut errors = Noting::new(rt.alloc(), errors);
-        explained::<F, Unknown, _, _, _>(rt, start, words, input, &mut output, &mut errors)
+        explained::<F, Unknown, _, _, _>(rt, folders, start, words, input, &mut output, &mut errors)
     }
 }
 

@@ -11,6 +11,7 @@ use Rattle.jc_explain.specs.Explanations.{cut_short, more, none, still, told, un
 use Rattle.jc_explain.specs.Subjects.{IsSubjectOf}
 use Rattle.jc_explain.specs.declared.subject.Subject.{Subject}
 use Rattle.jc_explain.specs.declared.trouble.Trouble.{Trouble}
+use Rattle.jc_explain.specs.declared.witness.Seen.{Seen}
 
 pub appends_more : (a b c : Option (List ℕ)) (xs ys : List ℕ) → Appends a b xs → Appends b c ys → Appends a c (xs ++ ys)
 appends_more None b c xs ys before behind = tt
@@ -97,28 +98,28 @@ on_err (Ok _) holds = tt
 on_err (Err _) holds = holds
 
 -- the same of copies of the words, and of bytes that stayed
-pub part_of_copies : (table : List ℕ) (given : List Trouble) (words words' : List (List ℕ)) (old old' new : Option (List ℕ)) → words ≡ words' → old ≡ old'
-    → TellsPart words table given old new → TellsPart words' table given old' new
-part_of_copies table given words words' old old' new same stays part =
-    subst (λ (known : Option (List ℕ)). TellsPart words' table given known new) stays
-    (subst (λ (ws : List (List ℕ)). TellsPart ws table given old new) same part)
+pub part_of_copies : (seen : Seen) (table : List ℕ) (given : List Trouble) (words words' : List (List ℕ)) (old old' new : Option (List ℕ)) → words ≡ words' → old ≡ old'
+    → TellsPart words seen table given old new → TellsPart words' seen table given old' new
+part_of_copies seen table given words words' old old' new same stays part =
+    subst (λ (known : Option (List ℕ)). TellsPart words' seen table given known new) stays
+    (subst (λ (ws : List (List ℕ)). TellsPart ws seen table given old new) same part)
 
 -- all of them is a part too
-pub tells_part : {E : Type 0} (words : List (List ℕ)) (table : List ℕ) (given : List Trouble) (old new : Option (List ℕ)) (r : Result (Unit {0}) E)
-    → OnOk r ((subject : Subject) × (texts : List (List ℕ)) × IsSubjectOf words subject × HasTold subject table given texts old new)
-    → OnErr r (TellsPart words table given old new) → TellsPart words table given old new
-tells_part words table given old new (Ok _) (subject, texts, is, has) part =
+pub tells_part : {E : Type 0} (words : List (List ℕ)) (seen : Seen) (table : List ℕ) (given : List Trouble) (old new : Option (List ℕ)) (r : Result (Unit {0}) E)
+    → OnOk r ((subject : Subject) × (texts : List (List ℕ)) × IsSubjectOf words seen subject × HasTold subject table given texts old new)
+    → OnErr r (TellsPart words seen table given old new) → TellsPart words seen table given old new
+tells_part words seen table given old new (Ok _) (subject, texts, is, has) part =
     inr (subject, is, whole_is_part subject table given texts old new has)
-tells_part words table given old new (Err _) whole part = part
+tells_part words seen table given old new (Err _) whole part = part
 
 -- of what words ask to be worked on
-pub all_of_subject : {T E : Type 0} (words : List (List ℕ)) (table : List ℕ) (given : List Trouble) (subject : Subject) (old new : Option (List ℕ))
-    → IsSubjectOf words subject → (r : Result T E) → OnOk r ((texts : List (List ℕ)) × HasTold subject table given texts old new)
-    → OnOk r ((about : Subject) × (texts : List (List ℕ)) × IsSubjectOf words about × HasTold about table given texts old new)
-all_of_subject words table given subject old new is (Ok _) (texts, has) = (subject, texts, is, has)
-all_of_subject words table given subject old new is (Err _) whole = tt
+pub all_of_subject : {T E : Type 0} (words : List (List ℕ)) (seen : Seen) (table : List ℕ) (given : List Trouble) (subject : Subject) (old new : Option (List ℕ))
+    → IsSubjectOf words seen subject → (r : Result T E) → OnOk r ((texts : List (List ℕ)) × HasTold subject table given texts old new)
+    → OnOk r ((about : Subject) × (texts : List (List ℕ)) × IsSubjectOf words seen about × HasTold about table given texts old new)
+all_of_subject words seen table given subject old new is (Ok _) (texts, has) = (subject, texts, is, has)
+all_of_subject words seen table given subject old new is (Err _) whole = tt
 
-pub part_of_subject : {T E : Type 0} (words : List (List ℕ)) (table : List ℕ) (given : List Trouble) (subject : Subject) (old new : Option (List ℕ))
-    → IsSubjectOf words subject → (r : Result T E) → OnErr r (HasBegun subject table given old new) → OnErr r (TellsPart words table given old new)
-part_of_subject words table given subject old new is (Ok _) part = tt
-part_of_subject words table given subject old new is (Err _) part = inr (subject, is, part)
+pub part_of_subject : {T E : Type 0} (words : List (List ℕ)) (seen : Seen) (table : List ℕ) (given : List Trouble) (subject : Subject) (old new : Option (List ℕ))
+    → IsSubjectOf words seen subject → (r : Result T E) → OnErr r (HasBegun subject table given old new) → OnErr r (TellsPart words seen table given old new)
+part_of_subject words seen table given subject old new is (Ok _) part = tt
+part_of_subject words seen table given subject old new is (Err _) part = inr (subject, is, part)

@@ -1,17 +1,20 @@
 -- What is said of what a run told, and what goes out of it.
-use Rattle.std.specs.Prelude.{◌≡◌, ◌≢◌, ◌⊎◌, ◌==◌, ◌++◌, ◌∷◌, [], ℕ, List, Option, Some, None, IsSome, codes, decimal, bytes_eq, if◌then◌else◌, option_map, string_bytes, take, Contains}
+use Rattle.std.specs.Prelude.{◌≡◌, ◌≢◌, ◌⊎◌, ◌==◌, ◌++◌, ◌∷◌, [], ℕ, List, Option, Some, None, IsSome, IfSome, IsSomeAnd, MatchOption, codes, decimal, bytes_eq, if◌then◌else◌, option_map, string_bytes, take, Contains}
 use Rattle.std.specs.Io.KnownBytes.{Appends, Keeps}
 use Rattle.std.specs.List.{find, flat_map}
 use Rattle.jc_codes.specs.Rows.{IsRow}
 use Rattle.jc_codes.specs.declared.table.Coded.{Coded}
+use Rattle.jc_command_shared.specs.declared.failure.Failure.TheVariants as failure
+use Rattle.jc_sequences.specs.declared.faults.Fault.{Fault}
 use Rattle.jc_explain.specs.Subjects.{IsSubjectOf}
-use Rattle.jc_explain.specs.Texts.{text_of}
+use Rattle.jc_explain.specs.Texts.{advice_of, fault_cause, text_of}
 use Rattle.jc_explain.specs.declared.cause.Cause.{Cause}
 use Rattle.jc_explain.specs.declared.cause.Cause.TheVariants as cause
 use Rattle.jc_explain.specs.declared.subject.Subject.{Subject}
 use Rattle.jc_explain.specs.declared.trouble.Trouble.{Trouble}
 use Rattle.jc_explain.specs.declared.trouble.Trouble.TheVariants as trouble
 use Rattle.jc_explain.specs.declared.witness.Noted.{Noted}
+use Rattle.jc_explain.specs.declared.witness.Seen.{Seen}
 
 -- a file's name, and what is told of it
 abbrev pub file_text : (path : List ℕ) → Cause → List ℕ
@@ -37,6 +40,14 @@ empty_text left =
 abbrev pub noted_cause : (notes : List Noted) (path : List ℕ) → Option Cause
 noted_cause notes path = option_map (λ noted. noted.cause) (find (λ noted. bytes_eq (string_bytes noted.path) path) notes)
 
+-- what is noted of what failed of the notes of sequences
+abbrev pub noted_fault : Fault → Noted
+noted_fault fault = record { path = fault.path; cause = fault_cause fault.kind }
+
+-- what is said of a file of notes that failed
+abbrev pub notes_text : Noted → List ℕ
+notes_text noted = codes "the file of notes " ++ file_text (string_bytes noted.path) noted.cause
+
 -- why a file is taken for no journal's database, by what was noted of it: it was opened, or it wasn't
 abbrev pub no_journal_cause : Cause → Cause
 no_journal_cause cause.NoTables = cause.OtherTables
@@ -58,11 +69,13 @@ module _ (subject : Subject) where
   abbrev pub sequences_of : Option (List ℕ)
   sequences_of = option_map (λ path. path.now) subject.sequences
 
-  -- why this file can't be opened, as was noted when the run asked for it; of the folder of notes nothing is
+  -- why this file, or the folder of notes, can't be opened, as was noted when the run asked for it
   pub data IsWhy (path : List ℕ) (told : Cause) : Type 0 where
-    seen : noted_cause subject.noted.items path ≡ Some told → IsWhy path told
-    folder : noted_cause subject.noted.items path ≡ None → sequences_of ≡ Some path → told ≡ cause.NotFolder → IsWhy path told
-    unseen : noted_cause subject.noted.items path ≡ None → sequences_of ≢ Some path → told ≡ cause.Unknown → IsWhy path told
+    asked : noted_cause subject.seen.files.items path ≡ Some told → IsWhy path told
+    folder : noted_cause subject.seen.files.items path ≡ None
+        → IsSomeAnd subject.seen.notes (λ noted. (string_bytes noted.path ≡ path) × (told ≡ noted.cause)) → IsWhy path told
+    unseen : noted_cause subject.seen.files.items path ≡ None
+        → IfSome subject.seen.notes (λ noted. string_bytes noted.path ≢ path) → told ≡ cause.Unknown → IsWhy path told
 
   -- why this file is taken for no journal's database
   pub record IsNoJournal (path : List ℕ) (told : Cause) : Type 0 where
@@ -86,18 +99,29 @@ module _ (subject : Subject) where
     pub database : database_of ≡ Some path
     pub sequences : sequences_of ≡ Some folder
 
+  -- What is said of what failed of the notes; if nothing did, it was the database.
+  abbrev pub SaysStore : (text : List ℕ) → Type 0
+  SaysStore text = MatchOption subject.seen.notes (text ≡ advice_of failure.StoreFailed) (λ noted. text ≡ notes_text noted)
+
+  -- What is said of a refusal: of a store that failed which of the notes did.
+  abbrev pub SaysRefused : (table : List ℕ) (code : ℕ) (text : List ℕ) → Type 0
+  SaysRefused table code text =
+      (IsSomeAnd subject.seen.notes (λ noted. (code ≡ 62) × (text ≡ notes_text noted)))
+      ⊎ ((¬ ((code ≡ 62) × IsSome subject.seen.notes)) × SaysCode table code text)
+
   -- What is said of a fault of a file or a database.
   abbrev pub SaysBad : (table : List ℕ) (code : ℕ) (text : List ℕ) → Type 0
   SaysBad table code text =
       ((path : List ℕ) × (folder : List ℕ) × Differs code path folder × (text ≡ differs_text path folder))
-      ⊎ (((path folder : List ℕ) → ¬ Differs code path folder) × SaysCode table code text)
+      ⊎ (((path folder : List ℕ) → ¬ Differs code path folder) × SaysRefused table code text)
 
   -- What is said of this.
   abbrev pub Explains : (table : List ℕ) → Trouble → (text : List ℕ) → Type 0
   Explains table (trouble.Bad code) text = SaysBad table code text
-  Explains table (trouble.Refused code) text = SaysCode table code text
+  Explains table (trouble.Refused code) text = SaysRefused table code text
   Explains table (trouble.Empty left) text = text ≡ empty_text left
   Explains table (trouble.Unopened path) text = SaysUnopened (string_bytes path) text
+  Explains table trouble.Store text = SaysStore text
   Explains table (trouble.Failed advice) text = text ≡ advice.now
 
   -- Explanations of these alone, one behind the other, and none twice.
@@ -128,9 +152,9 @@ module _ (subject : Subject) where
         → BreaksOff table it texts old new
 
 -- Nothing went out, or explanations of what words ask to be worked on, the last of which may be cut short.
-abbrev pub TellsPart : (words : List (List ℕ)) (table : List ℕ) (given : List Trouble) (old new : Option (List ℕ)) → Type 0
-TellsPart words table given old new = Keeps old new ⊎ ((subject : Subject) × IsSubjectOf words subject × HasBegun subject table given old new)
+abbrev pub TellsPart : (words : List (List ℕ)) (seen : Seen) (table : List ℕ) (given : List Trouble) (old new : Option (List ℕ)) → Type 0
+TellsPart words seen table given old new = Keeps old new ⊎ ((subject : Subject) × IsSubjectOf words seen subject × HasBegun subject table given old new)
 
 -- the same of what isn't known
 abbrev pub TellsOn : (words : List (List ℕ)) (table : List ℕ) (old new : Option (List ℕ)) → Type 0
-TellsOn words table old new = (given : List Trouble) × TellsPart words table given old new
+TellsOn words table old new = (seen : Seen) × (given : List Trouble) × TellsPart words seen table given old new

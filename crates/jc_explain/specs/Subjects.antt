@@ -6,6 +6,7 @@ use Rattle.jc_command_args.specs.Words.{AreAnswered, AskFor}
 use Rattle.jc_command_args.specs.declared.request.Request.{Request}
 use Rattle.jc_command_args.specs.declared.request.Request.TheVariants as request
 use Rattle.jc_explain.specs.declared.subject.Subject.{Subject}
+use Rattle.jc_explain.specs.declared.witness.Seen.{Seen}
 
 -- It works on this database, with the notes in this folder.
 pub record IsAbout (subject : Subject) (path folder : Option (List ℕ)) : Type 0 where
@@ -35,7 +36,8 @@ Concerns (request.Acknowledged upload) subject = IsAbout subject None None
 Concerns request.ListCodes subject = IsAbout subject None None
 
 -- What words ask to be worked on; nothing if they are answered with a mistake or with help, or memory was refused to read
--- them.
-pub data IsSubjectOf (words : List (List ℕ)) (subject : Subject) : Type 0 where
-  asked : (request : Request) → AskFor words request → Concerns request subject → IsSubjectOf words subject
-  answered : (kind : ErrorKind) → (kind ≡ OutOfMemory) ⊎ AreAnswered words kind → IsAbout subject None None → IsSubjectOf words subject
+-- them. Beside it stands what was seen of files.
+pub data IsSubjectOf (words : List (List ℕ)) (seen : Seen) (subject : Subject) : Type 0 where
+  asked : (request : Request) → AskFor words request → Concerns request subject → subject.seen ≡ seen → IsSubjectOf words seen subject
+  answered : (kind : ErrorKind) → (kind ≡ OutOfMemory) ⊎ AreAnswered words kind → IsAbout subject None None → subject.seen ≡ seen
+      → IsSubjectOf words seen subject

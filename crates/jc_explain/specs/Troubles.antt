@@ -10,7 +10,7 @@ use Rattle.jc_command_shared.specs.declared.found.Found.{Found}
 use Rattle.jc_command_shared.specs.declared.found.Found.TheVariants as found
 use Rattle.jc_explain.specs.Texts.{advice_of}
 use Rattle.jc_explain.specs.declared.trouble.Trouble.{Trouble}
-use Rattle.jc_explain.specs.declared.trouble.Trouble.TheVariants.{Bad, Empty, Failed, Refused, Unopened}
+use Rattle.jc_explain.specs.declared.trouble.Trouble.TheVariants.{Bad, Empty, Failed, Refused, Store, Unopened}
 
 -- a reading of no entries is one
 abbrev pub empty_trouble : (entries left : ℕ) → Option Trouble
@@ -41,5 +41,6 @@ abbrev pub IsFailure : Failure → Trouble → Type 0
 IsFailure (failure.Bad fault) trouble = trouble ≡ Bad (number_of fault.code)
 IsFailure failure.SourceChanged trouble = trouble ≡ Refused (number_of code.SourceChanged)
 IsFailure (failure.CannotOpen path) trouble = IsUnopened path.now trouble
+IsFailure failure.StoreFailed trouble = trouble ≡ Store
 IsFailure failure.WordsAreNoText trouble = ⊥
 IsFailure other trouble = IsToDo (advice_of other) trouble

@@ -39,7 +39,7 @@ pub(crate) fn advice(failure: &Failure<'_>) -> &'static str
             "standard output or a file took no more bytes: is the disk full, or was a pipe closed?"
         }
         Failure::StoreFailed => {
-            "the database, or what is noted beside it, failed while it was read or written: look at the space on its disk, and at the disk"
+            "the database failed while it was read or written: look at the space on its disk, and at the disk"
         }
         Failure::OutOfMemory => {
             "memory was refused: give the command more, or begin another database"

@@ -1,7 +1,9 @@
 //! Why a file can't be used.
 
 ghost use Rattle.std.specs.Prelude.{◌≡◌};
-ghost use Rattle.jc_explain.specs.Texts.{text_of};
+ghost use Rattle.jc_explain.specs.Texts.{fault_cause, text_of};
+
+use std::io::ErrorKind;
 
 /// Why a file can't be used, and what to do about it.
 #[derive(Clone, Copy, Debug, PartialEq, Eq)]
@@ -11,9 +13,11 @@ pub enum Cause {
     /// A new database can't be made there.
     Unmade,
     Folder,
-    /// It is to be a folder, and isn't, or can't be made.
+    /// It is to be a folder, or to lie in one, and something else is there.
     NotFolder,
     Unreadable,
+    /// It may not be read, or not be written.
+    Denied,
     /// It is a pipe, a device or a socket.
     NotRegular,
     SecondName,
@@ -23,12 +27,35 @@ pub enum Cause {
     OtherTables,
     NoTables,
     InUse,
+    Full,
+    ReadOnly,
+    /// It is no regular file, or has a second name.
+    NotPlain,
+    Broken,
     /// It is a regular file that can be read, and can't be opened as a database.
     Unusable,
     Unknown,
 }
 
 impl Cause {
+    /// Why a file of notes, or their folder, failed with an error of this kind.
+    pub(crate) fn of_fault(kind: ErrorKind) -> Cause
+        ensures { result ≡ fault_cause kind }
+    {
+        match kind {
+            ErrorKind::NotFound => Cause::Missing,
+            ErrorKind::NotADirectory => Cause::NotFolder,
+            ErrorKind::PermissionDenied => Cause::Denied,
+            ErrorKind::WouldBlock | ErrorKind::ResourceBusy | ErrorKind::AlreadyExists => {
+                Cause::InUse
+            }
+            ErrorKind::StorageFull | ErrorKind::QuotaExceeded => Cause::Full,
+            ErrorKind::ReadOnlyFilesystem => Cause::ReadOnly,
+            ErrorKind::IsADirectory | ErrorKind::Unsupported => Cause::NotPlain,
+            _ => Cause::Broken,
+        }
+    }
+
     /// What stands behind the file's name.
     pub fn text(self) -> &'static str
         ensures { result.now ≡ text_of self }
@@ -40,10 +67,13 @@ impl Cause {
             }
             Cause::Folder => "is a folder: name a file",
             Cause::NotFolder => {
-                "can't be used as a folder, or another run has it: name one, or a path at which one can be made"
+                "is to be a folder, or to lie in one, and something else is there: look at its path"
             }
             Cause::Unreadable => {
                 "may not be read by this user: see the rights of the file and of its folders"
+            }
+            Cause::Denied => {
+                "may not be read or written by this user: see its rights and those of its folders"
             }
             Cause::NotRegular => "is not a regular file: write what it gives into one first",
             Cause::SecondName => {
@@ -56,6 +86,12 @@ impl Cause {
             }
             Cause::NoTables => "is a database without tables: `collect` makes them",
             Cause::InUse => "is in use by another program: wait until that one has ended",
+            Cause::Full => "has no more room: look at the space on its disk",
+            Cause::ReadOnly => "can't be written, since its disk is read-only: look at its mount",
+            Cause::NotPlain => "is no regular file with one name: put back the one that was there",
+            Cause::Broken => {
+                "failed: look at its disk, and whether the process has too many files open"
+            }
             Cause::Unusable => {
                 "can't be opened to be written: see its rights, those of its folder and of its log, and whether SQLite's rollback journal lies beside it, which sqlite3 plays back"
             }

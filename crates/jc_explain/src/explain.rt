@@ -20,7 +20,8 @@ use std::io::Read;
 /// Does what the arguments ask for, as `command` does. Then it is explained on `errors` why something was refused or
 /// failed.
 pub fn explained<'a, F: OpenFromFiles, S: Begun, I: Read, O: Output + Drop, E: Errors + Drop>(
-    rt: &'a HostRuntime,
+    rt: &HostRuntime,
+    folders: Folders<'a>,
     start: F::Start,
     words: Vec<String>,
     input: &mut I,
@@ -30,7 +31,7 @@ pub fn explained<'a, F: OpenFromFiles, S: Begun, I: Read, O: Output + Drop, E: E
     ensures status { result ≤ 4 }
     // `told` is what `errors` had before the explanations, and what came then goes on from there.
     ensures ended { (status : Status) → status ≢ Status.Failed → result ≡ number_of status → (told : Maybe (List ℕ))
-        × EndsWithin (begins_with F.first S.windows S.finished S.aside S.came (λ _. None) None) (devices F.in_files ⟦<Sequences<'a, S> as Ledger>⟧)
+        × EndsWithin (begins_with F.first S.windows S.finished S.aside S.came (λ _. None) None (O.entry_shape output.old.inner)) (devices F.in_files ⟦<Sequences<'a, S> as Ledger>⟧)
         None (map string_bytes words.items) (I.remaining input.old) (O.contents output.old.inner) (O.contents output.new.inner)
         (E.contents errors.old.inner) told status
         × TellsOn (map string_bytes words.items) CODES.now told (E.contents errors.new.inner) }
@@ -39,14 +40,14 @@ pub fn explained<'a, F: OpenFromFiles, S: Begun, I: Read, O: Output + Drop, E: E
     let mut system = Witness::new(rt);
     let status = command::<_, F, S, _, _, _>(
         &mut system,
-        Folders::new(rt),
+        folders,
         start,
         words,
         input,
         output,
         errors,
     );
-    let notes = system.into_notes();
+    let seen = system.into_seen(folders.take_fault());
     let Ok(asked) = asked else {
         return status;
     };
@@ -54,6 +55,6 @@ pub fn explained<'a, F: OpenFromFiles, S: Begun, I: Read, O: Output + Drop, E: E
     let mut failures = errors.take_troubles();
     // An explanation is beside the run: where it can't be made or written, the run has ended as it has.
     let _ = troubles.append(&mut failures);
-    let _ = tell(rt.alloc(), &asked, notes, &troubles, &mut errors.inner);
+    let _ = tell(rt.alloc(), &asked, seen, &troubles, &mut errors.inner);
     status
 }

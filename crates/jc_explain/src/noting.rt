@@ -4,6 +4,7 @@ ghost use Rattle.std.specs.Prelude.{◌≡◌, ◌⊎◌, ◌++◌, ◌∷◌, [
 
 use crate::trouble::Trouble;
 use jc_command_shared::{Errors, Failure, Found, Output};
+use jc_keeper::Shape;
 use jc_upload::Answer;
 use std::alloc::Global;
 use std::io;
@@ -67,6 +68,12 @@ impl<W: Write + Drop> Write for Noting<W> {
 }
 
 impl<O: Output + Drop> Output for Noting<O> {
+    ghost entry_shape = { λ s. O.entry_shape s.inner };
+
+    fn shape(&self) -> Shape {
+        self.inner.shape()
+    }
+
     fn found(&mut self, found: &Found) -> io::Result<()> {
         self.inner.found(found)?;
         if let Some(trouble) = Trouble::of_found(found) {

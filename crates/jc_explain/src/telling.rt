@@ -9,7 +9,7 @@ ghost use Rattle.jc_explain.specs.declared.subject.Subject.{Subject as Concern};
 use crate::subject::{Subject, subject_of};
 use crate::trouble::Trouble;
 use crate::why::explanation;
-use crate::witness::Noted;
+use crate::witness::Seen;
 use jc_command_args::CODES;
 use jc_command_shared::{Failure, write_front};
 use std::alloc::Global;
@@ -19,16 +19,16 @@ use std::io::Write;
 pub(crate) fn tell<W: Write>(
     alloc: Global,
     words: &[String],
-    noted: Vec<Noted>,
+    seen: Seen,
     troubles: &[Trouble],
     to: &mut W,
 ) -> Result<(), Failure<'static>>
-    ensures ok { OnOk result ((subject : Concern) × (texts : List (List ℕ)) × IsSubjectOf (map string_bytes words.now) subject
+    ensures ok { OnOk result ((subject : Concern) × (texts : List (List ℕ)) × IsSubjectOf (map string_bytes words.now) seen subject
         × HasTold subject CODES.now troubles.now texts (W.contents to.old) (W.contents to.new)) }
-    ensures err { OnErr result (TellsPart (map string_bytes words.now) CODES.now troubles.now (W.contents to.old) (W.contents to.new)) }
+    ensures err { OnErr result (TellsPart (map string_bytes words.now) seen CODES.now troubles.now (W.contents to.old) (W.contents to.new)) }
     ensures why { IfErr result (λ failure. (failure ≡ Failure.WriteFailed) ⊎ (failure ≡ Failure.OutOfMemory)) }
 {
-    let subject = subject_of(alloc, words, noted);
+    let subject = subject_of(alloc, words, seen);
     tell_all(alloc, &subject, troubles, to)
 }
 

@@ -21,6 +21,8 @@ pub(crate) enum Trouble {
     Empty(u64),
     /// The file with this path can't be opened.
     Unopened(String),
+    /// The database failed, or the notes of sequences.
+    Store,
     /// A command fails, about which this is to be done.
     Failed(&'static str),
 }
@@ -65,6 +67,7 @@ impl Trouble {
                 Ok(path) => Some(Trouble::Unopened(path)),
                 Err(_) => None,
             },
+            Failure::StoreFailed => Some(Trouble::Store),
             Failure::WordsAreNoText => None,
             _ => Some(Trouble::Failed(advice(failure))),
         }

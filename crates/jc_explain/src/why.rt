@@ -1,18 +1,23 @@
 //! Why what was told is so.
 
 ghost use Rattle.std.specs.Prelude.{◌≡◌, ℕ, List, IfOk, IfSome, MatchOption, string_bytes};
-ghost use Rattle.jc_explain.specs.Explanations.{Differs, Explains, IsNoJournal, IsWhy, SaysBad, SaysCode, SaysUnopened, differs_text, empty_text, noted_cause};
+ghost use Rattle.jc_explain.specs.Explanations.{Differs, Explains, IsNoJournal, IsWhy, SaysBad, SaysCode, SaysRefused, SaysStore, SaysUnopened, differs_text, empty_text, noted_cause, notes_text};
 
 use crate::Cause;
+use crate::advice::advice;
 use crate::subject::Subject;
 use crate::trouble::Trouble;
 use crate::witness::Noted;
 use jc_codes::row_about;
 use jc_command_args::CODES;
+use jc_command_shared::Failure;
 use std::alloc::{AllocError, Global};
 
 /// The code of a database that has no journal.
 const NOT_A_JOURNAL: u16 = 64;
+
+/// The code of a store that failed.
+const STORE_FAILED: u16 = 62;
 
 /// The code of a database that has another entry than the one that is noted.
 const DIFFERS: u16 = 60;
@@ -30,6 +35,7 @@ pub(crate) fn explanation(
         Trouble::Refused(code) => return why_refused(alloc, subject, *code),
         Trouble::Empty(left) => why_empty(alloc, *left)?,
         Trouble::Unopened(path) => why_unopened(alloc, subject, path.as_str())?,
+        Trouble::Store => why_store(alloc, subject)?,
         Trouble::Failed(advice) => String::from_str(alloc, advice)?,
     };
     Ok(Some(told))
@@ -71,10 +77,10 @@ fn why_unopened(alloc: Global, subject: &Subject<'_>, path: &str) -> Result<Stri
 fn why_of(subject: &Subject<'_>, path: &str) -> Cause
     ensures { IsWhy subject.now path.now result }
 {
-    match noted_of(&subject.noted, path) {
-        Some(cause) => cause,
-        None if subject.sequences == Some(path) => Cause::NotFolder,
-        None => Cause::Unknown,
+    match (noted_of(&subject.seen.files, path), &subject.seen.notes) {
+        (Some(cause), _) => cause,
+        (None, Some(noted)) if noted.path.as_str() == path => noted.cause,
+        (None, _) => Cause::Unknown,
     }
 }
 
@@ -100,26 +106,53 @@ fn why_no_journal(subject: &Subject<'_>, path: &str) -> Cause
     }
 }
 
-/// What a code means and what to do about it: none if the table doesn't have it.
+/// Why the store failed.
+fn why_store(alloc: Global, subject: &Subject<'_>) -> Result<String, AllocError>
+    ensures { IfOk result (λ text. SaysStore subject.now (string_bytes text)) }
+{
+    match &subject.seen.notes {
+        Some(noted) => why_notes(alloc, noted),
+        None => String::from_str(alloc, advice(&Failure::StoreFailed)),
+    }
+}
+
+/// Why a file of notes failed.
+fn why_notes(alloc: Global, noted: &Noted) -> Result<String, AllocError>
+    ensures { IfOk result (λ text. string_bytes text ≡ notes_text noted.now) }
+{
+    let (path, cause) = (&noted.path, noted.cause.text());
+    format!(in alloc; "the file of notes {path} {cause}")
+}
+
+/// Why what has this code is refused: none if the table doesn't have it.
 fn why_refused(
     alloc: Global,
     subject: &Subject<'_>,
     code: u16,
 ) -> Result<Option<String>, AllocError>
+    ensures { IfOk result (λ found. IfSome found (λ text. SaysRefused subject.now CODES.now code (string_bytes text))) }
+{
+    match &subject.seen.notes {
+        Some(noted) if code == STORE_FAILED => Ok(Some(why_notes(alloc, noted)?)),
+        _ => why_code(alloc, subject, code),
+    }
+}
+
+/// What a code means and what to do about it: none if the table doesn't have it.
+fn why_code(alloc: Global, subject: &Subject<'_>, code: u16) -> Result<Option<String>, AllocError>
     ensures { IfOk result (λ found. IfSome found (λ text. SaysCode subject.now CODES.now code (string_bytes text))) }
 {
     let Some(row) = row_about(alloc, u64::from(code))? else {
         return Ok(None);
     };
     let (name, meaning, advice) = (row.name, row.meaning, row.advice);
-    let told = match subject.database {
+    match subject.database {
         Some(path) if code == NOT_A_JOURNAL => {
-            let cause = why_no_journal(subject, path);
-            format!(in alloc; "{code} {name} ({meaning}): {path} {}", cause.text())?
+            let cause = why_no_journal(subject, path).text();
+            Ok(Some(format!(in alloc; "{code} {name} ({meaning}): {path} {cause}")?))
         }
-        _ => format!(in alloc; "{code} {name} ({meaning}): {advice}")?,
-    };
-    Ok(Some(told))
+        _ => Ok(Some(format!(in alloc; "{code} {name} ({meaning}): {advice}")?)),
+    }
 }
 
 /// What it means that a database has another entry than the one that is noted, and what to do about it.

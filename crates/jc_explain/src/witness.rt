@@ -1,8 +1,12 @@
 //! The program's system, which notes why a file can't be used when that is seen.
 
+ghost use Rattle.std.specs.Prelude.{◌≡◌, option_map};
+ghost use Rattle.jc_explain.specs.Explanations.{noted_fault};
+
 use crate::Cause;
 use jc_command_shared::{Host, System};
 use jc_database::{Databases, FailedOpen, OpenFromFiles};
+use jc_sequences::Fault;
 use sqlite::{Connection, Error, ErrorCode};
 use std::alloc::Global;
 use std::cell::Cell;
@@ -22,6 +26,27 @@ pub(crate) struct Noted {
     pub(crate) cause: Cause,
 }
 
+impl Noted {
+    /// What is noted of what failed of the notes of sequences.
+    pub(crate) fn of_fault(fault: Fault) -> Noted
+        ensures { result ≡ noted_fault fault }
+    {
+        Noted {
+            path: fault.path,
+            cause: Cause::of_fault(fault.kind),
+        }
+    }
+}
+
+/// What was seen of files while a command ran.
+#[derive(Drop)]
+pub(crate) struct Seen {
+    /// Of those that were asked for, the latest first.
+    pub(crate) files: Vec<Noted>,
+    /// Of the notes of sequences: what failed last.
+    pub(crate) notes: Option<Noted>,
+}
+
 /// The program's system. It notes of files that can't be opened, and of databases, what is seen of them.
 #[derive(Drop)]
 pub(crate) struct Witness<'a> {
@@ -37,9 +62,18 @@ impl<'a> Witness<'a> {
         }
     }
 
-    /// What is noted, the latest first.
-    pub(crate) fn into_notes(self) -> Vec<Noted> {
-        self.take_notes()
+    /// What is noted, beside what failed last of the notes of sequences.
+    pub(crate) fn into_seen(self, fault: Option<Fault>) -> Seen
+        ensures { result.notes ≡ option_map noted_fault fault }
+    {
+        let notes = match fault {
+            Some(fault) => Some(Noted::of_fault(fault)),
+            None => None,
+        };
+        Seen {
+            files: self.take_notes(),
+            notes,
+        }
     }
 
     fn take_notes(&self) -> Vec<Noted> {

@@ -11,13 +11,14 @@ returns-clause-ended g c = λ status other number.
     ap (λ xs. map string_bytes xs) c.deref.ensures.value ∙ same_words string_bytes c.args.words.items c.in-Ok.asked.items c.in-Ok.ensures.cases.0 in
     let stays : g.E.Write.contents c.take_troubles-failures.new.self.inner ≡ g.E.Write.contents c.command-status.new.errors.inner =
     ap g.E.Write.contents c.take_troubles-failures.ensures.inner in
-    let part = tells_part (map string_bytes c.deref.result.now) CODES.now c.deref-2.result.now
+    let part = tells_part (map string_bytes c.deref.result.now) c.into_seen-seen.result CODES.now c.deref-2.result.now
     (g.E.Write.contents c.take_troubles-failures.new.self.inner) (g.E.Write.contents c.tell.new.to) c.tell.result c.tell.ensures.ok c.tell.ensures.err in (
       g.E.Write.contents c.command-status.new.errors.inner,
       within_as _ _ _ _ _ _ _ _ _ _ _ (ap g.O.Write.contents c.take_troubles-troubles.ensures.inner) (c.command-status.ensures.ended status other number),
       (
+        c.into_seen-seen.result,
         c.deref-2.result.now,
-        part_of_copies CODES.now c.deref-2.result.now (map string_bytes c.deref.result.now) (map string_bytes c.args.words.items)
+        part_of_copies c.into_seen-seen.result CODES.now c.deref-2.result.now (map string_bytes c.deref.result.now) (map string_bytes c.args.words.items)
             (g.E.Write.contents c.take_troubles-failures.new.self.inner) (g.E.Write.contents c.command-status.new.errors.inner) (g.E.Write.contents c.tell.new.to)
             copies stays part,
       ),
@@ -27,5 +28,5 @@ pub returns-in_default-clause-ended : goal.returns-in_default-clause-ended
 returns-in_default-clause-ended g c = λ status other number. (
   g.E.Write.contents c.command-status.new.errors.inner,
   c.command-status.ensures.ended status other number,
-  ([], inl (keeps_same (g.E.Write.contents c.command-status.new.errors.inner))),
+  (c.into_seen-seen.result, [], inl (keeps_same (g.E.Write.contents c.command-status.new.errors.inner))),
 )

@@ -6,10 +6,10 @@ use Rattle.jc_explain.proofs.telling.tell.Goals as goal
 
 pub returns-clause-ok : goal.returns-clause-ok
 returns-clause-ok g c =
-    all_of_subject (map string_bytes c.args.words.now) CODES.now c.args.troubles.now c.subject_of-subject.result (g.W.Write.contents c.args.to.now)
+    all_of_subject (map string_bytes c.args.words.now) c.args.seen CODES.now c.args.troubles.now c.subject_of-subject.result (g.W.Write.contents c.args.to.now)
     (g.W.Write.contents c.tell_all.new.to) c.subject_of-subject.ensures c.tell_all.result c.tell_all.ensures.ok
 
 pub returns-clause-err : goal.returns-clause-err
 returns-clause-err g c =
-    part_of_subject (map string_bytes c.args.words.now) CODES.now c.args.troubles.now c.subject_of-subject.result (g.W.Write.contents c.args.to.now)
+    part_of_subject (map string_bytes c.args.words.now) c.args.seen CODES.now c.args.troubles.now c.subject_of-subject.result (g.W.Write.contents c.args.to.now)
     (g.W.Write.contents c.tell_all.new.to) c.subject_of-subject.ensures c.tell_all.result c.tell_all.ensures.err
