@@ -1,5 +1,5 @@
 -- What acknowledgements say of uploads that were collected one after the other.
-use Rattle.std.proofs.Common.{◌≡◌, ◌∙◌, ℕ, zero, suc, List, [], ◌∷◌, ◌++◌, Option, Some, None, refl, sym, ap, subst, inl, inr, ⊎_elim, rules}
+use Rattle.std.proofs.Common.{◌≡◌, ◌∙◌, ℕ, zero, suc, List, [], ◌∷◌, ◌++◌, Option, Some, None, refl, sym, ap, subst, inl, inr, rules}
 use Rattle.std.specs.List.{AllByRecursion, Contains, slice_get}
 use Rattle.std.specs.Option.{IfSome}
 use Rattle.std.proofs.lemmas.List.Elements.{All-contains_itself}
@@ -11,7 +11,7 @@ use Rattle.jc_base.specs.LimitBounds.{AreDefaults}
 use Rattle.jc_base.specs.LogEntry.{LogEntry}
 use Rattle.jc_base.specs.Reading.{Reading}
 use Rattle.jc_collect.specs.Answer.{IsTaken}
-use Rattle.jc_collect.specs.Each.{CollectsEach, CollectsOneMore, HasAcknowledged, KeepsCollected, NoneAcknowledged, StoresEach}
+use Rattle.jc_collect.specs.Each.{CollectsEach, HasAcknowledged, KeepsCollected, NoneAcknowledged, StoresEach}
 use Rattle.jc_collect.specs.Position.{Collects, Joins}
 use Rattle.jc_command_shared.specs.declared.status.Status.TheVariants.{Success}
 use Rattle.jc_command_shared.specs.Lines.{lines_of}
@@ -142,11 +142,7 @@ module _ (c : Collecting) where
   }
     where
       has : (e : LogEntry) → IsStored keeps.last e → IsStored found e
-      has e stored =
-          ⊎_elim (λ same. subst (λ (m : Journal). IsStored m e) (sym same) stored)
-          (λ (t : CollectsOneMore c.limits keeps.others keeps.behind keeps.last found).
-          stays (t.upload ∷ []) keeps.last found (Ack t.source t.start t.count t.new t.left ∷ []) (found, t.collects, refl) e stored)
-          keeps.is
+      has e stored = stays keeps.more.ahead keeps.last found keeps.more.would keeps.more.collected e stored
 
 -- ---- a machine deletes
 

@@ -1,14 +1,18 @@
 -- What a run leaves is what the next one finds.
-use Rattle.std.proofs.Common.{◌≡◌, ◌∙◌, ℕ, List, Option, refl, subst}
+use Rattle.std.proofs.Common.{◌≡◌, ◌∙◌, ℕ, List, Option, Some, None, IfSome, refl, subst, sym}
 use Rattle.std.specs.List.{Contains}
+use Rattle.sqlite.specs.Recovery.{Image}
 use Rattle.jc_base.specs.declared.id.Id128.{Id128}
 use Rattle.jc_base.specs.declared.id.Key.{Key}
 use Rattle.jc_base.specs.Journal.{Journal}
 use Rattle.jc_base.specs.LogEntry.{IsKey, LogEntry}
 use Rattle.jc_collect.specs.Each.{CollectsEach, KeepsCollected}
+use Rattle.jc_collector.specs.Kinds.{BeginsIn}
+use Rattle.jc_collector.specs.Unopened.{BeginsAgain, LeavesBegun}
 use Rattle.jc_collector_answers.specs.Collected.{ByDefault, KeepsFirstOf, StoresFirstOf}
 use Rattle.jc_command.specs.Run.{Begins}
 use Rattle.jc_command_args.specs.declared.request.Tables.{Tables}
+use Rattle.jc_database.specs.Files.{InFiles}
 use Rattle.jc_ledger.specs.declared.owner.MachineDigest.{MachineDigest}
 use Rattle.jc_ledger.specs.Kept.{ComesToo, IsKept}
 use Rattle.jc_ledger.specs.Known.{Known}
@@ -21,7 +25,7 @@ use Rattle.jc_ledger_files.specs.Owned.{owner_found}
 use Rattle.jc_ledger_files.specs.Windows.{known_in}
 use Rattle.jc_upload.specs.declared.answer.Answer.{Answer}
 use Rattle.jc_runs.specs.Between.{Between}
-use Rattle.jc_runs.specs.Next.{AreFirst, BeganWith, behind}
+use Rattle.jc_runs.specs.Next.{AreFirst, BeganWith, IsFoundUnopened, behind}
 use Rattle.jc_runs.specs.Steps.{EndsRun, LeavesEarlier, StopsRun}
 
 -- what is known alike, of the same past, when more had come
@@ -92,3 +96,11 @@ stop_step AreUploads answers b past now windows came known comes same leaves ali
         subst (λ (m : Journal). ByDefault (λ limits. KeepsCollected limits stored.known (union m b.now) answers (union m now))) same stored.keeps;
   };
 }
+
+-- with what is found of files that weren't opened as a database
+module _ {S C L : Type 0} (o : InFiles S C L) (made : Tables) (first image : Image) where
+  pub begins_unopened : (left : Option L) → IfSome left (LeavesBegun o made first) → IsFoundUnopened o first left image
+      → BeginsAgain made first image
+  begins_unopened None begun same = λ kind found begins.
+      ∣ subst (λ (i : Image). BeginsIn made kind i found) (sym same) begins ∣₁
+  begins_unopened (Some files) begun is = begun is.0 is.1.0 image is.1.1

@@ -15,9 +15,6 @@ use Rattle.jc_ledger.specs.Kept.{AreApart, IsKept, NoneCollide}
 use Rattle.jc_ledger.specs.Known.{Known, digest_under, known_of}
 use Rattle.jc_ledger.specs.Lagging.{MayCatchUp}
 use Rattle.jc_ledger.specs.Union.{union}
-use Rattle.jc_ledger_files.specs.declared.window_name.WindowName.{WindowName}
-use Rattle.jc_ledger_files.specs.Owned.{owner_window}
-use Rattle.jc_ledger_files.specs.Windows.{window_of}
 use Rattle.jc_upload.specs.declared.answer.Answer.{Answer}
 use Rattle.jc_runs.specs.Acknowledged.{AreAcknowledged}
 use Rattle.jc_runs.specs.Between.{Between, Fate, IsInOne, MayBegin, journals, journals_of}
@@ -196,16 +193,16 @@ module _ (b c : Between) (is : Stands b) (x : Expiry b c) where
     released = λ s was. ap (λ (f : Id128 → Bool). f s) x.released ∙ was;
   }
 
--- ---- windows of notes that go
+-- ---- notes that go
 
 gone_known : (w : Bool) (o : Option EntryDigest) (k : Key) (v : Option Body) → o ≡ option_map (digest_under k) v
     → cond w None o ≡ option_map (digest_under k) (cond (not w) v None)
 gone_known true o k v is = refl
 gone_known false o k v is = is
 
-module _ (went : WindowName → Bool) (b c : Between) (is : Stands b) (f : Forgetting went b c) where
+module _ (keys : Key → Bool) (sequences : Id128 → Bool) (b c : Between) (is : Stands b) (f : Forgetting keys sequences b c) where
   stays : Key → Bool
-  stays k = not (went (window_of k))
+  stays k = not (keys k)
 
   past_part : Journal
   past_part = retain_keys b.past stays
@@ -217,7 +214,7 @@ module _ (went : WindowName → Bool) (b c : Between) (is : Stands b) (f : Forge
   unfolding stays past_part noted_part
   known_still k key =
       f.known k
-      ∙ (gone_known (went (window_of k)) (b.known k) k (get (union b.past is.begins.noted) k) (is.begins.kept.noted k key)
+      ∙ (gone_known (keys k) (b.known k) k (get (union b.past is.begins.noted) k) (is.begins.kept.noted k key)
       ∙ ap (λ (o : Option Body). option_map (digest_under k) o) (sym (part_union b.past is.begins.noted stays k)))
 
   apart_still : AreApart past_part noted_part
@@ -256,27 +253,27 @@ module _ (went : WindowName → Bool) (b c : Between) (is : Stands b) (f : Forge
   same_earlier = ap journals_of f.earlier
 
   forgotten_still : (k : Key) → b.forgotten k ≡ true → c.forgotten k ≡ true
-  forgotten_still k was = f.forgotten k ∙ true_or (b.forgotten k) (went (window_of k)) was
+  forgotten_still k was = f.forgotten k ∙ true_or (b.forgotten k) (keys k) was
 
   noted_still : (e : LogEntry) → IsStored b.past e ⊎ (b.forgotten e.key ≡ true) → IsStored c.past e ⊎ (c.forgotten e.key ≡ true)
   noted_still e (inr was) = inr (forgotten_still e.key was)
-  noted_still e (inl past) = by_window (went (window_of e.key)) refl
+  noted_still e (inl past) = by_test (keys e.key) refl
     where
-      by_window : (w : Bool) → went (window_of e.key) ≡ w → IsStored c.past e ⊎ (c.forgotten e.key ≡ true)
-      by_window true at = inr (f.forgotten e.key ∙ or_true (b.forgotten e.key) (went (window_of e.key)) at)
-      by_window false at = inl (ap (λ (m : Journal). get m e.key) f.past
-          ∙ (part_get b.past (λ k. not (went (window_of k))) e.key
+      by_test : (w : Bool) → keys e.key ≡ w → IsStored c.past e ⊎ (c.forgotten e.key ≡ true)
+      by_test true at = inr (f.forgotten e.key ∙ or_true (b.forgotten e.key) (keys e.key) at)
+      by_test false at = inl (ap (λ (m : Journal). get m e.key) f.past
+          ∙ (part_get b.past (λ k. not (keys k)) e.key
           ∙ (ap (λ (w : Bool). cond (not w) (get b.past e.key) None) at ∙ past)))
 
   released_still : (s : Id128) → b.released s ≡ true → c.released s ≡ true
-  released_still s was = f.released s ∙ true_or (b.released s) (went (owner_window s)) was
+  released_still s was = f.released s ∙ true_or (b.released s) (sequences s) was
 
   owners_still : (s : Id128) (machine : MachineDigest) → b.owner s ≡ Some machine → (c.owner s ≡ Some machine) ⊎ (c.released s ≡ true)
-  owners_still s machine owns = by_window (went (owner_window s)) refl
+  owners_still s machine owns = by_test (sequences s) refl
     where
-      by_window : (w : Bool) → went (owner_window s) ≡ w → (c.owner s ≡ Some machine) ⊎ (c.released s ≡ true)
-      by_window true at = inr (f.released s ∙ or_true (b.released s) (went (owner_window s)) at)
-      by_window false at = inl (f.owner s ∙ (ap (λ (w : Bool). cond w None (b.owner s)) at ∙ owns))
+      by_test : (w : Bool) → sequences s ≡ w → (c.owner s ≡ Some machine) ⊎ (c.released s ≡ true)
+      by_test true at = inr (f.released s ∙ or_true (b.released s) (sequences s) at)
+      by_test false at = inl (f.owner s at ∙ owns)
 
   pub forgets : Leaves b [] [] c
   unfolding past_part stays
@@ -287,7 +284,7 @@ module _ (went : WindowName → Bool) (b c : Between) (is : Stands b) (f : Forge
         (subst (AllByRecursion (IsPastBut c.forgotten c.past)) (sym same_earlier)
         (past_but_more b.forgotten c.forgotten b.past c.past noted_still (journals_of b.earlier) is.noted))
         (subst (AreApartBut c.forgotten) (sym same_earlier)
-        (apart_but_more b.forgotten c.forgotten (λ k other. not_or (b.forgotten k) (went (window_of k)) (sym (f.forgotten k) ∙ other))
+        (apart_but_more b.forgotten c.forgotten (λ k other. not_or (b.forgotten k) (keys k) (sym (f.forgotten k) ∙ other))
         (journals_of b.earlier) is.once.1));
     acknowledged = none_answered c;
     stored = λ e one. subst (λ (m : Journal). IsInOne (m ∷ journals_of c.earlier) e) (sym f.now)
@@ -305,11 +302,11 @@ steps_on laws (Ends uploads answers) b c is none leads = ended laws uploads answ
 steps_on laws (Stops uploads answers) b c is none leads = stopped laws uploads answers b c is none leads
 steps_on laws (Turns fate) b c is none leads = turns laws fate b c is leads
 steps_on laws Expires b c is none leads = expires b c is leads
-steps_on laws (Forgets went) b c is none leads = forgets went b c is leads
+steps_on laws (Forgets keys sequences) b c is none leads = forgets keys sequences b c is leads
 
 pub step_comes : (step : Step) (b c : Between) → Leads step b c → (e : LogEntry) → Contains b.came e → Contains c.came e
 step_comes (Ends uploads answers) b c leads = leads.leaves.comes
 step_comes (Stops uploads answers) b c leads = leads.leaves.comes
 step_comes (Turns fate) b c leads = λ e had. subst (λ (es : List LogEntry). Contains es e) (sym leads.came) had
 step_comes Expires b c leads = λ e had. subst (λ (es : List LogEntry). Contains es e) (sym leads.came) had
-step_comes (Forgets went) b c leads = λ e had. subst (λ (es : List LogEntry). Contains es e) (sym leads.came) had
+step_comes (Forgets keys sequences) b c leads = λ e had. subst (λ (es : List LogEntry). Contains es e) (sym leads.came) had

@@ -1,7 +1,7 @@
--- Files of notes with which runs over the second and the third database of the worked list begin.
-use Rattle.std.proofs.Common.{◌≡◌, ◌∙◌, ◌<◌, ◌^◌, arith, ℕ, nat_eq, Bool, true, false, cond, List, [], ◌∷◌, Some, None, take, refl, sym, ap, subst, append-nil}
+-- Files of notes with which runs over the databases of the worked list begin, the first one with none.
+use Rattle.std.proofs.Common.{◌≡◌, ◌∙◌, ◌<◌, ◌^◌, arith, ℕ, nat_eq, Bool, true, false, cond, List, [], ◌∷◌, Some, None, take, refl, sym, ap, subst, append-nil, inl, inr}
 use Rattle.std.specs.BTreeMap.{is_at}
-use Rattle.std.specs.FinMap.{empty, get}
+use Rattle.std.specs.FinMap.{empty, get, same_map}
 use Rattle.std.specs.List.{All, Contains}
 use Rattle.std.specs.Option.{option_map}
 use Rattle.std.specs.Ordering.{nat_cmp}
@@ -13,9 +13,11 @@ use Rattle.jc_base.specs.declared.id.Id128.{Id128}
 use Rattle.jc_base.specs.declared.id.Key.{Key}
 use Rattle.jc_base.specs.Journal.{Journal}
 use Rattle.jc_base.specs.LogEntry.{IsKey, LogEntry}
+use Rattle.jc_collector.specs.Kinds.{BeginsIn}
+use Rattle.jc_command_args.specs.declared.request.Tables.{Tables}
 use Rattle.jc_export.specs.Canonical.{canon}
 use Rattle.jc_keeper.specs.Agree.{IsStored}
-use Rattle.jc_keeper.specs.KeyLaws.{key_eq, key_eq_equiv, same_key}
+use Rattle.jc_keeper.specs.KeyLaws.{key_eq, key_eq_equiv, key_exact, key_total, same_key}
 use Rattle.jc_ledger.specs.Kept.{IsKnownBy, NoneCollide}
 use Rattle.jc_ledger.specs.Known.{Known, digest_of, digest_under, known_of}
 use Rattle.jc_ledger.specs.Owners.{Owner, machine_named}
@@ -29,13 +31,14 @@ use Rattle.jc_ledger_files.specs.Owned.{owner_found, owner_of, owner_window}
 use Rattle.jc_ledger_files.specs.OwnersLaws.{with_owners}
 use Rattle.jc_ledger_files.specs.Windows.{known_in, same_window, window_of}
 use Rattle.jc_runs.specs.Between.{Between, nothing}
+use Rattle.jc_runs.specs.Next.{FirstBegins, MayMake, no_file}
 use Rattle.jc_runs.specs.Steps.{LeadsOn}
 use Rattle.jc_runs.specs.Worked.{Starts, numbered, of_one, of_other, worked}
 use Rattle.jc_runs.proofs.Course.{keeps_on, stands_at_first}
 use Rattle.jc_runs.proofs.Following.{begins_alike}
 use Rattle.jc_runs.proofs.OneMore.{Reads}
 use Rattle.jc_runs.proofs.Stepping.{Laws}
-use Rattle.jc_runs.proofs.Unions.{in_now, in_past}
+use Rattle.jc_runs.proofs.Unions.{has_none, in_now, in_past, union_none, void}
 use Rattle.jc_runs.proofs.WorkedSteps.{both_owners, came, has_no_third, has_one, is_numbered, leads_half, leads_to_s4, m1, m2, no_one, none_collide, owned_if, p1, p2, s4, s5}
 
 -- what is read of files, and that owners among the notes do no harm
@@ -161,6 +164,10 @@ lawful_notes w = either_notes (nat_eq w.window (2 ^ 51)) (owner_notes w.sequence
     (either_notes (same_window (window_of of_one.key) w) (note_of of_one ∷ []) _ (lawful_note of_one (omega arith))
     (either_notes (same_window (window_of of_other.key) w) (note_of of_other ∷ []) [] (lawful_note of_other (omega arith)) no_notes))
 
+-- A database file of no bytes has none.
+makes_file : (made : Tables) → BeginsIn made made no_file void
+makes_file made = inr (inl (inl (inl refl)), refl, refl)
+
 module _ (files : Files) where
   found : (w : WindowName) → notes_of (windows w) ≡ all_notes w
   unfolding windows
@@ -171,6 +178,18 @@ module _ (files : Files) where
   unfolding all_notes
   known_there k key = ap (λ (ns : List WindowNote). noted ns k.seqnum) (found (window_of k))
       ∙ files.known entry_notes owner_notes p2 (λ x lawful. tells x) k key
+
+  none_noted : notes_of [] ≡ []
+  none_noted = files.read [] [] (record { rest = []; whole = refl; closed = tt; are = no_notes })
+
+  pub first : FirstBegins
+  first made told deeds shape = record {
+    holds = makes_file made;
+    noted = λ k key. ap (λ (ns : List WindowNote). noted ns k.seqnum) none_noted;
+    owner = λ s. ap owner_of none_noted;
+    past = same_map key_total key_exact (union void void) void (λ k. union_none void k (has_none k) ∙ sym (has_none k));
+    came = λ e has. has;
+  }
 
   owned : (one other : Bool) → owner_of (notes_owning one other) ≡ owned_if one other
   unfolding notes_owning owned_if owner_note
@@ -193,22 +212,22 @@ module _ (files : Files) where
     noted = ap (λ (o : Known). o of_one.key) known ∙ ap (option_map (digest_under of_one.key)) has_one_of_p2;
     noted_of_other = ap (λ (o : Known). o of_other.key) known ∙ ap (option_map (digest_under of_other.key)) has_other_of_p2;
     windows = windows;
-    began = λ made kind image told deeds begins. record {
+    began = λ made kind image told deeds shape begins. record {
       holds = begins;
       noted = λ k key. known_there k key ∙ ap (λ (o : Known). o k) (sym known);
       owner = λ s. owner_there s ∙ ap (λ (o : Owner). o s) (sym owner);
       past = all_there;
       came = λ e inside. inside;
     };
-    begins = λ image told deeds. begins_alike (sym all_there) (λ k key. known_there k key ∙ ap (λ (o : Known). o k) (sym known)) (λ e inside. inside)
+    begins = λ image told deeds shape. begins_alike (sym all_there) (λ k key. known_there k key ∙ ap (λ (o : Known). o k) (sym known)) (λ e inside. inside)
         (keeps_on laws nothing b (take steps worked) leads (subst (λ (es : List LogEntry). NoneCollide (Contains es)) (sym had) none_collide) (stands_at_first laws.same)).stands.begins;
   }
     where
       all_there : union b.past empty ≡ b.past
       all_there = subst (λ (m : Journal). union m empty ≡ m) (sym earlier) (laws.same past now)
 
-  pub starts : Laws → Reads → ((b : Between) × Starts 4 b × IsStored b.now of_other) × ((b : Between) × Starts 5 b × (b.now ≡ empty))
+  pub starts : Laws → Reads → ((b : Between) × Starts 4 b × IsStored b.now of_other) × ((b : Between) × Starts 5 b × (b.now ≡ empty) × MayMake b)
   starts laws reads = (
     (s4, starts_at laws 4 s4 (leads_to_s4 reads) empty m1 refl refl refl refl, has_one of_other),
-    (s5, starts_at laws 5 s5 (leads_half reads) p1 m2 refl refl refl refl, refl),
+    (s5, starts_at laws 5 s5 (leads_half reads) p1 m2 refl refl refl refl, refl, makes_file),
   )

@@ -4,14 +4,11 @@ use Rattle.std.specs.Option.{option_map, option_or}
 use Rattle.std.specs.List.{Contains}
 use Rattle.std.specs.FinMap.{empty, get, get-insert, insert, retain_keys}
 use Rattle.std.proofs.lemmas.List.Elements.{Contains-append_cases, Contains-append_left, Contains-append_right}
-use Rattle.jc_base.specs.declared.fault.Code.TheVariants.{StoreFailed}
 use Rattle.jc_base.specs.declared.id.Id128.{Id128}
 use Rattle.jc_base.specs.declared.id.Key.{Key}
-use Rattle.jc_base.specs.declared.limits.Limits.{Limits}
-use Rattle.jc_base.specs.Fault.{number_of}
 use Rattle.jc_base.specs.Journal.{Journal}
 use Rattle.jc_base.specs.LogEntry.{LogEntry, Body}
-use Rattle.jc_collect.specs.Each.{CollectsOneMore}
+use Rattle.jc_collect.specs.EachLaws.{gathers_none}
 use Rattle.jc_keeper.specs.Agree.{IsStored}
 use Rattle.jc_keeper.specs.KeyLaws.{key_eq, key_total, same_key, same_parts}
 use Rattle.jc_keeper.specs.Listing.{entry_under}
@@ -25,7 +22,7 @@ use Rattle.jc_ledger_files.specs.Owned.{owner_window}
 use Rattle.jc_ledger_files.specs.Windows.{window_of}
 use Rattle.jc_runs.specs.Between.{Aside, Between, Expired, Kept, database, nothing}
 use Rattle.jc_runs.specs.Steps.{EndsRun, Expiry, Forgetting, LeadsOn, StopsRun, Turn}
-use Rattle.jc_runs.specs.Worked.{IsWorked, acks, alone, numbered, of_its_window, of_lost, of_one, of_other, uncommitted, unread, upload_of, worked}
+use Rattle.jc_runs.specs.Worked.{IsWorked, acks, alone, numbered, of_its_window, of_lost, of_one, of_other, uncommitted, unread, worked}
 use Rattle.jc_runs.proofs.Course.{keeps_on, stands_at_first}
 use Rattle.jc_runs.proofs.OneMore.{Reads, collects_new, has_it, it_is, only, small_lost, small_one, small_other, stores_new, stores_same}
 use Rattle.jc_runs.proofs.Stepping.{Laws}
@@ -311,7 +308,7 @@ step3 reads = record {
     last = union p1 m2;
     collected = stores_new reads p1 empty 2 2 (64 * 4096 + 1) small_other (union_none p1 of_other.key (p1_get of_other.key no_other)) limits;
     none = tt;
-    is = inl refl;
+    more = gathers_none limits [] (union p1 m2) [] (union p1 m2) refl;
   };
 }
 
@@ -362,28 +359,16 @@ step6 reads = record {
     last = union p2 empty;
     collected = refl;
     none = tt;
-    is = inr (one_more limits);
-  };
-}
-  where
-    one_more : (limits : Limits) → CollectsOneMore limits (alone 3 of_lost) (uncommitted 3 ∷ []) (union p2 empty) (union p2 (insert empty of_lost.key of_lost.body))
-    one_more limits = record {
-      upload = Some (upload_of 3 of_lost);
+    more = record {
+      ahead = alone 3 of_lost;
       others = [];
       are = refl;
-      of = Some (numbered 3, 0);
-      code = number_of StoreFailed;
-      place = 0;
-      behind = [];
-      whole = refl;
-      may = inl refl;
-      source = numbered 3;
-      start = 0;
-      count = 1;
-      new = 1;
-      left = 0;
-      collects = collects_new reads p2 empty 3 2 (64 * 4096 + 2) small_lost (union_none p2 of_lost.key no_lost) limits;
-    }
+      would = acks 3 1;
+      begin = (inl refl, tt);
+      collected = (_, collects_new reads p2 empty 3 2 (64 * 4096 + 2) small_lost (union_none p2 of_lost.key no_lost) limits, refl);
+    };
+  };
+}
 
 -- Of what the database that is set aside has, nothing is noted.
 unnoted : (k : Key) → key_eq k of_lost.key ≡ (is_some (get m3 k) && not (is_some (get void k)))
@@ -410,10 +395,10 @@ step7 = record {
   released = refl;
 }
 
-step8 : Forgetting of_its_window s7 s8
+step8 : Forgetting (λ k. of_its_window (window_of k)) (λ s. of_its_window (owner_window s)) s7 s8
 step8 = record {
   known = λ k. refl;
-  owner = λ s. refl;
+  owner = λ s stays. ap (λ (w : Bool). cond w None (both_owners s)) stays;
   earlier = refl;
   past = refl;
   now = refl;

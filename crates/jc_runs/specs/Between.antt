@@ -38,9 +38,9 @@ pub record Between : Type 0 where
   pub now : Journal
   -- the entries that came so far
   pub came : List LogEntry
-  -- the keys of which a note went for its age, or wasn't made of a database that was set aside
+  -- the keys of which a note went, or wasn't made of a database that was set aside
   pub forgotten : Key → Bool
-  -- the sequences whose owner's note went for its age
+  -- the sequences whose owner's note went, or was changed
   pub released : Id128 → Bool
 
 -- at first there is nothing

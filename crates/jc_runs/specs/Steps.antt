@@ -1,5 +1,5 @@
 -- What comes between: runs, turns, and what goes for its age. (own)
-use Rattle.std.specs.Prelude.{ℕ, ◌≡◌, ◌||◌, ◌&&◌, Bool, not, if◌then◌else◌, is_some, List, [], ◌∷◌, Option, None}
+use Rattle.std.specs.Prelude.{ℕ, ◌≡◌, ◌||◌, ◌&&◌, Bool, false, not, if◌then◌else◌, is_some, List, [], ◌∷◌, Option, None}
 use Rattle.std.specs.List.{Contains}
 use Rattle.std.specs.FinMap.{empty, get, retain_keys}
 use Rattle.jc_base.specs.declared.id.Id128.{Id128}
@@ -27,8 +27,12 @@ pub data Step : Type 0 where
   Turns : Fate → Step
   -- Databases went for their age, or whatever became of them.
   Expires : Step
-  -- Windows of notes went for their age.
-  Forgets : (WindowName → Bool) → Step
+  -- Notes went: those of these keys, and those of these sequences' owners, if these weren't renamed.
+  Forgets : (Key → Bool) → (Id128 → Bool) → Step
+
+-- Windows of notes went for their age.
+abbrev pub forgets_windows : (WindowName → Bool) → Step
+forgets_windows went = Forgets (λ k. went (window_of k)) (λ s. went (owner_window s))
 
 -- the answers whose lines were printed
 abbrev pub answers_of : Step → List Answer
@@ -36,7 +40,7 @@ answers_of (Ends uploads answers) = answers
 answers_of (Stops uploads answers) = answers
 answers_of (Turns fate) = []
 answers_of Expires = []
-answers_of (Forgets went) = []
+answers_of (Forgets keys sequences) = []
 
 -- the uploads that they were given to, of each of which the bytes are known or not
 abbrev pub answered_in : Step → List (Option (List ℕ))
@@ -44,7 +48,7 @@ answered_in (Ends uploads answers) = uploads
 answered_in (Stops uploads answers) = uploads
 answered_in (Turns fate) = []
 answered_in Expires = []
-answered_in (Forgets went) = []
+answered_in (Forgets keys sequences) = []
 
 -- ---- runs
 
@@ -65,7 +69,7 @@ pub record EndsRun (uploads : List (Option (List ℕ))) (answers : List Answer) 
   pub stored : MayBegin b → NoneCollide (Contains c.came)
       → ByDefault (λ limits. CollectsEach limits uploads (union b.past b.now) answers (union b.past c.now))
 
--- The first of them were, and one more at most that no answer acknowledges, and some of it is noted.
+-- The first of them were, and some more that no answer acknowledges, whole ones and in order, and some of it is noted.
 pub record StopsRun (uploads : List (Option (List ℕ))) (answers : List Answer) (b c : Between) : Type 0 where
   pub leaves : LeavesEarlier b c
   pub lags : MayBegin b → NoneCollide (Contains c.came) → MayBegin c
@@ -99,16 +103,16 @@ pub record Expiry (b c : Between) : Type 0 where
   pub forgotten : c.forgotten ≡ b.forgotten
   pub released : c.released ≡ b.released
 
--- Windows of notes went, those of entries, of owners, or both. Nothing else changed.
-pub record Forgetting (went : WindowName → Bool) (b c : Between) : Type 0 where
-  pub known : (k : Key) → c.known k ≡ (if went (window_of k) then None else b.known k)
-  pub owner : (s : Id128) → c.owner s ≡ (if went (owner_window s) then None else b.owner s)
+-- The notes of these keys went. So did those of these sequences' owners, or they name other machines. Nothing else changed.
+pub record Forgetting (keys : Key → Bool) (sequences : Id128 → Bool) (b c : Between) : Type 0 where
+  pub known : (k : Key) → c.known k ≡ (if keys k then None else b.known k)
+  pub owner : (s : Id128) → sequences s ≡ false → c.owner s ≡ b.owner s
   pub earlier : c.earlier ≡ b.earlier
-  pub past : c.past ≡ retain_keys b.past (λ k. not (went (window_of k)))
+  pub past : c.past ≡ retain_keys b.past (λ k. not (keys k))
   pub now : c.now ≡ b.now
   pub came : c.came ≡ b.came
-  pub forgotten : (k : Key) → c.forgotten k ≡ (b.forgotten k || went (window_of k))
-  pub released : (s : Id128) → c.released s ≡ (b.released s || went (owner_window s))
+  pub forgotten : (k : Key) → c.forgotten k ≡ (b.forgotten k || keys k)
+  pub released : (s : Id128) → c.released s ≡ (b.released s || sequences s)
 
 -- ---- one after the other
 
@@ -117,7 +121,7 @@ Leads (Ends uploads answers) b c = EndsRun uploads answers b c
 Leads (Stops uploads answers) b c = StopsRun uploads answers b c
 Leads (Turns fate) b c = Turn fate b c
 Leads Expires b c = Expiry b c
-Leads (Forgets went) b c = Forgetting went b c
+Leads (Forgets keys sequences) b c = Forgetting keys sequences b c
 
 abbrev pub LeadsOn : (first : Between) → List Step → (last : Between) → Type 0
 LeadsOn b [] last = last ≡ b

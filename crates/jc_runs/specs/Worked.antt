@@ -8,17 +8,16 @@ use Rattle.sqlite.specs.Recovery.{Image}
 use Rattle.jc_base.specs.declared.fault.Code.TheVariants.{ReadFailed, StoreFailed}
 use Rattle.jc_base.specs.declared.id.Id128.{Id128}
 use Rattle.jc_base.specs.Fault.{number_of}
-use Rattle.jc_base.specs.Journal.{Journal}
 use Rattle.jc_base.specs.LogEntry.{LogEntry}
 use Rattle.jc_collector.specs.Kinds.{BeginsIn}
-use Rattle.jc_command.specs.Run.{Begins, begins_with, stored_before}
+use Rattle.jc_command.specs.Run.{begins_with}
 use Rattle.jc_command_args.specs.declared.request.Tables.{Tables}
 use Rattle.jc_command_shared.specs.Deeds.{Deed}
 use Rattle.jc_export.specs.Cut.{joined}
 use Rattle.jc_keeper.specs.Agree.{IsStored}
+use Rattle.jc_keeper.specs.declared.form.Shape.{Shape}
 use Rattle.jc_ledger.specs.Kept.{IsKept, NoneCollide}
 use Rattle.jc_ledger.specs.Known.{digest_of}
-use Rattle.jc_ledger.specs.Lagging.{MayCatchUp}
 use Rattle.jc_ledger.specs.Owners.{machine_named}
 use Rattle.jc_ledger_files.specs.declared.window_name.WindowName.{WindowName}
 use Rattle.jc_ledger_files.specs.Windows.{same_window, window_of}
@@ -28,10 +27,10 @@ use Rattle.jc_upload.specs.declared.answer.Answer.{Answer}
 use Rattle.jc_upload.specs.declared.answer.Answer.TheVariants.{Ack, No}
 use Rattle.jc_upload.specs.declared.head.UploadHead.{UploadHead}
 use Rattle.jc_runs.specs.Between.{Aside, Between, IsInOne, Kept, journals_of, nothing}
-use Rattle.jc_runs.specs.Next.{BeganWith}
+use Rattle.jc_runs.specs.Next.{BeganWith, MayStart}
 use Rattle.jc_runs.specs.Safe.{MayDelete, head_of_all}
 use Rattle.jc_runs.specs.Stands.{Keeps}
-use Rattle.jc_runs.specs.Steps.{Ends, Expires, Forgets, LeadsOn, Step, Stops, Turns}
+use Rattle.jc_runs.specs.Steps.{Ends, Expires, LeadsOn, Step, Stops, Turns, forgets_windows}
 
 -- sequences and sources, by a number
 abbrev pub numbered : ℕ → Id128
@@ -85,12 +84,8 @@ of_its_window w = same_window (window_of of_one.key) w
 abbrev pub worked : List Step
 worked =
     Ends (alone 1 of_one) (acks 1 1) ∷ Turns Kept ∷ Stops (alone 2 of_other) (acks 2 1) ∷ Ends (None ∷ alone 1 of_one) (unread ∷ acks 1 0)
-    ∷ Turns Kept ∷ Stops (alone 3 of_lost) (uncommitted 3 ∷ []) ∷ Turns Aside ∷ Forgets of_its_window ∷ Ends (alone 1 of_one) (acks 1 1)
+    ∷ Turns Kept ∷ Stops (alone 3 of_lost) (uncommitted 3 ∷ []) ∷ Turns Aside ∷ forgets_windows of_its_window ∷ Ends (alone 1 of_one) (acks 1 1)
     ∷ Expires ∷ []
-
--- what a run supposes of the notes that it begins with, and of the journal that its database has
-abbrev pub MayStart : Begins → Journal → Type 0
-MayStart begun now = MayCatchUp begun.noted (stored_before begun) now begun.came
 
 -- What they lead to: the first machine's entry is in two databases, since its note went, and the other's in one; what a stop left
 -- beyond that was in the database that was set aside, and has no note; the sequences belong to whom they belonged to.
@@ -122,7 +117,7 @@ pub record Starts (steps : ℕ) (b : Between) : Type 0 where
   pub noted : b.known of_one.key ≡ Some (digest_of of_one)
   pub noted_of_other : b.known of_other.key ≡ Some (digest_of of_other)
   pub windows : WindowName → List ℕ
-  pub began : (made kind : Tables) (image : Image) (told : List ℕ → Option (List ℕ)) (deeds : Option (List Deed)) → BeginsIn made kind image b.now
-      → BeganWith made kind (begins_with image windows b.past empty (Contains b.came) told deeds) b
-  pub begins : (image : Image) (told : List ℕ → Option (List ℕ)) (deeds : Option (List Deed))
-      → MayStart (begins_with image windows b.past empty (Contains b.came) told deeds) b.now
+  pub began : (made kind : Tables) (image : Image) (told : List ℕ → Option (List ℕ)) (deeds : Option (List Deed)) (shape : Shape) → BeginsIn made kind image b.now
+      → BeganWith made kind (begins_with image windows b.past empty (Contains b.came) told deeds shape) b
+  pub begins : (image : Image) (told : List ℕ → Option (List ℕ)) (deeds : Option (List Deed)) (shape : Shape)
+      → MayStart (begins_with image windows b.past empty (Contains b.came) told deeds shape) b.now

@@ -8,6 +8,7 @@ ghost use Rattle.jc_base.specs.LogEntry.{IsKey};
 ghost use Rattle.jc_keeper.specs.Agree.{IsStored};
 ghost use Rattle.jc_ledger.specs.Kept.{IsKept, NoneCollide};
 ghost use Rattle.jc_runs.specs.Between.{Between, Fate, nothing};
+ghost use Rattle.jc_runs.specs.Next.{FirstBegins, MayMake};
 ghost use Rattle.jc_runs.specs.Safe.{DeletesSafely, TellsAll};
 ghost use Rattle.jc_runs.specs.Stands.{Keeps, Stands};
 ghost use Rattle.jc_runs.specs.Steps.{LeadsOn, Step, Turn};
@@ -24,6 +25,8 @@ use jc_upload::one_saying;
 pub fn runs_keep()
     // At first there is nothing, and a run may begin.
     ensures begins { Stands nothing }
+    // It begins with no file, whichever tables it makes.
+    ensures first { FirstBegins }
     ensures keeps { (b c : Between) (steps : List Step) → LeadsOn b steps c → NoneCollide (Contains c.came) → Stands b → Keeps b steps c }
     // Behind a run that ended a turn leaves no note unmade.
     ensures turns { (fate : Fate) (b c : Between) → Turn fate b c → IsKept b.known b.past b.now (Contains b.came)
@@ -33,8 +36,9 @@ pub fn runs_keep()
     ensures deletes { DeletesSafely }
     // There are such lists, and such uploads.
     ensures worked { (c : Between) × IsWorked c }
-    // A run begins with a database that has an entry, and behind a turn with an empty one.
-    ensures starts { ((b : Between) × Starts 4 b × IsStored b.now of_other) × ((b : Between) × Starts 5 b × (b.now ≡ empty)) }
+    // A run begins with a database that has an entry, and behind a turn with an empty one, or with no file yet.
+    ensures starts { ((b : Between) × Starts 4 b × IsStored b.now of_other)
+        × ((b : Between) × Starts 5 b × (b.now ≡ empty) × MayMake b) }
 {
     acknowledged_stored();
     each_stored();

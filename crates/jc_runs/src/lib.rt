@@ -6,4 +6,4 @@ mod law;
 mod next;
 
 pub use law::runs_keep;
-pub use next::{next_run, next_run_of_folders};
+pub use next::next_run;

@@ -1,12 +1,15 @@
 use Rattle.jc_runs.proofs.Acknowledging.{deletes_safely, tells_all}
 use Rattle.jc_runs.proofs.Course.{keeps_on, stands_at_first, turns_whole}
 use Rattle.jc_runs.proofs.Stepping.{Laws}
-use Rattle.jc_runs.proofs.WorkedFiles.{starts}
+use Rattle.jc_runs.proofs.WorkedFiles.{first, starts}
 use Rattle.jc_runs.proofs.WorkedSteps.{it_is_worked}
 use Rattle.jc_runs.proofs.law.runs_keep.Goals as goal
 
 pub returns-clause-begins : goal.returns-clause-begins
 returns-clause-begins c = stands_at_first c.union_laws.ensures.same
+
+pub returns-clause-first : goal.returns-clause-first
+returns-clause-first c = first (record { read = c.one_reading-2.ensures.read; known = c.owners_are_no_harm.ensures.known })
 
 pub returns-clause-keeps : goal.returns-clause-keeps
 returns-clause-keeps c = keeps_on (record {
