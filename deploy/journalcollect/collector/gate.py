@@ -86,8 +86,7 @@ class Gate:
         return 1
 
     def windows(self, machine: str, handle: int, size: int) -> tuple[int, int]:
-        """How many files of notes an upload touches, and how many of them it makes that weren't counted: all of them if
-        its lines show others, too."""
+        """How many files of notes an upload touches, and makes that weren't counted: all if its lines show others."""
         body = os.pread(handle, size, HEADER)
         numbers = {int(number) // WINDOW for number in NUMBERS.findall(body)}
         ids = {each.decode("ascii").lower() for each in IDS.findall(body)}

@@ -1,7 +1,6 @@
 """What the service knows and what has to outlive it, in one SQLite file, which others may read.
 
-All of it can be made anew of the databases, the notes and the keys, but for when each machine was seen last.
-"""
+All of it can be made anew of the databases, the notes and the keys, but for when each machine was seen last."""
 import contextlib
 import hashlib
 import sqlite3
@@ -70,8 +69,7 @@ class Told:
 
 
 class Window(NamedTuple):
-    """How many notes of finished databases a window of a sequence has, the digest of their bytes, and when its file was
-    written before that was taken."""
+    """A window's notes of finished databases: how many, their digest, and when its file was written before that."""
     sequence: str
     window: int
     notes: int

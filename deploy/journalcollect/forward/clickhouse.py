@@ -1,5 +1,4 @@
-"""ClickHouse, by HTTP: rows of JSON for a table whose sorting key has an entry's key, so that a row that comes again is
-merged with the first one."""
+"""ClickHouse, by HTTP: rows of JSON for a table whose sorting key has an entry's key, so a repeated row is merged."""
 import contextlib
 import http.client
 import re

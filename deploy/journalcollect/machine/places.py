@@ -9,8 +9,7 @@ collector's daily heads, and when each was first told; `told` what somebody has 
 that SINCE was (`since`) and that a first list of files was seen (`begun`); what was asked for by hand (`again`,
 `answers`); how many bytes of an upload the link carries and how often in a row it was cut (`bound`, `cuts`); how far
 the collector's clock was ahead (`skew`); when it answered and acknowledged last (`answered`, `acknowledged`), and why
-nothing goes out (`trouble`).
-"""
+nothing goes out (`trouble`)."""
 import os
 import sqlite3
 import time
@@ -114,8 +113,7 @@ class Places:
             "SELECT sequence, number, new FROM fork ORDER BY number, rowid").fetchall()
 
     def mend(self, error: sqlite3.DatabaseError) -> bool:
-        """Puts aside a file that isn't what was made here, or that the disk can't read, and begins another; whether it
-        is such a one."""
+        """Puts aside a file that isn't what was made here or can't be read, and begins another; whether it is such."""
         if not (files.is_damaged(error) or self.is_unreadable()):
             return False
         self.database.close()

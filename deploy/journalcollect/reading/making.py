@@ -3,8 +3,7 @@
 usage: python3 -m journalcollect.reading.making [--anew] FOLDER
 
 They are a cache: what is there is made of databases, and counts once it has its name. `--anew` makes all of them, also
-those that stand.
-"""
+those that stand."""
 import contextlib
 import gzip
 import heapq
@@ -63,8 +62,7 @@ class Maker:
         self.owners: dict[str, str] = dict(looking.rows(self.folder.state, "SELECT id, machine FROM sequence"))
 
     def run(self, is_anew: bool) -> int:
-        """One run at a time, up to the end of its process: who comes while another one is under way leaves it that, if
-        not all is to be made anew."""
+        """One run at a time, up to its process's end: who comes meanwhile leaves it that, unless all is made anew."""
         self.places.make()
         self.folder.scratch.mkdir(exist_ok=True)
         if self.folder.locked("journals/.lock", is_waiting=is_anew) is None:

@@ -7,8 +7,7 @@
     journals/DAY/all.journal         the databases that began on one day: one sequence of files by time
     journals/DAY/about.json          what these have
 
-A name that is too large for one file has further ones, `NAME@..journal`.
-"""
+A name that is too large for one file has further ones, `NAME@..journal`."""
 import json
 import re
 import resource
@@ -125,8 +124,7 @@ class Places:
 
     def standing(self, opened: ExitStack) -> list[File]:
         """The files that stand now, each database in one of its places: the present's, and those by time, the oldest
-        first. They are opened as they are chosen, so that none is missing when a database gets its place in a day
-        meanwhile."""
+        first. They are opened as they are chosen, so that none is missing if a database gets its place meanwhile."""
         _, hard = resource.getrlimit(resource.RLIMIT_NOFILE)
         resource.setrlimit(resource.RLIMIT_NOFILE, (hard, hard))
         for _ in range(20):

@@ -1,6 +1,7 @@
 """What isn't as it should be: each finding has a name for programs, a sentence, and what to do."""
 import enum
 from dataclasses import dataclass
+from functools import partialmethod
 
 from journalcollect.status import words
 
@@ -29,17 +30,12 @@ class Finding:
 
 
 class Findings(list[Finding]):
-    def look(self, name: str, about: str, text: str, remedy: str) -> None:
-        """Entries still come."""
-        self.append(Finding(Status.LOOK, name, about, text, remedy))
+    def add(self, status: Status, name: str, about: str, text: str, remedy: str) -> None:
+        self.append(Finding(status, name, about, text, remedy))
 
-    def wrong(self, name: str, about: str, text: str, remedy: str) -> None:
-        """The settings are wrong, or the call."""
-        self.append(Finding(Status.WRONG, name, about, text, remedy))
-
-    def failed(self, name: str, about: str, text: str, remedy: str) -> None:
-        """Nothing comes, or is stored, until it is mended."""
-        self.append(Finding(Status.FAILED, name, about, text, remedy))
+    # Entries still come; the settings are wrong, or the call; nothing comes, or is stored, until it is mended.
+    look, wrong = partialmethod(add, Status.LOOK), partialmethod(add, Status.WRONG)
+    failed = partialmethod(add, Status.FAILED)
 
     def clock(self, about: str, ahead: float, this: str, other: str) -> None:
         """By so many seconds a clock goes ahead of another one."""

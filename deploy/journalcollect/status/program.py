@@ -40,7 +40,7 @@ class Sides:
         found = [finding.line() for finding in sorted(self.findings, key=lambda each: -each.status)]
         if found or not is_quiet:
             parts.append("\n".join(found) or "All is well.")
-        return words.harmless("\n\n".join(parts))
+        return words.UNPRINTED.sub("?", "\n\n".join(parts))
 
 
 def table(lines: list[tuple[str, str]]) -> str:

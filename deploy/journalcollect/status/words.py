@@ -3,12 +3,8 @@ import re
 import time
 
 STEPS = ((86400.0, "days"), (3600.0, "h"), (60.0, "min"), (1.0, "s"))
+# What a terminal does something else with than to show it.
 UNPRINTED = re.compile(r"[\x00-\x09\x0b-\x1f\x7f-\x9f\u2028\u2029\u202a-\u202e\u2066-\u2069\ud800-\udfff]")
-
-
-def harmless(text: str) -> str:
-    """A text of which a terminal does nothing but show it."""
-    return UNPRINTED.sub("?", text)
 
 
 def size(count: float) -> str:
