@@ -1,6 +1,7 @@
 # shellcheck shell=bash
 # What the test scripts share. `expect STATUS OUTPUT ERRORS COMMAND..` runs the command and compares; OUTPUT and ERRORS
 # are a whole text without its last newline, or a pattern after `~`. Each script ends with `finish`.
+set -uo pipefail
 mistakes=0
 
 differs() {

@@ -10,8 +10,7 @@ A text in quotation marks is itself, with `\n` for a newline. Each other word is
 - `fill:N:COUNT`: so many bytes, each of them N
 - `set:PLACE:N`, `put:PLACE:N`: one byte, or eight, in the place of what is there
 - `cut:N`: only the first N bytes of all that was named before
-- `again:COUNT:N`: the last COUNT bytes of all that was named before, N times more
-"""
+- `again:COUNT:N`: the last COUNT bytes of all that was named before, N times more"""
 from __future__ import annotations
 
 import re

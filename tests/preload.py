@@ -1,5 +1,4 @@
-"""Small libraries that are preloaded into the program: compiled by the toolchain's own compiler, and set by
-variables."""
+"""Small libraries that are preloaded into the program: compiled by the toolchain's compiler, and set by variables."""
 from __future__ import annotations
 
 import os

@@ -1,7 +1,5 @@
 #!/usr/bin/env bash
-# Arguments that aren't UTF-8 are a wrong command line: status 2, one line on standard error, nothing on standard
-# output.
-set -uo pipefail
+# Arguments that aren't UTF-8 are a wrong command line: status 2, one line on standard error, nothing printed.
 . "$(dirname "$0")/expect.sh"
 
 expect 2 "" "error: an argument is not UTF-8 text" "$PROGRAM" verify export $'\xff'

@@ -1,7 +1,6 @@
 #!/usr/bin/env bash
 # What arguments ask for, by what the program then does: which files it takes, and in which order. And the mistakes in
 # arguments, by the words that stand for each kind of mistake.
-set -uo pipefail
 . "$(dirname "$0")/expect.sh"
 
 new_folder

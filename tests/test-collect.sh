@@ -2,7 +2,6 @@
 # Collecting into a database, as only processes show it: a full disk, several collectors at once, files that can't be
 # read, notes in files, and databases of the first version of the tables. What is stored is read by the stock sqlite3
 # too. The random choices are the same each time; SEED chooses others, which each part prints.
-set -uo pipefail
 . "$(dirname "$0")/expect.sh"
 
 memory_in_large_pages

@@ -1,7 +1,6 @@
 #!/usr/bin/env bash
 # The Debian package: what is in it, what lintian says, and that it is installed and removed, in a root of its own,
 # with its logs kept; and the README's commands that make and install it.
-set -uo pipefail
 . "$(dirname "$0")/expect.sh"
 
 for tool in dpkg-deb dpkg strip objdump; do

@@ -3,7 +3,6 @@
 # codes and of limits, all crates in the list, scripts that say what they test, the number of edits, each of which names
 # a goal, one table of the figures to plan with, links to headings that are there, and pages that stay short. Each file
 # says what it is about (`make files`).
-set -uo pipefail
 . "$(dirname "$0")/expect.sh"
 
 new_folder

@@ -1,7 +1,6 @@
 #!/usr/bin/env bash
 # `--explain`: each cause is told for a file that has it, each code with what it means, and what had no complete entry;
 # the lines of answers and errors, and the status, are those of the same call without the option.
-set -uo pipefail
 . "$(dirname "$0")/expect.sh"
 . "$(dirname "$0")/shared/read_files.sh"
 python3 -B - "$folder" << 'MADE'
@@ -67,6 +66,8 @@ exec 9>&-
 wait
 
 # who may read and write
+sequence=000102030405060708090a0b0c0d0e0f
+echo "$folder/up" > "$folder/list"
 cp "$PROGRAM" "$folder/program"
 chmod 755 "$folder" "$folder/program"
 if as_user "$folder/program" --version > "$folder/told" 2>&1; then
@@ -87,6 +88,16 @@ if as_user "$folder/program" --version > "$folder/told" 2>&1; then
         as_user "$folder/program" --explain collect "$folder/shut/new.db" "$folder/up"
     expect 3 "" "~*$folder/secret.db may not be read *" \
         as_user "$folder/program" --explain verify export "$folder/secret.db"
+    mkdir -m 777 "$folder/open" "$folder/open/notes" "$folder/open/notes/$sequence"
+    mkdir -m 000 "$folder/shut/notes"
+    touch "$folder/open/notes/$sequence/0"
+    told="may not be read or written by this user: see its rights and those of its folders"
+    noted=(--files-from "$folder/list" "$folder/open/union.db")
+    expect 3 "" "cannot open $folder/shut/notes"$'\n'"explain: $folder/shut/notes $told" \
+        as_user "$folder/program" --explain collect --sequences "$folder/shut/notes" "${noted[@]}"
+    chmod 000 "$folder/open/notes/$sequence/0"
+    expect 3 "no $id 0 62 0" "store failed"$'\n'"explain: the file of notes $folder/open/notes/$sequence/0 $told" \
+        as_user "$folder/program" --explain collect --sequences "$folder/open/notes" "${noted[@]}"
 else
     echo "skipped: nobody can't run programs here, so it isn't tried what another user is told"
 fi
@@ -136,6 +147,52 @@ exec 9>&-
 wait
 matches "$(< "$folder/why")" "~*explain: $folder/late is missing: *explain: $folder/gone is missing: *" \
     || differs "a file that is mended before the run ends: $(< "$folder/why")"
+
+# the notes of sequences: the file of them that failed is named, or their folder, and not the database
+notes=$folder/notes
+noted=(--sequences "$notes" --files-from "$folder/list" "$folder/union.db")
+expect 0 "ack $id 0 2 2 0" "" "$PROGRAM" collect "${noted[@]}"
+explains 3 "" "cannot open $folder/up" "$folder/up is to be a folder, or to lie in one, and something else is *" \
+    owners --sequences "$folder/up"
+explains 3 "" "cannot open $folder/gone/notes" "$folder/gone/notes is missing: *" \
+    owners --sequences "$folder/gone/notes"
+exec 9< "$notes"
+flock 9
+explains 3 "" "cannot open $notes" "$notes is in use by another program: *" collect "${noted[@]}"
+exec 9<&-
+mv "$notes/$sequence/0" "$folder/kept"
+mkdir "$notes/$sequence/0"
+explains 3 "" "store failed" \
+    "the file of notes $notes/$sequence/0 is no regular file with one name: put back the one that was there" \
+    collect "${noted[@]}"
+rmdir "$notes/$sequence/0"
+mv "$folder/kept" "$notes/$sequence/0"
+
+# what has no more room: notes, as a sequence is claimed and as the run ends, and the database
+mkdir "$folder/small"
+small() {
+    # shellcheck disable=SC2016 # the shell in there expands it
+    unshare --mount bash -c 'mount -t tmpfs -o size=4k none "$0" && head -c 4096 /dev/zero > "$0/rest" && exec "$@"' \
+        "$folder/small" "$@"
+}
+if small true 2> "$folder/told"; then
+    full="~store failed
+explain: the file of notes $folder/small/$sequence/* has no more room: look at the space on its disk"
+    noted=(--sequences "$folder/small" --files-from "$folder/list")
+    expect 3 "ack $id 0 2 2 0" "$full" small "$PROGRAM" collect --explain "${noted[@]}" "$folder/first.db"
+    printf 'web\t%s\n' "$folder/up" > "$folder/list"
+    expect 3 "no $id 0 62 0" "$full" small "$PROGRAM" collect --explain "${noted[@]}" "$folder/second.db"
+else
+    echo "skipped: no small disk can be made here, so it isn't tried what is told of notes on one that is full"
+fi
+samples later="stream(entry_text(7))"
+echo "$folder/later" > "$folder/list"
+expect 3 "no $id 0 62 0" "store failed
+explain: 62 StoreFailed (the database failed; the upload may be stored whole): look at the disk of the database, \
+see whether \`check\` finds its rows well, and send it again
+explain: the database failed while it was read or written: look at the space on its disk, and at the disk" \
+    bash -c 'trap "" XFSZ; ulimit -f 1; exec "$@"' - "$PROGRAM" collect --explain --sequences "$notes" \
+    --files-from "$folder/list" "$folder/union.db"
 
 # failures that name no file
 source=(--source "$id" --resume "$folder/resume" export "$folder/in")

@@ -1,8 +1,6 @@
 #!/usr/bin/env bash
 # `collect --files-from`: lists of names in place of names among the arguments, also under a small limit on open files,
-# and from a pipe that is still open. The random choices come from a seed that is printed; SEED=N makes the same choices
-# again.
-set -uo pipefail
+# and from a pipe that is still open. Random choices come from a seed that is printed; SEED=N makes the same again.
 . "$(dirname "$0")/expect.sh"
 
 new_folder
@@ -62,10 +60,13 @@ expect 1 "no $id 0 60 0"$'\n'"$again" "" \
 expect 3 "$unread"$'\n'"no $id 0 60 0" "cannot open $folder/none" \
     "$PROGRAM" collect --files-from - "$db" < <(printf '%s\n' "$folder/none" "$folder/conflict")
 
-# standard output that takes nothing: what its line was for is stored, and no later upload is
-printf '%s\n' "$up" "$folder/second" > "$list"
+# standard output that takes nothing: the 64 that are stored before their lines are printed stay, and no later upload is
+sed 's/__SEQNUM=1$/__SEQNUM=3/' "$up" > "$folder/third"
+{ echo "$up"; yes "$folder/second" | head -n 63; echo "$folder/third"; } > "$list"
 expect 3 "" "write failed" bash -c "'$PROGRAM' collect '$folder/full' --files-from '$list' > /dev/full"
-expect 0 "ok 1" "" "$PROGRAM" check "$folder/full"
+expect 0 "ok 2" "" "$PROGRAM" check "$folder/full"
+expect 0 "~$again"$'\n'"*$again"$'\n'"$first" "" "$PROGRAM" collect "$folder/full" --files-from "$list"
+printf '%s\n' "$up" "$folder/second" > "$list"
 
 # both ways at once are a wrong command line
 both="~error: the argument '--files-from <FILE>' cannot be used with '\\[UPLOAD\\]...'"

@@ -1,8 +1,6 @@
 #!/usr/bin/env bash
 # Journal files and exports that systemd itself wrote (tests/fixtures says how each was made): what `verify` says of
-# them, how `collect` answers them, and what `export` then writes. What is expected comes from what journalctl printed
-# of the same file.
-set -uo pipefail
+# them, how `collect` answers them, and what `export` then writes. What is expected is what journalctl printed of it.
 . "$(dirname "$0")/expect.sh"
 
 fixtures=$PWD/tests/fixtures

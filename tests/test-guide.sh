@@ -2,7 +2,6 @@
 # The guide, typed on a collector and a machine that systemd starts: each of its blocks, each event in their lives by
 # one command, and each failure named by journal-collect-status with what to do. It takes root and systemd-nspawn. It
 # says how many commands set it up, and how long it took until the first entry was read.
-set -uo pipefail
 . "$(dirname "$0")/expect.sh"
 
 export PROGRAM

@@ -1,6 +1,5 @@
 #!/usr/bin/env bash
 # Hostile uploads, and databases that were damaged: what the program answers, and that it neither crashes nor hangs.
-set -uo pipefail
 # shellcheck source=tests/trials.sh
 . "$(dirname "$0")/trials.sh"
 

@@ -1,8 +1,6 @@
 #!/usr/bin/env bash
-# `make install` puts the program, its man page, and the documents that the page names below PREFIX. It starts no
-# build (-o: the program isn't made anew). The installed program prints its version, and does the demo as the README's
-# quick start shows it.
-set -uo pipefail
+# `make install` puts the program, its man page, and the documents that the page names below PREFIX. It starts no build
+# (-o: the program isn't made anew). The installed program prints its version, and does the demo as the README shows it.
 . "$(dirname "$0")/expect.sh"
 
 new_folder

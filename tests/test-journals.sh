@@ -2,7 +2,6 @@
 # Worked uploads over journals of every kind, whose rows stand in tests/journals/*.rows: over maps and databases that
 # take turns, as crates/jc_test_calls prints it, and over tables of each kind, by the program itself. And rows that are
 # wrong, which have to fail.
-set -uo pipefail
 # shellcheck source=tests/trials.sh
 . "$(dirname "$0")/trials.sh"
 

@@ -1,7 +1,6 @@
 #!/usr/bin/env bash
 # `--json`: each line of `check`, `codes`, `inspect`, `show` and `verify` is an object that has the words of the line by
 # name; the status is that of the call without it, and other commands refuse the option.
-set -uo pipefail
 . "$(dirname "$0")/expect.sh"
 . "$(dirname "$0")/shared/read_files.sh"
 

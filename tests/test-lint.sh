@@ -1,7 +1,6 @@
 #!/usr/bin/env bash
 # The texts of the repository are as tools/lint wants them. A text with each kind of mistake is told line by line, what
 # the list of exceptions names is passed over while it is needed, and a program that isn't installed is told as skipped.
-set -uo pipefail
 . "$(dirname "$0")/expect.sh"
 cd "$(dirname "$0")/.." || exit
 

@@ -2,7 +2,6 @@
 # The man pages: each is as tools/man_pages.py makes it, is read without a warning, and is installed; units name pages
 # that are there; there is one of each program and each settings file; and these have the settings that the programs
 # take, and the defaults of these.
-set -uo pipefail
 . "$(dirname "$0")/expect.sh"
 
 new_folder

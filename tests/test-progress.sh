@@ -3,7 +3,6 @@
 # most, and of a large file at once; the line is cleared before any other and at the end. Where standard error is no
 # terminal there is none of it, and never in the output. And what a terminal gets of output with characters that it
 # obeys, or that turn a line.
-set -uo pipefail
 . "$(dirname "$0")/expect.sh"
 . "$(dirname "$0")/shared/read_files.sh"
 

@@ -1,8 +1,6 @@
 #!/usr/bin/env bash
 # docs/PROOFS.md, UNPROVED.md and FAULTS.md name functions, clauses and files that are in the sources, the README's list
-# names promises of PROOFS, and a page with a wrong name is refused. What `make contracts` prints of a crate is what its
-# sources say.
-set -uo pipefail
+# names promises of PROOFS, and a page with a wrong name is refused. What `make contracts` prints is what sources say.
 . "$(dirname "$0")/expect.sh"
 
 new_folder

@@ -1,7 +1,6 @@
 #!/usr/bin/env bash
 # Resume files and pipes, as only a process shows them: what a failure leaves of the old file, and sources that come
 # once. Rows of tests/commands have the rest.
-set -uo pipefail
 . "$(dirname "$0")/expect.sh"
 
 new_folder

@@ -1,7 +1,6 @@
 #!/usr/bin/env bash
 # Databases whose tables are by key or have a text a row: what `--tables 3` makes, what the stock SQLite reads there and
 # may have written, and that every command finds out which tables there are.
-set -uo pipefail
 . "$(dirname "$0")/expect.sh"
 
 new_folder

@@ -1,7 +1,6 @@
 #!/usr/bin/env bash
 # The file of `collect --then-export`, as only a process shows it: what it has beside what `export` prints, what a
 # failure leaves of it, and what may be in its place.
-set -uo pipefail
 . "$(dirname "$0")/expect.sh"
 
 new_folder

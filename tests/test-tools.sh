@@ -3,7 +3,6 @@
 # check` proves exactly what isn't proved as it is, lowest first: over a small repository, and an rt that only notes
 # where it checks. `make demo` takes the proved program, or keeps the one that `rt try` builds. The gate counts its
 # edits also if they are all judged before rt ci ends.
-set -uo pipefail
 . "$(dirname "$0")/expect.sh"
 cd "$(dirname "$0")/.." || exit
 # it spares parallel.py the toolchain, and so would let the whole gate run here

@@ -1,7 +1,6 @@
 #!/usr/bin/env bash
 # Machines, a collector and a hostile machine as they are installed, in rounds of random events over disks and journals
 # of their own, and what came of it: ROUNDS of them, or 40. It takes root, loop devices and systemd-journal-remote.
-set -uo pipefail
 . "$(dirname "$0")/expect.sh"
 
 export PROGRAM

@@ -15,6 +15,8 @@ from model import Journal
 
 # What machines are named. A line of a list may name one that has no letters.
 NAMES = ("web", "web2", "größe/7", "", "a" * 5000)
+# Longer than what is read of a list at once, so what stands behind it isn't there yet when the line before is read.
+LONG = "mail" * 2500
 # How many of the uploads of named machines another machine brings.
 OTHERS = 0.1
 MIXED = 0.3

@@ -1,17 +1,20 @@
 """A disk that is full: no file may grow past a size, and the writes that would pass it fail.
 
 What was acknowledged is stored, an upload that was answered 62 is stored whole or not at all, and the same uploads sent
-again with room for them complete the journal.
-"""
+again with room for them complete the journal."""
 from __future__ import annotations
 
+import os
 import resource
 import signal
+import sys
 from collections.abc import Callable
 
 from make import Machine
-from model import Journal
-from trial import Trial, answers, run, status_of
+from trial import Trial, answers, run
+
+sys.path.insert(0, os.path.join(os.path.dirname(os.path.abspath(__file__)), "..", "stops"))
+from collecting import WORDS, Collecting, Listed  # noqa: E402
 
 SIZES = 60
 
@@ -24,43 +27,18 @@ def limited(size: int) -> Callable[[], None]:
     return limit
 
 
-def journals_of(trial: Trial, what: str, lines: list[str], uploads: list[bytes]) -> tuple[list[Journal], int]:
-    """What a run with these answers may leave: all that is acknowledged, and perhaps with it the first upload that is
-    answered by a failure of the store."""
-    journal = Journal()
-    failed = []
-    for line, upload in zip(lines, uploads):
-        if line.endswith(" 62 0"):
-            source, start = Journal().take(upload).split(" ")[1:3]
-            trial.expect(f"{what}: a failed upload's line", line, f"no {source} {start} 62 0")
-            failed.append(upload)
-        else:
-            trial.expect(f"{what}: line", line, journal.take(upload))
-    and_failed = journal.copy()
-    for upload in failed[:1]:
-        and_failed.take(upload)
-    return [journal, and_failed], len(failed)
-
-
-def try_size(trial: Trial, size: int, uploads: list[bytes], names: list[str]) -> int:
-    what = f"full at {size} bytes"
-    database = trial.database()
-    told, errors, status = run("collect", database, *names, preexec_fn=limited(size))
-    lines = told.decode().splitlines()
-    journals, failures = journals_of(trial, what, lines, uploads)
-    if lines:
-        trial.expect(f"{what}: number of lines", len(lines), len(uploads))
-        trial.expect(f"{what}: {errors!r}", errors in ("", "store failed\n"), True)
-        trial.expect(f"{what}: status", status, 3 if errors else status_of(lines))
-    else:
-        trial.expect(f"{what}: {errors!r}", errors in (f"cannot open {database}\n", "store failed\n"), True)
-        trial.expect(f"{what}: status", status, 3)
+def try_size(scenario: Collecting, size: int) -> int:
+    """A run that finds no more room; answers how many uploads failed."""
+    trial, what, database = scenario.trial, f"{scenario.name}, full at {size} bytes", scenario.prepare()
+    words = [*scenario.words, database, *scenario.names]
+    told = run(*words, preexec_fn=limited(size))
+    journals = scenario.told(what, database, told)
     found = trial.left(what, database, journals)
-    trial.expect(f"{what}: no journal", found is None and bool(lines), False)
+    trial.expect(f"{what}: no journal", found is None and bool(told[0]), False)
     journal = journals[found or 0]
-    trial.expect(f"{what}: sent again", run("collect", database, *names), answers(journal, uploads))
+    trial.expect(f"{what}: sent again", run(*words), answers(journal, scenario.uploads))
     trial.holds(f"{what}: complete", database, journal)
-    return failures
+    return told[0].count(b" 62 0\n")
 
 
 def main() -> None:
@@ -68,11 +46,11 @@ def main() -> None:
         machine = Machine(trial.dice, 60)
         uploads = [machine.stream(first, first + trial.dice.randint(1, 20)) for first in range(0, 60, 4)]
         uploads.append(machine.file(60))
-        names = trial.put(uploads)
+        scenarios = Collecting(trial, "by names", uploads), Listed(trial, "by a list", uploads, WORDS)
         failures = 0
         for number in range(SIZES):
             size = 1536 * number if number < 30 else trial.dice.randrange(600_000)
-            failures += try_size(trial, size, uploads, names)
+            failures += try_size(trial.dice.choice(scenarios), size)
         trial.expect("uploads that found no room", failures > 0, True)
         trial.finish(f"{SIZES} sizes", f"{failures} uploads answered 62")
 

@@ -1,7 +1,6 @@
 """Uploads that a list names, many in one run with few files open, and names that come one by one through a pipe.
 
-Every line, the status and the export are held against the model's, and against the same uploads among the arguments.
-"""
+Every line, the status and the export are held against the model's, and against the same uploads among the arguments."""
 from __future__ import annotations
 
 import resource
@@ -85,17 +84,17 @@ def next_line(process: subprocess.Popen[bytes]) -> bytes:
 
 
 def one_by_one(trial: Trial) -> None:
-    """A name comes once the answer to the one before it is out, and the pipe stays open. It may come in two pieces."""
+    """A name comes once the answer to the one before it is out, and the pipe stays open. With its end the beginning of
+    the next one may come."""
     uploads = uploads_of(trial.dice, ONE_BY_ONE)
     journal = Journal()
     database = trial.database()
     process = start("collect", database, "--files-from", "-", stdin=subprocess.PIPE, preexec_fn=few_files)
-    lines = []
-    for name, upload in zip(trial.put(uploads), uploads):
+    lines, names = [], trial.put(uploads)
+    cuts = [0, *(trial.dice.randint(0, len(name)) for name in names[1:]), 0]
+    for name, after, cut, cut_after, upload in zip(names, [*names[1:], ""], cuts, cuts[1:], uploads):
         lines.append(journal.take(upload))
-        cut = trial.dice.randint(0, len(name))
-        for piece in (name[:cut], name[cut:] + "\n"):
-            process.stdin.write(piece.encode())
+        process.stdin.write(f"{name[cut:]}\n{after[:cut_after]}".encode())
         trial.expect("one by one", next_line(process), as_output(lines[-1:]))
     output, errors = process.communicate(timeout=PATIENCE)
     trial.expect("one by one, at the end", (output, errors, process.returncode), (b"", b"", status_of(lines)))

@@ -1,5 +1,4 @@
-"""Machines, and the uploads that they make: all of them chosen by a generator of random numbers that the caller
-seeds."""
+"""Machines, and the uploads that they make: all chosen by a generator of random numbers that the caller seeds."""
 from __future__ import annotations
 
 import os

@@ -1,5 +1,4 @@
-"""The notes in a folder, as docs/FORMATS.md has them: read, and changed as people and the collector's service change
-them."""
+"""The notes in a folder, as docs/FORMATS.md has them: read, and changed as people and the service change them."""
 from __future__ import annotations
 
 import contextlib

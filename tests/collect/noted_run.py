@@ -15,30 +15,38 @@ LISTED = ["--tables", "3", "--files-from", "-"]
 
 
 class MayBe:
-    """The journals that a run may leave, by its lines so far: those with what was acknowledged, and those with one of
-    the uploads that failed since then, too. One that failed may have claimed its sequences. One that can't be read
-    leaves all as it is."""
+    """The journals that a run may leave, by its lines so far: those with what was acknowledged, and those with the
+    first of the uploads that failed since then, too. One that failed may have claimed its sequences. One that was
+    refused memory may not be one of these uploads. One that can't be read leaves all as it is."""
 
     def __init__(self, journal: Journal) -> None:
         self.journals = [journal.copy()]
         self.with_failed: list[Journal] = []
+        # those of them that have all that failed and was taken up
+        self.with_all: list[Journal] = []
 
     def take(self, line: str, brought: Brought) -> None:
         whose = named(brought.upload)
         if line in (f"no {whose} 62 0", f"no {whose} 63 0"):
-            self.fail(brought)
+            self.fail(brought, line.endswith(" 62 0"))
         elif line not in (f"no {whose} 61 0", "no - - 61 0"):
             self.journals = [journal for journal in self.journals if take(journal, brought) == line]
             # a refusal needs no store
             failed = [] if line.startswith("ack ") else self.with_failed
             self.with_failed = [journal for journal in failed if take(journal, brought) == line]
+            self.with_all = [journal for journal in self.with_all if journal in self.with_failed]
 
-    def fail(self, brought: Brought) -> None:
-        stored = [journal.copy() for journal in self.journals]
+    def fail(self, brought: Brought, is_taken_up: bool = True) -> None:
         claimed = [journal.copy() for journal in self.journals]
-        for with_upload, with_claim in zip(stored, claimed):
+        for journal in claimed:
+            with_upload = journal.copy()
             take(with_upload, brought)
-            with_claim.owners = dict(with_upload.owners)
+            journal.owners = with_upload.owners
+        before = self.with_all or self.journals
+        stored = [journal.copy() for journal in before]
+        for journal in stored:
+            take(journal, brought)
+        self.with_all = stored if is_taken_up else [*stored, *before]
         self.with_failed += stored
         self.journals += claimed
 
@@ -71,6 +79,7 @@ class NotedRun:
         self.strangers = {sequence: stranger(sequence) for sequence in complete.owners}
         self.usual = as_output(lines), "", status_of(lines)
         self.stdin = listed(trial, uploads)
+        self.list, = trial.put([self.stdin])
 
     def prepare(self, folder: str) -> list[str]:
         """Puts the database and the notes into a folder, and answers the words of a run over them."""
@@ -84,13 +93,13 @@ class NotedRun:
             may_be.take(line, brought)
             if not self.trial.expect(f"{what}: {lines}, up to {line}", bool(may_be.journals), True):
                 return None
-        if len(lines) < len(self.uploads):
-            may_be.fail(self.uploads[len(lines)])
+        for brought in self.uploads[len(lines):]:
+            may_be.fail(brought)
         return may_be
 
     def left(self, what: str, folder: str, may_be: MayBe) -> None:
-        """What was acknowledged is there, an upload that failed may be if none behind it was acknowledged, and a next
-        run takes all uploads. A machine whose upload failed may find that its sequence was another's meanwhile."""
+        """What was acknowledged is there, the first of those that failed may be if none behind was acknowledged, and a
+        next run takes all uploads. A machine whose upload failed may find that its sequence was another's meanwhile."""
         journals = may_be.all()
         first = set.intersection(*(set(journal.owners) for journal in journals))
         uploads = [*(self.strangers[sequence] for sequence in sorted(first)), *self.uploads, *self.strangers.values()]

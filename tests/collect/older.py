@@ -1,6 +1,5 @@
 """Databases of the first version of the tables, as an earlier program left them and as the stock sqlite3 makes them:
-`migrate` takes their journals over, and no other command does. tests/stops has it stopped anywhere.
-"""
+`migrate` takes their journals over, and no other command does. tests/stops has it stopped anywhere."""
 from __future__ import annotations
 
 import gzip
@@ -75,11 +74,6 @@ def older(trial: Trial, journal: Journal) -> str:
     return database
 
 
-def old_rows(journal: Journal) -> str:
-    return "".join(f"{e.seqnum_id.hex()} {e.seqnum} {e.realtime} {e.monotonic} {e.body().hex()}\n"
-                   for e in journal.in_order())
-
-
 def usual(journal: Journal) -> tuple[bytes, str, int]:
     """What `migrate` prints of a journal that isn't over yet, and its status."""
     return as_output([f"ok {len(journal.entries)}"]), "", 0
@@ -91,7 +85,9 @@ def is_over(trial: Trial, what: str, database: str, journal: Journal) -> bool:
     copied = trial.copy(database)
     if not over:
         if IS_HERE:
-            trial.expect(f"{what}: the old rows", stock(trial.copy(database), OLD_ROWS), old_rows(journal))
+            rows = "".join(f"{e.seqnum_id.hex()} {e.seqnum} {e.realtime} {e.monotonic} {e.body().hex()}\n"
+                           for e in journal.in_order())
+            trial.expect(f"{what}: the old rows", stock(trial.copy(database), OLD_ROWS), rows)
         trial.expect(f"{what}: migrate", run("migrate", copied), usual(journal))
     trial.expect(f"{what}: export", run("export", copied), (journal.text(), "", 0))
     holds_rows(trial, what, copied, journal)

@@ -1,8 +1,7 @@
 """The files of `collect --sequences`: which there are, what stands in them, and what isn't read of them.
 
 What is answered and stored over many databases is held against a model in turns.py, and worked in tests/journals. Here
-the files are read and written as docs/FORMATS.md has them.
-"""
+the files are read and written as docs/FORMATS.md has them."""
 from __future__ import annotations
 
 import os
@@ -14,6 +13,7 @@ from collections.abc import Sequence
 from pathlib import Path
 from typing import Any
 
+import samples
 from brought import Brought, as_lines
 from listed import next_line
 from make import Machine
@@ -24,6 +24,8 @@ from trial import Trial, as_output, run, start, status_of
 WEB, MAIL = "web", "mail"
 # So many windows are used where so many files may be open, some more than are kept open.
 WINDOWS, FILES = 100, 84
+# So much memory a run may take; all uploads that wait have twice as much.
+MEMORY = 100 << 20
 
 
 class Union:
@@ -106,6 +108,17 @@ def more_than_are_open(trial: Trial) -> None:
     machine.entries = at_numbers(machine, range(7, WINDOWS * WINDOW, WINDOW))
     uploads = [machine.stream(number, number + 1) for number in range(WINDOWS)]
     union.take("more than are open", *uploads, *uploads, preexec_fn=few_files)
+
+
+def little_memory() -> None:
+    resource.setrlimit(resource.RLIMIT_AS, (MEMORY, MEMORY))
+
+
+def large(trial: Trial) -> None:
+    """Large uploads that wait are stored in less memory than they have bytes."""
+    text = b"MESSAGE=" + bytes(MEMORY // 32) + b"\n\n"
+    uploads = [samples.stream(samples.entry_text(number)[:-1] + text) for number in range(1, 65)]
+    Union(trial).take("large", *uploads, preexec_fn=little_memory)
 
 
 def behind_notes(trial: Trial) -> None:
@@ -230,8 +243,8 @@ def looking_makes_none(trial: Trial) -> None:
 
 def main() -> None:
     with Trial("sequences") as trial:
-        rows = (folder_is_made, many_windows, more_than_are_open, behind_notes, owners_that_are_none, owners_that_hold,
-                no_file, at_once, looking_makes_none)
+        rows = (folder_is_made, many_windows, more_than_are_open, large, behind_notes, owners_that_are_none,
+                owners_that_hold, no_file, at_once, looking_makes_none)
         for row in rows:
             row(trial)
         trial.finish(f"{len(rows)} kinds of rows over the files of notes")

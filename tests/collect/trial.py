@@ -1,5 +1,4 @@
-"""What the tests with random choices share: the program that is tried, what a database has to hold, the count of
-mistakes."""
+"""What tests with random choices share: the program that is tried, what a database has to hold, how many mistakes."""
 from __future__ import annotations
 
 import os
@@ -76,7 +75,7 @@ class Trial:
 
     def __init__(self, name: str, seed: int | None = None) -> None:
         self.name = name
-        self.seed = first_seed() if seed is None else seed
+        self.seed = int(os.environ.get("SEED", "7")) if seed is None else seed
         self.dice = random.Random(self.seed)
         self.mistakes = 0
         self.marks: set[int] = set()
@@ -121,8 +120,7 @@ class Trial:
         return name
 
     def is_new(self, folder: str, *more: object) -> bool:
-        """Whether no folder was asked about before that has the same files, to the byte, and whose run had the same of
-        whatever else counts."""
+        """Whether no folder was asked about before with the same files, and whose run had the same of what counts."""
         mark = hash((files_in(folder), *more))
         if mark in self.marks:
             return False
@@ -174,11 +172,6 @@ def files_in(folder: str) -> frozenset[tuple[str, bytes | None]]:
             with open(path, "rb") as file:
                 found.add((os.path.relpath(path, folder), file.read()))
     return frozenset(found)
-
-
-def first_seed() -> int:
-    """SEED, or the same one each time."""
-    return int(os.environ.get("SEED", "7"))
 
 
 def short(value: object) -> str:

@@ -3,8 +3,7 @@
 Every line is the one that a single database with all their entries would answer, and each key stands in one of them.
 So it is over any uploads of machines that share sequences, over turns, runs that are killed within any call, databases
 that are deleted, and notes that are made anew from the databases that are there. A sequence belongs to the machine that
-first brought a new entry of it, whatever comes between, until a person says another thing.
-"""
+first brought a new entry of it, whatever comes between, until a person says another thing."""
 from __future__ import annotations
 
 import os
@@ -23,8 +22,7 @@ import device  # noqa: E402
 
 ROUNDS = int(os.environ.get("ROUNDS", "30"))
 STEPS = 25
-# Calls that change a file, of those that device.c names so: the first that may be the last one, those before the first
-# upload, and those for each.
+# Calls that change a file, as device.c names them: the first to be the last, those before an upload, those for each.
 CALLS = {"": (1, 30, 18), "o": (1, 4, 14), "l": (15, 20, 3)}
 Entries = dict[tuple[bytes, int], Entry]
 
@@ -102,11 +100,11 @@ class Union:
         self.stops += bool(calls)
         self.is_noted = False
         told = output.count(b"\n")
-        self.found(f"{self.what}: stopped within call {number} {only} of mode {mode}", journals[told:told + 2])
+        self.found(f"{self.what}: stopped within call {number} {only} of mode {mode}", journals[told:])
 
     def found(self, what: str, journals: list[Journal]) -> None:
-        """All that the run acknowledged is stored, and of the next upload all or nothing. Sequences of that one may be
-        its machine's though it isn't stored, but not the other way round."""
+        """All that the run acknowledged is stored, and the first of the next uploads may be, each whole. Sequences of
+        these may be their machines' though they aren't stored, but not the other way round."""
         stored, owners = self.stored(), owners_in(notes_of(self.sequences))
         claimed = journals[-1].owners.items()
         for journal in journals:

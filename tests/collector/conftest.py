@@ -122,6 +122,11 @@ class Collector:
         self.process.terminate()
         return self.ended()
 
+    def stops_with(self, stored: list[tuple[str, int, bytes]]) -> None:
+        """It stops, and these entries are stored, each once."""
+        assert self.stop() == 0
+        assert self.stored() == stored
+
     def ended(self) -> int:
         """Its status, once it has ended."""
         assert self.process
@@ -265,11 +270,10 @@ def store_and_stop(collector: Collector, numbers: range, of: str = A, machine: s
     assert collector.stop() == 0
 
 
-def comes_again(collector: Collector, numbers: range, new: int) -> None:
-    """These entries come, perhaps again, so many of them new: then they and no others are stored, each once."""
+def comes_again(collector: Collector, numbers: range, new: int, *beside: tuple[str, int, bytes]) -> None:
+    """These entries come, perhaps again, so many of them new: then they, and others beside, are stored, each once."""
     if not collector.runs():
         collector.start()
     count = len(numbers)
     assert collector.send("web", upload(entries(A, numbers), count)) == f"ack {ID} 0 {count} {new} 0"
-    assert collector.stop() == 0
-    assert collector.stored() == texts(numbers)
+    collector.stops_with([*texts(numbers), *beside])

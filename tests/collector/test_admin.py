@@ -5,7 +5,7 @@ import subprocess
 from pathlib import Path
 
 import pytest
-from conftest import A, B, ID, PROGRAM, Collector, Machine, entries, store_and_stop, upload
+from conftest import A, B, ID, PROGRAM, Collector, Machine, comes_again, entries, store_and_stop, upload
 from waiting import wait_until
 
 KEY = "ssh-ed25519 AAAAC3NzaC1lZDI1NTE5AAAAI%s= %s"
@@ -187,8 +187,7 @@ def test_uploads_that_came_by_other_means_are_taken(collector: Collector, tmp_pa
     collector.start()
     collector.connect("web").close()
     assert said(collector, "take", "web", paths[0]) == f"ack {ID} 0 1 0 0\n"
-    assert collector.stop() == 0
-    assert collector.stored() == [(A, 1, b"m1"), (A, 2, b"m2")]
+    collector.stops_with([(A, 1, b"m1"), (A, 2, b"m2")])
 
 
 def test_a_backup_is_put_back_and_its_notes_are_those_of_its_databases(collector: Collector, tmp_path: Path) -> None:
@@ -210,8 +209,7 @@ def test_a_backup_is_put_back_and_its_notes_are_those_of_its_databases(collector
     assert machine.had(A, 5) == "had"
     assert machine.had(A, 8) == "lost"
     assert machine.send(upload(entries(A, range(1, 9)), 8)) == f"ack {ID} 0 8 3 0"
-    assert collector.stop() == 0
-    assert collector.stored() == [(A, number, b"m%d" % number) for number in range(1, 9)]
+    collector.stops_with([(A, number, b"m%d" % number) for number in range(1, 9)])
 
 
 def test_a_backup_of_a_collector_that_stored_nothing_is_put_back(collector: Collector, tmp_path: Path) -> None:
@@ -237,10 +235,7 @@ def test_a_backup_mends_a_single_database(collector: Collector, tmp_path: Path) 
     said(collector, "check", status=1)
     said(collector, "restore", to)
     said(collector, "check")
-    collector.start()
-    assert collector.send("web", upload(entries(A, range(1, 7)), 6)) == f"ack {ID} 0 6 0 0"
-    assert collector.stop() == 0
-    assert len(collector.stored()) == 6
+    comes_again(collector, range(1, 7), 0)
 
 
 def test_the_check_finds_a_row_that_was_edited_with_its_digest_and_with_what_is_known(collector: Collector) -> None:
@@ -291,9 +286,7 @@ def test_all_is_made_anew_of_databases(collector: Collector) -> None:
     assert said(collector, "rebuild") == "2 databases are known, and noted\n"
     assert window.read_bytes() == before
     assert collector.rows("SELECT name, digest, entries FROM database") == known
-    collector.start()
-    assert collector.send("web", upload(entries(A, range(1, 7)), 6)) == f"ack {ID} 0 6 0 0"
-    assert collector.stop() == 0
+    comes_again(collector, range(1, 7), 0)
 
 
 def test_a_journal_file_is_taken(collector: Collector, tmp_path: Path) -> None:

@@ -84,8 +84,7 @@ def test_an_upload_whose_files_of_notes_cannot_be_counted_comes_again(collector:
     data = upload(b"".join(entry(A, 1 + 4096 * number) for number in range(3)), 3)
     assert collector.send("web", data) == ""
     wait_until(lambda: "web: Failed: journal-collect inspect: status -9" in collector.said())
-    assert collector.stop() == 0
-    assert collector.stored() == []
+    collector.stops_with([])
 
 
 def test_new_files_of_notes_have_a_share_of_the_day(collector: Collector) -> None:
@@ -148,8 +147,7 @@ def test_a_message_that_looks_like_many_entries_counts_for_none(collector: Colle
 
 
 def test_the_program_has_bounds_of_memory_and_time(collector: Collector) -> None:
-    collector.admit("web")
-    collector.start()
+    collector.start("web")
     assert collector.send("web", upload(entries(A, [1]), 1)) == f"ack {ID} 0 1 1 0"
     [program] = collector.programs()
     bounds = dict(re.findall(r"^(Max [a-z ]+?)  +(\w+)", Path(f"/proc/{program}/limits").read_text(), re.MULTILINE))
@@ -192,8 +190,7 @@ sys.exit(real.wait())
     assert web.line() == "smaller it ended the program"
     assert mail.line() == f"ack {ID} 0 1 1 0"
     assert web.send(upload(entries(A, [2]), 1)) == f"ack {ID} 0 1 1 0"
-    assert collector.stop() == 0
-    assert collector.stored() == [(A, 2, b"m2"), (B, 1, b"m1"), (B, 2, b"m2")]
+    collector.stops_with([(A, 2, b"m2"), (B, 1, b"m1"), (B, 2, b"m2")])
     assert "smaller web" in dict(collector.rows("SELECT cause, count FROM told"))
 
 
@@ -252,5 +249,4 @@ def test_a_service_that_begins_on_a_full_disk_is_begun_again(
         (collector.folder / "others").unlink()
         collector.start()
         assert collector.send("web", upload(entries(A, [1, 2]), 2)) == f"ack {ID} 0 2 1 0"
-        assert collector.stop() == 0
-        assert collector.stored() == [(A, 1, b"m1"), (A, 2, b"m2")]
+        collector.stops_with([(A, 1, b"m1"), (A, 2, b"m2")])

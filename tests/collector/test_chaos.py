@@ -1,5 +1,4 @@
-"""Random kills and damage: what was acknowledged is stored, and nothing twice. CHAOS_ROUNDS and CHAOS_SEED say which
-rounds."""
+"""Random kills and damage: what was acknowledged is stored, nothing twice. CHAOS_ROUNDS and CHAOS_SEED say which."""
 import os
 import random
 import signal

@@ -52,7 +52,6 @@ def test_the_clock_of_the_day_deletes_nothing(collector: Collector) -> None:
 
 def test_each_day_all_databases_are_looked_at(collector: Collector) -> None:
     """Nobody asks for it."""
-    collector.admit("web")
     store_and_stop(collector, range(1, 4))
     [path] = collector.databases()
     path.write_bytes(path.read_bytes().replace(b"m2", b"M2"))
@@ -67,7 +66,6 @@ def test_each_day_all_databases_are_looked_at(collector: Collector) -> None:
 
 
 def test_the_oldest_go_if_all_have_too_many_bytes(collector: Collector) -> None:
-    collector.admit("web")
     for number in range(1, 4):
         store_and_stop(collector, range(number, number + 1))
     size = sum(path.stat().st_size for path in collector.databases()[1:])

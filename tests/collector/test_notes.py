@@ -135,8 +135,7 @@ def test_the_process_that_notes_is_killed(emptied: Collector) -> None:
     go(emptied)
     assert machine.line().startswith("later ")
     wait_until(lambda: emptied.send("web", upload(entries(A, range(1, 10)), 9)) == f"ack {ID} 0 9 0 0")
-    assert emptied.stop() == 0
-    assert emptied.stored() == texts(range(1, 10))
+    emptied.stops_with(texts(range(1, 10)))
 
 
 def test_a_window_that_is_emptied_while_the_program_has_it(collector: Collector) -> None:
@@ -170,8 +169,7 @@ def test_what_was_acknowledged_is_known_until_it_is_noted(collector: Collector) 
     go(collector)
     assert machine.line() == f"ack {ID} 0 3 3 0"
     assert (asks.had(A, 3), asks.had(A, 6), asks.had(A, 7)) == ("had", "had", "lost")
-    assert collector.stop() == 0
-    assert collector.stored() == texts(range(1, 7))
+    collector.stops_with(texts(range(1, 7)))
 
 
 def test_uploads_of_a_damaged_database_are_stored_again_though_nothing_is_known(collector: Collector) -> None:
@@ -197,8 +195,7 @@ def test_uploads_that_cannot_be_stored_again_yet_stay(collector: Collector) -> N
     go(collector)
     assert machine.line().startswith("later ")
     wait_until(lambda: collector.send("web", upload(entries(A, range(1, 4)), 3)) == f"ack {ID} 0 3 0 0")
-    assert collector.stop() == 0
-    assert collector.stored() == texts(range(1, 4))
+    collector.stops_with(texts(range(1, 4)))
 
 
 def test_the_service_is_killed_once_a_database_is_known_to_be_missing(

@@ -32,58 +32,48 @@ def test_the_program_is_killed_and_nothing_is_lost(collector: Collector) -> None
     comes_again(collector, range(1, 5), 1)
 
 
-def test_an_unfinished_database_that_is_damaged_is_stored_again_from_its_uploads(collector: Collector) -> None:
+def killed(collector: Collector) -> Path:
+    """The database with an entry more, of another sequence, once the service is killed."""
     begun(collector)
     assert collector.send("web", upload(entries(B, [5]), 1)) == f"ack {ID} 0 1 1 0"
     collector.kill()
     [database] = collector.databases()
+    return database
+
+
+def test_an_unfinished_database_that_is_damaged_is_stored_again_from_its_uploads(collector: Collector) -> None:
+    database = killed(collector)
     database.write_bytes(b"x" * 20480)
     database.with_name(database.name + "-wal").unlink(missing_ok=True)
-    collector.start()
-    assert collector.send("web", upload(entries(A, range(1, 4)), 3)) == f"ack {ID} 0 3 0 0"
-    assert collector.stop() == 0
+    comes_again(collector, range(1, 4), 0, (B, 5, b"m5"))
     assert (collector.folder / "quarantine" / database.name).read_bytes() == b"x" * 20480
-    assert collector.stored() == [*texts(range(1, 4)), (B, 5, b"m5")]
     assert collector.rows("SELECT cause FROM told WHERE cause LIKE 'quarantined %'")
 
 
 @pytest.mark.parametrize("name", ["databases/{}.db", "databases/{}.db-wal", "recent/{}/000000001.web", "recent/{}"])
 def test_what_the_disk_cannot_read_of_an_unfinished_database(collector: Collector, disk: Disk, name: str) -> None:
     """It can't be moved either. It holds nothing up, is told, and what was acknowledged is stored."""
-    begun(collector)
-    assert collector.send("web", upload(entries(B, [5]), 1)) == f"ack {ID} 0 1 1 0"
-    collector.kill()
-    [database] = collector.databases()
+    database = killed(collector)
     damaged = collector.folder / name.format(database.stem)
     disk.damage(damaged)
     for _ in range(2):
-        collector.start()
-        assert collector.send("web", upload(entries(A, range(1, 4)), 3)) == f"ack {ID} 0 3 0 0"
-        assert collector.stop() == 0
-    assert collector.stored() == [*texts(range(1, 4)), (B, 5, b"m5")]
+        comes_again(collector, range(1, 4), 0, (B, 5, b"m5"))
     assert ("recent" in name) or collector.rows("SELECT 1 FROM told WHERE cause = ?", f"unreadable {damaged}")
 
 
 def test_what_the_disk_cannot_read_is_stored_once_it_can(collector: Collector, disk: Disk) -> None:
     """An upload of a database that has to be set aside."""
-    begun(collector)
-    assert collector.send("web", upload(entries(B, [5]), 1)) == f"ack {ID} 0 1 1 0"
-    collector.kill()
-    [database] = collector.databases()
+    database = killed(collector)
     damaged = collector.folder / "recent" / database.stem / "000000001.web"
     disk.damage(damaged)
     disk.damage(database)
     collector.start()
     assert collector.send("web", upload(entries(B, [5]), 1)) == f"ack {ID} 0 1 0 0"
-    assert collector.stop() == 0
-    assert collector.stored() == [(B, 5, b"m5")]
+    collector.stops_with([(B, 5, b"m5")])
     told = "SELECT 1 FROM told WHERE cause = ?"
     assert all(collector.rows(told, f"unreadable {path}") for path in (damaged, database))
     disk.mend()
-    collector.start()
-    assert collector.send("web", upload(entries(A, range(1, 4)), 3)) == f"ack {ID} 0 3 0 0"
-    assert collector.stop() == 0
-    assert collector.stored() == [*texts(range(1, 4)), (B, 5, b"m5")]
+    comes_again(collector, range(1, 4), 0, (B, 5, b"m5"))
     assert not damaged.exists() and (collector.folder / "quarantine" / database.name).exists()
 
 
@@ -110,27 +100,16 @@ def test_the_notes_of_a_window_are_made_anew_whatever_became_of_it(collector: Co
     window = collector.folder / "sequences" / A / "0"
     before = window.read_bytes()
 
-    def emptied() -> None:
-        window.write_bytes(b"")
-
-    def cut() -> None:
-        os.truncate(window, 60)
-
-    def overwritten() -> None:
-        window.write_bytes(bytes(len(before)))
-
-    def folder() -> None:
-        window.unlink()
-        window.mkdir()
-
-    for damage in (window.unlink, emptied, cut, overwritten, folder):
-        damage()
-        collector.start()
-        assert collector.send("web", upload(entries(A, range(1, 7)), 6)) == f"ack {ID} 0 6 0 0", damage
-        assert collector.stop() == 0
+    for damage in (None, b"", before[:60], bytes(len(before)), "folder"):
+        if isinstance(damage, bytes):
+            window.write_bytes(damage)
+        else:
+            window.unlink()
+        if damage == "folder":
+            window.mkdir()
+        comes_again(collector, range(1, 7), 0)
         assert window.read_bytes() == before, damage
     assert str(window) in collector.said()
-    assert collector.stored() == texts(range(1, 7))
 
 
 def test_a_window_that_is_damaged_while_the_service_runs_sets_no_database_aside(collector: Collector) -> None:
@@ -174,11 +153,8 @@ def test_what_a_missing_database_had_is_stored_if_it_comes_again(collector: Coll
     first = collector.databases()[0]
     first.unlink()
     first.with_name(first.name + ".sha256").unlink()
-    collector.start()
-    assert collector.send("web", upload(entries(A, range(1, 7)), 6)) == f"ack {ID} 0 6 3 0"
-    assert collector.stop() == 0
+    comes_again(collector, range(1, 7), 3)
     assert f"{first.stem} is missing" in collector.said()
-    assert collector.stored() == texts(range(1, 7))
 
 
 def test_state_that_is_damaged_or_gone_is_made_anew(collector: Collector) -> None:
@@ -189,9 +165,7 @@ def test_state_that_is_damaged_or_gone_is_made_anew(collector: Collector) -> Non
     known, noted = collector.rows(databases), collector.rows(windows)
     for damage in (lambda path: path.unlink(), lambda path: path.write_bytes(b"no table" * 1000)):
         damage(collector.folder / "state.sqlite")
-        collector.start()
-        assert collector.send("web", upload(entries(A, range(1, 7)), 6)) == f"ack {ID} 0 6 0 0"
-        assert collector.stop() == 0
+        comes_again(collector, range(1, 7), 0)
         assert collector.rows(databases) == known
         assert collector.rows(windows) == noted
         assert collector.rows("SELECT id, machine FROM sequence") == [(A, "web")]

@@ -28,8 +28,7 @@ def test_an_upload_is_stored_once_and_acknowledged_each_time(collector: Collecto
     assert web.send(data) == f"ack {ID} 0 5 0 0"
     assert web.had(A, 5) == "had"
     assert web.had(A, 6) == "lost"
-    assert collector.stop() == 0
-    assert collector.stored() == [(A, number, b"m%d" % number) for number in range(1, 6)]
+    collector.stops_with([(A, number, b"m%d" % number) for number in range(1, 6)])
 
 
 def test_what_an_upload_ended_with_is_known_before_it_is_noted(collector: Collector) -> None:
@@ -74,8 +73,7 @@ def test_a_cut_upload_leaves_nothing(collector: Collector) -> None:
     slow = collector.connect("web")
     slow.say("upload 100 nothing 1")
     assert slow.line() == ""
-    assert collector.stop() == 0
-    assert collector.stored() == []
+    collector.stops_with([])
     assert [path for path in (collector.folder / "recent").rglob("*") if path.is_file()] == []
 
 
@@ -84,8 +82,7 @@ def test_a_sequence_is_its_first_machine_s_and_an_entry_stays_what_it_was(collec
     assert collector.send("web", upload(entries(A, [1]), 1)) == f"ack {ID} 0 1 1 0"
     assert collector.send("mail", upload(entries(B, [1]) + entries(A, [2]), 2)) == f"no {ID} 0 71 1"
     assert collector.send("web", upload(entries(A, [2, 1], "other"), 2)) == f"no {ID} 0 60 1"
-    assert collector.stop() == 0
-    assert collector.stored() == [(A, 1, b"m1")]
+    collector.stops_with([(A, 1, b"m1")])
     told = {row[0] for row in collector.rows("SELECT cause FROM told")}
     assert {"refused web", "refused mail"} <= told
 
@@ -175,8 +172,7 @@ def test_a_database_is_finished_by_age_and_a_digest_is_beside_it(collector: Coll
 
 def test_a_database_is_finished_by_size(collector: Collector) -> None:
     collector.values["DATABASE_BYTES"] = "1"
-    collector.admit("web")
-    collector.start()
+    collector.start("web")
     for number in (1, 2, 3):
         assert collector.send("web", upload(entries(A, [number]), 1)) == f"ack {ID} 0 1 1 0"
     assert collector.stop() == 0
@@ -186,8 +182,7 @@ def test_a_database_is_finished_by_size(collector: Collector) -> None:
 
 def test_a_name_of_a_database_is_never_given_twice(collector: Collector) -> None:
     """Databases of the next minutes were there and went, as where the clock is set back."""
-    collector.admit("web")
-    collector.start()
+    collector.start("web")
     collector.ask("status")
     assert collector.stop() == 0
     gone = [time.strftime("%Y-%m-%dT%H-%M-%S", time.gmtime(time.time() + each)) for each in range(900)]

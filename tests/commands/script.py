@@ -29,8 +29,7 @@ has to do:
 Of what isn't said, nothing may be printed and the status has to be 0, and no run leaves a file whose name ends in
 `.new`, by which it replaces another. `tests/pieces.py` has the form of `PIECES`. `@`
 stands for the case's folder and a `/`, as in `@db`, and `SOURCE` for the id of a source. Each case begins in an empty
-folder and with no input, and has a run.
-"""
+folder and with no input, and has a run."""
 from __future__ import annotations
 
 import os
@@ -75,8 +74,7 @@ def word_of(line: str) -> str:
 
 
 def cases_of(text: str) -> list[list[Line]]:
-    """The lines of each case of a script. Those before the first one are a case if they do anything, or if there is
-    no other."""
+    """The lines of each case of a script. Those before the first are a case if they do anything, or alone."""
     front: list[Line] = []
     cases = [front]
     for number, line in enumerate(text.removesuffix("\n").split("\n"), 1):
@@ -97,8 +95,7 @@ def reports(text: str, library: str, skipped: list[str]) -> Iterator[str]:
 
 
 def report_of(case: Sequence[Line], library: str) -> str:
-    """Performs a case in a new folder. The report is `LINE: WHAT` if anything is wrong, and otherwise empty. The
-    library is what room.c makes."""
+    """Performs a case in a new folder. The report is `LINE: WHAT`, or empty. The library is room.c's."""
     with tempfile.TemporaryDirectory() as folder:
         performed = Case(folder, library)
         try:
@@ -260,10 +257,6 @@ def execute(path: str, statements: str) -> None:
             raise ValueError(f"{statement!r} is refused")
 
 
-def make_older(path: str) -> None:
-    execute(path, ";".join(STATEMENTS))
-
-
 def expect_bytes(path: str, pieces: str) -> None:
     held, wanted = Path(path).read_bytes(), bytes_of(pieces)
     if held != wanted:
@@ -288,10 +281,6 @@ def with_more(do: Callable[[str, str], None]) -> Callable[[Case, str], None]:
     return take
 
 
-def nothing(_: Case, __: str) -> None:
-    pass
-
-
 WANTED: dict[str, Callable[[Told, str, Told], None]] = {
     ">": want_line,
     "prints": want_bytes,
@@ -302,14 +291,12 @@ WANTED: dict[str, Callable[[Told, str, Told], None]] = {
     "status": want_status,
 }
 DONE: dict[str, Callable[[Case, str], None]] = {
-    "": nothing,
-    "#": nothing,
-    "case": nothing,
+    **dict.fromkeys(("", "#", "case"), lambda case, rest: None),
     "file": with_more(write),
     "directory": alone(os.mkdir),
     "remove": alone(os.remove),
     "statement": with_more(execute),
-    "older": alone(make_older),
+    "older": alone(lambda path: execute(path, ";".join(STATEMENTS))),
     "<": Case.add_line,
     "input": Case.add_input,
     "room": Case.make_room,

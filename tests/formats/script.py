@@ -8,8 +8,7 @@
 | `WORD PIECES == PIECES` | the bytes make these bytes |
 
 `tests/pieces.py` has the form of `PIECES`, and `words.py` has the words. Some have numbers behind them, as in `WORD N,N
-PIECES`, and some are about several things, as in `WORD PIECES , PIECES`.
-"""
+PIECES`, and some are about several things, as in `WORD PIECES , PIECES`."""
 from __future__ import annotations
 
 import os
@@ -64,8 +63,7 @@ class Row:
 
 
 def reports(text: str) -> Iterator[str]:
-    """Which rows of a script are wrong, each with its line, and an empty report for each of the others. A script
-    without a row is wrong, too."""
+    """Which rows of a script are wrong, by line; of others an empty report. One without rows is wrong, too."""
     read = list(rows_of(text))
     rows = [row for row in read if isinstance(row, Row)]
     with tempfile.TemporaryDirectory() as folder:

@@ -23,8 +23,7 @@
 | `next LIMIT` | a stream and a resume point: the next upload and its length, or `changed` |
 | `whole LIMIT` | the same of an upload that is to be whole |
 | `sends` | a journal file: its upload and that one's length |
-| `acks` | a stream, a resume point and answers: after each whether the point `moves` or `stays`, and its text |
-"""
+| `acks` | a stream, a resume point and answers: after each whether the point `moves` or `stays`, and its text |"""
 from __future__ import annotations
 
 from collections.abc import Callable, Sequence
@@ -121,10 +120,6 @@ def long_file(told: Told) -> tuple[bytes, int, int, int]:
     return file_end(int(count), line.replace(f"ok {count}", "ok")), arrays, *told.numbers("asked")
 
 
-def end_calls(paths: Sequence[str], length: str) -> list[str]:
-    return [*numbered(f"{length},0"), "long", *paths]
-
-
 def parts(told: Told, _: Sequence[bytes]) -> bytes:
     said = []
     while told.rest:
@@ -139,18 +134,13 @@ def value_calls(paths: Sequence[str], _: str) -> list[str]:
 
 
 def spelled(told: Told) -> tuple[bytes, bytes, bytes, bytes]:
-    """Whether a value is a text, the text of its field, that of an entry with it, and what a sink took of this: less
-    if it failed."""
+    """Whether a value is a text, its field's, that of an entry with it, and what a sink took: less if it failed."""
     is_text, field, whole = told.line().encode(), told.text("fields"), told.text("put")
     has_failed = told.begins("front")
     front = told.take(*told.numbers("front" if has_failed else "whole"))
     if has_failed == (front == whole):
         raise ValueError("a sink didn't fail as it said")
     return is_text, field, whole, front
-
-
-def write_calls(paths: Sequence[str], _: str) -> list[str]:
-    return [word for calls in range(LONGEST) for word in (*numbered(str(calls)), "value", *paths)]
 
 
 def writes(told: Told, _: Sequence[bytes]) -> bytes:
@@ -206,13 +196,15 @@ WORDS = {
     "fails": Word(each("entries"), lambda told, _: heard_text(told), has_numbers=True),
     "fed": Word(together("scanner"), fed),
     "payload": Word(each("payload"), lambda told, _: told.text("payload"), has_numbers=True),
-    "ends": Word(end_calls, lambda told, _: b"%s %d %d" % long_file(told)[:3], has_numbers=True),
+    "ends": Word(lambda paths, length: [*numbered(f"{length},0"), "long", *paths],
+                 lambda told, _: b"%s %d %d" % long_file(told)[:3], has_numbers=True),
     "asked": Word(each("long"), lambda told, _: b"%s %d" % long_file(told)[::3], has_numbers=True),
     "parts": Word(each("parts"), parts, has_numbers=True),
     "fields": Word(each("fields"), lambda told, _: told.line().encode()),
     "text": Word(value_calls, lambda told, _: spelled(told)[0]),
     "value": Word(value_calls, lambda told, _: spelled(told)[1]),
-    "writes": Word(write_calls, writes),
+    "writes": Word(lambda paths, _: [
+        word for calls in range(LONGEST) for word in (*numbered(str(calls)), "value", *paths)], writes),
     "head": Word(each("head"), head),
     "answer": Word(each("answer"), answer),
     "resume": Word(each("resume"), lambda told, _: told.text("resume")),

@@ -11,8 +11,7 @@ from journalcollect.forward.rows import COLUMNS, OWN
 
 
 class StandIn:
-    """`bad` is a word that no row may have; `answer` takes the place of an answer; `drip` seconds pass between two
-    bytes."""
+    """`bad` is a word that no row may have; `answer` takes an answer's place; `drip` seconds pass between two bytes."""
 
     def __init__(self, certificate: Path | None = None, client: Path | None = None) -> None:
         self.rows: list[dict[str, Any]] = []

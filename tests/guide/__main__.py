@@ -9,8 +9,7 @@ the program. With --failures the events are left out. What lacks a program is to
 clickhouse-client clickhouse-server exim4-daemon-light prometheus prometheus-node-exporter swatch` brings all of them.
 
 WEB_SYSTEM names a folder with another system for web. For Debian 13 it is made by `debootstrap --variant=minbase
---include=dbus,netcat-openbsd,openssh-server,procps,python3,systemd-journal-remote,systemd-sysv,zstd trixie FOLDER`.
-"""
+--include=dbus,netcat-openbsd,openssh-server,procps,python3,systemd-journal-remote,systemd-sysv,zstd trixie FOLDER`."""
 from __future__ import annotations
 
 import os
@@ -23,7 +22,7 @@ from pathlib import Path
 
 from booted import TESTS, Booted, Network, lacking, package
 from failures import FAILURES, SLOWS, Failure
-from life import EVENTS, Skipped, purged
+from life import EVENTS, Skipped, arrives, purged
 from pages import Wrong, type_all
 
 sys.path.insert(1, str(TESTS))
@@ -68,8 +67,9 @@ def tried_all(collector: Booted, web: Booted, events: list[Callable[[Booted, Boo
     """The guide, events, failures, and the end."""
     counts: Counter[str] = Counter()
 
-    def well_after(event: Callable[[Booted, Booted], None]) -> None:
-        event(collector, web)
+    def well_after(*deeds: Callable[[Booted, Booted], None]) -> None:
+        for do in deeds:
+            do(collector, web)
         is_well(collector)
         is_well(web)
 
@@ -78,7 +78,7 @@ def tried_all(collector: Booted, web: Booted, events: list[Callable[[Booted, Boo
         print(f"{collector.shell(LOGS).stdout.decode()}{web.shell(LOGS).stdout.decode()}")
         return counts
     for event in events:
-        tried(counts, f"event: {event.__doc__}", lambda: well_after(event))
+        tried(counts, f"event: {event.__doc__}", lambda: well_after(event, arrives))
     for failure in failures:
         tried(counts, f"failure: {failure.name}", lambda: well_after(failure.is_found))
     tried(counts, "a purge", lambda: purged(collector, web))

@@ -56,7 +56,6 @@ def called_again(collector: Booted, web: Booted) -> None:
     assert "nothing was to do" in does(collector, "journal-collect-admin setup")
     said = does(web, "journal-collect-join logs.example.org")
     assert said == "nothing was to do\nweb sends to logs.example.org\n", said
-    arrives(collector, web)
 
 
 @event
@@ -81,7 +80,6 @@ def rehearsed(collector: Booted, web: Booted) -> None:
         said = does(collector, f"journal-collect-admin {command.replace(' ', ' --dry-run ', 1)}")
         assert said.startswith("would: "), said
     assert before == (does(web, keys), does(collector, keys))
-    arrives(collector, web)
 
 
 @event
@@ -89,7 +87,6 @@ def key_rotated(collector: Booted, web: Booted) -> None:
     """A machine gets another key, which replaces the old one."""
     said = does(web, "journal-collect-join --new-key --via root@logs.example.org logs.example.org")
     assert said.endswith("web sends to logs.example.org\n"), said
-    arrives(collector, web)
 
 
 @event
@@ -97,7 +94,6 @@ def reinstalled(collector: Booted, web: Booted) -> None:
     """A machine lost its folder, its key and its settings, and joins again."""
     does(web, "systemctl stop journal-collect-send; rm -rf /var/lib/journal-collect-send /etc/journal-collect")
     does(web, "journal-collect-join --via root@logs.example.org logs.example.org")
-    arrives(collector, web)
 
 
 @event
@@ -111,7 +107,6 @@ def joined_by_hand(collector: Booted, web: Booted) -> None:
     assert keys and all(key.split()[1] in said for key in keys), f"{keys}: {said}"
     [line] = re.findall(r"^on logs.example.org, as root:\n  (.*)$", said, re.MULTILINE)
     does(collector, line)
-    arrives(collector, web)
 
 
 @event
@@ -120,14 +115,12 @@ def renamed(collector: Booted, web: Booted) -> None:
     does(collector, "journal-collect-admin rename web www")
     arrives(collector, web, "www")
     does(collector, "journal-collect-admin rename www web")
-    arrives(collector, web)
 
 
 @event
 def machine_id_changed(collector: Booted, web: Booted) -> None:
     """A machine's id changes, and so does the folder of its journal."""
     does(web, "systemd-id128 new > /etc/machine-id && systemctl restart systemd-journald")
-    arrives(collector, web)
 
 
 @event
@@ -163,7 +156,6 @@ def checked(collector: Booted, web: Booted) -> None:
     """All finished databases are as they were, and all that is known can be made anew of them."""
     does(collector, "journal-collect-admin check")
     does(collector, "journal-collect-admin rebuild")
-    arrives(collector, web)
 
 
 @event
@@ -175,7 +167,6 @@ def retired(collector: Booted, web: Booted) -> None:
     assert "web" not in does(collector, "journal-collect-status || true")
     does(collector, f"echo '{key}' | journal-collect-admin admit web")
     does(web, "systemctl start journal-collect-send")
-    arrives(collector, web)
 
 
 @event
@@ -186,7 +177,6 @@ def moved_away(collector: Booted, web: Booted) -> None:
     name = does(collector, f"cd {folder}; ls *.sha256 | head -n 1").strip().removesuffix(".db.sha256")
     does(collector, f"journal-collect-admin moved {name} && mkdir -p /srv/old && mv {folder}/{name}.* /srv/old")
     does(collector, "systemctl restart journal-collect")
-    arrives(collector, web)
 
 
 @event
@@ -240,7 +230,6 @@ def scraped(collector: Booted, web: Booted) -> None:
     assert "JournalCollectStatusStale" not in fetched(collector, alerts)
     does(collector, "systemctl start journal-collect; systemctl stop watching prometheus-node-exporter; "
          "systemctl disable -q --now journal-collect-status.timer")
-    arrives(collector, web)
 
 
 @event
@@ -251,7 +240,6 @@ def updated(collector: Booted, web: Booted) -> None:
         before = does(computer, f"{ids} {unit}")
         does(computer, "dpkg --install /root/later.deb")
         assert does(computer, f"{ids} {unit}") not in (before, "0\n"), f"{unit} isn't started again"
-    arrives(collector, web)
 
 
 @event
@@ -261,7 +249,6 @@ def removed_and_installed(collector: Booted, web: Booted) -> None:
         does(computer, "dpkg --remove journal-collect")
         assert does(computer, f"systemctl is-active {unit} || true") == "inactive\n"
         does(computer, "dpkg --install /root/later.deb")
-    arrives(collector, web)
 
 
 def purged(collector: Booted, web: Booted) -> None:

@@ -2,8 +2,7 @@
 words for: by crates/jc_test_calls, a program for tests that makes public calls over a journal in memory.
 
 The answers are worked out by the model's own reader. The spaces record what is asked of them: no range ends after the
-arena, each object is asked for once, and of a field no more than the limits let a pair have.
-"""
+arena, each object is asked for once, and of a field no more than the limits let a pair have."""
 from __future__ import annotations
 
 import os
@@ -36,8 +35,7 @@ RANDOM_FILES = 1000
 
 class Asked(JournalFile):
     """What a reader comes to in a file: how many arrays it counts, and how many bytes it needs. Of an object these are
-    its type and its size, of an ENTRY its numbers and its boot, and of a field as much of its payload as a pair may
-    have."""
+    its type and its size, of an ENTRY its numbers and its boot, and of a field what a pair may have."""
 
     def __init__(self, data: bytes) -> None:
         self.steps = self.bytes = 0
@@ -133,8 +131,7 @@ def full_fields(count: int) -> bytes:
 
 
 def least_streams() -> Iterator[Vector]:
-    """Streams at the least limits and one over them; and with two faults at once, of which the one that is seen first
-    is told."""
+    """Streams at the least limits and one over them; and with two faults at once, of which the first one is told."""
     yield M + b"A" * 64, "ok 0 173"
     yield M + b"A" * 65, "bad 11 109"
     yield M + b"A\n" + struct.pack("<Q", 65), "bad 12 109"
@@ -221,8 +218,7 @@ def repeated() -> Iterator[Vector]:
 
 
 def chains() -> Iterator[Vector]:
-    """Arrays that follow one another, with two faults at once: what is wrong with an offset, with its order and with
-    its type."""
+    """Arrays that follow one another, with two faults at once: of an offset, of its order and of its type."""
     for number, verdict in ((212, "bad 41 224"), (208, "bad 44 224"), (216, "bad 44 224"), (232, "bad 44 224"),
                             (240, "bad 42 240")):
         yield samples.edited(samples.FILE, {152: 2, 224: number}), verdict
@@ -233,8 +229,7 @@ STEPS = ((samples.FILE, 1), (samples.edited(samples.FILE, {152: 0}), 0), (sample
          (samples.edited(samples.FILE, {152: 2, 224: 208}), 1), (samples.edited(samples.FILE, {176: 0}), 0),
          (vectors.many_arrays(), 1000), (vectors.one_entry_twice(), 1))
 
-# What a scanner answers to each call of `feed` with what is left of a stream, and what it says then; the last call
-# takes nothing.
+# What a scanner answers to each `feed` of what is left of a stream, and what it says then; the last takes nothing.
 WAITS, ENDED = "feed 121 held 9 field 7 2 waits entry", "feed 0 held 0 left 0 none"
 FED = ((PROGRAM, samples.E1 + samples.E2, (WAITS, WAITS, ENDED)),
        (PROGRAM, b"\n" + samples.E1, (WAITS.replace("121", "122"), ENDED)),

@@ -4,8 +4,7 @@ a kill left, and pages are emptied, exchanged and cut off.
 Every command then refuses the database with one line, or works on entries that the file has. In a database a value's
 bytes have no checksum, so a change within one shows as another value; no entry is lost, and none under a key that
 wasn't stored comes up. A log has checksums: it is taken to end before what is damaged, so the journal is one that stood
-after some of the uploads.
-"""
+after some of the uploads."""
 from __future__ import annotations
 
 import collections
@@ -80,8 +79,7 @@ def may_be_read(trial: Trial, what: str, stored: Stored, database: str, text: by
 
 
 def judge(trial: Trial, what: str, stored: Stored, part: str, place: int, new: bytes | None) -> str:
-    """Every command over a database with other bytes at a place, or without any from there on; answers what became of
-    it."""
+    """Every command over a database with other bytes at a place, or none from there on; answers what became of it."""
     data = getattr(stored, part)
     stored = stored._replace(**{part: data[:place] + (new + data[place + len(new):] if new else b"")})
     database = stored.put(trial)
@@ -139,8 +137,7 @@ def small(trial: Trial) -> Stored:
 
 
 def large(trial: Trial) -> tuple[Stored, Stored]:
-    """A database with tables of several pages and a value over several, closed; and one that a kill left, all of it in
-    its log."""
+    """A database with tables of several pages and such a value, closed; and one that a kill left, all in its log."""
     machine = Machine(trial.dice, 40)
     machine.entries.append(machine.entry(41)._replace(pairs=frozenset({(b"LONG", b"x" * 20_000)})))
     uploads = [machine.stream(0, 10), machine.stream(10, 30), machine.stream(30, 41)]

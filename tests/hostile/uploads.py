@@ -2,8 +2,7 @@
 kind, each front of an upload, each byte of a file set to other values, and random damage.
 
 What has to be answered stands beside each stream and file, and is worked out by the model's own reader; the journal
-then has to hold what was accepted.
-"""
+then has to hold what was accepted."""
 from __future__ import annotations
 
 import os
@@ -38,18 +37,14 @@ def with_pipes(database: str, uploads: Sequence[bytes]) -> tuple[bytes, str, int
     return told
 
 
-def with_files(trial: Trial, database: str, uploads: Sequence[bytes]) -> tuple[bytes, str, int]:
-    return run("collect", database, *trial.put(uploads))
-
-
 def both_ways(trial: Trial, what: str, uploads: Sequence[bytes], lines: Sequence[str] | None = None) -> int:
-    """Uploads, in one run into a new journal, once as files and once as pipes; each line is the model's, and one that
-    is handed in."""
+    """Uploads, in one run into a new journal, as files and as pipes; each line is the model's and one handed in."""
     journal = Journal()
     wanted = [journal.take(upload) for upload in uploads]
     for line, other in zip(wanted, lines or wanted):
         trial.expect(f"{what}: the model", line, other)
-    ways = (("files", lambda db: with_files(trial, db, uploads)), ("pipes", lambda db: with_pipes(db, uploads)))
+    ways = (("files", lambda db: run("collect", db, *trial.put(uploads))),
+            ("pipes", lambda db: with_pipes(db, uploads)))
     for way, collect in ways:
         database = trial.database()
         trial.expect(f"{what}: {way}", collect(database), (as_output(wanted), "", status_of(wanted)))
@@ -71,8 +66,7 @@ def inspects(trial: Trial, what: str, upload: bytes) -> None:
 
 
 def one_vector(trial: Trial, kind: str, number: int, data: bytes, verdict: str) -> None:
-    """A stream or file by itself: by `verify`, by `inspect` as an upload, and as one that is a file or comes on
-    standard input."""
+    """A stream or file by itself: by `verify`, by `inspect` as an upload, and as a file's or on standard input."""
     what = f"{kind} {number}"
     path, = trial.put([data])
     status = 0 if verdict.startswith("ok") else 1
@@ -104,8 +98,7 @@ def all_vectors(trial: Trial, pool: Executor) -> int:
 
 
 def fronts(trial: Trial) -> int:
-    """Each front of five uploads, each into a journal in which nothing is stored before it. Two of them are to be
-    whole."""
+    """Each front of five uploads, each into a journal with nothing before it. Two of them are to be whole."""
     source = samples.SOURCE.hex()
     nested = vectors.M.replace(b"SEQNUM=1\n", b"SEQNUM=2\n") + binary(b"MESSAGE", samples.E1) + b"\n"
     file = samples.head(2) + samples.FILE

@@ -205,8 +205,7 @@ def crafted() -> Iterator[Vector]:
     data, field = one_field_again(FIELDS)
     yield data, f"bad 14 {field}"
     yield one_entry_twice(), "ok 2 0"
-    # names and values at the limits and one byte past them, and two pairs that are all that an entry may have but 40
-    # bytes
+    # names and values at the limits and one byte past them, and two pairs that are all an entry may have but 40 bytes
     for name in (NAME, NAME + 1):
         data, field = one_field_again(1, b"A" * name + b"=")
         yield data, "ok 1 0" if name == NAME else f"bad 11 {field}"

@@ -32,8 +32,7 @@ def in_pieces(upload: bytes, most: int) -> list[bytes]:
 
 
 def by_pipes(words: Sequence[str], uploads: Sequence[bytes], most: int) -> Told:
-    """A run over uploads that come by pipes. They are written in packets of at most so many bytes, and each read gives
-    one."""
+    """A run over uploads that come by pipes, in packets of at most so many bytes, and each read gives one."""
     ends = [os.pipe2(os.O_CLOEXEC | os.O_DIRECT) for _ in uploads]
     readings = [reading for reading, _ in ends]
     # each by a thread of its own, since what is refused isn't read to its end, and others come behind it

@@ -19,8 +19,7 @@ NEVER = 2**64 - 1
 
 @dataclass
 class Step:
-    """A step, whose text has `{}` for the number of each of its things. Without a text it is only about what is printed
-    there."""
+    """A step, whose text has `{}` for each number of its things. Without one it is only about what is printed."""
     line: int
     text: str
     things: Sequence[bytes]

@@ -59,12 +59,10 @@ class Tables:
             run(*self.collect(database), *self.trial.put([upload]))
         return database
 
-    def by_files(self, words: list[str], uploads: list[bytes]) -> Told:
-        return run(*words, *self.trial.put(uploads))
-
     def batch(self, what: str, batch: Batch) -> None:
         """A batch that one run collects, however it is delivered. Without uploads there is no run."""
-        ways: dict[str, Callable[[list[str], list[bytes]], Told]] = {"files": self.by_files}
+        ways: dict[str, Callable[[list[str], list[bytes]], Told]] = {
+            "files": lambda words, uploads: run(*words, *self.trial.put(uploads))}
         ways |= {f"pipes of {most} bytes": partial(by_pipes, most=most) for most in WAYS}
         for how, deliver in ways.items():
             database = self.begun(batch.begins)

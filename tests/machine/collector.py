@@ -1,19 +1,26 @@
 """A collector: the protocol's lines over a socket, and the real program behind them.
 
-What it does beside that can be told: answers in place of the program's, cuts, and slowness. It shares nothing with the
-service of the collector but the lines, which docs/FORMATS.md has.
-"""
+What it does beside that can be told: answers in place of the program's, cuts, and slowness. It shares with the service
+of the collector the lines, which docs/FORMATS.md has, and what the service hands to the program."""
 from __future__ import annotations
 
 import hashlib
 import os
 import socket
 import subprocess
+import sys
 import threading
 import time
 from collections.abc import Callable
 from pathlib import Path
 from typing import BinaryIO
+
+sys.path.insert(0, str(Path(__file__).resolve().parents[2] / "deploy"))
+from journalcollect.collector.gate import Gate  # noqa: E402
+from journalcollect.collector.notes import Unnoted  # noqa: E402
+from journalcollect.collector.settings import Folder, Settings  # noqa: E402
+from journalcollect.collector.state import State  # noqa: E402
+from journalcollect.common.protocol import Put  # noqa: E402
 
 PROGRAM = os.environ["JOURNAL_COLLECT"]
 
@@ -30,6 +37,7 @@ class Collector:
         self.folder, self.name = folder, name
         folder.mkdir(exist_ok=True)
         self.socket = folder / "socket"
+        self.gate = Gate(Settings(), State(Folder(folder)), Unnoted())
         self.before: Callable[[bytes], str | None] = lambda data: None
         self.takes: Callable[[int, int], None] = lambda came, size: None
         self.greeting: Callable[[], str] = lambda: f"journal-collect 1 {time.time_ns() // 1000} -"
@@ -72,14 +80,19 @@ class Collector:
         self.serving.join()
         self.server.close()
         self.finish()
+        self.gate.state.rows.close()
 
     def store(self, data: bytes, machine: str) -> str:
-        """The program's line."""
+        """The program's line, or the service's, if it doesn't hand such an upload to the program."""
         with self.lock:
-            process = self.begin()
-            assert process.stdin and process.stdout
             path = self.folder / f"{len(self.uploads)}.upload"
             path.write_bytes(data)
+            with path.open("rb") as file:
+                new_files = self.gate.of_upload(machine, file.fileno(), len(data))
+            if isinstance(new_files, Put):
+                return str(new_files)
+            process = self.begin()
+            assert process.stdin and process.stdout
             process.stdin.write(f"{machine}\t{path}\n".encode())
             line = b""
             while not line.endswith(b"\n"):

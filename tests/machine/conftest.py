@@ -1,6 +1,7 @@
 """A machine and its collector: the real sender, journalctl and program over a socket."""
 from __future__ import annotations
 
+import contextlib
 import os
 import subprocess
 import sys
@@ -14,7 +15,7 @@ os.environ.setdefault("JOURNAL_COLLECT", str(ROOT / "crates/jc_cli/out/jc_cli"))
 sys.path[:0] = [str(Path(__file__).parent), str(Path(__file__).parents[1]), str(Path(__file__).parents[1] / "world")]
 from collector import Collector  # noqa: E402
 from disks import Disk, can_mount  # noqa: E402
-from journals import MACHINE_ID  # noqa: E402
+from journals import MACHINE_ID, Entry, write  # noqa: E402
 from sshd import Sshd  # noqa: E402
 from waiting import PATIENCE  # noqa: E402
 
@@ -47,12 +48,28 @@ class Machine:
         self.write_settings()
         return subprocess.Popen([*command, *words], env=self.environment, stderr=subprocess.PIPE, text=True)
 
+    @contextlib.contextmanager
+    def running(self, command: Command = SENDER) -> Iterator[subprocess.Popen[str]]:
+        """A sender that stays, meanwhile; then what it said is there."""
+        process = self.begin(command=command)
+        try:
+            yield process
+        finally:
+            process.kill()
+            self.said = process.communicate()[1]
+        assert "Traceback" not in self.said, self.said
+
     def send(self, *words: str, command: Command = SENDER) -> int:
         """One run; its status."""
         process = self.begin(*(words or ("--once",)), command=command)
         self.said = process.communicate(timeout=PATIENCE)[1]
         assert "Traceback" not in self.said, self.said
         return process.returncode
+
+    def log_and_send(self, logged: list[Entry]) -> None:
+        """The journal has some more entries, and all that is new goes out well."""
+        write(self.journal / "system.journal", logged)
+        assert self.send() == 0, self.said
 
     def gather(self) -> list[Path]:
         """One run without a connection; the uploads that wait then."""

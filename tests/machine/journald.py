@@ -10,8 +10,7 @@ from collections.abc import Iterable
 
 PROGRAM = "/lib/systemd/systemd-journald"
 ALONE = ("unshare", "--mount")
-# It is to have no more to do with the kernel of this machine than its clocks, and the number of files alone is to bound
-# them.
+# It is to have no more to do with this machine's kernel than its clocks, and the number of files alone bounds them.
 SETTINGS = """[Journal]
 Storage=persistent
 Audit=no

@@ -22,8 +22,7 @@ def copied(machine: Machine, to: Path) -> Machine:
 def test_a_clone_with_a_name_of_its_own(machine: Machine, collector: Collector, tmp_path: Path) -> None:
     """What the other one's sequence has is refused with 71: the clone's goes on in one fork. It has a machine-id of its
     own, so it doesn't ask for what the other one sent, which the collector wouldn't tell it."""
-    write(machine.journal / "system.journal", entries("before", 3))
-    assert machine.send() == 0, machine.said
+    machine.log_and_send(entries("before", 3))
     clone = copied(machine, machine.base / "clone")
     write(machine.journal / "system.journal", entries("one", 2, BEGIN + 10_000_000))
     write(clone.journal / "system.journal", entries("two", 2, BEGIN + 10_000_000))
@@ -40,11 +39,9 @@ def test_a_clone_with_a_name_of_its_own(machine: Machine, collector: Collector, 
 
 def test_folder_alone_is_set_back(machine: Machine, collector: Collector) -> None:
     """Places and outbox are older than the journal: what they had goes out once more, and is stored once."""
-    write(machine.journal / "system.journal", entries("one", 3))
-    assert machine.send() == 0, machine.said
+    machine.log_and_send(entries("one", 3))
     shutil.copytree(machine.folder, machine.base / "snapshot")
-    write(machine.journal / "system.journal", entries("two", 3, BEGIN + 100_000_000))
-    assert machine.send() == 0, machine.said
+    machine.log_and_send(entries("two", 3, BEGIN + 100_000_000))
     shutil.rmtree(machine.folder)
     shutil.copytree(machine.base / "snapshot", machine.folder)
     assert machine.send() == 0, machine.said
@@ -53,11 +50,9 @@ def test_folder_alone_is_set_back(machine: Machine, collector: Collector) -> Non
 
 def test_another_sequence(machine: Machine, collector: Collector) -> None:
     """A reflashed machine: no folder, another journal, the same key."""
-    write(machine.journal / "system.journal", entries("one", 2))
-    assert machine.send() == 0, machine.said
+    machine.log_and_send(entries("one", 2))
     shutil.rmtree(machine.folder)
     shutil.rmtree(machine.journal)
-    write(machine.journal / "system.journal", entries("two", 2))
-    assert machine.send() == 0, machine.said
+    machine.log_and_send(entries("two", 2))
     assert collector.messages() == ["one 0", "one 1", "two 0", "two 1"]
     assert len({sequence for sequence, _, _ in collector.stored()}) == 2

@@ -163,8 +163,7 @@ def test_entries_that_are_odd(machine: Machine, collector: Collector) -> None:
         {"A": b"\n\n\n"}, {"LONG": b"x" * 70_000}, {"UTF": "\u00fc\u4e16"}, {"MESSAGE_ID": b"\xff\xfe"},
     ]
     logged = [Entry(f"odd {at}", BEGIN + at, fields) for at, fields in enumerate(odd)]
-    write(machine.journal / "system.journal", logged)
-    assert machine.send() == 0, machine.said
+    machine.log_and_send(logged)
     assert collector.messages() == [each.message for each in logged]
     exported = subprocess.run([os.environ["JOURNAL_COLLECT"], "export", collector.folder / "0.db"], capture_output=True,
                               check=True).stdout
@@ -232,8 +231,7 @@ def test_what_the_disk_cannot_read_any_more(machine: Machine, collector: Collect
     """A file of the outbox can neither be read nor moved. It is put aside, told once, and holds nothing up; what it had
     comes again from the journal."""
     machine.set(UPLOAD_BYTES=1500)
-    write(machine.journal / "system.journal", entries("one", 2))
-    assert machine.send() == 0, machine.said
+    machine.log_and_send(entries("one", 2))
     write(machine.journal / "system.journal", entries("two", 12, BEGIN + 60_000_000, pad=200))
     waiting = machine.gather()
     assert len(waiting) > 2
@@ -256,8 +254,7 @@ def test_what_the_disk_cannot_read_any_more(machine: Machine, collector: Collect
 def test_places_that_the_disk_cannot_read(machine: Machine, collector: Collector, disk: Disk, part: str) -> None:
     """A file that can't be opened can't be moved either: another one takes its place, which is told once, and what the
     journal has goes out once more."""
-    write(machine.journal / "system.journal", entries("one", 2))
-    assert machine.send() == 0, machine.said
+    machine.log_and_send(entries("one", 2))
     path = machine.folder / f"places.sqlite{part}"
     path.touch()
     disk.damage(path)
@@ -290,8 +287,7 @@ def disturbed(machine: Machine, calls: str, error: str) -> tuple[str | Path, ...
 @pytest.mark.skipif(not shutil.which("strace"), reason="there is no strace")
 def test_places_of_which_a_part_cannot_be_read(machine: Machine, collector: Collector) -> None:
     """The disk can't read what is in the file, which can be moved: it is put aside whole, and told."""
-    write(machine.journal / "system.journal", entries("one", 2))
-    assert machine.send() == 0, machine.said
+    machine.log_and_send(entries("one", 2))
     before = (machine.folder / "places.sqlite").read_bytes()
     assert machine.send("--once", command=disturbed(machine, "pread64,read", "EIO")) == 1, machine.said
     aside = next((machine.folder / "refused").glob("places-*"))
@@ -306,8 +302,7 @@ def test_places_of_which_a_part_cannot_be_read(machine: Machine, collector: Coll
 @pytest.mark.parametrize("call", ["pwrite64", "ftruncate"])
 def test_places_on_a_full_disk_stay(machine: Machine, collector: Collector, call: str) -> None:
     """SQLite says of a full disk what it says of one that can't be read. Nothing is put aside, or sent again."""
-    write(machine.journal / "system.journal", entries("one", 2))
-    assert machine.send() == 0, machine.said
+    machine.log_and_send(entries("one", 2))
     assert machine.send("--once", command=disturbed(machine, call, "ENOSPC")) == 3, machine.said
     assert machine.said == "disk I/O error\n"
     write(machine.journal / "system.journal", entries("two", 2, BEGIN + 60_000_000))

@@ -17,14 +17,12 @@ def texts(logged: list[Entry]) -> list[str]:
 def test_what_is_new_comes_once(machine: Machine, collector: Collector) -> None:
     machine.set(UPLOAD_BYTES=4000)
     first, second = entries("first", 30, pad=100), entries("second", 5, begin=1_800_000_000_000_000)
-    write(machine.journal / "system.journal", first)
-    assert machine.send() == 0, machine.said
+    machine.log_and_send(first)
     assert len(collector.uploads) > 2 and all(len(data) <= 4000 for data in collector.uploads)
     before = len(collector.uploads)
     assert machine.send() == 0, machine.said
     assert len(collector.uploads) == before
-    write(machine.journal / "system.journal", second)
-    assert machine.send() == 0, machine.said
+    machine.log_and_send(second)
     assert machine.outbox() == []
     assert collector.messages() == texts(first + second)
 
@@ -38,8 +36,7 @@ def test_rotation_users_and_namespaces(machine: Machine, collector: Collector) -
     assert machine.send() == 0, machine.said
     write(machine.journal / "system.journal", logged[3:5])
     os.rename(machine.journal / "system.journal", machine.journal / "system@0005d0e1.journal")
-    write(machine.journal / "system.journal", logged[5:6])
-    assert machine.send() == 0, machine.said
+    machine.log_and_send(logged[5:6])
     assert machine.said == ""
     assert collector.messages() == texts(logged)
 
@@ -60,8 +57,7 @@ def test_a_volatile_journal(machine: Machine, collector: Collector) -> None:
     write(run / "system.journal", entries("early", 3))
     write(run / "user-1.journal", entries("user", 1))
     shutil.copy(run / "system.journal", machine.journal)
-    write(machine.journal / "system.journal", entries("late", 2, BEGIN + 60_000_000))
-    assert machine.send() == 0, machine.said
+    machine.log_and_send(entries("late", 2, BEGIN + 60_000_000))
     (run / "system.journal").unlink()
     assert machine.send() == 0 and machine.said == ""
     assert collector.messages() == ["early 0", "early 1", "early 2", "late 0", "late 1", "user 0"]
@@ -130,8 +126,7 @@ def test_removed_after_it_was_gathered(machine: Machine, collector: Collector) -
     """journald removes what it has archived, and that was gathered."""
     path = machine.journal / "system@00.journal"
     write(path, entries("one", 2))
-    write(machine.journal / "system.journal", entries("two", 2))
-    assert machine.send() == 0, machine.said
+    machine.log_and_send(entries("two", 2))
     path.unlink()
     assert machine.send() == 0 and machine.said == ""
 
@@ -162,8 +157,7 @@ sys.exit(run.main())
 def test_since(machine: Machine, collector: Collector) -> None:
     """What the first list of files has begins at SINCE; a clock that goes back later hides nothing."""
     machine.set(SINCE="@1700000003")
-    write(machine.journal / "system.journal", entries("first", 5))
-    assert machine.send() == 0, machine.said
+    machine.log_and_send(entries("first", 5))
     write(machine.journal / "user-1.journal", entries("later", 2, begin=1_000_000))
     assert machine.send() == 0, machine.said
     assert collector.messages() == ["first 3", "first 4", "later 0", "later 1"]
@@ -171,10 +165,8 @@ def test_since(machine: Machine, collector: Collector) -> None:
 
 def test_since_is_looked_up_once(machine: Machine, collector: Collector) -> None:
     machine.set(SINCE="now")
-    write(machine.journal / "system.journal", entries("old", 2))
-    assert machine.send() == 0, machine.said
-    write(machine.journal / "system.journal", [Entry("new", time.time_ns() // 1_000)])
-    assert machine.send() == 0, machine.said
+    machine.log_and_send(entries("old", 2))
+    machine.log_and_send([Entry("new", time.time_ns() // 1_000)])
     assert collector.messages() == ["new"]
 
 
@@ -186,8 +178,7 @@ def test_a_time_that_is_none(machine: Machine) -> None:
 
 def test_again(machine: Machine, collector: Collector) -> None:
     """What the collector has is sent once more since a time, and stored once."""
-    write(machine.journal / "system.journal", entries("one", 5))
-    assert machine.send() == 0, machine.said
+    machine.log_and_send(entries("one", 5))
     before = len(collector.uploads)
     assert machine.send("--again", "@1700000003") == 0, machine.said
     assert len(collector.uploads) == before
@@ -210,8 +201,7 @@ def test_a_folder_that_is_full(machine: Machine, collector: Collector) -> None:
 
 def test_places_that_are_lost(machine: Machine, collector: Collector) -> None:
     """All goes out once more, and is stored once."""
-    write(machine.journal / "system.journal", entries("one", 5))
-    assert machine.send() == 0, machine.said
+    machine.log_and_send(entries("one", 5))
     for damage in (b"", b"SQLite format 3\0" + bytes(5000), b"no database" * 1000):
         for end in ("", "-wal", "-shm"):
             (machine.folder / f"places.sqlite{end}").unlink(missing_ok=True)
@@ -224,8 +214,7 @@ def test_places_that_are_lost(machine: Machine, collector: Collector) -> None:
 
 def test_places_of_a_later_version(machine: Machine, collector: Collector) -> None:
     """An earlier program says why it puts them aside."""
-    write(machine.journal / "system.journal", entries("one", 5))
-    assert machine.send() == 0, machine.said
+    machine.log_and_send(entries("one", 5))
     with sqlite3.connect(machine.folder / "places.sqlite") as rows:
         rows.execute("PRAGMA user_version = 9")
     rows.close()

@@ -1,8 +1,7 @@
 """A link that is cut again and again, by the real ssh, and a collector that takes nothing for an hour.
 
 What rests is told by a clock that sleeping moves on (hurried.py). What a link carries in so many seconds is told by
-bytes, so a computer that is busy changes nothing.
-"""
+bytes, so a computer that is busy changes nothing."""
 import socket
 import threading
 from pathlib import Path
@@ -77,13 +76,8 @@ def test_a_link_that_is_cut_each_20_seconds(machine: Machine, collector: Collect
             left.append(len(old) - count(collector, b"old "))
 
     collector.before = before
-    process = machine.begin(command=HURRIED)
-    try:
+    with machine.running(HURRIED):
         wait_until(lambda: left and not machine.outbox(), seconds=3 * PATIENCE)
-    finally:
-        process.kill()
-        said = process.communicate()[1]
-    assert "Traceback" not in said, said
     size = sum(map(len, collector.uploads))
     print(f"{link.connections} connections carried {link.carried} bytes, {link.carried / RATE:.0f} s of this link, for "
           f"{size} bytes of {len(collector.uploads)} uploads; {left[0]} of {len(old)} old entries came after it")
@@ -107,13 +101,8 @@ def test_a_collector_that_takes_nothing_for_an_hour(machine: Machine, collector:
     collector.before = before
     machine.set(UPLOAD_BYTES=1500)
     write(machine.journal / "system.journal", entries("one", 40, pad=200))
-    process = machine.begin(command=HURRIED)
-    try:
+    with machine.running(HURRIED):
         wait_until(lambda: clocks and clocks[-1] - clocks[0] >= HOUR and not machine.outbox(), seconds=3 * PATIENCE)
-    finally:
-        process.kill()
-        said = process.communicate()[1]
-    assert "Traceback" not in said, said
     asked = [at - clocks[0] for at in clocks]
     held = sum(at < HOUR for at in asked)
     new = next(at for at, data in zip(asked, collector.uploads) if at >= HOUR and b"two 0" in data)
@@ -127,17 +116,12 @@ def test_a_collector_that_takes_nothing_for_an_hour(machine: Machine, collector:
 
 def test_a_machine_that_has_nothing_to_send(machine: Machine, collector: Collector) -> None:
     """It asks once a day, so it hears within that that the collector was restored."""
-    write(machine.journal / "system.journal", entries("one", 2))
-    assert machine.send() == 0, machine.said
+    machine.log_and_send(entries("one", 2))
     collector.knows = lambda sequence, number: len(collector.heard) > 2
     machine.environment["HURRY"] = "200"
-    process = machine.begin(command=HURRIED)
-    try:
+    with machine.running(HURRIED):
         wait_until(lambda: len(collector.heard) > 4)
-    finally:
-        process.kill()
-        said = process.communicate()[1]
     asked = [line.split()[0] for line in collector.heard]
-    assert "the collector lost what it had acknowledged" in said
+    assert "the collector lost what it had acknowledged" in machine.said
     assert asked[:3] == ["upload", "had", "upload"] and set(asked[3:]) == {"had"}
     assert collector.messages() == ["one 0", "one 1"]

@@ -71,8 +71,7 @@ def test_a_service_that_stays(machine: Machine, collector: Collector, sshd: Sshd
     machine.set(JOURNALS=Path(daemon.journal).parent, IDLE_SECONDS=5)
     daemon.log(0, [b"MESSAGE=before\n"])
     daemon.wait_for_message("before")
-    process = machine.begin()
-    try:
+    with machine.running() as process:
         wait_for("MESSAGE=before\n", collector)
         for number in range(6):
             time.sleep(0.7 * number)
@@ -85,10 +84,6 @@ def test_a_service_that_stays(machine: Machine, collector: Collector, sshd: Sshd
         sshd.begin()
         wait_for("MESSAGE=without a connection\n", collector)
         wait_until(lambda: not processes.children(process.pid), "a connection that carries nothing is closed: that")
-    finally:
-        process.kill()
-        said = process.communicate()[1]
-    assert "Traceback" not in said, said
     assert machine.send() in (0, 1), machine.said
     messages = collector.messages()
     assert [each for each in messages if each.startswith("message")] == [f"message {number}" for number in range(6)]
@@ -99,8 +94,7 @@ def test_an_idle_machine(machine: Machine, collector: Collector, sshd: Sshd, dae
     machine.set(JOURNALS=Path(daemon.journal).parent)
     daemon.log(0, [b"MESSAGE=one\n"])
     daemon.wait_for_message("one")
-    process = machine.begin()
-    try:
+    with machine.running() as process:
         wait_for("MESSAGE=one\n", collector)
         time.sleep(3)
         before, begin = processor_seconds(process.pid), time.monotonic()
@@ -109,9 +103,6 @@ def test_an_idle_machine(machine: Machine, collector: Collector, sshd: Sshd, dae
         print(f"a part of a processor: {used:.5f}; bytes: {memory(process.pid)}")
         assert used < 0.001
         assert memory(process.pid) < 20_000_000
-    finally:
-        process.kill()
-        process.wait()
 
 
 def test_vacuum_and_many_files(machine: Machine, collector: Collector, daemon: journald.Journald) -> None:

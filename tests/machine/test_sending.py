@@ -147,8 +147,7 @@ def test_a_sequence_of_another_machine(machine: Machine, collector: Collector) -
     assert len(uploads) == 4
     assert collector.store(uploads[0], "other").startswith("ack")
     assert machine.send() == 1
-    write(machine.journal / "system.journal", entries("two", 1, begin=BEGIN + 1_000_000_000))
-    assert machine.send() == 0, machine.said
+    machine.log_and_send(entries("two", 1, begin=BEGIN + 1_000_000_000))
     stored = collector.stored()
     assert len({sequence for sequence, _, _ in stored}) == 2
     assert sorted(message for _, _, message in stored) == ["one 0", "one 0", "one 1", "one 2", "one 3", "two 0"]
@@ -188,8 +187,7 @@ def test_an_upload_that_is_damaged_here(machine: Machine, collector: Collector) 
 
 def test_a_collector_that_was_restored(machine: Machine, collector: Collector) -> None:
     """It doesn't know the last key that was acknowledged: what the journal has goes out once more."""
-    write(machine.journal / "system.journal", entries("one", 4))
-    assert machine.send() == 0, machine.said
+    machine.log_and_send(entries("one", 4))
     assert [line for line in collector.heard if line.startswith("had")] == []
     write(machine.journal / "system.journal", entries("two", 1, begin=BEGIN + 1_000_000_000))
     asked: list[tuple[str, int]] = []
@@ -207,8 +205,7 @@ def test_a_collector_that_was_restored(machine: Machine, collector: Collector) -
 
 def test_a_collector_that_was_restored_behind_a_lost_answer(machine: Machine, collector: Collector) -> None:
     """What it stored and didn't answer isn't new when it is acknowledged: it is asked for, too."""
-    write(machine.journal / "system.journal", entries("one", 2))
-    assert machine.send() == 0, machine.said
+    machine.log_and_send(entries("one", 2))
     write(machine.journal / "system.journal", entries("two", 1, begin=BEGIN + 1_000_000_000))
     lose_an_answer(machine, collector)
     assert machine.send() == 0, machine.said
@@ -228,8 +225,7 @@ def test_a_collector_that_was_restored_behind_a_lost_answer(machine: Machine, co
 
 def test_power_that_is_lost_behind_an_acknowledgement(machine: Machine, collector: Collector) -> None:
     """What was noted since isn't on the disk, and the upload is out of the way: it is asked for nevertheless."""
-    write(machine.journal / "system.journal", entries("one", 2))
-    assert machine.send() == 0, machine.said
+    machine.log_and_send(entries("one", 2))
     write(machine.journal / "system.journal", entries("two", 1, begin=BEGIN + 1_000_000_000))
     machine.gather()
     noted = {path: path.read_bytes() for path in machine.folder.glob("places.sqlite*")}
@@ -325,8 +321,7 @@ def test_the_program_is_not_there(machine: Machine, collector: Collector) -> Non
 
 def test_a_repeat_says_nothing_of_a_collector_that_was_restored(machine: Machine, collector: Collector) -> None:
     """What is asked for is the last entry that was new: one that was stored before may be in the backup."""
-    write(machine.journal / "system.journal", entries("one", 4))
-    assert machine.send() == 0, machine.said
+    machine.log_and_send(entries("one", 4))
     assert machine.send("--again", "@1700000001", "--once") == 0, machine.said
     asked: list[int] = []
 
@@ -341,8 +336,7 @@ def test_a_repeat_says_nothing_of_a_collector_that_was_restored(machine: Machine
 
 def test_a_clock_that_goes_back(machine: Machine, collector: Collector) -> None:
     """The last key was acknowledged a day ahead by this clock: it is asked for nevertheless."""
-    write(machine.journal / "system.journal", entries("one", 2))
-    assert machine.send() == 0, machine.said
+    machine.log_and_send(entries("one", 2))
     os.utime(machine.folder / "outbox" / "had", (time.time() + 86_400, time.time() + 86_400))
     collector.knows = lambda sequence, number: False
     write(machine.journal / "system.journal", entries("two", 1, BEGIN + 60_000_000))

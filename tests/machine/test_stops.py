@@ -85,8 +85,7 @@ def test_places_that_are_damaged_while_it_runs(machine: Machine, collector: Coll
     """A sender that stays goes on; whoever reads the file next puts it aside, and says so."""
     machine.set(EVERY_SECONDS=0.2)
     write(machine.journal / "system.journal", entries("one", 3))
-    process = machine.begin()
-    try:
+    with machine.running():
         wait_for("one 2", collector)
         for name in ("places.sqlite", "places.sqlite-wal"):
             path = machine.folder / name
@@ -94,10 +93,7 @@ def test_places_that_are_damaged_while_it_runs(machine: Machine, collector: Coll
                 path.write_bytes(b"\xff" * path.stat().st_size)
         write(machine.journal / "system.journal", entries("two", 3, BEGIN + 60_000_000))
         wait_for("two 2", collector)
-    finally:
-        process.kill()
-        said = process.communicate()[1]
-    assert "Traceback" not in said
+    said = machine.said
     machine.send()
     assert "places.sqlite can't be used (" in said + machine.said
     assert any(name.startswith("places-") for name in machine.refused())

@@ -4,8 +4,7 @@ crates/jc_test_calls, a program for tests: calls.py [NAME..], or all of them.
 A run makes some calls twice, and looks at the journal between them. Each prints what it has to, or that memory was
 refused; the journal has what was acknowledged and nothing else then, and the same call made anew succeeds. If the
 refusal hits the program itself, while it reads its files or gathers what it prints, it says so and ends, and such a run
-shows nothing.
-"""
+shows nothing."""
 from __future__ import annotations
 
 import os
@@ -44,8 +43,7 @@ def refused(name: bytes) -> bytes:
 
 
 def collected(word: str, upload: bytes, journal: Journal) -> Iterator[Told]:
-    """An upload, as a space, as a stream or in a run. A run that can't write its line has collected the upload all the
-    same."""
+    """An upload, as a space, as a stream or in a run, which has collected it also if it can't write its line."""
     after = journal.copy()
     line = after.take(upload).encode() + b"\n"
     whose = b" ".join(line.split(b" ")[1:3])

@@ -48,8 +48,7 @@ class CollectNoted(Sweep):
         return told != self.usual
 
     def ends(self, what: str, told: tuple[bytes, str, int], lines: Sequence[str]) -> None:
-        """A run answers all, or is stopped; of its database another word may say that it isn't opened for want of
-        memory."""
+        """A run answers all, or is stopped; of its database another word may say that memory was refused."""
         errors, has_failed = told[1], status_of(lines) == 3
         usual = {"", "store failed\n"} if has_failed else {""}
         not_opened = set() if lines else {"store failed\n"}

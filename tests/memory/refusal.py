@@ -1,5 +1,4 @@
-"""The program with requests for memory refused: a small library that is preloaded counts them, and refuses the chosen
-ones."""
+"""The program with requests for memory refused: a small library that is preloaded counts them, and refuses some."""
 from __future__ import annotations
 
 import itertools

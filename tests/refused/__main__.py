@@ -15,8 +15,7 @@ The libraries below a crate are taken as `rt ci` left them, and built if they ar
 With --beside an `rt ci` runs meanwhile, and its words come on standard input until it ends: a crate's edits are judged
 from when it says that the crate is proved, in checks for which it leaves room.
 RT_JOBS is how many checks run side by side; without it, as many as there are processors and memory for.
-The last line is 'N passed, M failed'.
-"""
+The last line is 'N passed, M failed'."""
 
 from __future__ import annotations
 
@@ -37,7 +36,7 @@ from parallel import checks_at_once
 
 def main() -> int:
     wanted = _arguments()
-    crates = [it for it in _crates() if wanted.only in (None, it.name)]
+    crates = [it for it in toolchain.rt().rtlib.crates_below(os.getcwd()) if wanted.only in (None, it.name)]
     if wanted.only and not crates:
         sys.exit(f"refused: crates.txt names no crate {wanted.only}")
     crates = [it for it in crates if os.path.isdir(os.path.join(it.folder, "refused"))]
@@ -63,10 +62,6 @@ def _arguments() -> argparse.Namespace:
     parser.add_argument("--list", action="store_true", help="show the first batches, and try nothing")
     parser.add_argument("--beside", action="store_true", help="an rt ci runs, and its words come on standard input")
     return parser.parse_args()
-
-
-def _crates() -> list[Any]:
-    return toolchain.rt().rtlib.crates_below(os.getcwd())
 
 
 def _judge(crate: Any, ci: Ci, turns: Turns) -> list[Outcome]:

@@ -34,8 +34,7 @@ pub {goal} : goal.{goal}
 # What no function has to prove. Where it is answered all the same, the checker doesn't print what is left to prove of a
 # function, for which it would go over all of it once more.
 NOT_A_GOAL = "not-a-goal"
-# The hole that stands for all proofs that are left open: of a hole of its own for each, antt would print what it is
-# for.
+# The hole for all proofs that are left open: of a hole of its own for each, antt would print what it is for.
 AT_ITS_WORD = """\
 pub at_its_word {ℓ} : {A : Type ℓ} → A
 at_its_word = ?

@@ -72,8 +72,7 @@ class Sources:
 
 
 def _without_body(body: bytes) -> bytes:
-    """What takes the place of a body, with as many lines, so that what the checker says of a line is said of its
-    own."""
+    """What takes a body's place, with as many lines, so that what the checker says of a line is said of its own."""
     return b"{" + NO_BODY + b"\n" * body.count(b"\n") + b"}"
 
 
@@ -87,8 +86,7 @@ def read_edits(sources: Sources) -> tuple[list[Edit], list[BadEdit]]:
 
 
 def _beside_one_another(sources: Sources, edits: list[Edit]) -> list[Edit]:
-    """The edits, of which each has a function of its own: where a function that can be copied has several, all but the
-    first are edits of copies."""
+    """The edits, each with a function of its own: of one that can be copied all but the first are edits of copies."""
     counts: Counter[Function] = Counter()
     apart = []
     for it in edits:

@@ -26,8 +26,7 @@ def promises_of(crate: Any, function: Function) -> list[str]:
 
 
 def _part(library: str, name: str) -> str:
-    """What the checker made for a library under a name: of one file the other says where each part begins, and how long
-    it is."""
+    """What the checker made for a library under a name: of one file the other says where a part is."""
     try:
         with open(os.path.join(library, "toolchain/made.json"), encoding="utf-8") as parts:
             found = next((json.loads(it) for it in parts if it.startswith(f'["{name}",')), None)

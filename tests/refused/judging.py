@@ -8,7 +8,7 @@ from dataclasses import dataclass, field, replace
 from typing import Any
 
 from checking import check
-from edits import BadEdit, Edit, Sources, read_edits
+from edits import Edit, Sources, read_edits
 from libraries import is_current
 from verdicts import Kind, Report, Ruling
 
@@ -130,8 +130,4 @@ def judge(
     """The outcomes of a crate's folder refused/: one for each file in it, and one for the crate without them."""
     it = Judge(crate, turn, say, standing)
     edits, bad = read_edits(it.sources)
-    return [_bad(edit) for edit in bad] + it.outcomes(edits)
-
-
-def _bad(edit: BadEdit) -> Outcome:
-    return Outcome(edit.name, False, f"BAD EDIT: {edit.why}")
+    return [Outcome(edit.name, False, f"BAD EDIT: {edit.why}") for edit in bad] + it.outcomes(edits)

@@ -2,8 +2,7 @@
 `rt ci` says, and a check of edits doesn't prove them once more.
 
 Others know a lemma by what it says alone, unless it is marked `abbrev` or `unfoldable`, or something unfolds it by
-name. Such a one keeps its proof, or a goal that needs it would be refused for want of it.
-"""
+name. Such a one keeps its proof, or a goal that needs it would be refused for want of it."""
 
 from __future__ import annotations
 
@@ -96,8 +95,7 @@ def _proof_end(lines: list[str], at: int, end: int) -> int:
 
 
 def _end(lines: list[str], at: int) -> int:
-    """Where what begins with this line ends: the next line that begins as far left, and isn't blank or what closes
-    it."""
+    """Where what begins with this line ends: the next one that begins as far left, and isn't blank or closes it."""
     end = at + 1
     for number in range(at + 1, len(lines)):
         line = lines[number]

@@ -250,8 +250,7 @@ GONE = {**ONE, "double-of-another": (*EDITS["double-of-another"][:2], PASSED)}
 WRONG = LIBRARY.replace("3 + 4", "3 + 3")
 
 
-# What a check of an edit of `small::edited` says of other functions; the first isn't proved, and calls nothing that
-# isn't.
+# What a check of an edit of `small::edited` says of others; the first isn't proved, and calls nothing that isn't.
 BESIDE = """\
 fn small::alone: no proof: expected answers in ./proofs/alone/Answers.antt; `search` did not prove `returns`
 fn small::edited: not proved

@@ -13,8 +13,7 @@ some functions alone, with `only=N proved=M`, and with `only=N holes=M` if proof
 What isn't proved of a function stands there, in notes at its lines, or in errors at its proof files:
 
     note: src/key.rt:36:1: it is not proved that what the function ensures holds when it returns (`returns`)
-    ./proofs/text/Answers.antt:8:24: error: `returns-then-is_plain`: computed as far as they go, the two types differ
-"""
+    ./proofs/text/Answers.antt:8:24: error: `returns-then-is_plain`: computed as far as they go, the two types differ"""
 
 from __future__ import annotations
 
@@ -104,7 +103,8 @@ class Report:
             return Ruling(Kind.PROVED)
         if len(found) != 1 or not re.match(r"no proof: |not proved(;|$)", found[0]):
             return Ruling(Kind.UNREAD, tuple(found))
-        goals = tuple(dict.fromkeys([*_searched(found[0]), *self._goals_at(function)]))
+        goals = tuple(dict.fromkeys([goal for it in SEARCHED.findall(found[0]) for goal in _ticked(it)]
+                                    + self._goals_at(function)))
         if goals and not set(edit.about) <= set(goals):
             return Ruling(Kind.ANOTHER, goals)
         if goals:
@@ -141,10 +141,6 @@ class Report:
                 if found[1] in function.proofs and found[2] != NOT_A_GOAL and not STALE.search(found[3]):
                     goals.append(found[2])
         return goals
-
-
-def _searched(words: str) -> list[str]:
-    return [goal for it in SEARCHED.findall(words) for goal in _ticked(it)]
 
 
 def _ticked(text: str) -> list[str]:

@@ -2,6 +2,7 @@
 from __future__ import annotations
 
 import os
+import re
 import shutil
 from collections.abc import Sequence
 from typing import Any
@@ -11,10 +12,25 @@ from model import Journal
 from trial import PROGRAM, Trial, answers, run, status_of
 
 WORDS = ("collect",)
+# What a run over a list says that couldn't go on, and of uploads, a list, a database or notes that it couldn't open.
+WHY = re.compile(r"(cannot open .*\n)*((read|write|store) failed\n)?")
+
+
+def of_a_list(trial: Trial, what: str, told: tuple[bytes, str, int], count: int) -> list[str]:
+    """The lines of a run over a list of so many uploads that ended by itself."""
+    output, errors, status = told
+    lines = output.decode().splitlines()
+    trial.expect(f"{what}: {errors!r}", WHY.fullmatch(errors) is not None, True)
+    trial.expect(f"{what}: status", status, 3 if errors else status_of(lines))
+    trial.expect(f"{what}: all are answered", bool(errors) or len(lines) == count, True)
+    return lines
 
 
 class Collecting:
     """Uploads, the words that collect them, and a database that has some entries already or isn't there."""
+
+    # So many uploads may be stored before they are answered.
+    together = 1
 
     def __init__(
         self, trial: Trial, name: str, uploads: list[bytes], before: Sequence[bytes] = (), words: Sequence[str] = WORDS
@@ -54,8 +70,8 @@ class Collecting:
 
     def left(self, what: str, database: str, answered: int) -> None:
         """What a run leaves that ended after this many answers: all of those uploads, and none or all of the next
-        one."""
-        self.holds_one_of(what, database, self.journals[answered:answered + 2])
+        one, or the first of the next ones."""
+        self.holds_one_of(what, database, self.journals[answered:answered + 1 + self.together])
 
     def failed(self, what: str, database: str, told: tuple[bytes, str, int]) -> None:
         """What a run prints and leaves whose device failed."""
@@ -111,3 +127,16 @@ class Collecting:
             again = answers(journal, self.uploads)
             trial.expect(f"{what}: again", run(*self.words, database, *self.names), again)
             trial.expect(f"{what}: complete", run("export", database), (journal.text(), "", 0))
+
+
+class Listed(Collecting):
+    """Uploads that a list names, whose answers come together."""
+
+    def __init__(self, trial: Trial, name: str, uploads: list[bytes], words: Sequence[str]) -> None:
+        super().__init__(trial, name, uploads)
+        self.together = len(uploads)
+        path, = trial.put(["".join(f"{name}\n" for name in self.names).encode()])
+        self.words, self.names = (*words, "--files-from", path), []
+
+    def told(self, what: str, database: str, told: tuple[bytes, str, int]) -> list[Journal]:
+        return self.after_failures(what, of_a_list(self.trial, what, told, len(self.uploads)))

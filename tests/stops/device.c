@@ -11,8 +11,8 @@
  * others are left alone and not counted. Each call that was interfered with, and in modes n and e each change, is
  * written to the descriptor DEVICE_NOTE: an operation and a file as two bytes, an offset, the length of the path and
  * that of what is written as eight bytes each, then the path, and then what is written. The files are d, a path that
- * ends in "/db", l, one that ends in "/db-wal", and o, any other; 1 is standard output. Standard output and standard
- * error never fail. If DEVICE_STEADY is 1, what the program draws at random is the same in each run.
+ * ends in "/db", l, one that ends in "/db-wal", and o, any other; 1 is standard output, which fails only if named.
+ * Standard error never fails. If DEVICE_STEADY is 1, what the program draws at random is the same in each run.
  * It is compiled without headers, so what it needs of the C library is declared here. */
 typedef __SIZE_TYPE__ size_t;
 typedef __PTRDIFF_TYPE__ ssize_t;
@@ -104,7 +104,7 @@ static int is_meant(char operation, char kind, off_t offset, size_t size)
         return 0;
     if (mode == 'b')
         return is_read && first - (unsigned long)offset < size;
-    if ((is_read && !(mode == 'f' && reads)) || (may_fail && kind == '1'))
+    if ((is_read && !(mode == 'f' && reads)) || (may_fail && kind == '1' && only != '1'))
         return 0;
     if (mode == 'h' && (operation != 'w' || size < 2))
         return 0;

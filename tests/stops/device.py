@@ -1,5 +1,4 @@
-"""The program over a device that stops, fails, or notes what is written: a small library that is preloaded counts the
-calls."""
+"""The program over a device that stops, fails, or notes what is written: a small preloaded library counts the calls."""
 from __future__ import annotations
 
 import os

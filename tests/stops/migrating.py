@@ -63,8 +63,7 @@ class Migrating:
 
 
 def migrations(trial: Trial) -> Iterator[Migrating]:
-    """From tables of version 1, as an earlier program left them, and from tables by key, which were made so or came
-    from those."""
+    """From tables of version 1, as an earlier program left them, and from tables by key, made so or of those."""
     for name in older.EARLIER:
         yield Migrating(trial, f"migrate, {name}", older.earlier(trial, name))
     of_version_3 = ("migrate", "--tables", "3")

@@ -3,11 +3,10 @@ machines are named, tables are of version 3, databases take turns over one folde
 
 What wasn't synced is gone, or there in part, as losses.py says; and names that were made or removed are as they were
 before, if their folder wasn't synced. Then all that was sent is sent again, over the database that was the present one.
-What was acknowledged before the loss isn't new, what was under way is new or not, and afterwards each entry stands in
-one database and is noted. A sequence of which an acknowledged upload brought entries belongs to its machine: a
+What was acknowledged before the loss isn't new, nor perhaps the first of what wasn't, and afterwards each entry stands
+in one database and is noted. A sequence of which an acknowledged upload brought entries belongs to its machine: a
 stranger's entry is refused with 71 before anything else is sent. In some courses a run was killed before that, so that
-notes lag behind, and what the next run reads may be in the system's cache alone.
-"""
+notes lag behind, and what the next run reads may be in the system's cache alone."""
 from __future__ import annotations
 
 import functools
@@ -23,7 +22,7 @@ from typing import NamedTuple
 import device
 import folders
 import samples
-from brought import Brought, as_lines, stranger, take, take_all
+from brought import LONG, Brought, as_lines, stranger, take, take_all
 from make import Machine
 from model import Entry, Journal, read_stream
 from note_files import noted, notes_of
@@ -98,8 +97,8 @@ class Course:
                 os.path.join(root, database, "db")]
 
     def may_answer(self, acknowledged: int, uploads: Sequence[Brought]) -> list[list[str]]:
-        """The lines that answer these uploads once others were acknowledged; the next one may be stored, too."""
-        return [take_all(journal.copy(), uploads) for journal in self.journals[acknowledged:acknowledged + 2]]
+        """The lines that answer these uploads once others were acknowledged; the next ones may be stored, too."""
+        return [take_all(journal.copy(), uploads) for journal in self.journals[acknowledged:]]
 
     def sent_again(self, acknowledged: int) -> Again:
         """All uploads, behind those of strangers whose sequences are known to be others', and before the rest."""
@@ -119,7 +118,7 @@ class Course:
             answered = each.first
             self.calls.append([(None, acknowledged)])
             for call in self.run(each, acknowledged):
-                answered += call.kind == b"1" and call.data.endswith(b"\n")
+                answered += call.data.count(b"\n") if call.kind == b"1" else 0
                 acknowledged = max(acknowledged, answered)
                 self.calls[-1].append((call, acknowledged))
         shutil.rmtree(self.root)
@@ -228,13 +227,14 @@ def frozen(content: folders.Content) -> object:
 
 
 def uploads_of(dice: Random) -> list[Brought]:
-    """Those of two machines. One has two sequences, of which one has entries in two windows, and both come in one
-    upload. One upload has another machine's sequence, and some come for the second time in part."""
+    """Those of two machines. The name of one is so long that uploads are stored in several groups. The other one has
+    two sequences, of which one has entries in two windows, and both come in one upload. One upload has the other
+    machine's sequence, and some come for the second time in part."""
     web, other, mail = Machine(dice, 6), Machine(dice, 3), Machine(dice, 5)
     web.entries = [entry._replace(seqnum=entry.seqnum + 4093) for entry in web.entries]
     both = web.stream(2, 4) + other.stream(0, 2)[samples.HEAD:]
-    return [Brought("web", web.stream(0, 2)), Brought("mail", mail.stream(0, 3)), Brought("web", both),
-            Brought("mail", web.stream(4, 5)), Brought("web", web.stream(1, 6)), Brought("mail", mail.stream(1, 5)),
+    return [Brought("web", web.stream(0, 2)), Brought(LONG, mail.stream(0, 3)), Brought("web", both),
+            Brought(LONG, web.stream(4, 5)), Brought("web", web.stream(1, 6)), Brought(LONG, mail.stream(1, 5)),
             Brought("web", other.stream(0, 3))]
 
 
@@ -245,8 +245,9 @@ def courses(trial: Trial) -> Iterator[Course]:
     calls = [call for call, _ in turning.calls[0]]
     # what is written last, as a commit or a note, is a byte that makes it count
     unsynced = [place for place, call in enumerate(calls) if call and call.data == b"\1"]
-    killed = trial.dice.sample(range(1, len(calls) - 1), KILLS) + trial.dice.sample(unsynced, KILLS_UNSYNCED)
-    for number in sorted(killed):
+    killed = trial.dice.sample(range(2, len(calls) - 1), KILLS) + trial.dice.sample(unsynced, KILLS_UNSYNCED)
+    # the first call makes the folder of notes
+    for number in [1, *sorted(killed)]:
         runs = [Run("1", 0, 4, number), Run("1", 0, 4), Run("2", 4, 7)]
         yield Course(trial, f"killed after {number} calls", uploads, runs, 1)
 

@@ -2,7 +2,7 @@
 from __future__ import annotations
 
 import samples
-from collecting import Collecting
+from collecting import Collecting, Listed
 from make import Machine
 from migrating import Migrating, migrations
 from trial import Trial
@@ -17,7 +17,7 @@ def scenarios(trial: Trial) -> list[Collecting | Migrating]:
     return [
         Collecting(trial, "an upload without entries", [samples.head(1)]),
         Collecting(trial, "two uploads", [row, rest]),
-        Collecting(trial, "two uploads into tables of version 3", [row, rest], words=OF_VERSION_3),
+        Listed(trial, "a list into tables of version 3", [row, samples.stream(samples.E3, b"=x"), rest], OF_VERSION_3),
         Collecting(trial, "two uploads into a journal", [rest, samples.head(2) + samples.FILE], [row]),
         Collecting(trial, MANY, [machine.stream(0, 40), machine.file(50), machine.stream(30, 60)]),
         *migrations(trial),

@@ -7,8 +7,7 @@ service, and journal-collect-admin; PROGRAM names the proved program. Journals a
 a disk of its own, so power is lost by what had reached the disk. In the end faults cease, machines send what they have,
 and: what was acknowledged is in one database, with its key and content; nothing is stored twice; what a journal has is
 stored. It takes root, loop devices and systemd-journal-remote. Up to a second passes before each event, and so many
-times as long as PACE says. What went wrong can be kept.
-"""
+times as long as PACE says. What went wrong can be kept."""
 from __future__ import annotations
 
 import argparse
@@ -77,8 +76,7 @@ def not_at_rest(world: World, machine: Machine) -> str:
 
 
 def lost(world: World, stored: list[Entry]) -> set[Entry]:
-    """What may be missing: acknowledged before the collector was set back, and in no journal any more, or under another
-    key since."""
+    """What may be missing: acknowledged before the collector was set back, and in no journal, or under another key."""
     there = {message for machine in world.machines for message in machine.journal.messages()}
     there -= {entry.message for entry in stored}
     return {entry for entry in world.at_risk if entry.message not in there}
@@ -115,7 +113,7 @@ def main() -> int:
     if not world.library:
         print("skipped: clocks that are wrong, since the program can't be run with a library that sets them")
     if asked.only:
-        world.events = [event for event in world.events if event.__name__ in asked.only.split(",")]
+        world.events = {name: do for name, do in world.events.items() if name in asked.only.split(",")}
     wrong = ["it didn't come to its end"]
     try:
         wrong = judged(world, asked.rounds)

@@ -1,4 +1,5 @@
-"""What happens in the world: each method whose name begins with `machine_` or `collector_` is one event."""
+"""What happens in the world: each method whose name begins with `machine_` or `collector_` is an event, and so is each
+name of `of_each`."""
 from __future__ import annotations
 
 import os
@@ -51,8 +52,10 @@ class World:
         self.counts: Counter[str] = Counter()
         for machine in self.machines:
             machine.journal.grow(1)
-        self.events: list[Callable[[], None]] = [
-            getattr(self, name) for name in sorted(dir(self)) if name.startswith(("machine_", "collector_"))]
+        self.events: dict[str, Callable[[], object]] = {
+            name: getattr(self, name) for name in dir(self) if name.startswith(("machine_", "collector_"))}
+        self.events |= self.of_each("machine", self.any, (0, 4_096, 100_000), (0, 1, 2), 40)
+        self.events |= self.of_each("collector", lambda: self.collector, (0, 8_192, 300_000, 2_000_000), (0, 1, 5), 400)
 
     def at(self, name: str) -> Path:
         path = self.folder / f"{len(list(self.folder.glob('*-*'))) + 1}-{name}"
@@ -86,44 +89,36 @@ class World:
     def round(self) -> None:
         self.go_on()
         time.sleep(self.pace * self.dice.choice((0.05, 0.2, 0.5, 1.0)))
-        event = self.dice.choice(self.events)
-        self.counts[event.__name__] += 1
+        event = self.dice.choice(sorted(self.events))
+        self.counts[event] += 1
         with (self.folder / "events").open("a") as file:
-            print(time.strftime("%H:%M:%S"), event.__name__, file=file)
-        event()
+            print(time.strftime("%H:%M:%S"), event, file=file)
+        self.events[event]()
         for computer in self.computers():
             if self.dice.random() < 0.3:
                 computer.disk.free()
         if self.dice.random() < 0.3:
             self.any().heal()
 
+    def of_each(self, kind: str, one: Callable[[], Machine | Collector], filled: tuple[int, ...],
+                inodes: tuple[int, ...], days: int) -> dict[str, Callable[[], object]]:
+        """What happens to machines and to the collector alike."""
+        clocks = (0, 60, -60, DAY, -3 * DAY, days * DAY)
+        return {
+            f"{kind}_killed": lambda: one().stop(signal.SIGKILL),
+            f"{kind}_child_killed": lambda: one().kill_a_child(self.dice),
+            f"{kind}_stopped": lambda: one().stop(),
+            f"{kind}_loses_power": lambda: one().disk.lose_power(),
+            f"{kind}_disk_full": lambda: one().disk.fill(self.dice.choice(filled)),
+            f"{kind}_no_inodes": lambda: one().disk.take_inodes(self.dice.choice(inodes)),
+            f"{kind}_clock": lambda: self.set_clock(one(), self.dice.choice(clocks))}
+
     # Machines
-
-    def machine_killed(self) -> None:
-        self.any().stop(signal.SIGKILL)
-
-    def machine_child_killed(self) -> None:
-        self.any().kill_a_child(self.dice)
-
-    def machine_stopped(self) -> None:
-        self.any().stop()
-
-    def machine_loses_power(self) -> None:
-        self.any().disk.lose_power()
-
-    def machine_disk_full(self) -> None:
-        self.any().disk.fill(self.dice.choice((0, 4_096, 100_000)))
-
-    def machine_no_inodes(self) -> None:
-        self.any().disk.take_inodes(self.dice.choice((0, 1, 2)))
 
     def machine_link(self) -> None:
         word = self.dice.choice(("refused", "cut", "deaf", "open", "slow"))
         number = {"slow": 30_000, "deaf": self.dice.randrange(200)}.get(word, self.dice.randrange(100_000))
         self.any().break_link(word, number)
-
-    def machine_clock(self) -> None:
-        self.set_clock(self.any(), self.dice.choice((0, 60, -60, DAY, -3 * DAY, 40 * DAY)))
 
     def machine_snapshot(self) -> None:
         machine = self.any()
@@ -170,30 +165,9 @@ class World:
 
     # The collector
 
-    def collector_killed(self) -> None:
-        self.collector.stop(signal.SIGKILL)
-
-    def collector_child_killed(self) -> None:
-        self.collector.kill_a_child(self.dice)
-
-    def collector_stopped(self) -> None:
-        self.collector.stop()
-
     def collector_finishes(self) -> None:
         if self.collector.is_running() and self.collector.process:
             self.collector.process.send_signal(signal.SIGHUP)
-
-    def collector_loses_power(self) -> None:
-        self.collector.disk.lose_power()
-
-    def collector_disk_full(self) -> None:
-        self.collector.disk.fill(self.dice.choice((0, 8_192, 300_000, 2_000_000)))
-
-    def collector_no_inodes(self) -> None:
-        self.collector.disk.take_inodes(self.dice.choice((0, 1, 5)))
-
-    def collector_clock(self) -> None:
-        self.set_clock(self.collector, self.dice.choice((0, 60, -60, DAY, -3 * DAY, 400 * DAY)))
 
     def collector_snapshot(self) -> None:
         self.snapshots[self.collector] = self.collector.folder / "snapshot"

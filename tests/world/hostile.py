@@ -10,6 +10,7 @@ import socket
 import struct
 import sys
 import time
+from collections.abc import Callable
 from pathlib import Path
 
 MESSAGE = b"evil"
@@ -28,10 +29,19 @@ class Hostile:
     def __init__(self, path: str, seed: str, ledgers: list[str]) -> None:
         self.path, self.dice, self.ledgers = path, random.Random(seed), [Path(each) for each in ledgers]
         self.held: list[socket.socket] = []
-        self.deeds = [
-            self.garbage, self.endless_line, self.too_large, self.wrong_digest, self.half, self.many_sequences,
-            self.many_windows, self.large_entry, self.short_fields, self.others, self.slowly, self.hold,
-            self.no_export, self.late_start, self.asks, self.plain]
+        # Beside what has a method: no line, one without an end, an upload that is too large, has another digest, has
+        # many sequences, a large entry, or many short fields, or begins late.
+        self.deeds: list[Callable[[], object]] = [
+            self.half, self.many_windows, self.others, self.slowly, self.hold, self.no_export, self.asks, self.plain,
+            lambda: self.say(self.dice.randbytes(300) + b"\n"),
+            lambda: self.say(b"upload " + b"9" * 3_000_000),
+            lambda: self.say(f"upload {2**62} {'0' * 64} 1\n".encode()),
+            lambda: self.send(upload(entry(self.id(), 1), 1), "0" * 64),
+            lambda: self.send(upload(b"".join(entry(self.id(), 1) for _ in range(500)), 500)),
+            lambda: self.send(upload(entry(self.id(), 1, b"X=" + b"x" * self.dice.choice((2_000_000, 15_000_000))
+                                           + b"\n"), 1)),
+            lambda: self.send(upload(entry(self.id(), 1, b"".join(b"F%d=\n" % each for each in range(60_000))), 1)),
+            lambda: self.send(upload(entry(self.id(), 1), 1, start=7))]
 
     def id(self) -> bytes:
         return self.dice.randbytes(16).hex().encode()
@@ -52,34 +62,13 @@ class Hostile:
         head = f"upload {len(data)} {digest or hashlib.sha256(data).hexdigest()} {time.time_ns() // 1000}\n"
         return self.say(head.encode() + data)
 
-    def garbage(self) -> None:
-        self.say(self.dice.randbytes(300) + b"\n")
-
-    def endless_line(self) -> None:
-        self.say(b"upload " + b"9" * 3_000_000)
-
-    def too_large(self) -> None:
-        self.say(f"upload {2**62} {'0' * 64} 1\n".encode())
-
-    def wrong_digest(self) -> None:
-        self.send(upload(entry(self.id(), 1), 1), "0" * 64)
-
     def half(self) -> None:
         with self.connect() as link:
             link.sendall(f"upload 100000 {'0' * 64} 1\n".encode() + b"JCUPLD02")
 
-    def many_sequences(self) -> None:
-        self.send(upload(b"".join(entry(self.id(), 1) for _ in range(500)), 500))
-
     def many_windows(self) -> None:
         sequence = self.id()
         self.send(upload(b"".join(entry(sequence, 1 + 4096 * each) for each in range(500)), 500))
-
-    def large_entry(self) -> None:
-        self.send(upload(entry(self.id(), 1, b"X=" + b"x" * self.dice.choice((2_000_000, 15_000_000)) + b"\n"), 1))
-
-    def short_fields(self) -> None:
-        self.send(upload(entry(self.id(), 1, b"".join(b"F%d=\n" % each for each in range(60_000))), 1))
 
     def others(self) -> None:
         """Entries under another machine's keys, and of its sequence behind all that it has."""
@@ -102,9 +91,6 @@ class Hostile:
     def no_export(self) -> None:
         self.send(upload(b"LPKSHHRH" + bytes(4_000), 1, kind=2))
         self.send(self.dice.randbytes(5_000))
-
-    def late_start(self) -> None:
-        self.send(upload(entry(self.id(), 1), 1, start=7))
 
     def asks(self) -> None:
         self.say(b"had %s 1\n" % self.id())
