@@ -108,10 +108,19 @@ def _owners(source: Any, read: Any) -> list[tuple[str, ...]]:
             return [(*types[0][0], name)]
         return [(*read.module, "+".join(_words(block.ty, [], with_paths=False)))]
     names = (
-        "".join(_words(block.ty, block.generics, False) + _words(block.trait, block.generics, with_paths))
+        "".join(_words_of_type(block.ty, block.generics) + _words(block.trait, block.generics, with_paths))
         for with_paths in (False, True)
     )
     return [(*read.module, it) for it in dict.fromkeys(names)]
+
+
+def _words_of_type(tokens: list[str], parameters: list[str]) -> list[str]:
+    """The words of a type, which of a reference are such as `RefMut` and `RefSliceU8`."""
+    if tokens[:1] != ["&"]:
+        return _words(tokens, parameters, with_paths=False)
+    signs = {"&": "Ref", "mut": "Mut", "[": "Slice"}
+    words = [it for it in tokens if it in signs or it.isidentifier() and it not in parameters]
+    return [signs.get(it, it[0].upper() + it[1:]) for it in words]
 
 
 def _words(tokens: list[str], parameters: list[str], with_paths: bool) -> list[str]:
