@@ -3,7 +3,8 @@
 
 One version, one toolchain, one table of codes, which the program prints too, and one of limits, a list of crates that
 is whole, scripts that say what they test, the number of edits, each of which names a goal, one table of the figures to
-plan with, links to headings that are there, and pages that stay short. Prints what differs."""
+plan with, links to headings that are there, and pages that stay short. Prints what differs.
+"""
 import re
 import subprocess
 import sys

@@ -5,7 +5,8 @@ Every name that PROOFS.md, UNPROVED.md and FAULTS.md cite is in the sources, a n
 that crate, and a definition ("`NAME` in `specs/FILE`") in that file. A row of the table of promises has functions of a
 crate, and clauses that each of them has. What the README's list says one can rely on is a promise in PROOFS, by its
 name, and each promise there has a row. Each crate with definitions has a section on the page that `make contracts`
-prints, and each function that tools/contracts.py names by hand is there."""
+prints, and each function that tools/contracts.py names by hand is there.
+"""
 from __future__ import annotations
 
 import re

@@ -1,6 +1,7 @@
 """The sample entries, journal files and uploads that the scripts share, as docs/FORMATS.md spells them.
 
-samples.py FOLDER NAME=EXPRESSION..: files in a folder, each with the bytes that an expression over these names has."""
+samples.py FOLDER NAME=EXPRESSION..: files in a folder, each with the bytes that an expression over these names has.
+"""
 from __future__ import annotations
 
 import os

@@ -1,7 +1,8 @@
 """A disk that is full: no file may grow past a size, and the writes that would pass it fail.
 
 What was acknowledged is stored, an upload that was answered 62 is stored whole or not at all, and the same uploads sent
-again with room for them complete the journal."""
+again with room for them complete the journal.
+"""
 from __future__ import annotations
 
 import os

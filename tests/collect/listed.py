@@ -1,6 +1,7 @@
 """Uploads that a list names, many in one run with few files open, and names that come one by one through a pipe.
 
-Every line, the status and the export are held against the model's, and against the same uploads among the arguments."""
+Every line, the status and the export are held against the model's, and against the same uploads among the arguments.
+"""
 from __future__ import annotations
 
 import resource

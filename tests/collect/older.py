@@ -1,5 +1,6 @@
 """Databases of the first version of the tables, as an earlier program left them and as the stock sqlite3 makes them:
-`migrate` takes their journals over, and no other command does. tests/stops has it stopped anywhere."""
+`migrate` takes their journals over, and no other command does. tests/stops has it stopped anywhere.
+"""
 from __future__ import annotations
 
 import gzip

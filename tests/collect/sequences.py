@@ -1,7 +1,8 @@
 """The files of `collect --sequences`: which there are, what stands in them, and what isn't read of them.
 
 What is answered and stored over many databases is held against a model in turns.py, and worked in tests/journals. Here
-the files are read and written as docs/FORMATS.md has them."""
+the files are read and written as docs/FORMATS.md has them.
+"""
 from __future__ import annotations
 
 import os

@@ -1,6 +1,7 @@
 """What the rows over tables of either kind share, which are run as: python3 NAME.py PROGRAM FOLDER
 
-Databases are looked at, changed and made by the sqlite3 of Python."""
+Databases are looked at, changed and made by the sqlite3 of Python.
+"""
 from __future__ import annotations
 
 import contextlib

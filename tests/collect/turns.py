@@ -3,7 +3,8 @@
 Every line is the one that a single database with all their entries would answer, and each key stands in one of them.
 So it is over any uploads of machines that share sequences, over turns, runs that are killed within any call, databases
 that are deleted, and notes that are made anew from the databases that are there. A sequence belongs to the machine that
-first brought a new entry of it, whatever comes between, until a person says another thing."""
+first brought a new entry of it, whatever comes between, until a person says another thing.
+"""
 from __future__ import annotations
 
 import os

@@ -1,7 +1,8 @@
 """Worked runs of the program: the scripts NAME.rows beside this, each case of which counts, and before them the
 scripts of mistakes.py, which have to fail.
 
-usage: python3 rows.py [NAME..]"""
+usage: python3 rows.py [NAME..]
+"""
 from __future__ import annotations
 
 import os

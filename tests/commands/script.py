@@ -29,7 +29,8 @@ has to do:
 Of what isn't said, nothing may be printed and the status has to be 0, and no run leaves a file whose name ends in
 `.new`, by which it replaces another. `tests/pieces.py` has the form of `PIECES`. `@`
 stands for the case's folder and a `/`, as in `@db`, and `SOURCE` for the id of a source. Each case begins in an empty
-folder and with no input, and has a run."""
+folder and with no input, and has a run.
+"""
 from __future__ import annotations
 
 import os

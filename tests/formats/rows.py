@@ -1,7 +1,8 @@
 """Worked bytes, and what the program for tests says of them: the scripts NAME.rows beside this, each row of which
 counts, and before them the scripts of mistakes.py, which have to fail.
 
-usage: python3 rows.py [NAME..]"""
+usage: python3 rows.py [NAME..]
+"""
 from pathlib import Path
 
 import mistakes

@@ -8,7 +8,8 @@
 | `WORD PIECES == PIECES` | the bytes make these bytes |
 
 `tests/pieces.py` has the form of `PIECES`, and `words.py` has the words. Some have numbers behind them, as in `WORD N,N
-PIECES`, and some are about several things, as in `WORD PIECES , PIECES`."""
+PIECES`, and some are about several things, as in `WORD PIECES , PIECES`.
+"""
 from __future__ import annotations
 
 import os

@@ -23,7 +23,8 @@
 | `next LIMIT` | a stream and a resume point: the next upload and its length, or `changed` |
 | `whole LIMIT` | the same of an upload that is to be whole |
 | `sends` | a journal file: its upload and that one's length |
-| `acks` | a stream, a resume point and answers: after each whether the point `moves` or `stays`, and its text |"""
+| `acks` | a stream, a resume point and answers: after each whether the point `moves` or `stays`, and its text |
+"""
 from __future__ import annotations
 
 from collections.abc import Callable, Sequence

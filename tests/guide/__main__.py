@@ -9,7 +9,8 @@ the program. With --failures the events are left out. What lacks a program is to
 clickhouse-client clickhouse-server exim4-daemon-light prometheus prometheus-node-exporter swatch` brings all of them.
 
 WEB_SYSTEM names a folder with another system for web. For Debian 13 it is made by `debootstrap --variant=minbase
---include=dbus,netcat-openbsd,openssh-server,procps,python3,systemd-journal-remote,systemd-sysv,zstd trixie FOLDER`."""
+--include=dbus,netcat-openbsd,openssh-server,procps,python3,systemd-journal-remote,systemd-sysv,zstd trixie FOLDER`.
+"""
 from __future__ import annotations
 
 import os

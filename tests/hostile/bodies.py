@@ -2,7 +2,8 @@
 words for: by crates/jc_test_calls, a program for tests that makes public calls over a journal in memory.
 
 The answers are worked out by the model's own reader. The spaces record what is asked of them: no range ends after the
-arena, each object is asked for once, and of a field no more than the limits let a pair have."""
+arena, each object is asked for once, and of a field no more than the limits let a pair have.
+"""
 from __future__ import annotations
 
 import os

@@ -4,7 +4,8 @@ a kill left, and pages are emptied, exchanged and cut off.
 Every command then refuses the database with one line, or works on entries that the file has. In a database a value's
 bytes have no checksum, so a change within one shows as another value; no entry is lost, and none under a key that
 wasn't stored comes up. A log has checksums: it is taken to end before what is damaged, so the journal is one that stood
-after some of the uploads."""
+after some of the uploads.
+"""
 from __future__ import annotations
 
 import collections

@@ -2,7 +2,8 @@
 kind, each front of an upload, each byte of a file set to other values, and random damage.
 
 What has to be answered stands beside each stream and file, and is worked out by the model's own reader; the journal
-then has to hold what was accepted."""
+then has to hold what was accepted.
+"""
 from __future__ import annotations
 
 import os

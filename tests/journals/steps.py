@@ -22,7 +22,8 @@
 | `stops WRITES,DONE,WRITTEN PIECES` | a run stops, as `Stopping` says |
 
 A device that gives 0 bytes at most is a space. The kinds are those of crates/jc_test_calls/src/journals.rt, and a
-`LINE` has `S` for the source's id."""
+`LINE` has `S` for the source's id.
+"""
 from __future__ import annotations
 
 import re

@@ -1,7 +1,8 @@
 """A collector: the protocol's lines over a socket, and the real program behind them.
 
 What it does beside that can be told: answers in place of the program's, cuts, and slowness. It shares with the service
-of the collector the lines, which docs/FORMATS.md has, and what the service hands to the program."""
+of the collector the lines, which docs/FORMATS.md has, and what the service hands to the program.
+"""
 from __future__ import annotations
 
 import hashlib

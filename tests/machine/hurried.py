@@ -1,6 +1,7 @@
 """journal-collect-send under a clock that sleeping moves on, so an hour passes in seconds, or HURRY of them.
 
-What waits for other processes keeps the clock that it found when it was imported."""
+What waits for other processes keeps the clock that it found when it was imported.
+"""
 import os
 import sys
 import time

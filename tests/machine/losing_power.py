@@ -1,7 +1,8 @@
 """losing_power.py FOLDER STOP WORD..: runs the sender, which is killed before its step STOP. FOLDER then has what of
 the outbox was on the disk: each file as it was when it was synced last, and the names that a folder had when it was.
 
-A step is a file that is opened for writing, moved or removed, a sync, a program that is begun, or a use of SQLite."""
+A step is a file that is opened for writing, moved or removed, a sync, a program that is begun, or a use of SQLite.
+"""
 import os
 import runpy
 import shutil

@@ -1,7 +1,8 @@
 """A link that is cut again and again, by the real ssh, and a collector that takes nothing for an hour.
 
 What rests is told by a clock that sleeping moves on (hurried.py). What a link carries in so many seconds is told by
-bytes, so a computer that is busy changes nothing."""
+bytes, so a computer that is busy changes nothing.
+"""
 import socket
 import threading
 from pathlib import Path

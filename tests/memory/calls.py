@@ -4,7 +4,8 @@ crates/jc_test_calls, a program for tests: calls.py [NAME..], or all of them.
 A run makes some calls twice, and looks at the journal between them. Each prints what it has to, or that memory was
 refused; the journal has what was acknowledged and nothing else then, and the same call made anew succeeds. If the
 refusal hits the program itself, while it reads its files or gathers what it prints, it says so and ends, and such a run
-shows nothing."""
+shows nothing.
+"""
 from __future__ import annotations
 
 import os

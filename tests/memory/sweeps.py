@@ -2,7 +2,8 @@
 with all later ones. In a long row of like requests, and of those that are like an earlier command's, some are refused.
 
 A command then answers as ever, or that memory was refused. The journal holds what is acknowledged and nothing else, the
-resume file is the old or the new one whole, and the same command run anew succeeds."""
+resume file is the old or the new one whole, and the same command run anew succeeds.
+"""
 from __future__ import annotations
 
 import os

@@ -15,7 +15,8 @@ The libraries below a crate are taken as `rt ci` left them, and built if they ar
 With --beside an `rt ci` runs meanwhile, and its words come on standard input until it ends: a crate's edits are judged
 from when it says that the crate is proved, in checks for which it leaves room.
 RT_JOBS is how many checks run side by side; without it, as many as there are processors and memory for.
-The last line is 'N passed, M failed'."""
+The last line is 'N passed, M failed'.
+"""
 
 from __future__ import annotations
 

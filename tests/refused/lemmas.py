@@ -2,7 +2,8 @@
 `rt ci` says, and a check of edits doesn't prove them once more.
 
 Others know a lemma by what it says alone, unless it is marked `abbrev` or `unfoldable`, or something unfolds it by
-name. Such a one keeps its proof, or a goal that needs it would be refused for want of it."""
+name. Such a one keeps its proof, or a goal that needs it would be refused for want of it.
+"""
 
 from __future__ import annotations
 

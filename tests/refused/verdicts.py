@@ -13,7 +13,8 @@ some functions alone, with `only=N proved=M`, and with `only=N holes=M` if proof
 What isn't proved of a function stands there, in notes at its lines, or in errors at its proof files:
 
     note: src/key.rt:36:1: it is not proved that what the function ensures holds when it returns (`returns`)
-    ./proofs/text/Answers.antt:8:24: error: `returns-then-is_plain`: computed as far as they go, the two types differ"""
+    ./proofs/text/Answers.antt:8:24: error: `returns-then-is_plain`: computed as far as they go, the two types differ
+"""
 
 from __future__ import annotations
 

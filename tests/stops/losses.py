@@ -8,7 +8,8 @@ present version is whole, in the old tables or in the new ones. All this rests o
 synced, finishes each sector that it begins, and changes none that it wasn't asked to.
 
 The same is asked where a device first fails a sync of one of the two files, and each later call on it, and the run
-ends by itself: then all is gone that wasn't synced."""
+ends by itself: then all is gone that wasn't synced.
+"""
 from __future__ import annotations
 
 import os

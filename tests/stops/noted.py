@@ -6,7 +6,8 @@ before, if their folder wasn't synced. Then all that was sent is sent again, ove
 What was acknowledged before the loss isn't new, nor perhaps the first of what wasn't, and afterwards each entry stands
 in one database and is noted. A sequence of which an acknowledged upload brought entries belongs to its machine: a
 stranger's entry is refused with 71 before anything else is sent. In some courses a run was killed before that, so that
-notes lag behind, and what the next run reads may be in the system's cache alone."""
+notes lag behind, and what the next run reads may be in the system's cache alone.
+"""
 from __future__ import annotations
 
 import functools

@@ -3,7 +3,8 @@ uploads are sent again that are stored, and while the entries are listed.
 
 All goes on as ever, or an answer is 62, the listing stops or the database isn't opened. Once the byte can be read
 again, all entries are there. The program had closed some databases; it was killed before it closed the others, so that
-what is stored is in the log."""
+what is stored is in the log.
+"""
 from __future__ import annotations
 
 import os

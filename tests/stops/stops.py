@@ -5,7 +5,8 @@ Every upload that was acknowledged has its entries in the journal afterwards. Be
 first upload that wasn't answered, or was answered by a failure of the store, and nothing else. The same uploads sent
 again complete the journal. A journal that goes over to tables of the present version is whole, in the old tables or in
 the new ones. A resume file is the old or the new one whole, and so is the file of
-`collect --then-export`."""
+`collect --then-export`.
+"""
 from __future__ import annotations
 
 import os

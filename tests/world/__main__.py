@@ -7,7 +7,8 @@ service, and journal-collect-admin; PROGRAM names the proved program. Journals a
 a disk of its own, so power is lost by what had reached the disk. In the end faults cease, machines send what they have,
 and: what was acknowledged is in one database, with its key and content; nothing is stored twice; what a journal has is
 stored. It takes root, loop devices and systemd-journal-remote. Up to a second passes before each event, and so many
-times as long as PACE says. What went wrong can be kept."""
+times as long as PACE says. What went wrong can be kept.
+"""
 from __future__ import annotations
 
 import argparse

@@ -6,7 +6,8 @@ It carries bytes both ways, as `nc -NU SOCKET` behind ssh does. The file FAULT h
 answers are lost after so many bytes, and it ends; `slow N`, so many bytes a second; `open N`, after so many bytes
 neither side hears anything any more, and nobody is told, for a while.
 
-It is the witness, too: an upload that the collector acknowledges is kept in the folder LEDGER."""
+It is the witness, too: an upload that the collector acknowledges is kept in the folder LEDGER.
+"""
 import os
 import selectors
 import socket

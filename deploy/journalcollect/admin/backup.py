@@ -2,7 +2,8 @@
 
     FOLDER/state.sqlite    what was known; it is written last
     FOLDER/databases/      each finished database, packed or not, with its digest
-    FOLDER/sequences/      the notes; these may have more than the databases do, and putting them back cuts that off"""
+    FOLDER/sequences/      the notes; these may have more than the databases do, and putting them back cuts that off
+"""
 import contextlib
 import os
 import shutil

@@ -2,7 +2,8 @@
 JSON for an answer, which say what came of it and end with a status.
 
     {"do": NAME, "words": [..]}        and an open file, of `take`
-    {"say": LINE}..  {"status": 0}     or {"status": 1, "no": WHY}"""
+    {"say": LINE}..  {"status": 0}     or {"status": 1, "no": WHY}
+"""
 import json
 import os
 import socket
@@ -67,14 +68,14 @@ class Operations:
             time.sleep(0.1)
 
         def do() -> None:
-            program.said("owners", "--sequences", self.folder.sequences, "--rename", old, new)
+            program.change_owners(self.folder.sequences, "--rename", old, new)
             self.state.rename(old, new)
 
         self.store.alone(do)
 
     def release(self, sequence: str) -> None:
         """A sequence is nobody's, until a machine brings a new entry of it."""
-        self.store.alone(lambda: program.run("owners", "--sequences", self.folder.sequences, "--release", sequence))
+        self.store.alone(lambda: program.change_owners(self.folder.sequences, "--release", sequence))
         self.state.ask("INSERT OR IGNORE INTO sequence VALUES(?, '')", sequence)
 
     def take(self, machine: str, handle: int) -> Iterator[str]:

@@ -41,7 +41,7 @@ class Connection(threading.Thread):
 
     def say(self, line: protocol.Greeting | protocol.Reply) -> None:
         self.one.settimeout(IDLE)
-        self.one.sendall(f"{line}\n".encode("ascii"))
+        self.one.sendall(protocol.encoded(line))
         self.one.settimeout(REST)
 
     def known(self, key: protocol.Had) -> protocol.Known:

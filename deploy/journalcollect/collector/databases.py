@@ -2,7 +2,8 @@
 
     databases/NAME.db           one that is being stored in, with its log NAME.db-wal; or a finished one
     databases/NAME.db.sha256    it is finished: the digest, as sha256sum writes it
-    databases/NAME.db.zst       a finished one, packed; its digest is that of what it packs"""
+    databases/NAME.db.zst       a finished one, packed; its digest is that of what it packs
+"""
 import contextlib
 import hashlib
 import shutil

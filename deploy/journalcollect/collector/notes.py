@@ -3,7 +3,8 @@
 The program alone writes notes, and says what they are. Here is known that a file is a row of blocks of 41 bytes with
 one byte behind them, that it is only added to, and that it has the notes of one database after the other. So what
 finished databases were noted in is told by a number of notes and a digest of their bytes, and they are made anew by
-opening databases."""
+opening databases.
+"""
 import contextlib
 import hashlib
 import shutil

@@ -1,6 +1,7 @@
 """What becomes of a database that nobody stores in any more: it is sealed and known, or set aside.
 
-What a stop or a failure left is taken up here. All of it is called while no process of the program stores."""
+What a stop or a failure left is taken up here. All of it is called while no process of the program stores.
+"""
 import contextlib
 import hashlib
 import threading

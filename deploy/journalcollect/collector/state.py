@@ -1,6 +1,7 @@
 """What the service knows and what has to outlive it, in one SQLite file, which others may read.
 
-All of it can be made anew of the databases, the notes and the keys, but for when each machine was seen last."""
+All of it can be made anew of the databases, the notes and the keys, but for when each machine was seen last.
+"""
 import contextlib
 import hashlib
 import sqlite3

@@ -40,7 +40,7 @@ class Store(threading.Thread):
         super().__init__(name="store", daemon=True)
         self.settings, self.recovery = settings, recovery
         self.folder, self.state, self.stops = recovery.folder, recovery.state, recovery.stops
-        self.turns, self.tasks = Turns(), collections.deque[tuple[Callable[[], object], Future[object]]]()
+        self.turns, self.tasks = Turns(), collections.deque[tuple[Callable[[], None], Future[None]]]()
         self.present: Process | None = None
         self.numbers = itertools.count(1)
         self.recent_bytes, self.is_taken_up, self.over = 0, False, set[str]()
@@ -60,9 +60,9 @@ class Store(threading.Thread):
             upload.put(Verdict.LATER, "too many others wait")
         return upload.reply.result()
 
-    def alone(self, task: Callable[[], object]) -> None:
+    def alone(self, task: Callable[[], None]) -> None:
         """Does something while no process of the program stores, and waits for its end; raises what it raises."""
-        done: Future[object] = Future()
+        done: Future[None] = Future()
         self.tasks.append((task, done))
         self.turns.wake()
         done.result()
@@ -73,8 +73,7 @@ class Store(threading.Thread):
         if self.keys.has(machine, sequence, number):
             return True
         with self.notes:
-            key = f"{sequence} {number}\n".encode()
-            return program.said("notes", "--sequences", self.folder.sequences, "has", given=key) == "noted"
+            return program.has_note(self.folder.sequences, sequence, number)
 
     def stop(self) -> None:
         """What is being stored is brought to its end, for some seconds. What isn't answered comes again."""

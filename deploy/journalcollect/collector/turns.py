@@ -1,7 +1,8 @@
 """Uploads that wait, and whose turn it is: next is the machine that has the least of the store's time then.
 
 What takes long can't be interrupted, and stands before whoever comes meanwhile. So it has its turn alone, and if others
-come, too, there is a rest behind it: most of those who come don't find such a one there."""
+come, too, there is a rest behind it: most of those who come don't find such a one there.
+"""
 import collections
 import threading
 import time

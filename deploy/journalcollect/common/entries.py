@@ -1,7 +1,8 @@
 """Entries of export streams. Lengths are followed, so no line of a message is taken for a field.
 
 An entry that is short and has only lines NAME=VALUE, as nearly all have, is taken at once by regular expressions.
-Others go field by field: from a file each in parts, so a reader holds a block and what is made of the parts."""
+Others go field by field: from a file each in parts, so a reader holds a block and what is made of the parts.
+"""
 import collections
 import contextlib
 import re

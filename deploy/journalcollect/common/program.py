@@ -36,7 +36,8 @@ class Bad(Failed):
 
 
 def path() -> Path:
-    """The program beside this library (PREFIX/bin for PREFIX/lib/journal-collect), or what the environment names."""
+    """The program beside the library that this module is in: PREFIX/bin for PREFIX/lib/journal-collect. The environment
+    may name another one, as tests do."""
     named = os.environ.get("JOURNAL_COLLECT")
     return Path(named) if named else Path(__file__).resolve().parents[4] / "bin" / "journal-collect"
 
@@ -70,6 +71,10 @@ def collecting(sequences: Path, database: Path, names: str = "-") -> list[str | 
     return [path(), "collect", "--sequences", sequences, "--tables", "3", "--files-from", names, database]
 
 
+def has_note(sequences: Path, sequence: str, number: int) -> bool:
+    return said("notes", "--sequences", sequences, "has", given=f"{sequence} {number}\n".encode()) == "noted"
+
+
 def forget_after(sequences: Path, windows: Iterable[tuple[str, int, int]]) -> None:
     """Of each window of a sequence only the first so many notes stay. Nobody may store meanwhile."""
     lines = "".join(f"{sequence} {window} {count}\n" for sequence, window, count in windows)
@@ -80,6 +85,11 @@ def owners(sequences: Path) -> dict[str, str]:
     """Of each sequence that is a machine's, the SHA-256 digest of the machine's name."""
     lines = said("owners", "--sequences", sequences, allowed=(OK, REFUSED)).splitlines()
     return dict(line.split(" ") for line in lines if not line.startswith("bad "))
+
+
+def change_owners(sequences: Path, *words: str) -> None:
+    """Gives a machine another name, or leaves a sequence to who brings it next. Nobody may store meanwhile."""
+    said("owners", "--sequences", sequences, *words)
 
 
 def differs(sequences: Path, database: Path) -> str | None:
@@ -108,3 +118,8 @@ def upload(stream: Path, source: str, out: int) -> None:
     """Writes all of an export stream to an open file, as an upload that is to be whole; a Bad if it has a fault."""
     bounds = ["--resume", str(stream.with_name(stream.name + ".resume")), "--limit", str(2**63 - 1), "--whole"]
     run("upload", "--source", source, *bounds, "export", stream, out=out)
+
+
+def look_at(upload: Path) -> None:
+    """Returns if the program can take an upload as far as that doesn't depend on what is stored; otherwise a Bad."""
+    run("inspect", upload)

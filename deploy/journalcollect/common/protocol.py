@@ -1,7 +1,8 @@
 """What a machine and the collector's service say to each other over the machine's socket: version 1.
 
 The service greets. Then the machine asks, `had` or `upload` with its bytes behind it, and each question has one line
-for an answer, in turn. Lines are ASCII and have at most 200 bytes with their line feed, which `str` leaves out."""
+for an answer, in turn. Lines are ASCII and have at most 200 bytes with their line feed, which `str` leaves out.
+"""
 import enum
 import re
 from typing import NamedTuple
@@ -128,6 +129,10 @@ def number(text: str) -> int:
     if int(text) > GREATEST:
         raise NotALine(text)
     return int(text)
+
+
+def encoded(line: Greeting | Question | Reply) -> bytes:
+    return f"{line}\n".encode("ascii")
 
 
 def decoded(data: bytes) -> str:

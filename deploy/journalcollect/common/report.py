@@ -1,7 +1,8 @@
 """What a program that stays says of itself: lines on standard error, which systemd puts into the journal, and a status.
 
 A line of a process that stays would come back as an entry that is sent, and what fails fails again: so what is said
-once isn't said again for an hour, whatever numbers are in it."""
+once isn't said again for an hour, whatever numbers are in it.
+"""
 import sys
 import time
 from collections.abc import Callable

@@ -2,7 +2,8 @@
 lines, and those with `#`, set nothing.
 
 The settings of a program are a frozen dataclass, which has each under its name in small letters, with its type (`str`,
-`bool`, `int` or `float`) and its default."""
+`bool`, `int` or `float`) and its default.
+"""
 import dataclasses
 import os
 import re

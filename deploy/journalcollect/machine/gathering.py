@@ -2,7 +2,8 @@
 
 An upload is in the outbox before a place passes its entries. A stop between the two makes the same entries come in two
 uploads, which are stored once; no entry is passed over. Files that are written to come first, then the oldest ones:
-what is new mustn't wait for all that is old, and journald removes what is old first."""
+what is new mustn't wait for all that is old, and journald removes what is old first.
+"""
 import os
 import sqlite3
 import time
@@ -104,11 +105,7 @@ class Gathering:
         if place.is_other(file):
             self.gather_anew(file, place)
         if file.is_cut:
-            if place.number < file.tail:
-                self.report.say(LOOK, f"left out, for {file.path} has fewer bytes than its header says, and journalctl "
-                                f"opens none such: what is after {place.cursor or 'its beginning'}")
-            place.tail, place.is_archived = file.tail, file.is_archived
-            return
+            return self.leave_out(file, place)
         options: list[str] | None = place.options()
         first, self.is_stepping = place.cursor, False
         while options is not None and place.number < file.tail and file.entries:
@@ -135,6 +132,12 @@ class Gathering:
     def gather_anew(self, file: journal.JournalFile, place: Place) -> None:
         self.report.say(LOOK, f"{file.path} was set back, and is gathered anew; it was gathered up to {place.cursor}")
         place.number, place.cursor, place.count, place.tail, place.since = 0, "", 0, 0, ""
+
+    def leave_out(self, file: journal.JournalFile, place: Place) -> None:
+        if place.number < file.tail:
+            self.report.say(LOOK, f"left out, for {file.path} has fewer bytes than its header says, and journalctl "
+                            f"opens none such: what is after {place.cursor or 'its beginning'}")
+        place.tail, place.is_archived = file.tail, file.is_archived
 
     def tell_unseen(self, place: Place, file: journal.JournalFile, first: str) -> None:
         """journalctl may pass over a damaged entry without a word. The file's header knows how many there are."""

@@ -3,7 +3,8 @@
 Each file is read by itself: within one file the entries stand in the order of their numbers, whatever the clocks said,
 and what journald does to other files meanwhile changes nothing. A file is handed to journalctl open, so it is the one
 that was looked at, also if journald has renamed or removed it since. journald writes to files that it has mapped, so
-their headers say at once what is new, and reading some bytes of each once a second costs less than being told would."""
+their headers say at once what is new, and reading some bytes of each once a second costs less than being told would.
+"""
 import bisect
 import os
 import re

@@ -72,7 +72,7 @@ class Link:
 
     def ask(self, question: protocol.Question, body: bytes = b"") -> protocol.Reply:
         try:
-            return protocol.reply(self.line(f"{question}\n".encode("ascii") + body))
+            return protocol.reply(self.line(protocol.encoded(question) + body))
         except protocol.NotALine as error:
             raise self.lost(f"it answers with {error}") from None
 

@@ -4,7 +4,8 @@ outbox/N.upload, where N is when the last of its entries was logged, in microsec
 The program writes them, so it alone decides what an upload looks like, and none gets here that it couldn't read. One is
 on the disk before it has its name, and has its name on the disk before `put` returns. The last that was acknowledged
 as new stays as `had`, and the last that was stored before as `repeated`: so a loss of power leaves it to be sent or to
-be asked for."""
+be asked for.
+"""
 import math
 import os
 import re

@@ -9,7 +9,8 @@ collector's daily heads, and when each was first told; `told` what somebody has 
 that SINCE was (`since`) and that a first list of files was seen (`begun`); what was asked for by hand (`again`,
 `answers`); how many bytes of an upload the link carries and how often in a row it was cut (`bound`, `cuts`); how far
 the collector's clock was ahead (`skew`); when it answered and acknowledged last (`answered`, `acknowledged`), and why
-nothing goes out (`trouble`)."""
+nothing goes out (`trouble`).
+"""
 import os
 import sqlite3
 import time

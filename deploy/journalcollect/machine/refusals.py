@@ -6,7 +6,8 @@
   its sequence has from there on goes out under another id.
 - Any other code points to a byte. If the text is damaged here, or this comes again, the entry with that byte is kept
   for a person, or goes out with less if it is too large; the others go on.
-- `smaller`, `never`: it is halved, down to the entry that is meant."""
+- `smaller`, `never`: it is halved, down to the entry that is meant.
+"""
 from journalcollect.common import program
 from journalcollect.common.protocol import Answer
 from journalcollect.common.report import LOOK
@@ -62,7 +63,7 @@ class Refusals:
         """The collector can't take what is at a byte. A bit that is lost on the way isn't the entry's fault."""
         code, place = answer.code, answer.place
         try:
-            program.run("inspect", self.outbox.path(number))
+            program.look_at(self.outbox.path(number))
             if tries < BELIEVED:
                 return False
         except program.Bad as bad:

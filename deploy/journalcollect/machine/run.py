@@ -1,6 +1,7 @@
 """journal-collect-send: what is new in this machine's journal goes to the collector.
 
-Whatever ends it at any moment, the next one goes on where it was: so it takes no notice of signals."""
+Whatever ends it at any moment, the next one goes on where it was: so it takes no notice of signals.
+"""
 import argparse
 import fcntl
 import math

@@ -3,7 +3,8 @@
 usage: python3 -m journalcollect.reading.making [--anew] FOLDER
 
 They are a cache: what is there is made of databases, and counts once it has its name. `--anew` makes all of them, also
-those that stand."""
+those that stand.
+"""
 import contextlib
 import gzip
 import heapq

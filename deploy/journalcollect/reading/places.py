@@ -7,7 +7,8 @@
     journals/DAY/all.journal         the databases that began on one day: one sequence of files by time
     journals/DAY/about.json          what these have
 
-A name that is too large for one file has further ones, `NAME@..journal`."""
+A name that is too large for one file has further ones, `NAME@..journal`.
+"""
 import json
 import re
 import resource

@@ -2,7 +2,8 @@
 
 All of it is one sequence: its id stays, and the number of an entry depends on nothing but the uploads of its database.
 So the files can be made anew at any time, as they are when a process was killed, which loses or doubles what it held:
-`journalctl --follow` shows each entry once, also one that came late, since it goes by numbers."""
+`journalctl --follow` shows each entry once, also one that came late, since it goes by numbers.
+"""
 import glob
 import hashlib
 import queue

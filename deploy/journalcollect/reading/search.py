@@ -1,6 +1,7 @@
 """journal-collect-search: journalctl over what was collected of all machines.
 
-Its words are journalctl's, and are handed on to it as they are, over the files of the time asked for."""
+Its words are journalctl's, and are handed on to it as they are, over the files of the time asked for.
+"""
 import fnmatch
 import os
 import signal

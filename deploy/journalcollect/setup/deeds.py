@@ -1,6 +1,7 @@
 """What a set-up does to a computer: each deed is done only where it isn't done yet, and is said in one line.
 
-A rehearsal says the same lines and does nothing."""
+A rehearsal says the same lines and does nothing.
+"""
 import os
 import shutil
 import subprocess
