@@ -80,6 +80,7 @@ module _ {K : Type 0} {k : keepers.Ghosts K} {limits : Limits} {known : Option (
     recovers = was.recovers;
     stays_made = was.stays_made;
     owner = was.owner;
+    foreign = was.foreign;
     brought = was.brought;
     store = was.store;
   }
@@ -138,6 +139,7 @@ module _ {K : Type 0} {k : keepers.Ghosts K} {limits : Limits} {known : Option (
         recovers = λ is_clean is_made was_so. recovers is_clean (was.stays_made is_made) (was.recovers (clean is_clean) is_made was_so);
         stays_made = λ is. made (was.stays_made is);
         owner = λ code. absurd code;
+        foreign = λ is machine brings. tt;
         brought = brought_then k.brings old mid new before was.stays_made was.brought brought;
         store = record { never_falls = omega (arith, was.store.never_falls, store.never_falls); failed = λ code. absurd code };
       }
@@ -155,6 +157,7 @@ module _ {K : Type 0} {k : keepers.Ghosts K} {limits : Limits} {known : Option (
         recovers = λ is_clean is_made was_so. recovers is_clean (was.stays_made is_made) (was.recovers (clean is_clean) is_made was_so);
         stays_made = λ is. made (was.stays_made is);
         owner = λ code. absurd (never_owned stop (Ack source start count more left) code);
+        foreign = λ is. absurd (shut is);
         brought = brought_then k.brings old mid new before was.stays_made was.brought brought;
         store = record {
           never_falls = omega (arith, was.store.never_falls, store.never_falls);

@@ -5,6 +5,8 @@ pub mod Delivered
 pub mod Run
 pub mod RunLaws
 pub mod Crash
+pub mod Foreign
+pub mod ForeignLaws
 pub mod Taken
 pub mod Settled
 pub mod Part

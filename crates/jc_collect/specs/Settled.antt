@@ -11,6 +11,7 @@ use Rattle.jc_upload.specs.declared.answer.Answer.{Answer}
 use Rattle.jc_upload.specs.declared.answer.Answer.TheVariants.{Ack, No}
 use Rattle.jc_collect.specs.Chain.{is_acknowledged}
 use Rattle.jc_collect.specs.Crash.{TakesUpload}
+use Rattle.jc_collect.specs.Foreign.{NamesForeign}
 use Rattle.jc_collect.specs.Position.{Collects, HasCause, HasCode}
 use Rattle.jc_collect.specs.Taken.{Brings}
 
@@ -32,5 +33,6 @@ pub record HasAnswered {K : Type 0} (k : keepers.Ghosts K) (limits : Limits) (kn
   pub recovers : k.clean new → k.made old → k.leaves_journals old → k.leaves_journals new
   pub stays_made : k.made old → k.made new
   pub owner : HasCode answer NotTheOwner → k.has_owners
+  pub foreign : k.sound new → (machine : Option (List ℕ)) → k.brings old machine → NamesForeign limits known ((k.whose old).foreign machine) answer
   pub brought : Brings k old new
   pub store : HasCause StoreFailed (k.failures old) (k.failures new) answer

@@ -14,11 +14,12 @@ use Rattle.jc_upload.specs.declared.answer.Answer.{Answer}
 use Rattle.jc_collect.specs.Body.{AbsorbsBody}
 use Rattle.jc_collect.specs.Chain.{is_acknowledged}
 use Rattle.jc_collect.specs.Crash.{TakesBody, TakesUpload}
+use Rattle.jc_collect.specs.Foreign.{NamesForeign, TellsForeignIn}
 use Rattle.jc_collect.specs.Position.{Collects, HasCause, HasCode}
 
 -- Between two moments of a keeper what it has stored new belongs to the machine that brings it.
 abbrev pub Brings : {K : Type 0} → (k : keepers.Ghosts K) → (old new : K) → Type 0
-Brings k old new = HasBrought k.belongs k.journal k.sound k.made k.brings old new
+Brings k old new = HasBrought k.whose k.journal k.sound k.made k.brings old new
 
 -- The body of an upload, which says such a reading, was taken up or not.
 pub record HasAbsorbed {K : Type 0} (k : keepers.Ghosts K) (Says : Reading → Type 0) (old new : K) (result : Result Absorbed KeepStop) : Type 0 where
@@ -35,6 +36,7 @@ pub record HasAbsorbed {K : Type 0} (k : keepers.Ghosts K) (Says : Reading → T
   pub settled : k.settled old → IsTakenUp result ⊎ k.settled new
   pub format : RefusesFormat result
   pub owner : IsNotTheOwner result → k.has_owners
+  pub foreign : k.sound new → (machine : Option (List ℕ)) → k.brings old machine → TellsForeignIn Says ((k.whose old).foreign machine) result
   pub brought : Brings k old new
   pub store : StoreHasCause (k.failures old) (k.failures new) result
 
@@ -49,5 +51,6 @@ pub record HasCollected {K : Type 0} (k : keepers.Ghosts K) (limits : Limits) (k
   pub stays_made : k.made old → k.made new
   pub settled : k.settled old → IsTrue (is_acknowledged answer) ⊎ k.settled new
   pub owner : HasCode answer NotTheOwner → k.has_owners
+  pub foreign : k.sound new → (machine : Option (List ℕ)) → k.brings old machine → NamesForeign limits known ((k.whose old).foreign machine) answer
   pub brought : Brings k old new
   pub store : HasCause StoreFailed (k.failures old) (k.failures new) answer

@@ -20,6 +20,7 @@ collected g c = let call = c.collect_one-answer.ensures in record {
   stays_made = call.made;
   settled = call.settled;
   owner = call.owner;
+  foreign = call.foreign;
   brought = call.brought;
   store = call.store;
 }
