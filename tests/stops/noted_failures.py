@@ -1,6 +1,6 @@
 """`collect --sequences` is killed before and within each of its calls that change a file; and a device fails at each of
 its calls, alone and with all later ones, where reads, which are of lists and uploads too, are counted; and so does
-standard output. Uploads are stored in two groups of two, one of which has one that is refused.
+standard output. Uploads are stored in two groups, one of which has two that are refused.
 
 What was acknowledged is stored once, and the sequence is its machine's. The first of those that failed or weren't
 answered may be stored, too, if none behind them was acknowledged. If whose a sequence is couldn't be written or synced,
@@ -87,8 +87,8 @@ def disturbed(noted: NotedRun, mode: str, number: int, last: int = NEVER, only: 
 def main() -> None:
     one, rest = samples.stream(samples.E1), samples.stream(samples.E2, samples.E3)
     other = samples.stream(samples.entry_text(1).replace(samples.SEQNUM_ID.hex().encode(), OTHER.hex().encode()))
-    uploads = [Brought("web", one), Brought("mail", samples.stream(samples.entry_text(4))), Brought(LONG, other),
-               Brought("web", rest)]
+    uploads = [Brought("web", one), Brought("mail", samples.stream(samples.entry_text(4))),
+               Brought("web", samples.stream(samples.H1)), Brought(LONG, other), Brought("web", rest)]
     with device.trial_of("noted failures") as (trial, pool):
         noted = NotedRun(trial, "collect --sequences", uploads)
         kills = sum(upwards(pool, partial(disturbed, noted, mode)) for mode in "kh")
