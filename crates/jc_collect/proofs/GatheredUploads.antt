@@ -1,10 +1,10 @@
 -- Uploads that were taken up one after the other are stored together, or can't be.
 use Rattle.std.proofs.Common.{◌≡◌, ◌⊎◌, ◌+◌, ◌<◌, ◌≤◌, ℕ, zero, suc, IsTrue, List, [], ◌∷◌, ◌++◌, Option, Some, None, Result, Err, drop, get_or, length, map, take, refl, sym, ap, subst, ◌∙◌, inl, inr, ⊎_elim, arith}
-use Rattle.std.specs.Prelude.{IsOk}
+use Rattle.std.specs.Prelude.{IsOk, ⊤}
 use Rattle.std.specs.List.{slice_get}
 use Rattle.std.proofs.lemmas.List.{append-nil, drop_all, length-map, take_all}
 use Rattle.jc_base.specs.declared.fault.Code.{Code}
-use Rattle.jc_base.specs.declared.fault.Code.TheVariants.{NotTheOwner as NotTheOwnerCode, StoreFailed as StoreFailedCode}
+use Rattle.jc_base.specs.declared.fault.Code.TheVariants.{Conflict as ConflictCode, NotTheOwner as NotTheOwnerCode, StoreFailed as StoreFailedCode}
 use Rattle.jc_base.specs.Device.{Rose}
 use Rattle.jc_base.specs.declared.limits.Limits.{Limits}
 use Rattle.jc_base.specs.Journal.{Journal}
@@ -17,6 +17,7 @@ use Rattle.jc_keeper.specs.Keeping.{StoreHasCause}
 use Rattle.jc_upload.specs.declared.answer.Answer.{Answer}
 use Rattle.jc_upload.specs.declared.answer.Answer.TheVariants.{Ack, No}
 use Rattle.jc_collect.specs.Chain.{is_acknowledged}
+use Rattle.jc_collect.specs.Crash.{MayBeKept}
 use Rattle.jc_collect.specs.Each.{BeginWith, CollectsEach, Gathers, Held, HoldsCollected, KeepsCollected, MayAnswer, NoneAcknowledged, held}
 use Rattle.jc_collect.specs.EachLaws.{gathers_all, kept_all, kept_gathered}
 use Rattle.jc_collect.specs.Position.{HasCode}
@@ -26,14 +27,19 @@ use Rattle.jc_collect.specs.Taken.{Brings}
 use Rattle.jc_collect.specs.Together.{HasAnsweredAll, HasCollectedAll, HasSettled}
 use Rattle.jc_collect.proofs.CollectedMore.{rose_earlier, rose_later}
 use Rattle.jc_collect.proofs.Lists.{none_not_some, some_same}
-use Rattle.jc_collect.proofs.Settling.{may_be_kept, never_owned, store_failed}
+use Rattle.jc_collect.proofs.Settling.{each_refused, is_unstored, never_conflict, never_owned, store_failed}
 
 -- ---- what may be answered
 
 may_withdrawn : (stop : KeepStop) → ¬ (stop ≡ ReadFailed) → (w a : Answer) → MayAnswer w a → MayAnswer w (withdrawn stop a)
-may_withdrawn stop other (Ack source start count new left) (Ack s f c n l) may = may_be_kept stop s f c n l other
-may_withdrawn stop other (Ack source start count new left) (No of code place) may = may
-may_withdrawn stop other (No of code place) a is = ap (withdrawn stop) is
+may_withdrawn stop other (Ack source start count new left) (Ack s f c n l) may = is_unstored stop (Some (s, f)) 0 other
+may_withdrawn stop other (Ack source start count new left) (No of code place) may =
+    each_refused MayBeKept stop of code place (λ conflict. is_unstored stop of 0 other) (λ _. may)
+may_withdrawn stop other (No of code place) a (inl is) = subst (λ (x : Answer). MayAnswer (No of code place) (withdrawn stop x)) (sym is)
+    (each_refused (MayAnswer (No of code place)) stop of code place (λ conflict. inr (conflict, is_unstored stop of 0 other)) (λ _. inl refl))
+may_withdrawn stop other (No of code place) (Ack s f c n l) (inr unstored) = absurd unstored.1
+may_withdrawn stop other (No of code place) (No o c p) (inr unstored) =
+    each_refused (MayAnswer (No of code place)) stop o c p (λ conflict. inr (unstored.0, is_unstored stop o 0 other)) (λ _. inr unstored)
 
 begin_withdrawn : (stop : KeepStop) → ¬ (stop ≡ ReadFailed) → (would answers : List Answer) → BeginWith would answers → BeginWith would (map (withdrawn stop) answers)
 begin_withdrawn stop other [] answers begin = tt
@@ -43,7 +49,9 @@ begin_withdrawn stop other (w ∷ would) (a ∷ answers) begin = (may_withdrawn 
 none_withdrawn : (stop : KeepStop) (answers : List Answer) → NoneAcknowledged (map (withdrawn stop) answers)
 none_withdrawn stop [] = tt
 none_withdrawn stop (Ack source start count new left ∷ answers) = none_withdrawn stop answers
-none_withdrawn stop (No of code place ∷ answers) = none_withdrawn stop answers
+none_withdrawn stop (No of code place ∷ answers) = each_refused (λ (a : Answer). NoneAcknowledged (a ∷ map (withdrawn stop) answers)) stop of code place
+    (λ conflict. none_withdrawn stop answers)
+    (λ other. none_withdrawn stop answers)
 
 gathers_withdrawn : (limits : Limits) (known : List (Option (List ℕ))) (start : Journal) (answers : List Answer) (stop : KeepStop) → ¬ (stop ≡ ReadFailed) → (found : Journal)
     → Gathers limits known start answers found → Gathers limits known start (map (withdrawn stop) answers) found
@@ -106,7 +114,8 @@ caused_by_each code f (y ∷ ys) P Q each so_far (suc i) x at has = caused_by_ea
 
 stored_or : (stop : KeepStop) (y : Answer) → HasCode (withdrawn stop y) StoreFailedCode → HasCode y StoreFailedCode ⊎ (stop ≡ StoreFailed)
 stored_or stop (Ack source start count new left) code = inr (store_failed stop code)
-stored_or stop (No of number place) code = inl code
+stored_or stop (No of number place) code = each_refused (λ (a : Answer). HasCode a StoreFailedCode → HasCode (No of number place) StoreFailedCode ⊎ (stop ≡ StoreFailed)) stop of number place
+    (λ conflict found. inr (store_failed stop found)) (λ other found. inl found) code
 
 -- ---- over a keeper
 
@@ -135,6 +144,7 @@ module _ {K : Type 0} (k : keepers.Ghosts K) where
   settled_none keeper answers none = record {
     stopped = None;
     given_is = refl;
+    conflicts = λ i a at has. refl;
     stored = λ is. refl;
     was_sound = λ is. is;
     stays_made = λ is. is;
@@ -248,6 +258,7 @@ module _ {K : Type 0} (k : keepers.Ghosts K) where
       settled_ok durable stores ok = record {
         stopped = None;
         given_is = refl;
+        conflicts = λ i a at has. refl;
         stored = λ is. refl;
         was_sound = before;
         stays_made = made;
@@ -262,6 +273,8 @@ module _ {K : Type 0} (k : keepers.Ghosts K) where
       settled_not stop given is failed other shut = record {
         stopped = Some stop;
         given_is = is;
+        conflicts = subst (λ (l : List Answer). AreCaused ConflictCode l (λ _. Some stop ≡ None)) (sym is)
+            (caused_by_each ConflictCode (withdrawn stop) answers ⊤ (Some stop ≡ None) (λ y has was. absurd (never_conflict stop y has)) (λ i a at has. tt));
         stored = λ late. absurd (shut late);
         was_sound = before;
         stays_made = made;

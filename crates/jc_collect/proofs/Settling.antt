@@ -1,7 +1,8 @@
 -- An upload that is collected, once the keeper has settled.
-use Rattle.std.proofs.Common.{◌≡◌, ◌⊎◌, ◌≤◌, ℕ, IsTrue, List, Option, Result, Err, refl, sym, ap, subst, ◌∙◌, inl, inr, ⊎_elim, arith}
-use Rattle.std.specs.Prelude.{IsOk}
-use Rattle.jc_base.specs.declared.fault.Code.TheVariants.{NotTheOwner as NotTheOwnerCode, ReadFailed as ReadFailedCode, StoreFailed as StoreFailedCode}
+use Rattle.std.proofs.Common.{◌≡◌, ◌⊎◌, ◌≤◌, ◌<◌, ◌==◌, ℕ, Bool, true, false, IsTrue, List, Option, Some, Result, Err, refl, sym, ap, subst, ◌∙◌, inl, inr, ⊎_elim, arith}
+use Rattle.std.specs.Prelude.{IsOk, if◌then◌else◌}
+use Rattle.std.proofs.lemmas.Bool.{eqb-false, eqb-true}
+use Rattle.jc_base.specs.declared.fault.Code.TheVariants.{Conflict as ConflictCode, NotTheOwner as NotTheOwnerCode, ReadFailed as ReadFailedCode, StoreFailed as StoreFailedCode}
 use Rattle.jc_base.specs.declared.id.Id128.{Id128}
 use Rattle.jc_base.specs.declared.limits.Limits.{Limits}
 use Rattle.jc_base.specs.Device.{Rose}
@@ -16,7 +17,7 @@ use Rattle.jc_keeper.specs.Keeping.{StoreHasCause, code_of_stop}
 use Rattle.jc_upload.specs.declared.answer.Answer.{Answer}
 use Rattle.jc_upload.specs.declared.answer.Answer.TheVariants.{Ack, No}
 use Rattle.jc_collect.specs.Chain.{is_acknowledged}
-use Rattle.jc_collect.specs.Crash.{MayBeKept, TakesUpload}
+use Rattle.jc_collect.specs.Crash.{IsUnstored, MayBeKept, TakesUpload}
 use Rattle.jc_collect.specs.Position.{Collects, FailsUnread, HasCode, NamesNone}
 use Rattle.jc_collect.specs.Settled.{HasAnswered, withdrawn}
 use Rattle.jc_collect.specs.Taken.{Brings, HasCollected}
@@ -24,16 +25,35 @@ use Rattle.jc_collect.proofs.CollectedMore.{rose_earlier}
 
 -- ---- the code of a keeper that can't store
 
-pub never_owned : (stop : KeepStop) (answer : Answer) → HasCode (withdrawn stop answer) NotTheOwnerCode → HasCode answer NotTheOwnerCode
-never_owned ReadFailed (Ack source start count new left) code = absurd (omega (arith, code))
-never_owned StoreFailed (Ack source start count new left) code = absurd (omega (arith, code))
-never_owned OutOfMemory (Ack source start count new left) code = absurd (omega (arith, code))
-never_owned stop (No of number place) code = code
+stop_codes : (stop : KeepStop) → (60 < number_of (code_of_stop stop)) × (number_of (code_of_stop stop) < 64)
+stop_codes ReadFailed = (omega arith, omega arith)
+stop_codes StoreFailed = (omega arith, omega arith)
+stop_codes OutOfMemory = (omega arith, omega arith)
 
-pub may_be_kept : (stop : KeepStop) (source : Id128) (start count new left : ℕ) → ¬ (stop ≡ ReadFailed) → MayBeKept (withdrawn stop (Ack source start count new left))
-may_be_kept ReadFailed source start count new left other = absurd (other refl)
-may_be_kept StoreFailed source start count new left other = inl refl
-may_be_kept OutOfMemory source start count new left other = inr refl
+-- One that was refused for a conflict is answered so, and any other one as it was.
+pub each_refused : (P : Answer → Type 0) (stop : KeepStop) (of : Option (Id128 × ℕ)) (code place : ℕ)
+    → (code ≡ number_of ConflictCode → P (No of (number_of (code_of_stop stop)) 0)) → (¬ (code ≡ number_of ConflictCode) → P (No of code place))
+    → P (withdrawn stop (No of code place))
+each_refused P stop of code place conflict other = by (code == 60) refl
+  where
+    by : (is : Bool) → (code == 60) ≡ is → P (if is then No of (number_of (code_of_stop stop)) 0 else No of code place)
+    by true is = conflict (eqb-true code 60 is)
+    by false is = other (eqb-false code 60 is)
+
+pub never_owned : (stop : KeepStop) (answer : Answer) → HasCode (withdrawn stop answer) NotTheOwnerCode → HasCode answer NotTheOwnerCode
+never_owned stop (Ack source start count new left) code = absurd (omega (arith, code, (stop_codes stop).1))
+never_owned stop (No of number place) code = each_refused (λ (a : Answer). HasCode a NotTheOwnerCode → number ≡ number_of NotTheOwnerCode) stop of number place
+    (λ conflict found. absurd (omega (arith, found, (stop_codes stop).1))) (λ other found. found) code
+
+pub never_conflict : (stop : KeepStop) (answer : Answer) → ¬ HasCode (withdrawn stop answer) ConflictCode
+never_conflict stop (Ack source start count new left) code = omega (arith, code, (stop_codes stop).0)
+never_conflict stop (No of number place) code = each_refused (λ (a : Answer). ¬ HasCode a ConflictCode) stop of number place
+    (λ conflict found. omega (arith, found, (stop_codes stop).0)) (λ other. other) code
+
+pub is_unstored : (stop : KeepStop) (of : Option (Id128 × ℕ)) (place : ℕ) → ¬ (stop ≡ ReadFailed) → IsUnstored (No of (number_of (code_of_stop stop)) place)
+is_unstored ReadFailed of place other = absurd (other refl)
+is_unstored StoreFailed of place other = inl refl
+is_unstored OutOfMemory of place other = inr refl
 
 pub store_failed : (stop : KeepStop) → number_of (code_of_stop stop) ≡ number_of StoreFailedCode → stop ≡ StoreFailed
 store_failed ReadFailed code = absurd (omega (arith, code))
@@ -153,7 +173,7 @@ module _ {K : Type 0} {k : keepers.Ghosts K} {limits : Limits} {known : Option (
         acknowledged = λ is_clean is_made acks. absurd (cc);
         stored = λ acks. settled;
         settled = λ waited. settled;
-        crash = leaves (withdrawn stop (Ack source start count more left)) (may_be_kept stop source start count more left other);
+        crash = leaves (withdrawn stop (Ack source start count more left)) (is_unstored stop (Some (source, start)) 0 other);
         recovers = λ is_clean is_made was_so. recovers is_clean (was.stays_made is_made) (was.recovers (clean is_clean) is_made was_so);
         stays_made = λ is. made (was.stays_made is);
         owner = λ code. absurd (never_owned stop (Ack source start count more left) code);

@@ -36,10 +36,15 @@ pub record TakesBody (Says : Reading → Type 0) (before : Journal) (answer : Re
   pub left : ℕ
   pub absorbs : AbsorbsBody Says before (Ok (Taken count new left)) after
 
+-- The answer says that the store failed, or was refused memory.
+abbrev pub IsUnstored : Answer → Type 0
+IsUnstored (Ack source start count new left) = ⊥
+IsUnstored (No of code place) = (code ≡ number_of StoreFailed) ⊎ (code ≡ number_of OutOfMemory)
+
 -- An upload with this answer may be kept behind a crash: it was acknowledged, or the store failed, or was refused memory.
 abbrev pub MayBeKept : Answer → Type 0
 MayBeKept (Ack source start count new left) = ⊤
-MayBeKept (No of code place) = (code ≡ number_of StoreFailed) ⊎ (code ≡ number_of OutOfMemory)
+MayBeKept (No of code place) = IsUnstored (No of code place)
 
 -- A whole upload was taken up, whose answer allows it: the journal is the one that it has behind an acknowledgement.
 pub record TakesUpload (limits : Limits) (known : Option (List ℕ)) (before : Journal) (answer : Answer) (after : Journal) : Type 0 where

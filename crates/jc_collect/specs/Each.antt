@@ -1,8 +1,10 @@
 -- Deliveries one after the other, whether their bytes are known or not. (own)
 use Rattle.std.specs.Prelude.{ℕ, ◌≡◌, ◌+◌, ◌<◌, List, [], ◌∷◌, ◌++◌, length, map, Option, Some, slice_get, take, ◌⊎◌, ⊤}
 use Rattle.std.specs.List.{All}
+use Rattle.jc_base.specs.declared.fault.Code.TheVariants.{Conflict}
 use Rattle.jc_base.specs.declared.limits.Limits.{Limits}
 use Rattle.jc_base.specs.declared.id.Id128.{Id128}
+use Rattle.jc_base.specs.Fault.{number_of}
 use Rattle.jc_base.specs.Journal.{Journal}
 use Rattle.jc_base.specs.LogEntry.{LogEntry}
 use Rattle.jc_base.specs.Reading.{Reading}
@@ -11,7 +13,7 @@ use Rattle.jc_keeper.specs.Agree.{IsStored}
 use Rattle.jc_upload.specs.declared.answer.Answer.{Answer}
 use Rattle.jc_upload.specs.declared.answer.Answer.TheVariants.{Ack, No}
 use Rattle.jc_collect.specs.Chain.{IsChain, Turn, journal_before, uploads_of}
-use Rattle.jc_collect.specs.Crash.{MayBeKept}
+use Rattle.jc_collect.specs.Crash.{IsUnstored, MayBeKept}
 use Rattle.jc_collect.specs.Position.{Collects, LeavesUnknown}
 use Rattle.jc_collect.specs.Run.{AreWritten, AreWrittenUpTo}
 use Rattle.jc_collect.specs.declared.runs.RunEnd.{RunEnd}
@@ -38,10 +40,11 @@ NoneAcknowledged [] = ⊤
 NoneAcknowledged (Ack source start count new left ∷ answers) = ⊥
 NoneAcknowledged (No of code place ∷ answers) = NoneAcknowledged answers
 
--- An upload that would be answered so may be answered so: where it would be acknowledged, that storing failed, too.
+-- An upload that would be answered so may be answered so: where it would be acknowledged, or refused for a conflict, that
+-- storing failed, too.
 abbrev pub MayAnswer : (would answer : Answer) → Type 0
 MayAnswer (Ack source start count new left) answer = MayBeKept answer
-MayAnswer (No of code place) answer = answer ≡ No of code place
+MayAnswer (No of code place) answer = (answer ≡ No of code place) ⊎ ((code ≡ number_of Conflict) × IsUnstored answer)
 
 -- The first of these answers may be given to uploads that would be answered so.
 abbrev pub BeginWith : (would answers : List Answer) → Type 0

@@ -29,7 +29,7 @@ collects_then limits (k ∷ known) others start mid last (a ∷ one) more (after
 
 may_itself : (a : Answer) → MayAnswer a a
 may_itself (Ack source start count new left) = tt
-may_itself (No of code place) = refl
+may_itself (No of code place) = inl refl
 
 begin_more : (would answers more : List Answer) → BeginWith would answers → BeginWith would (answers ++ more)
 begin_more [] answers more begin = tt

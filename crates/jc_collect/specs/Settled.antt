@@ -1,6 +1,6 @@
 -- One upload that is answered once it is stored. (own)
-use Rattle.std.specs.Prelude.{IsTrue, List, ℕ, Option, Some}
-use Rattle.jc_base.specs.declared.fault.Code.TheVariants.{NotTheOwner, StoreFailed}
+use Rattle.std.specs.Prelude.{◌==◌, IsTrue, List, ℕ, Option, Some, if◌then◌else◌}
+use Rattle.jc_base.specs.declared.fault.Code.TheVariants.{Conflict, NotTheOwner, StoreFailed}
 use Rattle.jc_base.specs.declared.limits.Limits.{Limits}
 use Rattle.jc_base.specs.Fault.{number_of}
 use Rattle.jc_keeper.specs.declared.keeper.KeepStop.{KeepStop}
@@ -15,10 +15,11 @@ use Rattle.jc_collect.specs.Foreign.{NamesForeign}
 use Rattle.jc_collect.specs.Position.{Collects, HasCause, HasCode}
 use Rattle.jc_collect.specs.Taken.{Brings}
 
--- The answer to an upload that can't be stored. One that isn't acknowledged has its answer already.
+-- The answer to an upload, if what was to be stored with it can't be. What a conflict is with may be of that.
 abbrev pub withdrawn : KeepStop → Answer → Answer
 withdrawn stop (Ack source start count new left) = No (Some (source, start)) (number_of (code_of_stop stop)) 0
-withdrawn stop (No of code place) = No of code place
+withdrawn stop (No of code place) =
+    if code == number_of Conflict then No of (number_of (code_of_stop stop)) 0 else No of code place
 
 -- An upload was taken up and stored, or not, and answered.
 pub record HasAnswered {K : Type 0} (k : keepers.Ghosts K) (limits : Limits) (known : Option (List ℕ)) (old new : K) (answer : Answer) : Type 0 where

@@ -1,6 +1,6 @@
 -- Uploads that are taken up one after the other, stored together, and then answered. (own)
 use Rattle.std.specs.Prelude.{ℕ, ◌≡◌, ◌≤◌, ◌⊎◌, List, [], ◌∷◌, ◌++◌, map, Option, None, Some}
-use Rattle.jc_base.specs.declared.fault.Code.TheVariants.{NotTheOwner, StoreFailed}
+use Rattle.jc_base.specs.declared.fault.Code.TheVariants.{Conflict, NotTheOwner, StoreFailed}
 use Rattle.jc_base.specs.declared.limits.Limits.{Limits}
 use Rattle.jc_base.specs.Device.{Rose}
 use Rattle.jc_base.specs.Journal.{Journal}
@@ -18,7 +18,7 @@ pub record TakesUp {K : Type 0} (k : keepers.Ghosts K) (limits : Limits) (known 
   pub behind : more ≡ answers ++ answer ∷ []
   pub collected : HasCollected k limits known old new answer
 
--- What is answered once they are to be stored: if that failed for this reason, none is acknowledged.
+-- What is answered once they are to be stored: if that failed for this reason, none is acknowledged, or refused for a conflict.
 abbrev pub answered : Option KeepStop → List Answer → List Answer
 answered None answers = answers
 answered (Some stop) answers = map (withdrawn stop) answers
@@ -58,6 +58,8 @@ pub record HasAnsweredAll {K : Type 0} (k : keepers.Ghosts K) (limits : Limits) 
 pub record HasSettled {K : Type 0} (k : keepers.Ghosts K) (old new : K) (answers given : List Answer) : Type 0 where
   pub stopped : Option KeepStop
   pub given_is : given ≡ answered stopped answers
+  -- an upload is refused for a conflict only with what is stored
+  pub conflicts : AreCaused Conflict given (λ _. stopped ≡ None)
   -- while the device is sound, it has stored them, and they are answered as they were taken up
   pub stored : k.sound new → stopped ≡ None
   pub was_sound : k.sound new → k.sound old

@@ -78,8 +78,9 @@ impl Gathered {
         Ok(())
     }
 
-    /// Stores in one call what is acknowledged. If that fails, each that would have been acknowledged is answered `No` with the
-    /// code of the failure, and place 0. Where none is acknowledged nothing waits, and nothing is done.
+    /// Stores in one call what is acknowledged. If that fails, each that would have been acknowledged, or refused for a
+    /// conflict, is answered `No` with the code of the failure, and place 0. Where none is acknowledged nothing waits, and
+    /// nothing is done.
     pub fn settle<K: Keeper>(&mut self, keeper: &mut K)
         ensures { HasSettled K.Keeper keeper.old keeper.new self.old.answers.items self.new.answers.items }
     {

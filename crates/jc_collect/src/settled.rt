@@ -10,7 +10,7 @@ ghost use Rattle.jc_upload.specs.Head.{header_length};
 
 use crate::Delivery;
 use crate::collect::collect_one;
-use jc_base::{ByteStream, Limits};
+use jc_base::{ByteStream, Code, Limits};
 use jc_file::ByteSpace;
 use jc_keeper::{KeepStop, Keeper};
 use jc_upload::Answer;
@@ -41,16 +41,18 @@ pub fn collect_settled<K: Keeper, R: ByteStream, B: ByteSpace>(
     }
 }
 
-/// The answer to an upload that can't be stored.
+/// The answer to an upload, if what was to be stored with it can't be. A conflict may be with an entry of that.
 pub(crate) fn withdrawn(stop: KeepStop, answer: Answer) -> Answer
     ensures { result ≡ withdrawn stop answer }
 {
-    match answer {
-        Answer::Ack { source, start, .. } => Answer::No {
-            of: Some((source, start)),
-            code: stop.code().number(),
-            place: 0,
-        },
-        Answer::No { .. } => answer,
+    let of = match answer {
+        Answer::Ack { source, start, .. } => Some((source, start)),
+        Answer::No { of, code, .. } if code == Code::Conflict.number() => of,
+        Answer::No { .. } => return answer,
+    };
+    Answer::No {
+        of,
+        code: stop.code().number(),
+        place: 0,
     }
 }

@@ -14,6 +14,7 @@ use Rattle.jc_collect.specs.Together.{HasAnsweredAll, HasCollectedAll, HasSettle
 use Rattle.jc_collect.specs.TogetherLaws.{all_more, all_none, all_told}
 use Rattle.jc_collect.proofs.EachKnown.{acks_found, acks_of, keeps_of, stores_of}
 use Rattle.jc_collect.proofs.OneMore.{SaysOnce}
+use Rattle.jc_collect.proofs.Settling.{each_refused}
 use Rattle.jc_keeper.specs.declared.keeper.KeepStop.{KeepStop}
 use Rattle.jc_keeper.specs.declared.keeper.Keeper as keepers
 use Rattle.jc_keeper.specs.Brought.{StoresFor}
@@ -206,7 +207,8 @@ module _ {K E F : Type 0} (k : keepers.Ghosts K) (limits : Limits) (told : List 
 refuses_each : (stop : KeepStop) (answers : List Answer) → list_any is_refusal (map (withdrawn stop) answers) ≡ false → list_any is_refusal answers ≡ false
 refuses_each stop [] none = refl
 refuses_each stop (Ack source start count new left ∷ answers) none = cc
-refuses_each stop (No of code place ∷ answers) none = cc
+refuses_each stop (No of code place ∷ answers) none = each_refused (λ (a : Answer). list_any is_refusal (a ∷ map (withdrawn stop) answers) ≡ false → list_any is_refusal (No of code place ∷ answers) ≡ false) stop of code place
+    (λ conflict some. cc) (λ other some. cc) none
 
 refuses_given : (stopped : Option KeepStop) (answers : List Answer) → list_any is_refusal (answered stopped answers) ≡ false → list_any is_refusal answers ≡ false
 refuses_given None answers none = none
