@@ -2,8 +2,10 @@
 
 ghost use Rattle.std.specs.Prelude.{◌≡◌, ◌≢◌, ◌⊎◌, Some, IfOk, IfErr};
 ghost use Rattle.std.specs.Io.KnownBytes.{Keeps};
-ghost use Rattle.jc_collector.specs.Compared.{ComparingFails, IsJudged, PrintsComparison, comparison_found};
+ghost use Rattle.jc_store.specs.Meaning.{IsSound};
+ghost use Rattle.jc_collector.specs.Compared.{ComparesNoted, ComparingFails, LeavesCompared, Stays, comparison_found};
 ghost use Rattle.jc_collector.specs.Database.{CheckFailsBy, WhyNoHealth};
+ghost use Rattle.jc_collector.specs.Open.{EndsOver};
 ghost use Rattle.jc_command_shared.specs.Deeds.{OpensOnce};
 ghost use Rattle.jc_command_shared.specs.Failure.{status_of};
 
@@ -53,9 +55,9 @@ pub fn check_noted<'a, Y: Databases, F: OpenFromFiles, O: Output>(
     folder: &'a str,
     output: &mut O,
 ) -> Result<Examined<Status, F::Files>, Failure<'a>>
-    ensures printed { IfOk result (λ examined. (comparison : Comparison)
-        × PrintsComparison comparison examined.value (O.contents output.old) (O.contents output.new)) }
-    ensures judged { IfOk result (λ examined. IsJudged examined.value) }
+    // It prints what was found, and the files keep the journal that they had; or they have none.
+    ensures compared { IfOk result (λ examined. ComparesNoted F.first F.in_files examined.files examined.value
+        (O.contents output.old) (O.contents output.new)) }
     ensures failed { IfErr result (λ failure. (failure ≡ Failure.ReadFailed) ⊎ CheckFailsBy database.now failure) }
     ensures untouched { IfErr result (λ failure. status_of failure ≢ Status.Failed
         → Keeps (O.contents output.old) (O.contents output.new)) }
@@ -73,6 +75,7 @@ fn compared<'a, Y: Databases, F: OpenFromFiles>(
     database: &'a str,
     folder: &'a str,
 ) -> Result<Examined<Comparison, F::Files>, Failure<'a>>
+    ensures kept { IfOk result (λ examined. LeavesCompared F.first F.in_files examined.value examined.files) }
     ensures failed { IfErr result (λ failure. (failure ≡ Failure.ReadFailed) ⊎ WhyNoHealth database.now failure) }
     ensures touched { OpensOnce database.now (Y.deeds rt.old) (Y.deeds rt.new) }
 {
@@ -96,6 +99,9 @@ fn compare_and_close<'a, Y: System, F: StoreInFiles, L: Listed>(
     keeper: TableKeeper<F, L>,
     folder: &str,
 ) -> Result<Closed<Comparison, F::Files>, Failure<'a>>
+    ensures sound { IfOk result (λ closed. F.in_files.clean closed.files
+        → IsSound F.Store keeper.conn) }
+    ensures kept { IfOk result (λ closed. EndsOver L.meaning F.Store F.in_files keeper.conn closed.files Stays) }
     ensures failed { IfErr result ComparingFails }
 {
     let (keeper, text) = list_present::<F, L>(rt.alloc(), keeper);

@@ -32,6 +32,7 @@ use Rattle.jc_collect.specs.Answer.{is_failure}
 use Rattle.jc_command_args.specs.Answer.{IsAskedFor}
 use Rattle.jc_collector_answers.specs.Answered.{is_refusal}
 use Rattle.jc_collector.specs.Checked.{health_found}
+use Rattle.jc_collector.specs.Compared.{comparison_found}
 use Rattle.jc_collector.specs.Inspected.{inspected_found}
 use Rattle.jc_command_shared.specs.Deeds.{Deed}
 use Rattle.jc_command_shared.specs.Failure.{status_of}
@@ -60,10 +61,6 @@ each_not_misused : (well : Bool) → Misused ≡ (if well then Success else Refu
 each_not_misused true same = cc
 each_not_misused false same = cc
 
-one_not_misused : (Misused ≡ Success) ⊎ (Misused ≡ Refused) → ⊥
-one_not_misused (inl same) = cc
-one_not_misused (inr same) = cc
-
 -- what was asked for is performed
 pub performed : {S C L N : Type 0} (begun : Begins) (g : Devices S C L N) (left : Leaves C N) (words : List Text) (request : Request) (given output output' errors errors' : Option (List ℕ)) (status : Status)
     → AskFor words request → Performs begun g left request given output output' status → (status ≡ Success → Keeps errors errors')
@@ -86,7 +83,7 @@ performed begun g left words (requests.CollectIntoUnion database tables list seq
     let printed = does.0.printed.printed.printed in
     absurd (judged_not_misused (list_any is_failure printed.answers) (list_any is_refusal printed.answers) printed.is)
 performed begun g left words (requests.Acknowledged upload) given output output' errors errors' Misused asks does quiet = absurd (told_not_misused given output output' does.0)
-performed begun g left words (requests.CheckNoted database sequences) given output output' errors errors' Misused asks does quiet = absurd (one_not_misused does)
+performed begun g left words (requests.CheckNoted database sequences) given output output' errors errors' Misused asks does quiet = absurd (found_not_misused (comparison_found does.comparison) does.printed.judged)
 performed begun g left words (requests.Notes sequences Has) given output output' errors errors' Misused asks does quiet = let same : Misused ≡ Success = does.0 in cc
 performed begun g left words (requests.Notes sequences ForgetAfter) given output output' errors errors' Misused asks does quiet = let same : Misused ≡ Success = does.0 in cc
 performed begun g left words (requests.Notes sequences tasks.Verify) given output output' errors errors' Misused asks does quiet = absurd (each_not_misused (all_well does.1.found) does.1.judged)

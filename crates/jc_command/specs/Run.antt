@@ -32,7 +32,7 @@ use Rattle.jc_command_args.specs.declared.request.Request.TheVariants as request
 use Rattle.jc_collector_answers.specs.Answered.{PrintsAnswers, number_of_uploads}
 use Rattle.jc_collector_answers.specs.Collected.{just}
 use Rattle.jc_collector.specs.Checked.{IsHealth, PrintsHealth, count_line}
-use Rattle.jc_collector.specs.Compared.{IsJudged}
+use Rattle.jc_collector.specs.Compared.{ComparesNoted}
 use Rattle.jc_collector.specs.Database.{CheckFailsBy, CollectFailsBy, DatabaseFailsBy, ShowFailsBy}
 use Rattle.jc_command_shared.specs.Failure.{status_of}
 use Rattle.jc_collector.specs.Inspected.{PrintsInspectedOf, PrintsSomeInspected}
@@ -210,7 +210,7 @@ module _ {S C L N : Type 0} (begun : Begins) (g : Devices S C L N) (left : Leave
       (status ≡ Success)
       × LeadsOn (PrintsAsked begun.shape (option_map (λ name. name.now) field) (option_map (λ digits. digits.now) id) first last old new)
   Performs (Check database) given old new status = Checks old new status
-  Performs (CheckNoted database sequences) given old new status = IsJudged status
+  Performs (CheckNoted database sequences) given old new status = ComparesNoted begun.image g.database left.files status old new
   Performs (Notes sequences task) given old new status = WorksOnNotes begun.told sequences.now task given old new begun.deeds left.deeds status
   Performs (ListOwners sequences) given old new status = ListsOwners begun.told sequences.now old new status
   Performs (RenameOwner sequences name other) given old new status =

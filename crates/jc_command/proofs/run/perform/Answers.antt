@@ -183,7 +183,7 @@ returns-in-CheckNoted-clause-performed g c =
     ok_of c.examined-in-CheckNoted.result c.check_noted-examined.result _ _ c.examined-in-CheckNoted.ensures.done
     (λ done it was same. performs_still _ _ _ _ _ _ _ _ (g.I.Read.remaining c.args.input.now) (g.O.Write.contents c.args.output.now)
     (g.O.Write.contents c.check_noted-examined.new.output) (g.E.Write.contents c.args.errors.now) _ _ c.in-CheckNoted.is same.1 same.0
-    (at_ok c.check_noted-examined.result it _ was c.check_noted-examined.ensures.judged))
+    (at_ok c.check_noted-examined.result it _ was c.check_noted-examined.ensures.compared))
 
 pub returns-in-CheckNoted-clause-failed : goal.returns-in-CheckNoted-clause-failed
 returns-in-CheckNoted-clause-failed g c =

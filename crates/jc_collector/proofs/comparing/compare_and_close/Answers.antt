@@ -1,0 +1,20 @@
+-- The closed files have the journal that was listed.
+use Rattle.std.proofs.Common.{refl}
+use Rattle.jc_collector.specs.Compared.{Stays}
+use Rattle.jc_collector.proofs.OverFiles.{ends_over}
+use Rattle.jc_collector.proofs.Results.{IfOk-both, IfOk-each}
+use Rattle.jc_collector.proofs.comparing.compare_and_close.Goals as goal
+
+pub returns-clause-sound : goal.returns-clause-sound
+returns-clause-sound g c = IfOk-each c.close_after.result _ _ (λ closed sound clean. c.list_present-keeper.ensures.before (sound clean)) c.close_after.ensures.sound
+
+pub returns-clause-kept : goal.returns-clause-kept
+returns-clause-kept g c =
+    let listed = c.list_present-keeper.ensures in
+    let first = c.args.keeper.conn in
+    let last = c.list_present-keeper.result.0.conn in
+    IfOk-both c.close_after.result _ _ _
+    (λ closed sound always. ends_over g.L.Layout.meaning first last last listed.before listed.keeps.made Stays
+    (λ now made. listed.keeps.same (listed.before now) made now)
+    (λ now. now) (record { same = λ _ _ _. refl; made = λ made. made }) closed.files sound always)
+    c.close_after.ensures.sound c.close_after.ensures.keeps
