@@ -14,7 +14,7 @@ use Rattle.jc_ledger_files.specs.Owned.{owner_window}
 use Rattle.jc_ledger_files.specs.declared.window_name.WindowName.{WindowName}
 use Rattle.jc_notes.specs.Changed.{IsInFolder, IsKeptFront}
 use Rattle.jc_notes.specs.Each.{GivesUp, MayWork, PrintsEach, Works, WorksEach}
-use Rattle.jc_notes.specs.Lines.{IsFirstBad, OfLines, front_at, key_at}
+use Rattle.jc_notes.specs.Lines.{IsFirstBad, IsFirstBadFront, OfFronts, OfLines, key_at}
 use Rattle.jc_notes.specs.Printed.{IsListedIf, IsNotedTold, IsRelease, IsRenamingIf, IsSummedIf, OfSequence}
 use Rattle.jc_sequences.specs.Placed.{path_of}
 
@@ -27,7 +27,7 @@ module _ (told : List ℕ → Option (List ℕ)) (folder : List ℕ) where
       (status ≡ Success) × IfSome given (OfLines key_at (λ keys. PrintsEach (IsNotedTold told folder) keys Success old new))
   WorksOnNotes ForgetAfter given old new deeds deeds_now status =
       (status ≡ Success)
-      × (Keeps old new × IfSome given (OfLines front_at (λ fronts. WorksEach (IsKeptFront told folder) fronts None None deeds deeds_now)))
+      × (Keeps old new × IfSome given (OfFronts (λ fronts. WorksEach (IsKeptFront told folder) fronts None None deeds deeds_now)))
   WorksOnNotes Verify given old new deeds deeds_now status =
       (windows : List WindowName) × PrintsEach (λ name. IsSummedIf (told (path_of folder name)) name) windows status old new
 
@@ -52,7 +52,7 @@ module _ (told : List ℕ → Option (List ℕ)) (folder : List ℕ) where
   abbrev pub ChangesNotes : NotesTask → (given : Option (List ℕ)) → (old new : Option (List Deed)) → Type 0
   ChangesNotes ForgetAfter given old new =
       ChangesOnly (IsInFolder folder) old new
-      × ((new ≡ old) ⊎ IfSome given (OfLines front_at
+      × ((new ≡ old) ⊎ IfSome given (OfFronts
       (λ fronts. GivesUp (IsKeptFront told folder) (λ front. path_of folder front.window) fronts old new)))
   ChangesNotes task given old new = new ≡ old
 
@@ -82,7 +82,7 @@ FolderFailsBy folder _ = ⊥
 -- Of the lines that standard input gives this is the first that isn't one which is read.
 abbrev pub HasBadLine : NotesTask → (given : Option (List ℕ)) → (line : ℕ) → Type 0
 HasBadLine Has given line = IfSome given (λ text. IsFirstBad key_at text line)
-HasBadLine ForgetAfter given line = IfSome given (λ text. IsFirstBad front_at text line)
+HasBadLine ForgetAfter given line = IfSome given (λ text. IsFirstBadFront text line)
 HasBadLine Verify given line = ⊥
 
 -- ... or that is so

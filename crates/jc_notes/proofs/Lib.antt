@@ -1,5 +1,6 @@
 pub mod Failures
 pub mod Found
+pub mod Fronts
 pub mod InFolder
 pub mod LinesRead
 pub mod Printing

@@ -14,8 +14,8 @@ module _ {A : Type 0} (read : List ℕ → Option A) (text : List ℕ) where
 
   module _ (rest line behind : List ℕ) (items : List A) (so_far : AreReadSoFar read text rest items)
       (first : lines_of rest ≡ line ∷ lines_of behind) where
-    front : (item : Option A) → read line ≡ item → map read (lines_of text) ≡ map Some items ++ (item ∷ map read (lines_of behind))
-    front item is =
+    pub up_to : (item : Option A) → read line ≡ item → map read (lines_of text) ≡ map Some items ++ (item ∷ map read (lines_of behind))
+    up_to item is =
         so_far.lines
         ∙ ap (λ (lines : List (List ℕ)). map Some items ++ map read lines) first
         ∙ ap (λ (o : Option A). map Some items ++ (o ∷ map read (lines_of behind))) is
@@ -23,13 +23,13 @@ module _ {A : Type 0} (read : List ℕ → Option A) (text : List ℕ) where
     pub one_read : (item : A) → read line ≡ Some item → AreReadSoFar read text behind (items ++ item ∷ [])
     one_read item is = record {
       lines =
-          front (Some item) is
+          up_to (Some item) is
           ∙ sym (append_assoc (map Some items) (Some item ∷ []) (map read (lines_of behind)))
           ∙ ap (λ (gone : List (Option A)). gone ++ map read (lines_of behind)) (sym (map-append Some items (item ∷ [])));
     }
 
     pub one_bad : (number : ℕ) → read line ≡ None → number ≡ length items + 1 → IsFirstBad read text number
-    one_bad number is at = record { items = items; behind = map read (lines_of behind); lines = front None is; is = at }
+    one_bad number is at = record { items = items; behind = map read (lines_of behind); lines = up_to None is; is = at }
 
 pub all_read : {A : Type 0} (read : List ℕ → Option A) (text rest : List ℕ) (items : List A) → length rest ≡ 0
     → AreReadSoFar read text rest items → AreLines read items text

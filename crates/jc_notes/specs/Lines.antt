@@ -1,5 +1,6 @@
 -- The lines that ask for notes. (own)
-use Rattle.std.specs.Prelude.{◌≡◌, ◌^◌, ◌+◌, ◌++◌, ◌∷◌, ℕ, List, Option, Some, None, if◌then◌else◌, length, map, nat_lt}
+use Rattle.std.specs.Prelude.{◌≡◌, ◌≢◌, ◌^◌, ◌+◌, ◌++◌, ◌∷◌, ℕ, List, Option, Some, None, IfSome, if◌then◌else◌, length, map, nat_lt}
+use Rattle.std.specs.List.{AllPairs, Any}
 use Rattle.jc_base.specs.declared.id.Key.{Key}
 use Rattle.jc_command_shared.specs.Lines.{lines_of}
 use Rattle.jc_notes.specs.declared.lines.Front.{Front}
@@ -36,3 +37,23 @@ pub record OfLines {A : Type 0} (read : List ℕ → Option A) (Does : List A �
   pub items : List A
   pub lines : AreLines read items text
   pub does : Does items
+
+-- ---- windows, each of which is named once
+
+-- No two of these are of one window.
+abbrev pub NameOnce : List Front → Type 0
+NameOnce fronts = AllPairs (λ (one other : Front). one.window ≢ other.window) fronts
+
+-- The text's lines name windows, each once, and this is so of their first notes.
+abbrev pub OfFronts : (Does : List Front → Type 0) → (text : List ℕ) → Type 0
+OfFronts Does text = OfLines front_at (λ fronts. NameOnce fronts × Does fronts) text
+
+-- Of a text's lines this is the first, from 1, that names no window, or one that a line before it names.
+pub record IsFirstBadFront (text : List ℕ) (line : ℕ) : Type 0 where
+  pub fronts : List Front
+  pub here : Option Front
+  pub behind : List (Option Front)
+  pub lines : map front_at (lines_of text) ≡ map Some fronts ++ here ∷ behind
+  pub once : NameOnce fronts
+  pub again : IfSome here (λ front. Any (λ (other : Front). other.window ≡ front.window) fronts)
+  pub is : line ≡ length fronts + 1

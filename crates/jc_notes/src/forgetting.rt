@@ -6,7 +6,7 @@ ghost use Rattle.jc_command_shared.specs.Failure.{status_of};
 ghost use Rattle.jc_notes.specs.Changed.{IsInFolder, IsKeptFront};
 ghost use Rattle.jc_notes.specs.Each.{GivesUp, Works, WorksEach};
 ghost use Rattle.jc_notes.specs.Failing.{LinesFail, WorkFails};
-ghost use Rattle.jc_notes.specs.Lines.{IsFirstBad, OfLines, front_at};
+ghost use Rattle.jc_notes.specs.Lines.{IsFirstBadFront, NameOnce, OfFronts};
 ghost use Rattle.jc_sequences.specs.Placed.{path_of};
 
 use crate::lines::{Front, fronts_in};
@@ -16,7 +16,7 @@ use jc_command_shared::{Failure, Status, System, read_whole};
 use std::io::Read;
 
 /// Has each window on standard input, a line `SEQUENCE WINDOW COUNT`, keep its first notes alone. One that has no more
-/// stays as it is.
+/// stays as it is. Each is named once: what is told of a file is what it had before all of this.
 #[tactic(auto, using(jc_command_shared::specs::DeedLaws::nothing_changes, crate::proofs::Failures::work_failed))]
 pub fn forget_after<'p, R: System, I: Read>(
     rt: &mut R,
@@ -24,13 +24,13 @@ pub fn forget_after<'p, R: System, I: Read>(
     input: &mut I,
 ) -> Result<(), Failure<'p>>
     // Of each window that a known text names.
-    ensures kept { OnOk result (IfSome (I.remaining input.old) (OfLines front_at
+    ensures kept { OnOk result (IfSome (I.remaining input.old) (OfFronts
         (λ fronts. WorksEach (IsKeptFront R.told folder.now) fronts None None (R.deeds rt.old) (R.deeds rt.new)))) }
     // A failure leaves all as it was, or comes behind the first of these windows.
-    ensures stopped { OnErr result ((R.deeds rt.new ≡ R.deeds rt.old) ⊎ IfSome (I.remaining input.old) (OfLines front_at
+    ensures stopped { OnErr result ((R.deeds rt.new ≡ R.deeds rt.old) ⊎ IfSome (I.remaining input.old) (OfFronts
         (λ fronts. GivesUp (IsKeptFront R.told folder.now) (λ front. path_of folder.now front.window) fronts (R.deeds rt.old) (R.deeds rt.new)))) }
     ensures bad { IfErr result (λ failure. (line : ℕ) → failure ≡ Failure.BadLine line
-        → IfSome (I.remaining input.old) (λ text. IsFirstBad front_at text line)) }
+        → IfSome (I.remaining input.old) (λ text. IsFirstBadFront text line)) }
     ensures unchanged { IfErr result (λ failure. status_of failure ≢ Status.Failed → R.deeds rt.new ≡ R.deeds rt.old) }
     ensures touched { ChangesOnly (IsInFolder folder.now) (R.deeds rt.old) (R.deeds rt.new) }
     ensures failed { IfErr result LinesFail }

@@ -96,7 +96,7 @@ class Notes:
 
     def forget(self) -> None:
         """Only notes of finished databases stay, which stand first in each file."""
-        found = [(path.parent.name, int(path.name)) for path in self.files()]
+        found = {(path.parent.name, int(path.name)) for path in self.files()}
         known = [(*name, self.state.notes_of(*name)) for name in found]
         if more := [each for each in known if self.size(*each[:2]) > NOTE * each[2] + 1]:
             program.forget_after(self.folder.sequences, more)
