@@ -1,6 +1,7 @@
 -- How a run of the program ends. (own)
-use Rattle.std.specs.Prelude.{◌≡◌, ◌⊎◌, ◌∷◌, [], ⊤, ℕ, List, Option, Some, IsSomeAnd, MatchOption, length, map, option_map}
+use Rattle.std.specs.Prelude.{◌≡◌, ◌⊎◌, ◌↔◌, ◌∷◌, [], ⊤, ℕ, List, Option, Some, IsSomeAnd, MatchOption, length, map, option_map}
 use Rattle.std.specs.Borrow.{Bor}
+use Rattle.std.specs.List.{Contains}
 use Rattle.std.specs.Io.KnownBytes.{Keeps}
 use Rattle.clap.specs.Words.{Text}
 use Rattle.sqlite.specs.Recovery.{Image}
@@ -86,6 +87,10 @@ begins_with image windows finished aside came told deeds shape = record {
 -- one: what they lack of it isn't here, and may be stored once more.
 abbrev pub stored_before : Begins → Journal
 stored_before begun = union begun.finished begun.aside
+
+-- What has come is what had come before, and a list of more.
+abbrev pub CameAsList : (before now : LogEntry → Type 0) → Type 0
+CameAsList before now = (more : List LogEntry) × ((e : LogEntry) → now e ↔ before e ⊎ Contains more e)
 
 -- what is seen of the files of its database, of a store S, and of the notes N of sequences
 pub record Devices (S C L N : Type 0) : Type 1 where

@@ -8,6 +8,7 @@ ghost use Rattle.jc_ledger.specs.Owners.{StayOwned, StayOwnedAfter};
 ghost use Rattle.jc_ledger_files.specs.NotesOf.{notes_of};
 ghost use Rattle.jc_ledger_files.specs.Owned.{owner_found};
 ghost use Rattle.jc_ledger_files.specs.Windows.{known_in};
+ghost use Rattle.jc_command.specs.Run.{CameAsList};
 
 use crate::begun::{Begun, BegunBy};
 use jc_command_shared::Failure;
@@ -40,10 +41,11 @@ pub trait NoteFolders<S: Begun>: Sized + Drop {
         ensures failed { IfErr result (λ failure. (failure ≡ Failure.CannotOpen path.entry) ⊎ (failure ≡ Failure.OutOfMemory)) };
 
     /// Whatever was called of these notes, each sequence that belonged to a machine at first belongs to it, if they are
-    /// sound, and after a crash, if their disk returned what was written. Does nothing.
+    /// sound, and after a crash, if their disk returned what was written. What came in their run is a list. Does nothing.
     fn show_steady(notes: &Self::Notes)
         ensures stay { Self.Notes.sound notes.now → StayOwned (owner_found S.windows) (Self.Notes.owner notes.now) }
-        ensures stay_after { Self.Notes.clean notes.now → StayOwnedAfter (owner_found S.windows) (Self.Notes.may_own notes.now) };
+        ensures stay_after { Self.Notes.clean notes.now → StayOwnedAfter (owner_found S.windows) (Self.Notes.may_own notes.now) }
+        ensures came { CameAsList S.came (Self.Notes.came notes.now) };
 }
 
 impl<'a, S: Begun> NoteFolders<S> for Folders<'a> {

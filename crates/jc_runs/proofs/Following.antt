@@ -1,6 +1,7 @@
 -- What a run leaves is what the next one finds.
-use Rattle.std.proofs.Common.{◌≡◌, ◌∙◌, ℕ, List, Option, Some, None, IfSome, refl, subst, sym}
+use Rattle.std.proofs.Common.{◌≡◌, ◌∙◌, ◌↔◌, ◌++◌, ℕ, List, Option, Some, None, IfSome, refl, subst, sym, inl, inr, ⊎_elim}
 use Rattle.std.specs.List.{Contains}
+use Rattle.std.proofs.lemmas.List.Elements.{Contains-append_cases, Contains-append_left, Contains-append_right}
 use Rattle.sqlite.specs.Recovery.{Image}
 use Rattle.jc_base.specs.declared.id.Id128.{Id128}
 use Rattle.jc_base.specs.declared.id.Key.{Key}
@@ -10,7 +11,7 @@ use Rattle.jc_collect.specs.Each.{CollectsEach, KeepsCollected}
 use Rattle.jc_collector.specs.Kinds.{BeginsIn}
 use Rattle.jc_collector.specs.Unopened.{BeginsAgain, LeavesBegun}
 use Rattle.jc_collector_answers.specs.Collected.{ByDefault, KeepsFirstOf, StoresFirstOf}
-use Rattle.jc_command.specs.Run.{Begins}
+use Rattle.jc_command.specs.Run.{Begins, CameAsList}
 use Rattle.jc_command_args.specs.declared.request.Tables.{Tables}
 use Rattle.jc_database.specs.Files.{InFiles}
 use Rattle.jc_ledger.specs.declared.owner.MachineDigest.{MachineDigest}
@@ -25,7 +26,7 @@ use Rattle.jc_ledger_files.specs.Owned.{owner_found}
 use Rattle.jc_ledger_files.specs.Windows.{known_in}
 use Rattle.jc_upload.specs.declared.answer.Answer.{Answer}
 use Rattle.jc_runs.specs.Between.{Between}
-use Rattle.jc_runs.specs.Next.{AreFirst, BeganWith, IsFoundUnopened, behind}
+use Rattle.jc_runs.specs.Next.{AreFirst, BeganWith, ComeAsList, IsFoundUnopened, behind}
 use Rattle.jc_runs.specs.Steps.{EndsRun, LeavesEarlier, StopsRun}
 
 -- what is known alike, of the same past, when more had come
@@ -48,6 +49,34 @@ kept_alike {found = found} {now = now} {comes = comes} same alike more kept = su
   apart = kept.apart;
   have_come = λ e stored. more e (kept.have_come e stored);
 })
+
+-- what came in a run, in front of what had come before
+pub come_as_list : (before comes : LogEntry → Type 0) (b : Between) → CameAsList before comes
+    → ((e : LogEntry) → before e ↔ Contains b.came e) → ComeAsList comes b
+come_as_list before comes b came had = record {
+  came = all;
+  are = λ e. (into e, back e);
+  come = λ none. record {
+    had_come = λ e has. Contains-append_right more b.came e has;
+    have_come = into;
+    apart = λ e f here too. none e f (back e here) (back f too);
+  };
+}
+  where
+    more : List LogEntry
+    more = came.0
+
+    all : List LogEntry
+    all = more ++ b.came
+
+    into : (e : LogEntry) → comes e → Contains all e
+    into e now = ⊎_elim
+        (λ (old : before e). Contains-append_right more b.came e ((had e).0 old))
+        (λ (new : Contains more e). Contains-append_left more b.came e new)
+        ((came.1 e).0 now)
+
+    back : (e : LogEntry) → Contains all e → comes e
+    back e has = (came.1 e).1 (elim (Contains-append_cases more b.came e has) [ inl new ↦ inr new | inr old ↦ inl ((had e).1 old) ])
 
 -- whoever else might own a sequence after a stop, its owner does
 pub leaves_earlier : (made kind : Tables) (begun : Begins) (b : Between) (now : Journal) (windows : WindowName → List ℕ) (came : List LogEntry)

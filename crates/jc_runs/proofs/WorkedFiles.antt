@@ -1,7 +1,7 @@
 -- Files of notes with which runs over the databases of the worked list begin, the first one with none.
 use Rattle.std.proofs.Common.{◌≡◌, ◌∙◌, ◌<◌, ◌^◌, arith, ℕ, nat_eq, Bool, true, false, cond, List, [], ◌∷◌, Some, None, take, refl, sym, ap, subst, append-nil, inl, inr}
 use Rattle.std.specs.BTreeMap.{is_at}
-use Rattle.std.specs.FinMap.{empty, get, same_map}
+use Rattle.std.specs.FinMap.{empty, get, insert, same_map}
 use Rattle.std.specs.List.{All, Contains}
 use Rattle.std.specs.Option.{option_map}
 use Rattle.std.specs.Ordering.{nat_cmp}
@@ -16,7 +16,6 @@ use Rattle.jc_base.specs.LogEntry.{IsKey, LogEntry}
 use Rattle.jc_collector.specs.Kinds.{BeginsIn}
 use Rattle.jc_command_args.specs.declared.request.Tables.{Tables}
 use Rattle.jc_export.specs.Canonical.{canon}
-use Rattle.jc_keeper.specs.Agree.{IsStored}
 use Rattle.jc_keeper.specs.KeyLaws.{key_eq, key_eq_equiv, key_exact, key_total, same_key}
 use Rattle.jc_ledger.specs.Kept.{IsKnownBy, NoneCollide}
 use Rattle.jc_ledger.specs.Known.{Known, digest_of, digest_under, known_of}
@@ -39,7 +38,7 @@ use Rattle.jc_runs.proofs.Following.{begins_alike}
 use Rattle.jc_runs.proofs.OneMore.{Reads}
 use Rattle.jc_runs.proofs.Stepping.{Laws}
 use Rattle.jc_runs.proofs.Unions.{has_none, in_now, in_past, union_none, void}
-use Rattle.jc_runs.proofs.WorkedSteps.{both_owners, came, has_no_third, has_one, is_numbered, leads_half, leads_to_s4, m1, m2, no_one, none_collide, owned_if, p1, p2, s4, s5}
+use Rattle.jc_runs.proofs.WorkedSteps.{both_owners, came, has_no_third, has_one, is_numbered, leads_half, leads_to_s4, m1, m2, no_one, none_collide, one_only, owned_if, p1, p2, s4, s5}
 
 -- what is read of files, and that owners among the notes do no harm
 pub record Files : Type 0 where
@@ -226,8 +225,9 @@ module _ (files : Files) where
       all_there : union b.past empty ≡ b.past
       all_there = subst (λ (m : Journal). union m empty ≡ m) (sym earlier) (laws.same past now)
 
-  pub starts : Laws → Reads → ((b : Between) × Starts 4 b × IsStored b.now of_other) × ((b : Between) × Starts 5 b × (b.now ≡ empty) × MayMake b)
+  pub starts : Laws → Reads → ((b : Between) × Starts 4 b × (b.now ≡ insert empty of_other.key of_other.body)) × ((b : Between) × Starts 5 b × (b.now ≡ empty) × MayMake b)
+  unfolding one_only
   starts laws reads = (
-    (s4, starts_at laws 4 s4 (leads_to_s4 reads) empty m1 refl refl refl refl, has_one of_other),
+    (s4, starts_at laws 4 s4 (leads_to_s4 reads) empty m1 refl refl refl refl, refl),
     (s5, starts_at laws 5 s5 (leads_half reads) p1 m2 refl refl refl refl, refl, makes_file),
   )

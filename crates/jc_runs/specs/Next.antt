@@ -1,5 +1,5 @@
 -- What the next run finds of one of `collect --sequences`. (own)
-use Rattle.std.specs.Prelude.{ℕ, ◌≡◌, ◌⊎◌, ◌++◌, List, [], Option, Some, IfSome, MatchOption}
+use Rattle.std.specs.Prelude.{ℕ, ◌≡◌, ◌⊎◌, ◌↔◌, ◌++◌, List, [], Option, Some, IfSome, MatchOption}
 use Rattle.std.specs.FinMap.{empty}
 use Rattle.std.specs.List.{Contains}
 use Rattle.sqlite.specs.Recovery.{Image}
@@ -49,14 +49,24 @@ MayStart begun now = MayCatchUp begun.noted (stored_before begun) now begun.came
 abbrev pub behind : Between → (now : Journal) → (windows : WindowName → List ℕ) → (came : List LogEntry) → Between
 behind b now windows came = record b { known = known_in (λ w. notes_of (windows w)); owner = owner_found windows; now = now; came = came }
 
--- The next run finds files such as were left. These entries came so far, and no two of them collide.
+-- These entries came so far, and no two of them collide.
+pub record HaveCome (comes : LogEntry → Type 0) (b : Between) (came : List LogEntry) : Type 0 where
+  pub had_come : (e : LogEntry) → Contains b.came e → Contains came e
+  pub have_come : (e : LogEntry) → comes e → Contains came e
+  pub apart : NoneCollide (Contains came)
+
+-- What came is a list, which is such if no two of what came collide.
+pub record ComeAsList (comes : LogEntry → Type 0) (b : Between) : Type 0 where
+  pub came : List LogEntry
+  pub are : (e : LogEntry) → comes e ↔ Contains came e
+  pub come : NoneCollide comes → HaveCome comes b came
+
+-- The next run finds files such as were left, when these entries have come.
 pub record IsFound (files : WindowName → List ℕ → Type 0) (images : Image → Type 0) (comes : LogEntry → Type 0) (b : Between)
     (windows : WindowName → List ℕ) (image : Image) (came : List LogEntry) : Type 0 where
   pub files_left : (w : WindowName) → files w (windows w)
   pub image_left : images image
-  pub had_come : (e : LogEntry) → Contains b.came e → Contains came e
-  pub have_come : (e : LogEntry) → comes e → Contains came e
-  pub apart : NoneCollide (Contains came)
+  pub come : HaveCome comes b came
 
 -- The files of its database have a journal, and so the step was made.
 pub record NextFinds (kind : Tables) (b : Between) (windows : WindowName → List ℕ) (image : Image) (came : List LogEntry) (Is : Between → Type 0)

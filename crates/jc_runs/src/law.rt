@@ -1,11 +1,10 @@
 //! What holds after any list of runs.
 
 ghost use Rattle.std.specs.Prelude.{◌≡◌, List};
-ghost use Rattle.std.specs.FinMap.{empty};
+ghost use Rattle.std.specs.FinMap.{empty, insert};
 ghost use Rattle.std.specs.List.{Contains};
 ghost use Rattle.jc_base.specs.declared.id.Key.{Key};
 ghost use Rattle.jc_base.specs.LogEntry.{IsKey};
-ghost use Rattle.jc_keeper.specs.Agree.{IsStored};
 ghost use Rattle.jc_ledger.specs.Kept.{IsKept, NoneCollide};
 ghost use Rattle.jc_runs.specs.Between.{Between, Fate, nothing};
 ghost use Rattle.jc_runs.specs.Next.{FirstBegins, MayMake};
@@ -36,8 +35,8 @@ pub fn runs_keep()
     ensures deletes { DeletesSafely }
     // There are such lists, and such uploads.
     ensures worked { (c : Between) × IsWorked c }
-    // A run begins with a database that has an entry, and behind a turn with an empty one, or with no file yet.
-    ensures starts { ((b : Between) × Starts 4 b × IsStored b.now of_other)
+    // A run begins with a database that has this entry alone, and behind a turn with an empty one, or with no file yet.
+    ensures starts { ((b : Between) × Starts 4 b × (b.now ≡ insert empty of_other.key of_other.body))
         × ((b : Between) × Starts 5 b × (b.now ≡ empty) × MayMake b) }
 {
     acknowledged_stored();

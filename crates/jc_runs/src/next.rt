@@ -1,10 +1,13 @@
 //! What the next run finds.
 
-ghost use Rattle.std.specs.Prelude.{ℕ, List, Option};
+ghost use Rattle.std.specs.Prelude.{ℕ, ◌↔◌, List, Option};
+ghost use Rattle.std.specs.List.{Contains};
+ghost use Rattle.jc_base.specs.LogEntry.{LogEntry};
 ghost use Rattle.jc_keeper.specs.declared.form.Shape.{Shape};
 ghost use Rattle.jc_command.specs.Run.{begins_with, devices};
 ghost use Rattle.jc_command_shared.specs.Deeds.{Deed};
-ghost use Rattle.jc_runs.specs.Next.{BegunMayStart, EndLeadsOn, FailLeadsOn, NextBegins, StopLeadsOn};
+ghost use Rattle.jc_runs.specs.Between.{Between};
+ghost use Rattle.jc_runs.specs.Next.{BegunMayStart, ComeAsList, EndLeadsOn, FailLeadsOn, NextBegins, StopLeadsOn};
 
 use jc_command::{Begun, NoteFolders};
 use jc_database::OpenFromFiles;
@@ -26,6 +29,8 @@ where
     ensures failed { (told : List ℕ → Option (List ℕ)) (deeds : Option (List Deed)) (shape : Shape)
         → FailLeadsOn (begins_with F.first S.windows S.finished S.aside S.came told deeds shape)
         (devices F.in_files ⟦<N::Notes as Ledger>⟧) N.Notes.files_leave notes.now }
+    // What came is a list, if what had come before was one.
+    ensures come { (b : Between) → ((e : LogEntry) → S.came e ↔ Contains b.came e) → ComeAsList (⟦<N::Notes as Ledger>⟧.came notes.now) b }
     ensures begins { NextBegins }
     // What `failed` of `run_command` and `each` of `collect_into_union_and_stop` suppose is so of a run that begins so.
     ensures may_start { BegunMayStart }

@@ -3,7 +3,7 @@ use Rattle.std.proofs.Math.Logic.{∥∥₁_map}
 use Rattle.sqlite.specs.Recovery.{Image}
 use Rattle.jc_collector.specs.Kinds.{meaning_of}
 use Rattle.jc_database.specs.Files.{HoldsJournal}
-use Rattle.jc_runs.proofs.Following.{begins_alike, begins_unopened, end_step, leaves_earlier, stop_step}
+use Rattle.jc_runs.proofs.Following.{begins_alike, begins_unopened, come_as_list, end_step, leaves_earlier, stop_step}
 use Rattle.jc_runs.proofs.next.next_run.Goals as goal
 
 pub returns-clause-ended : goal.returns-clause-ended
@@ -13,12 +13,12 @@ returns-clause-ended g c =
     let ends = does.stores clean kind b.now began.holds (
       begins_alike (sym began.past) began.noted began.came begins,
       l_clean,
-      λ e f here there. found.apart e f (found.have_come e here) (found.have_come f there),
+      λ e f here there. found.come.apart e f (found.come.have_come e here) (found.come.have_come f there),
     ) in
     let left = c.show_files.ensures.known windows found.files_left in
     let leaves = leaves_earlier made kind _ b ends.found windows came _ began
     (does.owners.after l_clean)
-    (c.show_files.ensures.owners windows found.files_left) found.had_come in
+    (c.show_files.ensures.owners windows found.files_left) found.come.had_come in
     record {
       now = ends.found;
       holds = ⊎_elim
@@ -32,7 +32,7 @@ returns-clause-ended g c =
           shown = ends.is.stored.stored.shown;
           holds = end_step _ _ b _ ends.found windows came _ _ began.past leaves
               (λ k key. left.1.1 k key ∙ g.met.N.Notes.Ledger.durable c.args.notes.now left.0 sound left.1.0 k)
-              found.have_come ends.is.stored.kept ends.is.stored.stored.holds;
+              found.come.have_come ends.is.stored.kept ends.is.stored.stored.holds;
         };
       };
     }
@@ -42,11 +42,11 @@ returns-clause-stopped g c =
     λ told done shape made kind text most_windows answers b windows image came stops clean began found.
     let left = c.show_files.ensures.known windows found.files_left in
     let leaves = leaves_earlier made kind _ b stops.found windows came _ began (c.show_steady.ensures.stay_after clean)
-    (c.show_files.ensures.owners windows found.files_left) found.had_come in
+    (c.show_files.ensures.owners windows found.files_left) found.come.had_come in
     record {
       now = stops.found;
       holds = stops.holds;
-      is = stop_step _ answers b _ stops.found windows came left.0 _ began.past leaves left.1.1 found.have_come (stops.lags left.0 left.1.0) stops.keeps;
+      is = stop_step _ answers b _ stops.found windows came left.0 _ began.past leaves left.1.1 found.come.have_come (stops.lags left.0 left.1.0) stops.keeps;
     }
 
 pub returns-clause-failed : goal.returns-clause-failed
@@ -65,6 +65,9 @@ returns-clause-failed g c =
       past = same;
       came = more;
     })
+
+pub returns-clause-come : goal.returns-clause-come
+returns-clause-come g c = λ b list. come_as_list _ _ b c.show_steady.ensures.came list
 
 pub returns-clause-begins : goal.returns-clause-begins
 returns-clause-begins g c = λ made kind b now finished aside windows image came told deeds shape holds same.
