@@ -3,11 +3,12 @@ use Rattle.std.proofs.Common.{◌≡◌, ◌∙◌, ◌+◌, ℕ, List, [], ◌�
 use Rattle.std.specs.Prelude.{◌↔◌, IfSome, IsErr, OnOk, if◌then◌else◌}
 use Rattle.std.specs.List.{list_any}
 use Rattle.std.proofs.lemmas.List.{length-append, length-map}
-use Rattle.jc_base.specs.declared.id.Id128.{Id128}
 use Rattle.jc_base.specs.declared.limits.Limits.{Limits}
 use Rattle.jc_base.specs.Journal.{Journal}
 use Rattle.jc_base.specs.LimitBounds.{AreDefaults}
 use Rattle.jc_collect.specs.Each.{NoneAcknowledged}
+use Rattle.jc_collect.specs.Foreign.{NamesForeign}
+use Rattle.jc_collect.specs.ForeignLaws.{foreign_later}
 use Rattle.jc_collect.specs.Position.{Collects}
 use Rattle.jc_collect.specs.Settled.{withdrawn}
 use Rattle.jc_collect.specs.Together.{HasAnsweredAll, HasCollectedAll, HasSettled, TakesUp, answered}
@@ -18,6 +19,8 @@ use Rattle.jc_collect.proofs.Settling.{each_refused}
 use Rattle.jc_keeper.specs.declared.keeper.KeepStop.{KeepStop}
 use Rattle.jc_keeper.specs.declared.keeper.Keeper as keepers
 use Rattle.jc_keeper.specs.Brought.{StoresFor}
+use Rattle.jc_keeper.specs.BroughtLaws.{whose_stays, whose_then}
+use Rattle.jc_keeper.specs.Whose.{StayWhose}
 use Rattle.jc_upload.specs.declared.answer.Answer.{Answer}
 use Rattle.jc_upload.specs.declared.answer.Answer.TheVariants.{Ack, No}
 use Rattle.jc_collect.specs.Answer.{is_failure}
@@ -37,8 +40,8 @@ use Rattle.jc_collector_answers.proofs.Machines.{come_none, come_on, come_one, l
 pub record IsGroup {K : Type 0} (k : keepers.Ghosts K) (limits : Limits) (told : List ℕ → Option (List ℕ)) (lines : NameLines) (come : List (List ℕ)) (old new : K) (given : List Answer) : Type 0 where
   pub each : length given ≡ length come
   pub all : HasAnsweredAll k limits (uploads_of told lines come) old new given
-  pub own : k.sound new → k.made old → CollectsLines told lines (k.belongs new) come (k.journal old) given (k.journal new)
-  pub stays : k.sound new → (m : Option (List ℕ)) (s : Id128) → k.belongs old m s → k.belongs new m s
+  pub own : k.sound new → k.made old → CollectsLines told lines (k.whose new) come (k.journal old) given (k.journal new)
+  pub stays : k.sound new → StayWhose (k.whose old) (k.whose new)
 
 pub answered_length : (stopped : Option KeepStop) (answers : List Answer) → length (answered stopped answers) ≡ length answers
 answered_length None answers = refl
@@ -50,7 +53,7 @@ module _ {K : Type 0} (k : keepers.Ghosts K) (limits : Limits) (told : List ℕ 
     each = refl;
     all = all_none k limits keeper;
     own = λ is is_made. refl;
-    stays = λ is m s was. was;
+    stays = λ is. whose_stays (k.whose keeper);
     brings = inl refl;
   }
 
@@ -59,13 +62,13 @@ module _ {K : Type 0} (k : keepers.Ghosts K) (limits : Limits) (told : List ℕ 
     pub taken_told : (machine : Option (List ℕ)) → k.journal new ≡ k.journal mid → (k.clean new ↔ k.clean mid) → (k.sound new ↔ k.sound mid) → (k.made new ↔ k.made mid)
         → (k.settled mid → k.settled new) → ((found : Journal) → k.may_leave new found ↔ k.may_leave mid found)
         → (k.leaves_journals new ↔ k.leaves_journals mid) → k.failures new ≡ k.failures mid → k.brings new machine
-        → ((m : Option (List ℕ)) (s : Id128) → k.belongs mid m s → k.belongs new m s) → HasTakenLines k limits told lines come old new answers
+        → StayWhose (k.whose mid) (k.whose new) → HasTakenLines k limits told lines come old new answers
     taken_told machine journal clean sound made settled crash recovers failures brings owners = record {
       each = taken.each;
       all = all_told k limits (uploads_of told lines come) old mid new answers taken.all journal clean sound made settled crash recovers failures;
-      own = λ is is_made. subst (λ (j : Journal). CollectsLines told lines (k.belongs new) come (k.journal old) answers j) (sym journal)
-          (lines_stay told lines (k.belongs mid) (k.belongs new) owners come (k.journal old) answers (k.journal mid) (taken.own (sound.0 is) is_made));
-      stays = λ is m s was. owners m s (taken.stays (sound.0 is) m s was);
+      own = λ is is_made. subst (λ (j : Journal). CollectsLines told lines (k.whose new) come (k.journal old) answers j) (sym journal)
+          (lines_stay told lines (k.whose mid) (k.whose new) owners come (k.journal old) answers (k.journal mid) (taken.own (sound.0 is) is_made));
+      stays = λ is. whose_then (k.whose old) (k.whose mid) (k.whose new) (taken.stays (sound.0 is)) owners;
       brings = inr (machine, brings);
     }
 
@@ -79,18 +82,18 @@ module _ {K : Type 0} (k : keepers.Ghosts K) (limits : Limits) (told : List ℕ 
       all = subst (λ (ks : List (Option (List ℕ))). HasCollectedAll k limits ks old new more) (sym (uploads_on told lines come (line ∷ [])))
           (subst (λ (l : List Answer). HasCollectedAll k limits (uploads_of told lines come ++ told (upload_in lines line) ∷ []) old new l) (sym took.behind)
           (all_more k limits (uploads_of told lines come) old mid new answers taken.all (told (upload_in lines line)) took.answer took.collected durable settles));
-      own = λ is is_made. subst (λ (l : List Answer). CollectsLines told lines (k.belongs new) (come ++ line ∷ []) (k.journal old) l (k.journal new)) (sym took.behind)
-          (lines_both told lines (k.belongs new) come (line ∷ []) (k.journal old) (k.journal mid) (k.journal new) answers (took.answer ∷ [])
-          (lines_stay told lines (k.belongs mid) (k.belongs new) (stored.1.stays is) come (k.journal old) answers (k.journal mid) (taken.own (took.collected.was_sound is) is_made))
+      own = λ is is_made. subst (λ (l : List Answer). CollectsLines told lines (k.whose new) (come ++ line ∷ []) (k.journal old) l (k.journal new)) (sym took.behind)
+          (lines_both told lines (k.whose new) come (line ∷ []) (k.journal old) (k.journal mid) (k.journal new) answers (took.answer ∷ [])
+          (lines_stay told lines (k.whose mid) (k.whose new) (stored.1.stays is) come (k.journal old) answers (k.journal mid) (taken.own (took.collected.was_sound is) is_made))
           (one_line is is_made));
-      stays = λ is m s was. stored.1.stays is m s (taken.stays (took.collected.was_sound is) m s was);
+      stays = λ is. whose_then (k.whose old) (k.whose mid) (k.whose new) (taken.stays (took.collected.was_sound is)) (stored.1.stays is);
       brings = inr (machine, stored.0);
     }
       where
-        stored : k.brings new machine × StoresFor k.belongs k.journal k.sound k.made machine mid new
+        stored : k.brings new machine × StoresFor k.whose k.journal k.sound k.made machine mid new
         stored = took.collected.brought machine brings
 
-        one_line : k.sound new → k.made old → CollectsLines told lines (k.belongs new) (line ∷ []) (k.journal mid) (took.answer ∷ []) (k.journal new)
+        one_line : k.sound new → k.made old → CollectsLines told lines (k.whose new) (line ∷ []) (k.journal mid) (took.answer ∷ []) (k.journal new)
         one_line is is_made =
             let mid_made = taken.all.stays_made is_made in (
               k.journal new,
@@ -101,6 +104,9 @@ module _ {K : Type 0} (k : keepers.Ghosts K) (limits : Limits) (told : List ℕ 
                 collects = by_default limits defaults (λ other. Collects other (told (upload_in lines line)) (k.journal mid) took.answer (k.journal new))
                     (took.collected.position (took.collected.was_sound is) mid_made is);
                 own = stored.1.own is mid_made;
+                foreign = by_default limits defaults (λ other. NamesForeign other (told (upload_in lines line)) ((k.whose new).foreign machine) took.answer)
+                    (foreign_later limits (told (upload_in lines line)) ((k.whose mid).foreign machine) ((k.whose new).foreign machine) ((stored.1.stays is).foreign machine) took.answer
+                    (took.collected.foreign is machine brings));
               },
               refl,
             )
@@ -112,16 +118,16 @@ module _ {K : Type 0} (k : keepers.Ghosts K) (limits : Limits) (told : List ℕ 
       all = settled.all limits (uploads_of told lines come) old taken.all;
       own = λ is is_made.
           let same : given ≡ answers = settled.given_is ∙ ap (λ (s : Option KeepStop). answered s answers) (settled.stored is) in
-          subst (λ (l : List Answer). CollectsLines told lines (k.belongs new) come (k.journal old) l (k.journal new)) (sym same)
-          (subst (λ (j : Journal). CollectsLines told lines (k.belongs new) come (k.journal old) answers j) (sym (settled.same (taken.all.stays_made is_made) is))
-          (lines_stay told lines (k.belongs mid) (k.belongs new) (over is) come (k.journal old) answers (k.journal mid) (taken.own (settled.was_sound is) is_made)));
-      stays = λ is m s was. over is m s (taken.stays (settled.was_sound is) m s was);
+          subst (λ (l : List Answer). CollectsLines told lines (k.whose new) come (k.journal old) l (k.journal new)) (sym same)
+          (subst (λ (j : Journal). CollectsLines told lines (k.whose new) come (k.journal old) answers j) (sym (settled.same (taken.all.stays_made is_made) is))
+          (lines_stay told lines (k.whose mid) (k.whose new) (over is) come (k.journal old) answers (k.journal mid) (taken.own (settled.was_sound is) is_made)));
+      stays = λ is. whose_then (k.whose old) (k.whose mid) (k.whose new) (taken.stays (settled.was_sound is)) (over is);
     }
       where
-        over : k.sound new → (m : Option (List ℕ)) (s : Id128) → k.belongs mid m s → k.belongs new m s
-        over is m s was = ⊎_elim
-            (λ empty. subst (λ (n : K). k.belongs n m s) (sym (settled.unless (none empty))) was)
-            (λ some. (settled.brought some.0 some.1).1.stays is m s was)
+        over : k.sound new → StayWhose (k.whose mid) (k.whose new)
+        over is = ⊎_elim
+            (λ empty. subst (λ (n : K). StayWhose (k.whose mid) (k.whose n)) (sym (settled.unless (none empty))) (whose_stays (k.whose mid)))
+            (λ some. (settled.brought some.0 some.1).1.stays is)
             taken.brings
           where
             none : answers ≡ [] → NoneAcknowledged answers
@@ -170,7 +176,7 @@ module _ {K : Type 0} (k : keepers.Ghosts K) (limits : Limits) (told : List ℕ 
     module _ (between new : K) (machine : Option (List ℕ)) (journal : k.journal between ≡ k.journal mid) (clean : k.clean between ↔ k.clean mid) (sound : k.sound between ↔ k.sound mid)
         (made : k.made between ↔ k.made mid) (settled : k.settled mid → k.settled between) (crash : (found : Journal) → k.may_leave between found ↔ k.may_leave mid found)
         (recovers : k.leaves_journals between ↔ k.leaves_journals mid) (failures : k.failures between ≡ k.failures mid) (brings : k.brings between machine)
-        (owners : (m : Option (List ℕ)) (s : Id128) → k.belongs mid m s → k.belongs between m s) (more : List Answer)
+        (owners : StayWhose (k.whose mid) (k.whose between)) (more : List Answer)
       where
         was_told : HasTakenLines k limits told lines so.come old between answers
         was_told = taken_told k limits told lines so.come old mid between answers so.taken machine journal clean sound made settled crash recovers failures brings owners

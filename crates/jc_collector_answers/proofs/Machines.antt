@@ -2,8 +2,9 @@
 use Rattle.std.proofs.Common.{◌≡◌, ◌∙◌, ℕ, List, [], ◌∷◌, ◌++◌, Option, Some, None, refl, sym, ap, subst}
 use Rattle.std.specs.Prelude.{IfSome}
 use Rattle.std.proofs.lemmas.List.{append-nil, append_assoc}
-use Rattle.jc_base.specs.declared.id.Id128.{Id128}
 use Rattle.jc_base.specs.Journal.{Journal}
+use Rattle.jc_collect.specs.ForeignLaws.{foreign_later}
+use Rattle.jc_keeper.specs.Whose.{StayWhose, Whose}
 use Rattle.jc_upload.specs.declared.answer.Answer.{Answer}
 use Rattle.jc_collector_answers.specs.Brought.{CollectsLines, CollectsText}
 use Rattle.jc_collector_answers.specs.Collected.{LosesName, names_in, upload_in}
@@ -47,7 +48,7 @@ uploads_on told lines (name ∷ names) others = ap (λ (ks : List (Option (List 
 
 module _ (told : List ℕ → Option (List ℕ)) (lines : NameLines) where
   -- what belongs to somebody goes on to
-  pub lines_stay : (Of Now : Option (List ℕ) → Id128 → Type 0) → ((m : Option (List ℕ)) (s : Id128) → Of m s → Now m s) → (names : List (List ℕ)) (start : Journal)
+  pub lines_stay : (Of Now : Whose) → StayWhose Of Now → (names : List (List ℕ)) (start : Journal)
       (answers : List Answer) (last : Journal) → CollectsLines told lines Of names start answers last → CollectsLines told lines Now names start answers last
   lines_stay Of Now stays [] start [] last h = h
   lines_stay Of Now stays [] start (answer ∷ answers) last h = absurd h
@@ -59,12 +60,14 @@ module _ (told : List ℕ → Option (List ℕ)) (lines : NameLines) where
       upload = h.1.upload;
       parts = h.1.parts;
       collects = h.1.collects;
-      own = λ e stored none. stays h.1.machine e.key.seqnum_id (h.1.own e stored none);
+      own = λ e stored none. stays.belongs h.1.machine e.key.seqnum_id (h.1.own e stored none);
+      foreign = λ limits defaults. foreign_later limits (told h.1.upload) (Of.foreign h.1.machine) (Now.foreign h.1.machine) (stays.foreign h.1.machine) answer
+          (h.1.foreign limits defaults);
     },
     lines_stay Of Now stays names h.0 answers last h.2,
   )
 
-  pub lines_both : (Of : Option (List ℕ) → Id128 → Type 0) (names others : List (List ℕ)) (first mid late : Journal) (one more : List Answer)
+  pub lines_both : (Of : Whose) (names others : List (List ℕ)) (first mid late : Journal) (one more : List Answer)
       → CollectsLines told lines Of names first one mid → CollectsLines told lines Of others mid more late
       → CollectsLines told lines Of (names ++ others) first (one ++ more) late
   lines_both Of [] others first mid late [] more h then = subst (λ (j : Journal). CollectsLines told lines Of others j more late) h then
@@ -74,16 +77,16 @@ module _ (told : List ℕ → Option (List ℕ)) (lines : NameLines) where
       (h.0, h.1, lines_both Of names others h.0 mid late one more h.2 then)
 
   -- What is so of those that came of a text before this rest.
-  pub record LinesUpTo (Of : Option (List ℕ) → Id128 → Type 0) (text rest : Option (List ℕ)) (first now : Journal) (answers : List Answer) : Type 0 where
+  pub record LinesUpTo (Of : Whose) (text rest : Option (List ℕ)) (first now : Journal) (answers : List Answer) : Type 0 where
     pub come : List (List ℕ)
     pub are : LinesCome text rest come
     pub collected : CollectsLines told lines Of come first answers now
 
-  pub up_to_none : (Of : Option (List ℕ) → Id128 → Type 0) (text : Option (List ℕ)) (now : Journal) → LinesUpTo Of text text now now []
+  pub up_to_none : (Of : Whose) (text : Option (List ℕ)) (now : Journal) → LinesUpTo Of text text now now []
   up_to_none Of text now = record { come = []; are = come_none text; collected = refl }
 
-  pub up_to_more : (Of Now : Option (List ℕ) → Id128 → Type 0) (first mid late : Journal) (text rest next : Option (List ℕ)) (more : List (List ℕ)) → LinesCome rest next more
-      → (one others : List Answer) → ((m : Option (List ℕ)) (s : Id128) → Of m s → Now m s) → LinesUpTo Of text rest first mid one
+  pub up_to_more : (Of Now : Whose) (first mid late : Journal) (text rest next : Option (List ℕ)) (more : List (List ℕ)) → LinesCome rest next more
+      → (one others : List Answer) → StayWhose Of Now → LinesUpTo Of text rest first mid one
       → CollectsLines told lines Now more mid others late → LinesUpTo Now text next first late (one ++ others)
   up_to_more Of Now first mid late text rest next more lost one others stays so then = record {
     come = so.come ++ more;
@@ -91,7 +94,7 @@ module _ (told : List ℕ → Option (List ℕ)) (lines : NameLines) where
     collected = lines_both Now so.come more first mid late one others (lines_stay Of Now stays so.come first one mid so.collected) then;
   }
 
-  pub up_to_all : (Of : Option (List ℕ) → Id128 → Type 0) (text rest : Option (List ℕ)) → IfSome rest (λ left. left ≡ []) → (first now : Journal) (answers : List Answer)
+  pub up_to_all : (Of : Whose) (text rest : Option (List ℕ)) → IfSome rest (λ left. left ≡ []) → (first now : Journal) (answers : List Answer)
       → LinesUpTo Of text rest first now answers → CollectsText told lines Of text first now answers
   unfolding names_in
   up_to_all Of text rest none first now answers so = whole text rest none so.are

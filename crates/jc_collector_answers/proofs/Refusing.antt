@@ -9,6 +9,7 @@ use Rattle.jc_base.specs.Fault.{number_of}
 use Rattle.jc_base.specs.declared.id.Id128.{Id128}
 use Rattle.jc_base.specs.declared.limits.Limits.{Limits}
 use Rattle.jc_collect.specs.Answer.{is_failure_code}
+use Rattle.jc_collect.specs.ForeignLaws.{foreign_untold}
 use Rattle.jc_collect.specs.Position.{Collects}
 use Rattle.jc_collect.specs.Taken.{HasCollected}
 use Rattle.jc_collect.specs.Together.{TakesUp}
@@ -41,6 +42,7 @@ module _ {K : Type 0} (k : keepers.Ghosts K) (limits : Limits) (keeper : K) wher
     stays_made = λ is. is;
     settled = λ was. inr was;
     owner = λ other. absurd (owned other);
+    foreign = λ is machine brings other. absurd (owned other);
     brought = brought_none k.brings keeper;
     store = record { never_falls = omega arith; failed = λ other. absurd (stored other) };
   }
@@ -97,6 +99,7 @@ untold_taken once k limits known old new answers more took =
         stays_made = one.stays_made;
         settled = one.settled;
         owner = one.owner;
+        foreign = λ is machine brings. foreign_untold limits known ((k.whose old).foreign machine) took.answer (one.foreign is machine brings);
         brought = one.brought;
         store = one.store;
       };

@@ -1,11 +1,12 @@
 -- Whose the sequences are of what the uploads store that a list names. (own)
 use Rattle.std.specs.Prelude.{◌≡◌, ℕ, List, [], ◌∷◌, Option, Result, IfOk, IfSome}
-use Rattle.jc_base.specs.declared.id.Id128.{Id128}
 use Rattle.jc_base.specs.Journal.{Journal}
+use Rattle.jc_collect.specs.Foreign.{NamesForeign}
 use Rattle.jc_collect.specs.Position.{Collects}
 use Rattle.jc_command_shared.specs.declared.status.Status.{Status}
 use Rattle.jc_keeper.specs.declared.keeper.Keeper as keepers
 use Rattle.jc_keeper.specs.Brought.{IsNewOf}
+use Rattle.jc_keeper.specs.Whose.{Whose}
 use Rattle.jc_upload.specs.declared.answer.Answer.{Answer}
 use Rattle.jc_collector_answers.specs.Collected.{ByDefault, names_in}
 use Rattle.jc_collector_answers.specs.Named.{HasParts}
@@ -13,29 +14,30 @@ use Rattle.jc_collector_answers.specs.Tied.{NamedWith}
 use Rattle.jc_collector_answers.specs.declared.name_lines.NameLines.{NameLines}
 
 -- The upload in a line was collected under the default limits, and answered so. What is new of it belongs to the machine that
--- the line names.
-pub record CollectsLine (told : List ℕ → Option (List ℕ)) (lines : NameLines) (Belongs : Option (List ℕ) → Id128 → Type 0) (line : List ℕ) (before : Journal) (answer : Answer) (after : Journal)
+-- the line names. If 71 is answered, the entry at its place is of another machine's sequence.
+pub record CollectsLine (told : List ℕ → Option (List ℕ)) (lines : NameLines) (whose : Whose) (line : List ℕ) (before : Journal) (answer : Answer) (after : Journal)
     : Type 0 where
   pub machine : Option (List ℕ)
   pub upload : List ℕ
   pub parts : HasParts lines line machine upload
   pub collects : ByDefault (λ limits. Collects limits (told upload) before answer after)
-  pub own : IsNewOf (Belongs machine) before after
+  pub own : IsNewOf (whose.belongs machine) before after
+  pub foreign : ByDefault (λ limits. NamesForeign limits (told upload) (whose.foreign machine) answer)
 
 -- Each was over what the one before left, and this is what the last one left.
-abbrev pub CollectsLines : (told : List ℕ → Option (List ℕ)) → NameLines → (Belongs : Option (List ℕ) → Id128 → Type 0) → (names : List (List ℕ)) → (start : Journal) → List Answer → (last : Journal) → Type 0
-CollectsLines told lines Belongs [] start [] last = last ≡ start
-CollectsLines told lines Belongs [] start (answer ∷ answers) last = ⊥
-CollectsLines told lines Belongs (line ∷ names) start [] last = ⊥
-CollectsLines told lines Belongs (line ∷ names) start (answer ∷ answers) last =
-    (after : Journal) × CollectsLine told lines Belongs line start answer after × CollectsLines told lines Belongs names after answers last
+abbrev pub CollectsLines : (told : List ℕ → Option (List ℕ)) → NameLines → (whose : Whose) → (names : List (List ℕ)) → (start : Journal) → List Answer → (last : Journal) → Type 0
+CollectsLines told lines whose [] start [] last = last ≡ start
+CollectsLines told lines whose [] start (answer ∷ answers) last = ⊥
+CollectsLines told lines whose (line ∷ names) start [] last = ⊥
+CollectsLines told lines whose (line ∷ names) start (answer ∷ answers) last =
+    (after : Journal) × CollectsLine told lines whose line start answer after × CollectsLines told lines whose names after answers last
 
 -- ... of the lines of a text, if it is known
-abbrev pub CollectsText : (told : List ℕ → Option (List ℕ)) → NameLines → (Belongs : Option (List ℕ) → Id128 → Type 0) → (text : Option (List ℕ)) → (start last : Journal) → List Answer → Type 0
-CollectsText told lines Belongs text start last answers = IfSome text (λ t. CollectsLines told lines Belongs (names_in t) start answers last)
+abbrev pub CollectsText : (told : List ℕ → Option (List ℕ)) → NameLines → (whose : Whose) → (text : Option (List ℕ)) → (start last : Journal) → List Answer → Type 0
+CollectsText told lines whose text start last answers = IfSome text (λ t. CollectsLines told lines whose (names_in t) start answers last)
 
 -- If all lines of a text were answered: what is so of their answers between two moments of a keeper whose device is sound.
 abbrev pub AnswersForMachines : {K F : Type 0} → keepers.Ghosts K → (told : List ℕ → Option (List ℕ)) → NameLines → (text : Option (List ℕ)) → (old new : K) → Result Status F → (printed printed_now : Option (List ℕ)) → Type 0
 AnswersForMachines k told lines text old new result printed printed_now =
     k.sound new → k.made old
-    → IfOk result (λ status. NamedWith (CollectsText told lines (k.belongs new) text (k.journal old) (k.journal new)) text status printed printed_now)
+    → IfOk result (λ status. NamedWith (CollectsText told lines (k.whose new) text (k.journal old) (k.journal new)) text status printed printed_now)

@@ -1,10 +1,10 @@
 -- Uploads that lines name, which are answered together. (own)
 use Rattle.std.specs.Prelude.{◌≡◌, ◌⊎◌, ℕ, Bool, true, false, List, [], ◌++◌, Option, Some, None, Result, Ok, Err, IfSome, length, map, ⊤}
-use Rattle.jc_base.specs.declared.id.Id128.{Id128}
 use Rattle.jc_base.specs.declared.limits.Limits.{Limits}
 use Rattle.jc_collect.specs.Together.{HasCollectedAll, HasSettled}
 use Rattle.jc_command_shared.specs.declared.status.Status.{Status}
 use Rattle.jc_keeper.specs.declared.keeper.Keeper as keepers
+use Rattle.jc_keeper.specs.Whose.{StayWhose}
 use Rattle.jc_upload.specs.declared.answer.Answer.{Answer}
 use Rattle.jc_collector_answers.specs.Brought.{CollectsLines}
 use Rattle.jc_collector_answers.specs.Collected.{names_in, upload_in}
@@ -33,8 +33,8 @@ pub record HasTakenLines {K : Type 0} (k : keepers.Ghosts K) (limits : Limits) (
     : Type 0 where
   pub each : length answers ≡ length come
   pub all : HasCollectedAll k limits (uploads_of told lines come) old new answers
-  pub own : k.sound new → k.made old → CollectsLines told lines (k.belongs new) come (k.journal old) answers (k.journal new)
-  pub stays : k.sound new → (m : Option (List ℕ)) (s : Id128) → k.belongs old m s → k.belongs new m s
+  pub own : k.sound new → k.made old → CollectsLines told lines (k.whose new) come (k.journal old) answers (k.journal new)
+  pub stays : k.sound new → StayWhose (k.whose old) (k.whose new)
   -- some machine brings the last one, if there is one
   pub brings : (answers ≡ []) ⊎ ((machine : Option (List ℕ)) × k.brings new machine)
 
