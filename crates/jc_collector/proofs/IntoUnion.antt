@@ -7,11 +7,11 @@ use Rattle.sqlite.specs.Effect.{Database}
 use Rattle.sqlite.specs.Recovery.{Image}
 use Rattle.sqlite.specs.Held.{Held, state}
 use Rattle.sqlite.specs.State.{HasCleanDisk}
-use Rattle.jc_base.specs.declared.id.Id128.{Id128}
 use Rattle.jc_base.specs.Journal.{Journal}
 use Rattle.jc_base.specs.LogEntry.{LogEntry}
 use Rattle.jc_collect.specs.Each.{held}
 use Rattle.jc_collector_answers.specs.Brought.{CollectsText}
+use Rattle.jc_keeper.specs.Whose.{Whose}
 use Rattle.jc_collector_answers.specs.Collected.{HoldsFirstOf}
 use Rattle.jc_collector_answers.specs.Kept.{HoldsPrinted}
 use Rattle.jc_collector_answers.specs.PrintedLaws.{named}
@@ -120,7 +120,7 @@ pub apart_before : {before later : LogEntry → Type 0} → ComesToo before late
 apart_before comes none e f here there = none e f (comes e here) (comes f there)
 
 -- whose what is new is, between the same journals
-pub named_between : {F : Type 0} (told : List ℕ → Option (List ℕ)) (Of : Option (List ℕ) → Id128 → Type 0) (text : Option (List ℕ)) (past first then now last : Journal)
+pub named_between : {F : Type 0} (told : List ℕ → Option (List ℕ)) (Of : Whose) (text : Option (List ℕ)) (past first then now last : Journal)
     (result : Result Status F) (old new : Option (List ℕ)) → then ≡ first → last ≡ now
     → IfOk result (λ status. NamedWith (CollectsText told MachinesAndUploads Of text (union past then) (union past now)) text status old new)
     → IfOk result (λ status. NamedWith (CollectsText told MachinesAndUploads Of text (union past first) (union past last)) text status old new)
@@ -139,7 +139,7 @@ module _ {F : Type 0} (text : Option (List ℕ)) (past first last : Journal) (pe
         subst (λ (es : List LogEntry). HoldsPrinted (named text) (HoldsFirstOf AreUploads (held (union past (with_all first es)) Was had) (held (union past last) Now has)) result old new) none
         (subst (λ (es : List LogEntry). HoldsPrinted (named text) (HoldsFirstOf AreUploads (held (union past (with_all first pending)) Was had) (held (union past (with_all last es)) Now has)) result old new) none_now holds)
 
-    pub named_stored : (told : List ℕ → Option (List ℕ)) (Of : Option (List ℕ) → Id128 → Type 0)
+    pub named_stored : (told : List ℕ → Option (List ℕ)) (Of : Whose)
         → IfOk result (λ status. NamedWith (CollectsText told MachinesAndUploads Of text (union past (with_all first pending)) (union past (with_all last pending_now))) text status old new)
         → IfOk result (λ status. NamedWith (CollectsText told MachinesAndUploads Of text (union past first) (union past last)) text status old new)
     named_stored told Of holds =

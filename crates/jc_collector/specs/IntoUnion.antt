@@ -1,7 +1,6 @@
 -- What `collect` makes of the union of finished databases and the one in its files. (own)
-use Rattle.std.specs.Prelude.{◌≡◌, ◌⊎◌, ⊤, ℕ, List, Option, option_map}
+use Rattle.std.specs.Prelude.{◌≡◌, ◌⊎◌, ⊤, ℕ, List, Option}
 use Rattle.sqlite.specs.Recovery.{Image}
-use Rattle.jc_base.specs.declared.id.Id128.{Id128}
 use Rattle.jc_base.specs.Journal.{Journal}
 use Rattle.jc_base.specs.LogEntry.{LogEntry}
 use Rattle.jc_collector_answers.specs.Brought.{CollectsText}
@@ -15,7 +14,7 @@ use Rattle.jc_command_shared.specs.declared.status.Status.{Status}
 use Rattle.jc_database.specs.Files.{EndsWith, InFiles}
 use Rattle.jc_ledger.specs.Kept.{IsKept}
 use Rattle.jc_ledger.specs.Known.{Known}
-use Rattle.jc_ledger.specs.Owners.{BelongsTo, Owner, machine_named}
+use Rattle.jc_ledger.specs.Owners.{Owner, whose_by}
 use Rattle.jc_ledger.specs.Union.{union}
 use Rattle.jc_collector.specs.Noted.{NotedFailsBy}
 use Rattle.jc_collector.specs.Database.{CollectFailsBy}
@@ -30,21 +29,18 @@ LeadsIf made image o files Holds Step =
     o.clean files → (kind : Tables) (before : Journal) → BeginsIn made kind image before → Holds before
     → EndsWith (meaning_of kind) o files (Step before)
 
--- If a machine is named, the sequence belongs to it, by these owners.
-abbrev pub BelongsBy : Owner → (machine : Option (List ℕ)) → Id128 → Type 0
-BelongsBy owner machine s = BelongsTo (option_map machine_named machine) (owner s)
-
 -- The line of an answer was printed for each line of a text, and the status is theirs. They are the answers to the uploads in
 -- the files that the lines name, by what is told of these, and each acknowledged one is stored in the union of the finished
 -- databases and the present one. What is known is what these have.
 -- What is noted of a database that was set aside counts as a finished one's. Of what else it has nothing is said: that may be
 -- stored once more.
--- What is new of each line belongs to the machine that the line names.
+-- What is new of each line belongs to the machine that the line names. If 71 is answered to it, the entry at its place is of
+-- a sequence that belongs to another one.
 pub record StoresNotedNames (told : List ℕ → Option (List ℕ)) (past : Journal) (known : Known) (came : LogEntry → Type 0) (owner : Owner) (text : Option (List ℕ)) (status : Status)
     (old new : Option (List ℕ)) (before after : Journal) : Type 0 where
   pub kept : IsKept known past after came
   pub stored : NamedWith (λ answers. StoresFirstOf (those_named told MachinesAndUploads text) (union past before) answers (union past after)) text status old new
-  pub own : NamedWith (CollectsText told MachinesAndUploads (BelongsBy owner) text (union past before) (union past after)) text status old new
+  pub own : NamedWith (CollectsText told MachinesAndUploads (whose_by owner) text (union past before) (union past after)) text status old new
 
 -- The same of an answer for each line of a list, where windows of sequences may be bounded.
 pub record StoresNotedFromList (told : List ℕ → Option (List ℕ)) (most_windows : Option ℕ) (past : Journal) (known : Known) (came : LogEntry → Type 0) (owner : Owner) (list : List ℕ) (given : Option (List ℕ))

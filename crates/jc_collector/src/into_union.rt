@@ -12,11 +12,12 @@ ghost use Rattle.jc_collector_answers.specs.Tied.{NamedWith};
 ghost use Rattle.jc_database.specs.Files.{AreLawful};
 ghost use Rattle.jc_ledger.specs.Kept.{NoneCollide};
 ghost use Rattle.jc_ledger.specs.Lagging.{MayCatchUp};
+ghost use Rattle.jc_ledger.specs.Owners.{whose_by};
 ghost use Rattle.jc_ledger.specs.Union.{union};
 ghost use Rattle.jc_store.specs.Meaning.{IsSound, journal_of};
 ghost use Rattle.jc_collector.specs.UnionAnswered.{AnswersNoted};
 ghost use Rattle.jc_collector.specs.Database.{DatabaseFailsBy};
-ghost use Rattle.jc_collector.specs.IntoUnion.{BelongsBy, LeadsIf, UnionFailsBy, UnionStopsBy};
+ghost use Rattle.jc_collector.specs.IntoUnion.{LeadsIf, UnionFailsBy, UnionStopsBy};
 ghost use Rattle.jc_collector.specs.UnionRun.{IsFoundAs, RunsFromList, RunsNoted, RunsNotedOrNot};
 ghost use Rattle.jc_collector.specs.Exported.{MayReplaceIf, OpensAndExports, OpensAndMayReplace, ReplacesIf};
 ghost use Rattle.jc_collector.specs.UnionOpened.{MayOpen};
@@ -275,9 +276,9 @@ pub fn join_open<
     // acknowledge is stored and noted, and found after a crash.
     ensures answers { AnswersNoted T.meaning S.Store L.Ledger ⟦<TableUnion<S, T, L, P> as Keeper>⟧ P.journal (λ Holds. NamedWith Holds (N.remaining names.old))
         (those_named (told_within most Y.told) NameLines.MachinesAndUploads (N.remaining names.old)) present.conn ledger result.union result.union.present.conn result.union.ledger result.answered (O.contents output.old) (O.contents output.new) }
-    // What is new of each line belongs to the machine that the line names.
+    // What is new of each line belongs to the machine that the line names. What is told to be another machine's is.
     ensures brought { ⟦<TableUnion<S, T, L, P> as Keeper>⟧.sound result.union → MayOpen T.meaning S.Store present.conn (L.known ledger) P.journal (L.came ledger)
-        → IfOk result.answered (λ status. NamedWith (CollectsText (told_within most Y.told) NameLines.MachinesAndUploads (BelongsBy (L.owner result.union.ledger)) (N.remaining names.old)
+        → IfOk result.answered (λ status. NamedWith (CollectsText (told_within most Y.told) NameLines.MachinesAndUploads (whose_by (L.owner result.union.ledger)) (N.remaining names.old)
         (union P.journal (journal_of T.meaning S.Store present.conn)) (union P.journal (journal_of T.meaning S.Store result.union.present.conn)))
         (N.remaining names.old) status (O.contents output.old) (O.contents output.new)) }
     // No failure has shut the notes.

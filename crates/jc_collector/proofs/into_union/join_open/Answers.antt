@@ -5,11 +5,12 @@ use Rattle.std.specs.Prelude.{⊤}
 use Rattle.sqlite.specs.Held.{state}
 use Rattle.sqlite.specs.State.{HasCleanDisk}
 use Rattle.jc_ledger.specs.Kept.{NoneCollide}
+use Rattle.jc_ledger.specs.Owners.{whose_by}
 use Rattle.jc_store.specs.Crash.{MayLeave}
 use Rattle.jc_store.specs.Meaning.{IsSound, journal_of}
 use Rattle.jc_collector.specs.UnionLaws.{holds_nothing, holds_through, no_union}
 use Rattle.jc_collector.specs.Database.{IsOutFailure, MayEndNames}
-use Rattle.jc_collector.specs.IntoUnion.{BelongsBy, UnionStopsBy}
+use Rattle.jc_collector.specs.IntoUnion.{UnionStopsBy}
 use Rattle.jc_collector_answers.specs.Collected.{those_named, told_within}
 use Rattle.jc_collector_answers.specs.CollectedLaws.{some_named}
 use Rattle.jc_collector_answers.specs.PrintedLaws.{front_none, named, text_other}
@@ -198,11 +199,11 @@ returns-in-Ok-clause-brought g c = λ late may.
     rw (settle.ledger.owners late.1.0)
     (value_of_other c.export_after-done.result c.answer_names_within-answered.result (λ status. status) _
     (value_of_other c.export_after-done.result c.settle_after-settled.result (λ status. status) _ exported.answered settle.answered)
-    (named_between (told_within c.args.most g.Y.System.told) (BelongsBy (g.L.Ledger.owner _)) (g.N.Read.remaining c.args.names.now) g.P.Past.journal _ _ _ _ c.answer_names_within-answered.result _ _
+    (named_between (told_within c.args.most g.Y.System.told) (whose_by (g.L.Ledger.owner _)) (g.N.Read.remaining c.args.names.now) g.P.Past.journal _ _ _ _ c.answer_names_within-answered.result _ _
     (opened.journal.same may.sound may.made then_sound.0) (rw settle.present at (exported.keeps.same (exported.before late.0) (settle.made none (kept.stays_made made)).0 late.0))
     (named_stored (g.N.Read.remaining c.args.names.now) g.P.Past.journal (journal_of m g.S.Store then.present.conn) (journal_of m g.S.Store told.present.conn)
     then.pending.items told.pending.items opened.none none c.answer_names_within-answered.result _ _
-    (told_within c.args.most g.Y.System.told) (BelongsBy (g.L.Ledger.owner told.ledger))
+    (told_within c.args.most g.Y.System.told) (whose_by (g.L.Ledger.owner told.ledger))
     (c.answer_names_within-answered.ensures.brought told_sound made))))
 
 pub returns-in-Ok-clause-noted : goal.returns-in-Ok-clause-noted

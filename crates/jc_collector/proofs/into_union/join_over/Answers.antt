@@ -13,10 +13,11 @@ use Rattle.jc_collector_answers.specs.declared.name_lines.NameLines.TheVariants.
 use Rattle.jc_ledger.specs.Kept.{IsKept, NoneCollide}
 use Rattle.jc_ledger.specs.Lagging.{MayCatchUp}
 use Rattle.jc_ledger.specs.LaggingLaws.{kept_alone, noted_pending}
+use Rattle.jc_ledger.specs.Owners.{whose_by}
 use Rattle.jc_ledger.specs.Union.{union}
 use Rattle.jc_store.specs.Meaning.{IsSound, journal_of}
 use Rattle.jc_collector.specs.UnionOpened.{MayOpen}
-use Rattle.jc_collector.specs.IntoUnion.{BelongsBy, UnionStopsBy}
+use Rattle.jc_collector.specs.IntoUnion.{UnionStopsBy}
 use Rattle.jc_collector.specs.PrintedLaws.{whole}
 use Rattle.jc_collector.specs.UnionLeft.{handed_back}
 use Rattle.jc_collector.specs.UnionLeftLaws.{union_left}
@@ -67,9 +68,9 @@ returns-clause-runs g c = λ lawful made first found.
                 shown = printed.shown;
                 holds = subst (λ (j : Journal). StoresFirstOf named_uploads (union past j) printed.shown.printed.answers (union past after)) has.is (printed.holds.stored now);
               };
-              own = subst (λ (l : g.row.L.Denot). NamedWith (CollectsText (told_within c.args.most_windows g.Y.System.told) MachinesAndUploads (BelongsBy (g.L.Ledger.owner l)) text
+              own = subst (λ (l : g.row.L.Denot). NamedWith (CollectsText (told_within c.args.most_windows g.Y.System.told) MachinesAndUploads (whose_by (g.L.Ledger.owner l)) text
                   (union past before) (union past after)) text run.status old new) (sym ledger)
-                  (subst (λ (j : Journal). NamedWith (CollectsText (told_within c.args.most_windows g.Y.System.told) MachinesAndUploads (BelongsBy (g.L.Ledger.owner it.ledger)) text
+                  (subst (λ (j : Journal). NamedWith (CollectsText (told_within c.args.most_windows g.Y.System.told) MachinesAndUploads (whose_by (g.L.Ledger.owner it.ledger)) text
                   (union past j) (union past after)) text run.status old new) has.is
                   (at_ok answered run.status _ done (c.join_open-union.ensures.brought now may)));
             };
