@@ -1,5 +1,5 @@
 -- A run over a union of databases: why it fails, and what it makes of the files.
-use Rattle.std.proofs.Common.{◌≡◌, ◌⊎◌, ℕ, List, [], Option, None, Result, Ok, Err, ap, inl, inr, refl, sym, subst}
+use Rattle.std.proofs.Common.{◌≡◌, ◌⊎◌, ℕ, List, [], Option, None, Result, Ok, Err, ap, inl, inr, refl, sym, subst, subst₂}
 use Rattle.std.proofs.KnownBytes.{Keeps-refl}
 use Rattle.std.specs.Prelude.{IfOk, IfSome, IsSomeAnd}
 use Rattle.sqlite.specs.Store.{Ghosts}
@@ -18,6 +18,7 @@ use Rattle.jc_collector_answers.specs.PrintedLaws.{named}
 use Rattle.jc_collector_answers.specs.Tied.{NamedWith, PrintsFront}
 use Rattle.jc_collector_answers.specs.declared.name_lines.NameLines.TheVariants.{MachinesAndUploads}
 use Rattle.jc_command_args.specs.declared.request.Tables.{Tables}
+use Rattle.jc_command_shared.specs.Deeds.{Deed}
 use Rattle.jc_command_shared.specs.declared.failure.Failure.{Failure}
 use Rattle.jc_command_shared.specs.declared.failure.Failure.TheVariants.{Bad, BadAnswer, BadDatabaseName, BadExportName, BadFieldName, BadId, BadLine, BadResume, BadUpload, CannotOpen, OutOfMemory, ReadFailed, SourceChanged, StoreFailed, WordsAreNoText, WriteFailed}
 use Rattle.jc_command_shared.specs.declared.status.Status.{Status}
@@ -33,7 +34,7 @@ use Rattle.jc_collector.specs.IntoUnion.{LeadsIf, UnionFailsBy, UnionStopsBy}
 use Rattle.jc_collector.specs.Kinds.{meaning_of}
 use Rattle.jc_collector.specs.Open.{IsFoundIn}
 use Rattle.jc_collector.specs.UnionRun.{FailsEarly, IsFoundAs}
-use Rattle.jc_collector.specs.Unopened.{LeavesBegun}
+use Rattle.jc_collector.specs.Unopened.{IsLeftUnopened, LeavesBegun}
 use Rattle.jc_collector.specs.declared.into_union.closing.FailedRun.{FailedRun}
 use Rattle.jc_collector.proofs.Open.{front_named}
 use Rattle.jc_collector.proofs.Results.{some_each}
@@ -42,21 +43,26 @@ use Rattle.jc_upload.specs.declared.answer.Answer.{Answer}
 -- ---- before its present database is open
 
 -- What is handed back of it, if that isn't opened.
-pub fails_early : {S C R N : Type 0} (o : InFiles S C R) (made : Tables) (first : Image) (ledger : N) (run : FailedRun R N) (files : Option R) (old : Option (List ℕ))
-    → IsSomeAnd run.left (λ it. (it.files ≡ files) × (it.ledger ≡ ledger)) → IfSome files (LeavesBegun o made first)
-    → FailsEarly o made first ledger (Err run) old old
-fails_early {R = R} o made first ledger run files old left begun = record {
+pub fails_early : {S C R N : Type 0} (o : InFiles S C R) (made : Tables) (first : Image) (ledger : N) (run : FailedRun R N) (failure : Failure) (files : Option R) (old : Option (List ℕ))
+    (deeds deeds_now : Option (List Deed)) → run.failure ≡ failure → IsSomeAnd run.left (λ it. (it.files ≡ files) × (it.ledger ≡ ledger))
+    → IsLeftUnopened o made first failure deeds deeds_now files → FailsEarly o made first ledger (Err run) old old deeds deeds_now
+fails_early {R = R} o made first ledger run failure files old deeds deeds_now same left unopened = record {
   run = run;
   failed = refl;
-  left = some_each run.left _ _ left (λ it is. (is.1, subst (λ (f : Option R). IfSome f (LeavesBegun o made first)) (sym is.0) begun));
+  left =
+      some_each run.left _ _ left
+      (λ it is. (is.1, subst₂ (λ (w : Failure) (f : Option R). IsLeftUnopened o made first w deeds deeds_now f) (sym same) (sym is.0) unopened));
   kept = Keeps-refl old;
 }
 
 -- ... or no file of it is.
-pub fails_first : {S C R N : Type 0} (o : InFiles S C R) (made : Tables) (first : Image) (ledger : N) (run : FailedRun R N) (files : Option R) (old : Option (List ℕ)) → files ≡ None
-    → IsSomeAnd run.left (λ it. (it.files ≡ files) × (it.ledger ≡ ledger)) → FailsEarly o made first ledger (Err run) old old
-fails_first {R = R} o made first ledger run files old none left =
-    fails_early o made first ledger run files old left (subst (λ (f : Option R). IfSome f (LeavesBegun o made first)) (sym none) tt)
+pub fails_first : {S C R N : Type 0} (o : InFiles S C R) (made : Tables) (first : Image) (ledger : N) (run : FailedRun R N) (files : Option R) (old : Option (List ℕ)) (deeds : Option (List Deed)) → files ≡ None
+    → IsSomeAnd run.left (λ it. (it.files ≡ files) × (it.ledger ≡ ledger)) → FailsEarly o made first ledger (Err run) old old deeds deeds
+fails_first {R = R} o made first ledger run files old deeds none left =
+    fails_early o made first ledger run run.failure files old deeds deeds refl left (record {
+      begins = subst (λ (f : Option R). IfSome f (LeavesBegun o made first)) (sym none) tt;
+      handed = inr (inl refl);
+    })
 
 -- ---- why it fails
 

@@ -1,5 +1,5 @@
 -- What comes of a run over a union of databases: what it stores, prints and leaves. (own)
-use Rattle.std.specs.Prelude.{◌≡◌, ◌≢◌, ◌⊎◌, ℕ, List, Option, Result, Err, IfOk, IfErr, IfSome, IsSomeAnd}
+use Rattle.std.specs.Prelude.{◌≡◌, ◌≢◌, ◌⊎◌, ℕ, List, Option, Result, Err, IfOk, IfErr, IsSomeAnd}
 use Rattle.std.specs.Io.KnownBytes.{Keeps as KeepsBytes}
 use Rattle.sqlite.specs.Store.{Ghosts}
 use Rattle.sqlite.specs.Recovery.{Image}
@@ -10,6 +10,7 @@ use Rattle.jc_collector_answers.specs.Collected.{told_within}
 use Rattle.jc_collector_answers.specs.Named.{PrintsNamed}
 use Rattle.jc_collector_answers.specs.Tied.{PrintsFront}
 use Rattle.jc_command_args.specs.declared.request.Tables.{Tables}
+use Rattle.jc_command_shared.specs.Deeds.{Deed}
 use Rattle.jc_command_shared.specs.Failure.{status_of}
 use Rattle.jc_command_shared.specs.declared.status.Status.TheVariants.{Failed, Success}
 use Rattle.jc_database.specs.Files.{HoldsJournal, InFiles, Keeps}
@@ -21,7 +22,7 @@ use Rattle.jc_collector.specs.Kinds.{BeginsIn, meaning_of}
 use Rattle.jc_collector.specs.IntoUnion.{LeadsIf, StoresNotedNames}
 use Rattle.jc_collector.specs.OverFiles.{IsListed}
 use Rattle.jc_collector.specs.UnionLeft.{FilesLeft, HowPrinted, UnionIsLeft, handed_back}
-use Rattle.jc_collector.specs.Unopened.{LeavesBegun}
+use Rattle.jc_collector.specs.Unopened.{IsLeftUnopened}
 use Rattle.jc_collector.specs.declared.into_union.closing.FailedRun.{FailedRun}
 use Rattle.jc_collector.specs.declared.into_union.closing.NotedRun.{NotedRun}
 
@@ -33,12 +34,12 @@ pub record IsFoundAs (m : Meaning) {S : Type 0} (g : Ghosts S) (made : Tables) (
   pub same : HasCleanDisk (state g present) → (kind : Tables) (before : Journal) → BeginsIn made kind first before
       → (image : Image) (found : Journal) → HoldsJournal m image found → HoldsJournal (meaning_of kind) image found
 
--- The present database wasn't opened, and nothing is printed. The notes are handed back as they were given. With whatever a
--- crash leaves of the database's files, if they were opened, a run begins as it would have before.
-pub record FailsEarly {S C R N : Type 0} (o : InFiles S C R) (made : Tables) (first : Image) (ledger : N) (result : Result (NotedRun C N) (FailedRun R N)) (old new : Option (List ℕ)) : Type 0 where
+-- The present database wasn't opened, and nothing is printed. The notes are handed back as they were given, and what is left
+-- of the database's files.
+pub record FailsEarly {S C R N : Type 0} (o : InFiles S C R) (made : Tables) (first : Image) (ledger : N) (result : Result (NotedRun C N) (FailedRun R N)) (old new : Option (List ℕ)) (deeds deeds_now : Option (List Deed)) : Type 0 where
   pub run : FailedRun R N
   pub failed : result ≡ Err run
-  pub left : IsSomeAnd run.left (λ it. (it.ledger ≡ ledger) × IfSome it.files (LeavesBegun o made first))
+  pub left : IsSomeAnd run.left (λ it. (it.ledger ≡ ledger) × IsLeftUnopened o made first run.failure deeds deeds_now it.files)
   pub kept : KeepsBytes old new
 
 module _ {S C R N : Type 0} (o : InFiles S C R) (n : ledgers.Ghosts N) (made : Tables) (first : Image) (told : List ℕ → Option (List ℕ)) (past : Journal) (ledger : N) where
@@ -60,14 +61,15 @@ module _ {S C R N : Type 0} (o : InFiles S C R) (n : ledgers.Ghosts N) (made : T
     pub untouched : IfErr result (λ run. status_of run.failure ≢ Failed → KeepsBytes old new)
 
   -- The same of a run that may fail before its present database is open.
-  abbrev pub RunsNotedOrNot : (text : Option (List ℕ)) → Result (NotedRun C N) (FailedRun R N) → (old new errors errors_now : Option (List ℕ)) → Type 0
-  RunsNotedOrNot text result old new errors errors_now = FailsEarly o made first ledger result old new ⊎ RunsNoted text result old new errors errors_now
+  abbrev pub RunsNotedOrNot : (text : Option (List ℕ)) → Result (NotedRun C N) (FailedRun R N) → (old new errors errors_now : Option (List ℕ)) → (deeds deeds_now : Option (List Deed)) → Type 0
+  RunsNotedOrNot text result old new errors errors_now deeds deeds_now =
+      FailsEarly o made first ledger result old new deeds deeds_now ⊎ RunsNoted text result old new errors errors_now
 
 -- The same of a list, which is given by its name, where windows of sequences may be bounded.
 abbrev pub RunsFromList : {S C R N : Type 0} → InFiles S C R → ledgers.Ghosts N → (made : Tables) → (first : Image) → (told : List ℕ → Option (List ℕ)) → (most_windows : Option ℕ)
-    → (past : Journal) → (ledger : N) → (list : List ℕ) → (given : Option (List ℕ)) → Result (NotedRun C N) (FailedRun R N) → (old new errors errors_now : Option (List ℕ)) → Type 0
-RunsFromList o n made first told most_windows past ledger list given result old new errors errors_now =
-    FailsEarly o made first ledger result old new
+    → (past : Journal) → (ledger : N) → (list : List ℕ) → (given : Option (List ℕ)) → Result (NotedRun C N) (FailedRun R N) → (old new errors errors_now : Option (List ℕ)) → (deeds deeds_now : Option (List Deed)) → Type 0
+RunsFromList o n made first told most_windows past ledger list given result old new errors errors_now deeds deeds_now =
+    FailsEarly o made first ledger result old new deeds deeds_now
     ⊎ ((text : Option (List ℕ)) × IsListed told list given text
     × RunsNoted o n made first (told_within most_windows told) past ledger text result old new errors errors_now)
 

@@ -1,14 +1,16 @@
 -- What a run over a union whose uploads a list names comes to, by how it ends. (own)
 use Rattle.std.proofs.Common.{◌≡◌, ◌≢◌, ℕ, List, Option, Result, inl, inr, subst, sym}
 use Rattle.std.proofs.lemmas.Result.{IfErr-weaker, IfOk-weaker}
-use Rattle.std.specs.Prelude.{◌⊎◌, IfErr, IfOk, IfSome, IsSomeAnd, None, Some}
+use Rattle.std.specs.Prelude.{◌⊎◌, IfErr, IfOk, IsSomeAnd, None, Some}
 use Rattle.std.specs.Io.KnownBytes.{Keeps}
 use Rattle.sqlite.specs.Recovery.{Image}
 use Rattle.jc_base.specs.Journal.{Journal}
 use Rattle.jc_collector_answers.specs.Collected.{told_within}
 use Rattle.jc_collector_answers.specs.Tied.{PrintsFront}
 use Rattle.jc_command_args.specs.declared.request.Tables.{Tables}
+use Rattle.jc_command_shared.specs.Deeds.{Deed}
 use Rattle.jc_command_shared.specs.Failure.{status_of}
+use Rattle.jc_command_shared.specs.declared.failure.Failure.{Failure}
 use Rattle.jc_command_shared.specs.declared.status.Status.TheVariants.{Failed, Success}
 use Rattle.jc_database.specs.Files.{InFiles}
 use Rattle.jc_ledger.specs.declared.ledger.Ledger as ledgers
@@ -19,18 +21,18 @@ use Rattle.jc_collector.specs.IntoUnion.{LeadsIf, StoresNotedFromList}
 use Rattle.jc_collector.specs.OverFiles.{IsListed}
 use Rattle.jc_collector.specs.UnionLeft.{FilesLeft, HowPrinted, UnionIsLeft, handed_back}
 use Rattle.jc_collector.specs.UnionRun.{FailsEarly, ListIsLeft, RunsFromList}
-use Rattle.jc_collector.specs.Unopened.{LeavesBegun}
+use Rattle.jc_collector.specs.Unopened.{IsLeftUnopened}
 use Rattle.jc_collector.specs.declared.into_union.closing.FailedRun.{FailedRun}
 use Rattle.jc_collector.specs.declared.into_union.closing.NotedLeft.{NotedLeft}
 use Rattle.jc_collector.specs.declared.into_union.closing.NotedRun.{NotedRun}
 
 module _ {S C R N : Type 0} (o : InFiles S C R) (n : ledgers.Ghosts N) (made : Tables) (first : Image) (told : List ℕ → Option (List ℕ)) (most_windows : Option ℕ)
-    (past : Journal) (ledger : N) (list : List ℕ) (given : Option (List ℕ)) (result : Result (NotedRun C N) (FailedRun R N)) (old new errors errors_now : Option (List ℕ))
+    (past : Journal) (ledger : N) (list : List ℕ) (given : Option (List ℕ)) (result : Result (NotedRun C N) (FailedRun R N)) (old new errors errors_now : Option (List ℕ)) (deeds deeds_now : Option (List Deed))
   where
     abbrev pub Runs : Type 0
-    Runs = RunsFromList o n made first told most_windows past ledger list given result old new errors errors_now
+    Runs = RunsFromList o n made first told most_windows past ledger list given result old new errors errors_now deeds deeds_now
 
-    early_ok : (P : NotedRun C N → Type 0) → FailsEarly o made first ledger result old new → IfOk result P
+    early_ok : (P : NotedRun C N → Type 0) → FailsEarly o made first ledger result old new deeds deeds_now → IfOk result P
     early_ok P early = subst (λ (r : Result (NotedRun C N) (FailedRun R N)). IfOk r P) (sym early.failed) tt
 
     pub runs_stored : Runs → IfOk result (λ run. LeadsIf made first o run.files
@@ -75,16 +77,16 @@ module _ {S C R N : Type 0} (o : InFiles S C R) (n : ledgers.Ghosts N) (made : T
         listed_left text listed Prints files notes left =
             (text, listed, λ clean l_clean none kind before begin noted. left clean l_clean none kind before begin (each before noted))
 
-        abbrev pub LeavesNotes : NotedLeft R N → Type 0
-        LeavesNotes it =
-            (AreGiven it.ledger × (IfSome it.files (LeavesBegun o made first) × Keeps old new))
+        abbrev pub LeavesNotes : Failure → NotedLeft R N → Type 0
+        LeavesNotes failure it =
+            (AreGiven it.ledger × (IsLeftUnopened o made first failure deeds deeds_now it.files × Keeps old new))
             ⊎ IsSomeAnd it.files (λ files. ListIsLeft n made first told most_windows past Noted list given
             (λ text Holds. PrintsFront Holds old new) (handed_back o first files) it.ledger)
 
-        left_early : (left : Option (NotedLeft R N)) → Keeps old new
-            → IsSomeAnd left (λ it. (it.ledger ≡ ledger) × IfSome it.files (LeavesBegun o made first)) → IsSomeAnd left LeavesNotes
-        left_early None kept some = absurd some
-        left_early (Some it) kept early = inl (subst AreGiven (sym early.0) given_so, (early.1, kept))
+        left_early : (failure : Failure) (left : Option (NotedLeft R N)) → Keeps old new
+            → IsSomeAnd left (λ it. (it.ledger ≡ ledger) × IsLeftUnopened o made first failure deeds deeds_now it.files) → IsSomeAnd left (LeavesNotes failure)
+        left_early failure None kept some = absurd some
+        left_early failure (Some it) kept early = inl (subst AreGiven (sym early.0) given_so, (early.1, kept))
 
         left_files : (text : Option (List ℕ)) → IsListed told list given text → (notes : N) → (files : Option R)
             → IsSomeAnd files (λ files. UnionIsLeft n made first (told_within most_windows told) past
@@ -94,15 +96,15 @@ module _ {S C R N : Type 0} (o : InFiles S C R) (n : ledgers.Ghosts N) (made : T
         left_files text listed notes None some = absurd some
         left_files text listed notes (Some files) left = listed_left text listed (λ text Holds. PrintsFront Holds old new) (handed_back o first files) notes left
 
-        left_some : (text : Option (List ℕ)) → IsListed told list given text → (left : Option (NotedLeft R N))
+        left_some : (text : Option (List ℕ)) → IsListed told list given text → (failure : Failure) (left : Option (NotedLeft R N))
             → IsSomeAnd left (λ it. IsSomeAnd it.files (λ files. UnionIsLeft n made first (told_within most_windows told) past
             (λ before. MayCatchUp (n.known ledger) past before (n.came ledger) × n.sound ledger) text (λ Holds. PrintsFront Holds old new) (handed_back o first files) it.ledger))
-            → IsSomeAnd left LeavesNotes
-        left_some text listed None some = absurd some
-        left_some text listed (Some it) left = inr (left_files text listed it.ledger it.files left)
+            → IsSomeAnd left (LeavesNotes failure)
+        left_some text listed failure None some = absurd some
+        left_some text listed failure (Some it) left = inr (left_files text listed it.ledger it.files left)
 
-        pub runs_left : Runs → IfErr result (λ run. IsSomeAnd run.left LeavesNotes)
+        pub runs_left : Runs → IfErr result (λ run. IsSomeAnd run.left (LeavesNotes run.failure))
         runs_left (inl early) =
-            subst (λ (r : Result (NotedRun C N) (FailedRun R N)). IfErr r (λ run. IsSomeAnd run.left LeavesNotes)) (sym early.failed)
-            (left_early early.run.left early.kept early.left)
-        runs_left (inr (text, listed, runs)) = IfErr-weaker result _ _ (λ run left. left_some text listed run.left left) runs.left
+            subst (λ (r : Result (NotedRun C N) (FailedRun R N)). IfErr r (λ run. IsSomeAnd run.left (LeavesNotes run.failure))) (sym early.failed)
+            (left_early early.run.failure early.run.left early.kept early.left)
+        runs_left (inr (text, listed, runs)) = IfErr-weaker result _ _ (λ run left. left_some text listed run.failure run.left left) runs.left

@@ -1,5 +1,5 @@
 -- What a crash leaves of files while they are opened as a journal's. (own)
-use Rattle.std.specs.Prelude.{◌≡◌, ◌⊎◌, ⊤, List, Option, IsSome}
+use Rattle.std.specs.Prelude.{◌≡◌, ◌⊎◌, ⊤, List, Option, IfSome, IsSome}
 use Rattle.sqlite.specs.Store.{Ghosts}
 use Rattle.sqlite.specs.Recovery.{Image}
 use Rattle.sqlite.specs.Held.{Held, state}
@@ -17,19 +17,24 @@ use Rattle.jc_collector.specs.Kinds.{BeginsIn, meaning_of}
 abbrev pub BeginsAgain : (made : Tables) → (before left : Image) → Type 0
 BeginsAgain made before left = (kind : Tables) (found : Journal) → BeginsIn made kind before found → ∥ BeginsIn made kind left found ∥₁
 
--- Why a database's files aren't opened, so that nothing is handed back of them.
+-- Why a database's files may be kept back: they can't be opened, or memory was refused.
 abbrev pub IsEarlyFailure : Failure → Type 0
 IsEarlyFailure (CannotOpen path) = ⊤
 IsEarlyFailure OutOfMemory = ⊤
 IsEarlyFailure _ = ⊥
 
--- What is left of a database's files is handed back, unless none was opened, or couldn't be for such a reason.
+-- What is left of a database's files is handed back, unless none was opened, or they may be kept back.
 abbrev pub HandsBack : {L : Type 0} → Option L → Failure → (old new : Option (List Deed)) → Type 0
 HandsBack left failure old new = IsSome left ⊎ ((new ≡ old) ⊎ IsEarlyFailure failure)
 
 -- With whatever a crash leaves of the files a run begins so.
 abbrev pub LeavesBegun : {S C L : Type 0} → InFiles S C L → (made : Tables) → (before : Image) → L → Type 0
 LeavesBegun o made before left = LeavesOnly o (BeginsAgain made before) before left
+
+-- What is left of files that weren't opened as a journal's is handed back, and with it a run begins so.
+pub record IsLeftUnopened {S C L : Type 0} (o : InFiles S C L) (made : Tables) (before : Image) (failure : Failure) (old new : Option (List Deed)) (left : Option L) : Type 0 where
+  pub begins : IfSome left (LeavesBegun o made before)
+  pub handed : HandsBack left failure old new
 
 -- A crash leaves files as a connection without tables was opened from, or such with an empty journal in tables of this kind.
 abbrev pub LeavesUnmade : {S C L : Type 0} → Ghosts S → InFiles S C L → (made : Tables) → (conn : Held S) → L → Type 0

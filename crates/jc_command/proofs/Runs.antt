@@ -1,5 +1,5 @@
 -- How a run ends, from what its parts promise.
-use Rattle.std.proofs.Common.{◌≡◌, ◌≢◌, ◌⊎◌, ◌∙◌, ◌∷◌, [], ap, refl, sym, subst, inl, inr, Bool, true, false, List, ℕ, Option}
+use Rattle.std.proofs.Common.{◌≡◌, ◌≢◌, ◌⊎◌, ◌∙◌, ◌∷◌, [], ap, refl, sym, subst, subst₂, inl, inr, Bool, true, false, List, ℕ, Option}
 use Rattle.std.specs.Prelude.{IfOk, IfErr, IsErrAnd, IsOkAnd, None, Result, Ok, Err, if◌then◌else◌}
 use Rattle.std.specs.List.{list_any}
 use Rattle.std.specs.Borrow.{Bor}
@@ -135,17 +135,17 @@ pub err_of : {T U L N : Type 0} (made : Result U (FailedRun L N)) (r : Result T 
 err_of (Ok u) r Q is p = tt
 err_of (Err run) r Q is p = at_err r run.failure Q is p
 
-pub fails_one : {S C L N : Type 0} (begun : Begins) (g : Devices S C L N) (request asked : Request) (given old new : Option (List ℕ)) (run : FailedRun L N)
-    → asked ≡ request → HasFailed begun g request given old new run → HasFailed begun g asked given old new run
-fails_one begun g request asked given old new run same fails = subst (λ (q : Request). HasFailed begun g q given old new run) (sym same) fails
+pub fails_one : {S C L N : Type 0} {deeds : Option (List Deed)} (begun : Begins) (g : Devices S C L N) (request asked : Request) (given old new : Option (List ℕ)) (run : FailedRun L N)
+    → asked ≡ request → HasFailed begun g request given old new deeds run → HasFailed begun g asked given old new deeds run
+fails_one {deeds = deeds} begun g request asked given old new run same fails = subst (λ (q : Request). HasFailed begun g q given old new deeds run) (sym same) fails
 
 -- what is made of an error is what the request fails by
-pub fails_as : {S C L N T U : Type 0} (begun : Begins) (g : Devices S C L N) (made : Result U (FailedRun L N)) (r : Result T Failure) (request asked : Request) (given old new : Option (List ℕ))
-    → asked ≡ request → IfErr made (λ run. r ≡ Err run.failure) → IfErr made (λ run. FailsLeaving begun g request given old new run.left)
+pub fails_as : {S C L N T U : Type 0} (begun : Begins) (g : Devices S C L N) (made : Result U (FailedRun L N)) (r : Result T Failure) (request asked : Request) (given old new : Option (List ℕ)) (deeds : Option (List Deed))
+    → asked ≡ request → IfErr made (λ run. r ≡ Err run.failure) → IfErr made (λ run. FailsLeaving begun g request given old new deeds run.failure run.left)
     → IfErr r (FailsBy begun.told request given) → IfErr r (λ failure. status_of failure ≢ Failed → Keeps old new)
-    → IfErr made (HasFailed begun g asked given old new)
-fails_as begun g (Ok u) r request asked given old new same is leaves fails keeps = tt
-fails_as begun g (Err run) r request asked given old new same is leaves fails keeps = fails_one begun g request asked given old new run same (record {
+    → IfErr made (HasFailed begun g asked given old new deeds)
+fails_as begun g (Ok u) r request asked given old new deeds same is leaves fails keeps = tt
+fails_as begun g (Err run) r request asked given old new deeds same is leaves fails keeps = fails_one begun g request asked given old new run same (record {
   why = at_err r run.failure (FailsBy begun.told request given) is fails;
   leaves = leaves;
   kept = at_err r run.failure (λ failure. status_of failure ≢ Failed → Keeps old new) is keeps;
@@ -370,12 +370,12 @@ stops_answered told words k r given output output' errors errors' asked mistaken
     by_write (Err why) fact = inl (ap status_of fact)
 
 -- ... and leaves nothing of a database: nothing was printed, or help was
-pub left_answered : {S C L N : Type 0} (begun : Begins) (g : Devices S C L N) (words : List Text) (k : ErrorKind) (r : Result Status Failure) (given output output' : Option (List ℕ)) (left : Option (NotedLeft L N))
+pub left_answered : {S C L N : Type 0} (begun : Begins) (g : Devices S C L N) (words : List Text) (k : ErrorKind) (r : Result Status Failure) (given output output' : Option (List ℕ)) (status : Status) (left : Option (NotedLeft L N))
     → left ≡ None → (k ≡ kind.OutOfMemory) ⊎ AreAnswered words k
     → (¬ IsAskedFor k → k ≢ kind.OutOfMemory → (r ≡ Ok Misused) × Keeps output output')
     → (k ≡ kind.OutOfMemory → (r ≡ Err failures.OutOfMemory) × Keeps output output')
-    → FailsAsked begun g words given output output' left
-left_answered begun g words k r given output output' left none answered mistaken memory =
+    → FailsAsked begun g words given output output' begun.deeds status left
+left_answered begun g words k r given output output' status left none answered mistaken memory =
     inl (
       elim (sorted k) [
         | inl h ↦ elim answered [ inl m ↦ inl (memory m).1 | inr is ↦ inr (k, h, is) ]
@@ -384,29 +384,17 @@ left_answered begun g words k r given output output' left none answered mistaken
           | inr n ↦ inl (mistaken n.0 n.1).1
         ]
       ],
-      none,
+      (refl, none),
     )
 
--- what was asked for is performed, or nothing is begun
-performed_or_left : {S C L N : Type 0} (begun : Begins) (g : Devices S C L N) (left : Leaves C N) (words : List Text) (given output output' errors errors' : Option (List ℕ)) (status : Status)
-    → Ends begun g left words given output output' errors errors' status
-    → PerformsAsked begun g left words given output output' status ⊎ FailsAsked begun g words given output output' None
-performed_or_left begun g left words given output output' errors errors' Success (quiet, inl help) = inr (inl (inr help, refl))
-performed_or_left begun g left words given output output' errors errors' Success (quiet, inr performs) = inl performs
-performed_or_left begun g left words given output output' errors errors' Refused (inl performs) = inl performs
-performed_or_left begun g left words given output output' errors errors' Refused (inr stops) = inr (inl (inl stops.kept, refl))
-performed_or_left begun g left words given output output' errors errors' Misused (inl (wrong, kept)) = inr (inl (inl kept, refl))
-performed_or_left begun g left words given output output' errors errors' Misused (inr stops) = inr (inl (inl stops.kept, refl))
-performed_or_left begun g left words given output output' errors errors' Failed performs = inl performs
-performed_or_left begun g left words given output output' errors errors' Unanswered performs = inl performs
-
--- ... by the status's number
-pub done_by_number : {S C L N : Type 0} (begun : Begins) (g : Devices S C L N) (left : Leaves C N) (words texts : List Text) (given output output' errors errors' : Option (List ℕ)) (n : ℕ) (status wanted : Status)
-    → texts ≡ words → n ≡ number_of status → n ≡ number_of wanted → Ends begun g left texts given output output' errors errors' status
-    → PerformsAsked begun g left words given output output' wanted ⊎ FailsAsked begun g words given output output' None
-done_by_number begun g left words texts given output output' errors errors' n status wanted same is wants ends =
-    performed_or_left begun g left words given output output' errors errors' wanted
-    (by_number begun g left words texts given output output' errors errors' n status wanted same is wants ends)
+-- the status that a number says, whether it is performed or fails
+pub either_by_number : {S C L N : Type 0} (begun : Begins) (g : Devices S C L N) (left : Leaves C N) (words texts : List Text) (given output output' : Option (List ℕ)) (deeds : Option (List Deed)) (n : ℕ)
+    (status wanted : Status) (handed : Option (NotedLeft L N)) → texts ≡ words → n ≡ number_of status → n ≡ number_of wanted
+    → PerformsAsked begun g left texts given output output' status ⊎ FailsAsked begun g texts given output output' deeds status handed
+    → PerformsAsked begun g left words given output output' wanted ⊎ FailsAsked begun g words given output output' deeds wanted handed
+either_by_number begun g left words texts given output output' deeds n status wanted handed same is wants ends =
+    subst₂ (λ (t : List Text) (s : Status). PerformsAsked begun g left t given output output' s ⊎ FailsAsked begun g t given output output' deeds s handed)
+    same (same_status status wanted (sym is ∙ wants)) ends
 
 -- ---- over a union of databases
 

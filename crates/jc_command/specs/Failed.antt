@@ -1,19 +1,22 @@
 -- What a run of the program leaves in which what was asked for isn't performed. (own)
-use Rattle.std.specs.Prelude.{◌≡◌, ◌≢◌, ◌↔◌, ◌⊎◌, ℕ, List, Option, None, IfSome, IsSomeAnd}
+use Rattle.std.specs.Prelude.{◌≡◌, ◌≢◌, ◌↔◌, ◌⊎◌, ℕ, List, Option, None, IsSomeAnd}
 use Rattle.std.specs.Io.KnownBytes.{Keeps}
 use Rattle.clap.specs.Words.{Text}
 use Rattle.jc_base.specs.declared.id.Id128.{Id128}
 use Rattle.jc_base.specs.declared.id.Key.{Key}
 use Rattle.jc_base.specs.LogEntry.{LogEntry}
 use Rattle.jc_collector.specs.UnionLeft.{handed_back}
-use Rattle.jc_collector.specs.Unopened.{LeavesBegun}
+use Rattle.jc_collector.specs.Unopened.{IsLeftUnopened}
 use Rattle.jc_collector.specs.declared.into_union.closing.FailedRun.{FailedRun}
 use Rattle.jc_collector.specs.declared.into_union.closing.NotedLeft.{NotedLeft}
 use Rattle.jc_collector_answers.specs.Tied.{PrintsFront}
 use Rattle.jc_command_args.specs.Words.{AskFor, AskForHelp}
 use Rattle.jc_command_args.specs.declared.request.Request.{Request}
 use Rattle.jc_command_args.specs.declared.request.Request.TheVariants.{CollectIntoUnion}
+use Rattle.jc_command_shared.specs.Deeds.{Deed}
 use Rattle.jc_command_shared.specs.Failure.{status_of}
+use Rattle.jc_command_shared.specs.declared.failure.Failure.{Failure}
+use Rattle.jc_command_shared.specs.declared.status.Status.{Status}
 use Rattle.jc_command_shared.specs.declared.status.Status.TheVariants.{Failed}
 use Rattle.jc_command.specs.Run.{Begins, Devices, FailsBy, LeavesUnion}
 
@@ -25,28 +28,33 @@ module _ {S C L N : Type 0} (begun : Begins) (g : Devices S C L N) where
     pub owner : (s : Id128) → g.ledger.owner notes s ≡ begun.owner s
     pub came : (e : LogEntry) → g.ledger.came notes e ↔ begun.came e
 
-  -- What a request leaves that fails. Of a union there may be nothing, as if its notes weren't opened, and nothing was printed.
-  -- Or the notes are as they were opened, as if its present database wasn't: nothing was printed either, and with whatever a crash
-  -- leaves of the database's files that are handed back, if any, a run begins as it would have before. Otherwise what is left of
-  -- both has what was printed. Of other requests nothing is handed back.
-  abbrev pub FailsLeaving : Request → (given old new : Option (List ℕ)) → Option (NotedLeft L N) → Type 0
-  FailsLeaving (CollectIntoUnion database tables list sequences most_windows then_export) given old new left =
-      ((left ≡ None) × Keeps old new)
+  -- Nothing was done to files, and nothing is handed back.
+  abbrev pub BeginsNothing : (deeds : Option (List Deed)) → Option (NotedLeft L N) → Type 0
+  BeginsNothing deeds left = (deeds ≡ begun.deeds) × (left ≡ None)
+
+  -- What a request leaves that fails. Of a union there may be nothing, as if its notes weren't opened: then no database was
+  -- opened, and nothing was printed. Or the notes are as they were opened, as if its present database wasn't: nothing was printed
+  -- either, and what is left of the database's files is handed back. Otherwise what is left of both has what was printed. Of
+  -- other requests nothing is handed back.
+  abbrev pub FailsLeaving : Request → (given old new : Option (List ℕ)) → (deeds : Option (List Deed)) → Failure → Option (NotedLeft L N) → Type 0
+  FailsLeaving (CollectIntoUnion database tables list sequences most_windows then_export) given old new deeds failure left =
+      (BeginsNothing deeds left × Keeps old new)
       ⊎ IsSomeAnd left (λ it.
-      (AreAsBegun it.ledger × (IfSome it.files (LeavesBegun g.database tables begun.image) × Keeps old new))
+      (AreAsBegun it.ledger × (IsLeftUnopened g.database tables begun.image failure begun.deeds deeds it.files × Keeps old new))
       ⊎ IsSomeAnd it.files (λ files. LeavesUnion begun g tables list.now most_windows given
       (λ text Holds. PrintsFront Holds old new) (handed_back g.database begun.image files) it.ledger))
-  FailsLeaving _ given old new left = left ≡ None
+  FailsLeaving _ given old new deeds failure left = left ≡ None
 
   -- A request fails for such a reason, and leaves that. Unless a device or memory failed, nothing was printed.
-  pub record HasFailed (request : Request) (given old new : Option (List ℕ)) (run : FailedRun L N) : Type 0 where
+  pub record HasFailed (request : Request) (given old new : Option (List ℕ)) (deeds : Option (List Deed)) (run : FailedRun L N) : Type 0 where
     pub why : FailsBy begun.told request given run.failure
-    pub leaves : FailsLeaving request given old new run.left
+    pub leaves : FailsLeaving request given old new deeds run.failure run.left
     pub kept : status_of run.failure ≢ Failed → Keeps old new
 
-  -- The arguments ask for nothing that is begun, and nothing was printed, or help was, and nothing is handed back; or they ask for
-  -- something that fails and leaves that.
-  abbrev pub FailsAsked : List Text → (given old new : Option (List ℕ)) → Option (NotedLeft L N) → Type 0
-  FailsAsked words given old new left =
-      ((Keeps old new ⊎ AskForHelp words) × (left ≡ None))
-      ⊎ ((request : Request) × AskFor words request × FailsLeaving request given old new left)
+  -- The arguments ask for nothing that is begun, and nothing was printed, or help was; or they ask for something that fails with
+  -- this status and leaves that.
+  abbrev pub FailsAsked : List Text → (given old new : Option (List ℕ)) → (deeds : Option (List Deed)) → Status → Option (NotedLeft L N) → Type 0
+  FailsAsked words given old new deeds status left =
+      ((Keeps old new ⊎ AskForHelp words) × BeginsNothing deeds left)
+      ⊎ ((request : Request) × AskFor words request
+      × ((failure : Failure) × (status ≡ status_of failure) × FailsLeaving request given old new deeds failure left))

@@ -4,6 +4,7 @@ ghost use Rattle.std.specs.Prelude.{◌≡◌, ◌≢◌, ◌⊎◌, ◌≤◌, 
 ghost use Rattle.std.specs.Io.KnownBytes.{Appends, Keeps};
 ghost use Rattle.clap.specs.Words.{kind_of};
 ghost use Rattle.jc_command_args.specs.Answer.{IsAskedFor};
+ghost use Rattle.jc_command_shared.specs.Failure.{status_of};
 ghost use Rattle.jc_command_shared.specs.Status.{number_of};
 ghost use Rattle.jc_command.specs.Failed.{FailsAsked, HasFailed};
 ghost use Rattle.jc_command.specs.Run.{DoesAsked, DoesFor, Ends, EndsWithin, HasPerformed, PerformsAsked, Stops, begins_with, devices, leaves};
@@ -208,14 +209,14 @@ pub fn run_command<
         (devices F.in_files ⟦<N::Notes as Ledger>⟧) (leaves result.files result.ledger (Y.deeds rt.new)) (map string_bytes words.items) (I.remaining input.old)
         (O.contents output.old) (O.contents output.new) (E.contents errors.old) (E.contents errors.new) status }
     // Whatever the status is, either what was asked for is performed, or what is left of a union has what was printed, or is as it
-    // was opened.
+    // was opened, and is handed back.
     ensures failed { (status : Status) → result.status ≡ number_of status
         → PerformsAsked (begins_with F.first S.windows S.finished S.aside S.came Y.told (Y.deeds rt.old) (O.entry_shape output.old))
         (devices F.in_files ⟦<N::Notes as Ledger>⟧) (leaves result.files result.ledger (Y.deeds rt.new)) (map string_bytes words.items) (I.remaining input.old)
         (O.contents output.old) (O.contents output.new) status
         ⊎ FailsAsked (begins_with F.first S.windows S.finished S.aside S.came Y.told (Y.deeds rt.old) (O.entry_shape output.old))
         (devices F.in_files ⟦<N::Notes as Ledger>⟧) (map string_bytes words.items) (I.remaining input.old)
-        (O.contents output.old) (O.contents output.new) result.left }
+        (O.contents output.old) (O.contents output.new) (Y.deeds rt.new) status result.left }
     // However it ends, this alone was done to files.
     ensures touched { DoesAsked Y.told (map string_bytes words.items) (I.remaining input.old) (Y.deeds rt.old) (Y.deeds rt.new) }
 {
@@ -267,9 +268,16 @@ fn answered<
         (O.contents output.old) (O.contents output.new) (E.contents errors.old) (E.contents errors.new) done.status) }
     ensures stopped { IfErr result (λ run. Stops Y.told (map string_bytes words.entry.now) (I.remaining input.old) (O.contents output.old)
         (O.contents output.new) run.failure) }
+    // It performs what was asked for, or begins nothing.
+    ensures performed { IfOk result (λ done. PerformsAsked (begins_with F.first S.windows S.finished S.aside S.came Y.told (Y.deeds rt.old) (O.entry_shape output.old))
+        (devices F.in_files ⟦<N::Notes as Ledger>⟧) (leaves done.files done.ledger (Y.deeds rt.new)) (map string_bytes words.entry.now) (I.remaining input.old)
+        (O.contents output.old) (O.contents output.new) done.status
+        ⊎ FailsAsked (begins_with F.first S.windows S.finished S.aside S.came Y.told (Y.deeds rt.old) (O.entry_shape output.old))
+        (devices F.in_files ⟦<N::Notes as Ledger>⟧) (map string_bytes words.entry.now) (I.remaining input.old)
+        (O.contents output.old) (O.contents output.new) (Y.deeds rt.new) done.status None) }
     ensures left { IfErr result (λ run. FailsAsked (begins_with F.first S.windows S.finished S.aside S.came Y.told (Y.deeds rt.old) (O.entry_shape output.old))
         (devices F.in_files ⟦<N::Notes as Ledger>⟧) (map string_bytes words.entry.now) (I.remaining input.old)
-        (O.contents output.old) (O.contents output.new) run.left) }
+        (O.contents output.old) (O.contents output.new) (Y.deeds rt.new) (status_of run.failure) run.left) }
     ensures touched { DoesAsked Y.told (map string_bytes words.entry.now) (I.remaining input.old) (Y.deeds rt.old) (Y.deeds rt.new) }
 {
     match parse(rt.alloc(), words) {
@@ -303,7 +311,7 @@ fn perform<
         (devices F.in_files ⟦<N::Notes as Ledger>⟧) (leaves done.files done.ledger (Y.deeds rt.new)) request.entry (I.remaining input.old)
         (O.contents output.old) (O.contents output.new) (E.contents errors.old) (E.contents errors.new) done.status) }
     ensures failed { IfErr result (HasFailed (begins_with F.first S.windows S.finished S.aside S.came Y.told (Y.deeds rt.old) (O.entry_shape output.old))
-        (devices F.in_files ⟦<N::Notes as Ledger>⟧) request.entry (I.remaining input.old) (O.contents output.old) (O.contents output.new)) }
+        (devices F.in_files ⟦<N::Notes as Ledger>⟧) request.entry (I.remaining input.old) (O.contents output.old) (O.contents output.new) (Y.deeds rt.new)) }
     // However it ends, this alone was done to files.
     ensures touched { DoesFor Y.told request.entry (I.remaining input.old) (Y.deeds rt.old) (Y.deeds rt.new) }
 {

@@ -22,7 +22,7 @@ returns-in-Err-clause-touched g c = does_nothing _
 
 pub returns-in-Err-clause-runs : goal.returns-in-Err-clause-runs
 returns-in-Err-clause-runs g c =
-    inl (fails_first g.F.StoreInFiles.in_files c.args.tables g.F.OpenFromFiles.first c.args.ledger c.unopened.result _ (g.O.Write.contents c.args.output.now)
+    inl (fails_first g.F.StoreInFiles.in_files c.args.tables g.F.OpenFromFiles.first c.args.ledger c.unopened.result _ (g.O.Write.contents c.args.output.now) _
     c.early.ensures.left c.unopened.ensures.left)
 
 pub returns-in-Err-list_source-clause-touched : goal.returns-in-Err-list_source-clause-touched
@@ -30,7 +30,7 @@ returns-in-Err-list_source-clause-touched g c = does_nothing _
 
 pub returns-in-Err-list_source-clause-runs : goal.returns-in-Err-list_source-clause-runs
 returns-in-Err-list_source-clause-runs g c =
-    inl (fails_first g.F.StoreInFiles.in_files c.args.tables g.F.OpenFromFiles.first c.args.ledger c.unopened-in-Err-list_source.result _ (g.O.Write.contents c.args.output.now)
+    inl (fails_first g.F.StoreInFiles.in_files c.args.tables g.F.OpenFromFiles.first c.args.ledger c.unopened-in-Err-list_source.result _ (g.O.Write.contents c.args.output.now) _
     c.early-in-Err-list_source.ensures.left c.unopened-in-Err-list_source.ensures.left)
 
 pub returns-clause-exported : goal.returns-clause-exported

@@ -10,11 +10,11 @@ pub returns-clause-runs : goal.returns-clause-runs
 returns-clause-runs g c =
     let given = g.N.Read.remaining c.args.list in
     subst (λ (text : Option (List ℕ)). RunsNotedOrNot g.F.StoreInFiles.in_files g.L.Ledger c.args.target.tables g.F.OpenFromFiles.first (told_within c.args.most_windows g.Y.System.told) g.P.Past.journal c.args.ledger text
-    c.join_names.result (g.O.Write.contents c.args.output.now) (g.O.Write.contents c.join_names.new.output) (g.E.Write.contents c.args.errors.now) (g.E.Write.contents c.join_names.new.errors))
+    c.join_names.result (g.O.Write.contents c.args.output.now) (g.O.Write.contents c.join_names.new.output) (g.E.Write.contents c.args.errors.now) (g.E.Write.contents c.join_names.new.errors) (g.Y.System.deeds c.args.rt.now) (g.Y.System.deeds c.join_names.new.rt))
     (prepend_nothing given)
     (rw (c.in-Ok.ensures.capacity, c.in-Ok.ensures.empty, c.in-Ok.ensures.inner) at c.join_names.ensures.runs)
 
 pub returns-in_default-clause-runs : goal.returns-in_default-clause-runs
 returns-in_default-clause-runs g c =
-    inl (fails_first g.F.StoreInFiles.in_files c.args.target.tables g.F.OpenFromFiles.first c.args.ledger c.unopened.result _ (g.O.Write.contents c.args.output.now)
+    inl (fails_first g.F.StoreInFiles.in_files c.args.target.tables g.F.OpenFromFiles.first c.args.ledger c.unopened.result _ (g.O.Write.contents c.args.output.now) _
     c.early-early.ensures.left c.unopened.ensures.left)

@@ -31,8 +31,8 @@ returns-in-Err-clause-touched g c = opens_alone c.in-Err.ensures.touched
 -- the present database isn't opened
 pub returns-in-Err-clause-runs : goal.returns-in-Err-clause-runs
 returns-in-Err-clause-runs g c =
-    inl (fails_early g.F.StoreInFiles.in_files c.args.target.tables g.F.OpenFromFiles.first c.args.ledger c.unopened.result _ (g.O.Write.contents c.args.output.now)
-    c.unopened.ensures.left c.in-Err.ensures.crash)
+    inl (fails_early g.F.StoreInFiles.in_files c.args.target.tables g.F.OpenFromFiles.first c.args.ledger c.unopened.result _ _ (g.O.Write.contents c.args.output.now) _ _
+    c.unopened.ensures.failure c.unopened.ensures.left (record { begins = c.in-Err.ensures.crash; handed = c.in-Err.ensures.handed }))
 
 pub returns-in-ByKey-clause-exported : goal.returns-in-ByKey-clause-exported
 returns-in-ByKey-clause-exported g c =

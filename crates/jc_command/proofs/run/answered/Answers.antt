@@ -1,5 +1,5 @@
 -- A request is performed; what clap answers in place of one is printed.
-use Rattle.std.proofs.Common.{inr, map, string_bytes}
+use Rattle.std.proofs.Common.{None, inl, inr, map, refl, string_bytes}
 use Rattle.std.proofs.lemmas.Result.{IfErr-weaker, IfOk-weaker}
 use Rattle.clap.specs.Words.{kind_of}
 use Rattle.jc_command.proofs.Runs.{at_ok, err_of, failed, left_answered, performed, ends_as, ends_words, ok_of, stops_answered}
@@ -52,9 +52,22 @@ returns-in-Err-clause-stopped g c =
 pub returns-in-Ok-clause-touched : goal.returns-in-Ok-clause-touched
 returns-in-Ok-clause-touched g c = inr (c.in-Ok.request, c.in-Ok.ensures.request, c.perform.ensures.touched)
 
+pub returns-in-Ok-clause-performed : goal.returns-in-Ok-clause-performed
+returns-in-Ok-clause-performed g c =
+    IfOk-weaker c.perform.result _ _ (λ done it. inl (c.in-Ok.request, c.in-Ok.ensures.request, it.performs)) c.perform.ensures.performed
+
 pub returns-in-Ok-clause-left : goal.returns-in-Ok-clause-left
 returns-in-Ok-clause-left g c =
-    IfErr-weaker c.perform.result _ _ (λ run it. inr (c.in-Ok.request, c.in-Ok.ensures.request, it.leaves)) c.perform.ensures.failed
+    IfErr-weaker c.perform.result _ _ (λ run it. inr (c.in-Ok.request, c.in-Ok.ensures.request, (run.failure, refl, it.leaves))) c.perform.ensures.failed
+
+pub returns-in-Err-clause-performed : goal.returns-in-Err-clause-performed
+returns-in-Err-clause-performed g c =
+    let prints = c.answer_words.ensures in
+    IfOk-weaker c.without.result _ _
+    (λ done it. inr (left_answered (begins_with g.F.OpenFromFiles.first g.S.Begun.windows g.S.Begun.finished g.S.Begun.aside g.S.Begun.came g.Y.System.told (g.Y.System.deeds c.args.rt.now) (g.O.Output.entry_shape c.args.output.now)) (devices g.F.StoreInFiles.in_files g.N.Notes.Ledger)
+    (map string_bytes c.args.words.now) (kind_of c.in-Err.answer) c.answer_words.result (g.I.Read.remaining c.args.input.now)
+    (g.O.Write.contents c.args.output.now) (g.O.Write.contents c.answer_words.new.output) done.status None refl c.in-Err.ensures.answer prints.mistaken prints.memory))
+    c.without.ensures.done
 
 pub returns-in-Err-clause-left : goal.returns-in-Err-clause-left
 returns-in-Err-clause-left g c =
@@ -62,5 +75,5 @@ returns-in-Err-clause-left g c =
     IfErr-weaker c.without.result _ _
     (λ run none. left_answered (begins_with g.F.OpenFromFiles.first g.S.Begun.windows g.S.Begun.finished g.S.Begun.aside g.S.Begun.came g.Y.System.told (g.Y.System.deeds c.args.rt.now) (g.O.Output.entry_shape c.args.output.now)) (devices g.F.StoreInFiles.in_files g.N.Notes.Ledger)
     (map string_bytes c.args.words.now) (kind_of c.in-Err.answer) c.answer_words.result (g.I.Read.remaining c.args.input.now)
-    (g.O.Write.contents c.args.output.now) (g.O.Write.contents c.answer_words.new.output) run.left none c.in-Err.ensures.answer prints.mistaken prints.memory)
+    (g.O.Write.contents c.args.output.now) (g.O.Write.contents c.answer_words.new.output) _ run.left none c.in-Err.ensures.answer prints.mistaken prints.memory)
     c.without.ensures.left

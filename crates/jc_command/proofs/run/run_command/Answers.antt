@@ -1,7 +1,7 @@
 -- The number says which status it was.
-use Rattle.std.proofs.Common.{◌≡◌, ◌∙◌, ap, false, inr, map, string_bytes, true}
+use Rattle.std.proofs.Common.{◌≡◌, ◌∙◌, None, ap, false, inr, map, string_bytes, true}
 use Rattle.jc_command_shared.specs.Status.{number_of}
-use Rattle.jc_command.proofs.Runs.{by_number, done_by_number, stops_by_number}
+use Rattle.jc_command.proofs.Runs.{by_number, either_by_number, stops_by_number}
 use Rattle.jc_command.proofs.run.run_command.Goals as goal
 
 pub returns-in-Ok-clause-ended : goal.returns-in-Ok-clause-ended
@@ -27,10 +27,14 @@ returns-clause-touched g c = rw c.as_slice.ensures.value at c.answered.ensures.t
 
 pub returns-in-Ok-clause-failed : goal.returns-in-Ok-clause-failed
 returns-in-Ok-clause-failed g c = λ status number.
-    done_by_number _ _ _ (map string_bytes c.args.words.items) (map string_bytes c.as_slice.result.now)
+    either_by_number _ _ _ (map string_bytes c.args.words.items) (map string_bytes c.as_slice.result.now)
     (g.I.Read.remaining c.args.input.now) (g.O.Write.contents c.args.output.now) (g.O.Write.contents c.answered.new.output)
-    (g.E.Write.contents c.args.errors.now) (g.E.Write.contents c.answered.new.errors) c.number.result c.in-Ok.done.status status
-    (ap (map string_bytes) c.as_slice.ensures.value) c.number.ensures number c.in-Ok.ensures.ended
+    (g.Y.System.deeds c.answered.new.rt) c.number.result c.in-Ok.done.status status None
+    (ap (map string_bytes) c.as_slice.ensures.value) c.number.ensures number c.in-Ok.ensures.performed
 
 pub returns-clause-failed : goal.returns-clause-failed
-returns-clause-failed g c = λ status number. inr (rw c.as_slice.ensures.value at c.in-Err.ensures.left)
+returns-clause-failed g c = λ status number.
+    either_by_number _ _ _ (map string_bytes c.args.words.items) (map string_bytes c.as_slice.result.now)
+    (g.I.Read.remaining c.args.input.now) (g.O.Write.contents c.args.output.now) (g.O.Write.contents c.answered.new.output)
+    (g.Y.System.deeds c.answered.new.rt) c.number-in-Err.result _ status _
+    (ap (map string_bytes) c.as_slice.ensures.value) (c.number-in-Err.ensures ∙ ap number_of c.report.ensures) number (inr c.in-Err.ensures.left)
