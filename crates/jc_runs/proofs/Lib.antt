@@ -8,4 +8,5 @@ mod OneMore
 mod WorkedDeletion
 mod WorkedSteps
 mod Following
+mod Renaming
 mod WorkedFiles

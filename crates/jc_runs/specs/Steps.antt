@@ -8,13 +8,14 @@ use Rattle.jc_base.specs.Journal.{Journal}
 use Rattle.jc_base.specs.LogEntry.{LogEntry}
 use Rattle.jc_collect.specs.Each.{CollectsEach, KeepsCollected}
 use Rattle.jc_collector_answers.specs.Collected.{ByDefault}
+use Rattle.jc_ledger.specs.declared.owner.MachineDigest.{MachineDigest}
 use Rattle.jc_ledger.specs.Kept.{IsKept, NoneCollide}
 use Rattle.jc_ledger.specs.Lagging.{LagsBehind}
 use Rattle.jc_ledger.specs.Owners.{StayOwned}
 use Rattle.jc_ledger.specs.Union.{union}
 use Rattle.jc_ledger_files.specs.declared.window_name.WindowName.{WindowName}
 use Rattle.jc_ledger_files.specs.Owned.{owner_window}
-use Rattle.jc_ledger_files.specs.Windows.{window_of}
+use Rattle.jc_ledger_files.specs.Windows.{same_window, window_of}
 use Rattle.jc_upload.specs.declared.answer.Answer.{Answer}
 use Rattle.jc_runs.specs.Between.{Between, Fate, MayBegin, database, journals_of}
 
@@ -33,6 +34,16 @@ pub data Step : Type 0 where
 -- Windows of notes went for their age.
 abbrev pub forgets_windows : (WindowName → Bool) → Step
 forgets_windows went = Forgets (λ k. went (window_of k)) (λ s. went (owner_window s))
+
+-- A sequence is another machine's, or nobody's: its owner's note was changed, and no other.
+abbrev pub renames : Id128 → Step
+renames s = Forgets (λ _. false) (λ t. same_window (owner_window s) (owner_window t))
+
+abbrev pub with_owner : Id128 → Option MachineDigest → Between → Between
+with_owner s machine b = record b {
+  owner = λ t. if same_window (owner_window s) (owner_window t) then machine else b.owner t;
+  released = λ t. b.released t || same_window (owner_window s) (owner_window t);
+}
 
 -- the answers whose lines were printed
 abbrev pub answers_of : Step → List Answer

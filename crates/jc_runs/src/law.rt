@@ -1,16 +1,18 @@
 //! What holds after any list of runs.
 
-ghost use Rattle.std.specs.Prelude.{◌≡◌, List};
+ghost use Rattle.std.specs.Prelude.{◌≡◌, List, Option};
 ghost use Rattle.std.specs.FinMap.{empty, insert};
 ghost use Rattle.std.specs.List.{Contains};
+ghost use Rattle.jc_base.specs.declared.id.Id128.{Id128};
 ghost use Rattle.jc_base.specs.declared.id.Key.{Key};
 ghost use Rattle.jc_base.specs.LogEntry.{IsKey};
+ghost use Rattle.jc_ledger.specs.declared.owner.MachineDigest.{MachineDigest};
 ghost use Rattle.jc_ledger.specs.Kept.{IsKept, NoneCollide};
 ghost use Rattle.jc_runs.specs.Between.{Between, Fate, nothing};
 ghost use Rattle.jc_runs.specs.Next.{FirstBegins, MayMake};
 ghost use Rattle.jc_runs.specs.Safe.{DeletesSafely, TellsAll};
 ghost use Rattle.jc_runs.specs.Stands.{Keeps, Stands};
-ghost use Rattle.jc_runs.specs.Steps.{LeadsOn, Step, Turn};
+ghost use Rattle.jc_runs.specs.Steps.{Leads, LeadsOn, Step, Turn, renames, with_owner};
 ghost use Rattle.jc_runs.specs.Worked.{IsWorked, Starts, of_other};
 
 use jc_base::Limits;
@@ -33,6 +35,8 @@ pub fn runs_keep()
     // If `acknowledged` ends with 0, a line acknowledges all of the upload, and all that this reads as is kept.
     ensures tells { TellsAll }
     ensures deletes { DeletesSafely }
+    // Whose a sequence is may be changed at any time.
+    ensures renames { (b : Between) (s : Id128) (machine : Option MachineDigest) → Leads (renames s) b (with_owner s machine b) }
     // There are such lists, and such uploads.
     ensures worked { (c : Between) × IsWorked c }
     // A run begins with a database that has this entry alone, and behind a turn with an empty one, or with no file yet.
