@@ -1,8 +1,10 @@
 //! Runs of the program's commands over databases and notes in files, of uploads that are told.
 #![tactic(auto)]
 
+mod filled;
 mod telling;
 #[cfg(test)]
 mod tests;
 
+pub use filled::with_entry;
 pub use telling::Telling;
