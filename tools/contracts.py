@@ -39,7 +39,7 @@ HERE_ALONE = {
         "export_journal", "show_journal", "count", "count_and_close", "export_after", "export_file", "check_export",
         "inspect_delivery", "open_there", "open_old", "close_after", "close_opened", "check_name"),
     "jc_command": ("list_codes",),
-    "jc_json": ("object_of", "object_of_code", "put_codes"),
+    "jc_render": ("object_of", "object_of_code", "put_codes"),
 }
 # Theorems, each with its crate and the files of definitions that its clauses name.
 THEOREMS = ("`run`", "jc_collect", ("Run",)), ("`World::run`", "jc_world", ("Kept", "Schedule", "World"))

@@ -6,9 +6,9 @@ ghost use Rattle.std.specs.Prelude.{◌≤◌};
 pub use jc_command::command;
 use jc_command_shared::{Failure, Host, Output, Status, Text};
 use jc_database::{OpenFromFiles, OverFiles, over_files};
-use jc_explain::{EXPLAIN, Noting, explained, take_option};
-use jc_json::{JSON, Json, has_objects};
-use jc_progress::{Counted, Masked, Wiping, board_for};
+use jc_render::{
+    EXPLAIN, JSON, Json, Masked, Noting, Wiping, board_for, explained, has_objects, take_option,
+};
 use jc_sequences::{Faults, Folders};
 use sqlite::Unknown;
 use std::io::{IsTerminal, Stderr};
@@ -35,9 +35,8 @@ fn run(rt: &HostRuntime, mut words: Vec<String>) -> u8 {
         inner: Wiping::new(rt.stderr(), board.is_some()),
     };
     let is_terminal = rt.stdout().is_terminal();
-    let masked = Masked::new(rt.stdout(), is_terminal);
-    let counted = Counted::new(masked, board, is_terminal);
-    let mut output = Json::new(rt.alloc(), asks_for_objects, counted);
+    let masked = Masked::new(rt.stdout(), is_terminal, board);
+    let mut output = Json::new(rt.alloc(), asks_for_objects, masked);
     let asked = Asked {
         rt,
         words,

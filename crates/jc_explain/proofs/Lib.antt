@@ -1,4 +1,0 @@
-mod GoingOut
-mod NotedFiles
-mod Within
-mod WordPlaces

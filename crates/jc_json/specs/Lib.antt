@@ -1,4 +1,0 @@
-pub mod Codes
-pub mod Commands
-pub mod Found
-pub mod Passing

@@ -1,7 +1,0 @@
--- What was passed is masked.
-use Rattle.std.proofs.Common.{take}
-use Rattle.jc_progress.specs.Obeyed.{Masks}
-use Rattle.jc_progress.proofs.masked.Ahead.mask.Given as goal
-
-abbrev pub invariant-loop-at : goal.invariant-loop-at
-invariant-loop-at l = Masks l.fn.self (take l.at l.bytes) (take l.at l.piece) l.self

@@ -1,3 +1,0 @@
-pub mod Obeyed
-pub mod Tasks
-pub mod Texts

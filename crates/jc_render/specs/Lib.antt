@@ -1,0 +1,5 @@
+pub mod Explanations
+pub mod Objects
+pub mod Terminal
+pub mod Texts
+pub mod Words

@@ -1,0 +1,19 @@
+//! How runs are shown: objects of JSON, explanations of what is refused or fails, and what a terminal gets.
+#![tactic(auto)]
+
+mod board;
+mod cause;
+mod explain;
+mod json;
+mod noting;
+mod terminal;
+mod why;
+mod witness;
+mod words;
+
+pub use board::{Board, Line, Unit, board_for};
+pub use explain::explained;
+pub use json::Json;
+pub use noting::Noting;
+pub use terminal::{Masked, Wiping};
+pub use words::{EXPLAIN, JSON, has_objects, take_option};
