@@ -37,6 +37,7 @@ pub trait StoreInFiles: Alter + Sized + Drop {
     /// Files that a call which failed hands back.
     fn left_files(files: Self::Files) -> Self::Left
         ensures clean { in_files.is_clean_left result → in_files.clean files }
+        ensures usual { (before : Image) → in_files.is_usual before result }
         ensures outcomes { (image : Image) → in_files.may_be_left result image → in_files.outcomes files image };
 
     /// The same of a store that is still open.
