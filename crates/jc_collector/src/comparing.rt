@@ -28,8 +28,8 @@ use jc_stream::Stream;
 pub enum Comparison {
     /// Each of its entries is the one that is noted under its key, but for so many that aren't noted.
     Agrees { count: u64, lacking: u64 },
-    /// It has no journal, or a row that isn't an entry; or the entry of this place, from 0 in the order of keys, differs
-    /// from its note.
+    /// It has no journal, or a row that isn't an entry; or an entry passes a limit, at this byte of what is exported; or
+    /// the entry of this number, from 0 in the order of keys, differs from its note.
     Bad(Fault),
 }
 

@@ -24,7 +24,7 @@ pub struct NotedRun<C: Drop, L: Ledger + Drop> {
     pub ledger: L,
 }
 
-/// What is left of a run over a union that failed: of its present database's files, if they were opened, and the ledger.
+/// What is left of a run over a union that failed: of its database's files, if that is handed back, and the ledger.
 #[derive(Drop)]
 pub struct NotedLeft<R: Drop, L: Ledger + Drop> {
     pub files: Option<R>,
