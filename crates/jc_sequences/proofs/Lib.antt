@@ -1,4 +1,5 @@
 mod Calls
 mod Closing
 mod Lending
+mod Listed
 mod SeenNone

@@ -1,16 +1,19 @@
 //! Which windows of sequences have files.
 
-ghost use Rattle.std.specs.Prelude.{◌≡◌, ◌⊎◌, IfErr};
+ghost use Rattle.std.specs.Prelude.{◌≡◌, ◌≢◌, ◌⊎◌, IfErr, IfOk};
+ghost use Rattle.std.specs.List.{AllPairs};
 
 use crate::opening::Folders;
 use jc_base::{Id128, Key};
 use jc_command_shared::Failure;
 use jc_ledger_files::WindowName;
+use std::collections::BTreeSet;
 use std::{fs, io};
 
 /// The windows that have a file in the folder at `path`, in the order of their sequences and then of their numbers. Other
 /// files say nothing.
 pub fn list_windows<'p>(folders: Folders<'_>, path: &'p str) -> Result<Vec<WindowName>, Failure<'p>>
+    ensures once { IfOk result (λ windows. AllPairs (λ one other. one ≢ other) windows.items) }
     ensures failed { IfErr result (λ failure. (failure ≡ Failure.CannotOpen path.entry) ⊎ (failure ≡ Failure.OutOfMemory)) }
 {
     match listed(folders.runtime, path) {
@@ -19,8 +22,10 @@ pub fn list_windows<'p>(folders: Folders<'_>, path: &'p str) -> Result<Vec<Windo
     }
 }
 
-fn listed(rt: &HostRuntime, path: &str) -> io::Result<Vec<WindowName>> {
-    let mut keys = Vec::new(rt.alloc());
+fn listed(rt: &HostRuntime, path: &str) -> io::Result<Vec<WindowName>>
+    ensures { IfOk result (λ windows. AllPairs (λ one other. one ≢ other) windows.items) }
+{
+    let mut keys = BTreeSet::new(rt.alloc());
     for entry in fs::read_dir(rt, path)? {
         let entry = entry?;
         if let Some(sequence) = sequence_of(entry.file_name()) {
@@ -29,8 +34,7 @@ fn listed(rt: &HostRuntime, path: &str) -> io::Result<Vec<WindowName>> {
             add_windows(rt, &folder, sequence, &mut keys)?;
         }
     }
-    keys.sort_unstable();
-    names_of(rt, &keys)
+    names_of(rt, keys)
 }
 
 /// Adds the windows of a sequence that have files in its folder, if it is one.
@@ -38,7 +42,7 @@ fn add_windows(
     rt: &HostRuntime,
     path: &str,
     sequence: Id128,
-    keys: &mut Vec<Key>,
+    keys: &mut BTreeSet<Key>,
 ) -> io::Result<()> {
     if !fs::metadata(rt, path)?.is_dir() {
         return Ok(());
@@ -46,7 +50,7 @@ fn add_windows(
     for entry in fs::read_dir(rt, path)? {
         let entry = entry?;
         if let Some(window) = window_of(entry.file_name()) {
-            keys.push(Key {
+            keys.insert(Key {
                 seqnum_id: sequence,
                 seqnum: window,
             })?;
@@ -55,9 +59,12 @@ fn add_windows(
     Ok(())
 }
 
-fn names_of(rt: &HostRuntime, keys: &[Key]) -> io::Result<Vec<WindowName>> {
+/// The windows of these keys, the number of each of which is the window's.
+fn names_of(rt: &HostRuntime, mut keys: BTreeSet<Key>) -> io::Result<Vec<WindowName>>
+    ensures { IfOk result (λ windows. AllPairs (λ one other. one ≢ other) windows.items) }
+{
     let mut names = Vec::new(rt.alloc());
-    for key in keys {
+    while let Some(key) = keys.pop_first() {
         names.push(WindowName {
             sequence: key.seqnum_id,
             window: key.seqnum,
