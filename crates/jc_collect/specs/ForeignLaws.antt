@@ -1,5 +1,5 @@
 -- What is told of another machine's sequence, where less is known, and later.
-use Rattle.std.proofs.Common.{ℕ, List, Option, Some, None}
+use Rattle.std.proofs.Common.{ℕ, List, Option, None}
 use Rattle.jc_base.specs.declared.id.Id128.{Id128}
 use Rattle.jc_base.specs.declared.limits.Limits.{Limits}
 use Rattle.jc_upload.specs.declared.answer.Answer.{Answer}
