@@ -1,6 +1,7 @@
 -- Why commands over notes fail, and what they change.
-use Rattle.std.proofs.Common.{◌≡◌, ◌⊎◌, ℕ, List, Option, None, [], Result, Ok, Err, inl, inr, subst, sym}
-use Rattle.std.specs.Prelude.{OnErr, OnOk}
+use Rattle.std.proofs.Common.{◌≡◌, ◌⊎◌, arith, ℕ, List, Option, None, [], Result, Ok, Err, inl, inr, subst, sym}
+use Rattle.std.specs.Prelude.{◌≢◌, OnErr, OnOk}
+use Rattle.std.specs.List.{AllPairs}
 use Rattle.jc_command_args.specs.declared.request.NotesTask.{NotesTask}
 use Rattle.jc_command_shared.specs.DeedLaws.{nothing_changes}
 use Rattle.jc_command_shared.specs.Deeds.{ChangesOnly, Deed}
@@ -42,25 +43,25 @@ by_name folder digits failure (inr (inr (inr is))) bad = subst (ReleaseFailsBy f
 
 -- ---- what is changed, by how it ends
 
-module _ {T : Type 0} (told : List ℕ → Option (List ℕ)) (folder : List ℕ) where
-  pub renames : (r : Result T Failure) (windows : List WindowName) (name other : List ℕ) (printed printed_now : Option (List ℕ)) (old new : Option (List Deed))
-      → OnOk r (WorksEach (IsRenamingIf told folder (machine_named name) (machine_named other)) windows printed printed_now old new)
-      → OnErr r (GivesUp (IsRenamingIf told folder (machine_named name) (machine_named other)) (path_of folder) windows old new)
-      → ChangesOnly (IsInFolder folder) old new → ChangesOwners told folder name other old new
-  renames (Ok done) windows name other printed printed_now old new works stopped only =
-      (only, (windows, gives_up_last (IsRenamingIf told folder (machine_named name) (machine_named other)) (path_of folder) works))
-  renames (Err failure) windows name other printed printed_now old new works stopped only = (only, (windows, stopped))
+module _ {T : Type 0} (found : List ℕ → Option (List ℕ)) (folder : List ℕ) where
+  pub renames : (r : Result T Failure) (windows : List WindowName) → AllPairs (λ (one also : WindowName). one ≢ also) windows → (name other : List ℕ) (printed printed_now : Option (List ℕ)) (old new : Option (List Deed))
+      → OnOk r (WorksEach (IsRenamingIf found folder (machine_named name) (machine_named other)) windows printed printed_now old new)
+      → OnErr r (GivesUp (IsRenamingIf found folder (machine_named name) (machine_named other)) (path_of folder) windows old new)
+      → ChangesOnly (IsInFolder folder) old new → ChangesOwners found folder name other old new
+  renames (Ok done) windows once name other printed printed_now old new works stopped only =
+      (only, (windows, once, gives_up_last (IsRenamingIf found folder (machine_named name) (machine_named other)) (path_of folder) works))
+  renames (Err failure) windows once name other printed printed_now old new works stopped only = (only, (windows, once, stopped))
 
   pub releases : (r : Result T Failure) (digits : List ℕ) (printed printed_now : Option (List ℕ)) (old new : Option (List Deed))
-      → OnOk r (OfSequence digits (λ s. Works (IsRelease told folder s) printed printed_now old new))
-      → OnErr r ((new ≡ old) ⊎ OfSequence digits (λ s. MayWork (IsRelease told folder s) (path_of folder (owner_window s)) old new))
-      → ChangesOnly (IsInFolder folder) old new → ChangesSequence told folder digits old new
+      → OnOk r (OfSequence digits (λ s. Works (IsRelease found folder s) printed printed_now old new))
+      → OnErr r ((new ≡ old) ⊎ OfSequence digits (λ s. MayWork (IsRelease found folder s) (path_of folder (owner_window s)) old new))
+      → ChangesOnly (IsInFolder folder) old new → ChangesSequence found folder digits old new
   releases (Ok done) digits printed printed_now old new works stopped only =
       (only, inr (record { sequence = works.sequence; spelled = works.spelled; does = inr (unseen works.does) }))
   releases (Err failure) digits printed printed_now old new works stopped only = (only, stopped)
 
 -- no window is known, and nothing is renamed
-pub renames_none : (told : List ℕ → Option (List ℕ)) (folder name other : List ℕ) (old : Option (List Deed)) → ChangesOwners told folder name other old old
-renames_none told folder name other old =
-    let Is = IsRenamingIf told folder (machine_named name) (machine_named other) in
-    (nothing_changes old, ([], gives_up_last Is (path_of folder) (none_done Is None old)))
+pub renames_none : (found : List ℕ → Option (List ℕ)) (folder name other : List ℕ) (old : Option (List Deed)) → ChangesOwners found folder name other old old
+renames_none found folder name other old =
+    let Is = IsRenamingIf found folder (machine_named name) (machine_named other) in
+    (nothing_changes old, ([], λ i j d before within. absurd (omega arith), gives_up_last Is (path_of folder) (none_done Is None old)))

@@ -188,9 +188,9 @@ pub write_fails : {T : Type 0} (r : Result T Failure) (output output' : Option (
 write_fails (Ok x) output output' fails = tt
 write_fails (Err failure) output output' fails = λ other. absurd (other (ap status_of fails))
 
-pub does_as : (told : List ℕ → Option (List ℕ)) (request asked : Request) (given : Option (List ℕ)) (old new : Option (List Deed)) → asked ≡ request
-    → DoesFor told request given old new → DoesFor told asked given old new
-does_as told request asked given old new same does = subst (λ (q : Request). DoesFor told q given old new) (sym same) does
+pub does_as : (found : List ℕ → Option (List ℕ)) (request asked : Request) (given : Option (List ℕ)) (old new : Option (List Deed)) → asked ≡ request
+    → DoesFor found request given old new → DoesFor found asked given old new
+does_as found request asked given old new same does = subst (λ (q : Request). DoesFor found q given old new) (sym same) does
 
 -- what was asked for fails
 pub failed : (told : List ℕ → Option (List ℕ)) (words : List Text) (request : Request) (given output output' : Option (List ℕ)) (failure : Failure)

@@ -1,6 +1,7 @@
 -- What `notes` and `owners` do with the notes in a folder, and why they fail. (own)
-use Rattle.std.specs.Prelude.{◌≡◌, ◌⊎◌, ⊤, ℕ, List, Option, None, IfSome}
+use Rattle.std.specs.Prelude.{◌≡◌, ◌≢◌, ◌⊎◌, ⊤, ℕ, List, Option, None, IfSome}
 use Rattle.std.specs.Io.KnownBytes.{Keeps}
+use Rattle.std.specs.List.{AllPairs}
 use Rattle.jc_command_args.specs.declared.request.NotesTask.{NotesTask}
 use Rattle.jc_command_args.specs.declared.request.NotesTask.TheVariants.{Has, ForgetAfter, Verify}
 use Rattle.jc_command_shared.specs.Deeds.{ChangesOnly, Deed}
@@ -18,32 +19,35 @@ use Rattle.jc_notes.specs.Lines.{IsFirstBad, IsFirstBadFront, OfFronts, OfLines,
 use Rattle.jc_notes.specs.Printed.{IsListedIf, IsNotedTold, IsRelease, IsRenamingIf, IsSummedIf, OfSequence}
 use Rattle.jc_sequences.specs.Placed.{path_of}
 
--- What is done over what is told of the folder's files. Which windows have files there no clause says.
-module _ (told : List ℕ → Option (List ℕ)) (folder : List ℕ) where
+-- Of some windows, each of which comes once, this is so. Which have files no clause says.
+abbrev pub OfWindows : (Does : List WindowName → Type 0) → Type 0
+OfWindows Does = (windows : List WindowName) × AllPairs (λ (one other : WindowName). one ≢ other) windows × Does windows
+
+-- What is done over what is found of the folder's files.
+module _ (found : List ℕ → Option (List ℕ)) (folder : List ℕ) where
   -- By `has` it is said of each key that standard input asks for whether it is noted. By `forget-after` each window that it
   -- names keeps its first notes, and nothing is printed. By `verify` the notes of some windows are summed.
   abbrev pub WorksOnNotes : NotesTask → (given old new : Option (List ℕ)) → (deeds deeds_now : Option (List Deed)) → Status → Type 0
   WorksOnNotes Has given old new deeds deeds_now status =
-      (status ≡ Success) × IfSome given (OfLines key_at (λ keys. PrintsEach (IsNotedTold told folder) keys Success old new))
+      (status ≡ Success) × IfSome given (OfLines key_at (λ keys. PrintsEach (IsNotedTold found folder) keys Success old new))
   WorksOnNotes ForgetAfter given old new deeds deeds_now status =
       (status ≡ Success)
-      × (Keeps old new × IfSome given (OfFronts (λ fronts. WorksEach (IsKeptFront told folder) fronts None None deeds deeds_now)))
+      × (Keeps old new × IfSome given (OfFronts (λ fronts. WorksEach (IsKeptFront found folder) fronts None None deeds deeds_now)))
   WorksOnNotes Verify given old new deeds deeds_now status =
-      (windows : List WindowName) × PrintsEach (λ name. IsSummedIf (told (path_of folder name)) name) windows status old new
+      OfWindows (λ windows. PrintsEach (λ name. IsSummedIf (found (path_of folder name)) name) windows status old new)
 
   -- Of some windows it is said whose their sequences are.
   abbrev pub ListsOwners : (old new : Option (List ℕ)) → Status → Type 0
-  ListsOwners old new status = (windows : List WindowName) × PrintsEach (IsListedIf told folder) windows status old new
+  ListsOwners old new status = OfWindows (λ windows. PrintsEach (IsListedIf found folder) windows status old new)
 
   -- Of some windows the sequences that were the first machine's are the other one's now.
   abbrev pub RenamesOwner : (name other : List ℕ) → (old new : Option (List ℕ)) → (deeds deeds_now : Option (List Deed)) → Type 0
   RenamesOwner name other old new deeds deeds_now =
-      (windows : List WindowName)
-      × WorksEach (IsRenamingIf told folder (machine_named name) (machine_named other)) windows old new deeds deeds_now
+      OfWindows (λ windows. WorksEach (IsRenamingIf found folder (machine_named name) (machine_named other)) windows old new deeds deeds_now)
 
   -- The sequence with these digits is nobody's now.
   abbrev pub ReleasesSequence : (digits : List ℕ) → (old new : Option (List ℕ)) → (deeds deeds_now : Option (List Deed)) → Type 0
-  ReleasesSequence digits old new deeds deeds_now = OfSequence digits (λ s. Works (IsRelease told folder s) old new deeds deeds_now)
+  ReleasesSequence digits old new deeds deeds_now = OfSequence digits (λ s. Works (IsRelease found folder s) old new deeds deeds_now)
 
   -- ---- what is done to files, whether all is done or a failure comes before
 
@@ -53,21 +57,20 @@ module _ (told : List ℕ → Option (List ℕ)) (folder : List ℕ) where
   ChangesNotes ForgetAfter given old new =
       ChangesOnly (IsInFolder folder) old new
       × ((new ≡ old) ⊎ IfSome given (OfFronts
-      (λ fronts. GivesUp (IsKeptFront told folder) (λ front. path_of folder front.window) fronts old new)))
+      (λ fronts. GivesUp (IsKeptFront found folder) (λ front. path_of folder front.window) fronts old new)))
   ChangesNotes task given old new = new ≡ old
 
   -- The sequences of the first of some windows have the other owner then.
   abbrev pub ChangesOwners : (name other : List ℕ) → (old new : Option (List Deed)) → Type 0
   ChangesOwners name other old new =
       ChangesOnly (IsInFolder folder) old new
-      × ((windows : List WindowName)
-      × GivesUp (IsRenamingIf told folder (machine_named name) (machine_named other)) (path_of folder) windows old new)
+      × OfWindows (λ windows. GivesUp (IsRenamingIf found folder (machine_named name) (machine_named other)) (path_of folder) windows old new)
 
   -- Nothing changes, or the file of the sequence's owner stays, or the sequence is released.
   abbrev pub ChangesSequence : (digits : List ℕ) → (old new : Option (List Deed)) → Type 0
   ChangesSequence digits old new =
       ChangesOnly (IsInFolder folder) old new
-      × ((new ≡ old) ⊎ OfSequence digits (λ s. MayWork (IsRelease told folder s) (path_of folder (owner_window s)) old new))
+      × ((new ≡ old) ⊎ OfSequence digits (λ s. MayWork (IsRelease found folder s) (path_of folder (owner_window s)) old new))
 
 -- ---- why nothing is done
 

@@ -57,8 +57,8 @@ use Rattle.jc_command.specs.Notes.{ChangesNotes, ChangesOwners, ChangesSequence,
 
 -- What a run begins with: what its database's files have, what the files of sequences' windows note, the machines that
 -- sequences belong to, what is still noted of the finished databases, and of those that were set aside, the entries that came
--- in earlier runs, what is told of the files that are read, by their names, what was done to files before, and how entries
--- have to be shown.
+-- in earlier runs, what is told of the files that are read, by their names, and what is found of those of notes, what was done
+-- to files before, and how entries have to be shown.
 pub record Begins : Type 1 where
   pub image : Image
   pub noted : Known
@@ -67,11 +67,12 @@ pub record Begins : Type 1 where
   pub aside : Journal
   pub came : LogEntry → Type 0
   pub told : List ℕ → Option (List ℕ)
+  pub found : List ℕ → Option (List ℕ)
   pub deeds : Option (List Deed)
   pub shape : Shape
 
-abbrev pub begins_with : Image → (windows : WindowName → List ℕ) → (finished aside : Journal) → (came : LogEntry → Type 0) → (told : List ℕ → Option (List ℕ)) → (deeds : Option (List Deed)) → Shape → Begins
-begins_with image windows finished aside came told deeds shape = record {
+abbrev pub begins_with : Image → (windows : WindowName → List ℕ) → (finished aside : Journal) → (came : LogEntry → Type 0) → (told found : List ℕ → Option (List ℕ)) → (deeds : Option (List Deed)) → Shape → Begins
+begins_with image windows finished aside came told found deeds shape = record {
   image = image;
   noted = known_in (λ w. notes_of (windows w));
   owner = owner_found windows;
@@ -79,6 +80,7 @@ begins_with image windows finished aside came told deeds shape = record {
   aside = aside;
   came = came;
   told = told;
+  found = found;
   deeds = deeds;
   shape = shape;
 }
@@ -216,12 +218,12 @@ module _ {S C L N : Type 0} (begun : Begins) (g : Devices S C L N) (left : Leave
       × LeadsOn (PrintsAsked begun.shape (option_map (λ name. name.now) field) (option_map (λ digits. digits.now) id) first last old new)
   Performs (Check database) given old new status = Checks old new status
   Performs (CheckNoted database sequences) given old new status = ComparesNoted begun.image g.database left.files status old new
-  Performs (Notes sequences task) given old new status = WorksOnNotes begun.told sequences.now task given old new begun.deeds left.deeds status
-  Performs (ListOwners sequences) given old new status = ListsOwners begun.told sequences.now old new status
+  Performs (Notes sequences task) given old new status = WorksOnNotes begun.found sequences.now task given old new begun.deeds left.deeds status
+  Performs (ListOwners sequences) given old new status = ListsOwners begun.found sequences.now old new status
   Performs (RenameOwner sequences name other) given old new status =
-      (status ≡ Success) × RenamesOwner begun.told sequences.now name.now other.now old new begun.deeds left.deeds
+      (status ≡ Success) × RenamesOwner begun.found sequences.now name.now other.now old new begun.deeds left.deeds
   Performs (ReleaseSequence sequences sequence) given old new status =
-      (status ≡ Success) × ReleasesSequence begun.told sequences.now sequence.now old new begun.deeds left.deeds
+      (status ≡ Success) × ReleasesSequence begun.found sequences.now sequence.now old new begun.deeds left.deeds
   Performs (Migrate database tables) given old new status = Migrates tables old new status
   Performs ListCodes given old new status = status ≡ Success
 
@@ -275,32 +277,32 @@ FailsBy told ListCodes given failure = failure ≡ WriteFailed
 -- renames or removes no other file but that of an export or of a resume point and the one beside it, or files of notes. That
 -- file stays as it was, or a new one takes its place at once, in the case of a resume point one with the text of such a
 -- point, and no more. Beside that `collect` notes sequences in a folder, of which the notes' ledger speaks.
-abbrev pub DoesFor : (told : List ℕ → Option (List ℕ)) → Request → (given : Option (List ℕ)) → (old new : Option (List Deed)) → Type 0
-DoesFor told (Verify kind file) given old new = new ≡ old
-DoesFor told (Inspect file most_entries most_fields most_bytes most_windows) given old new = new ≡ old
-DoesFor told (Upload source limit most_bytes whole) given old new = new ≡ old
-DoesFor told (Ack source) given old new = MayMoveOn source.resume.now old new
-DoesFor told (Acknowledged upload) given old new = new ≡ old
-DoesFor told (Collect database tables uploads then_export) given old new =
+abbrev pub DoesFor : (found : List ℕ → Option (List ℕ)) → Request → (given : Option (List ℕ)) → (old new : Option (List Deed)) → Type 0
+DoesFor found (Verify kind file) given old new = new ≡ old
+DoesFor found (Inspect file most_entries most_fields most_bytes most_windows) given old new = new ≡ old
+DoesFor found (Upload source limit most_bytes whole) given old new = new ≡ old
+DoesFor found (Ack source) given old new = MayMoveOn source.resume.now old new
+DoesFor found (Acknowledged upload) given old new = new ≡ old
+DoesFor found (Collect database tables uploads then_export) given old new =
     OpensAndMayReplace database.now (option_map (λ name. name.now) then_export) old new
-DoesFor told (CollectListed database tables list then_export) given old new =
+DoesFor found (CollectListed database tables list then_export) given old new =
     OpensAndMayReplace database.now (option_map (λ name. name.now) then_export) old new
-DoesFor told (CollectIntoUnion database tables list sequences most_windows then_export) given old new =
+DoesFor found (CollectIntoUnion database tables list sequences most_windows then_export) given old new =
     OpensAndMayReplace database.now (option_map (λ name. name.now) then_export) old new
-DoesFor told (request.Export database) given old new = OpensOnce database.now old new
-DoesFor told (Show database field id first last) given old new = OpensOnce database.now old new
-DoesFor told (Check database) given old new = OpensOnce database.now old new
-DoesFor told (CheckNoted database sequences) given old new = OpensOnce database.now old new
-DoesFor told (Notes sequences task) given old new = ChangesNotes told sequences.now task given old new
-DoesFor told (ListOwners sequences) given old new = new ≡ old
-DoesFor told (RenameOwner sequences name other) given old new = ChangesOwners told sequences.now name.now other.now old new
-DoesFor told (ReleaseSequence sequences sequence) given old new = ChangesSequence told sequences.now sequence.now old new
-DoesFor told (Migrate database tables) given old new = OpensOnce database.now old new
-DoesFor told ListCodes given old new = new ≡ old
+DoesFor found (request.Export database) given old new = OpensOnce database.now old new
+DoesFor found (Show database field id first last) given old new = OpensOnce database.now old new
+DoesFor found (Check database) given old new = OpensOnce database.now old new
+DoesFor found (CheckNoted database sequences) given old new = OpensOnce database.now old new
+DoesFor found (Notes sequences task) given old new = ChangesNotes found sequences.now task given old new
+DoesFor found (ListOwners sequences) given old new = new ≡ old
+DoesFor found (RenameOwner sequences name other) given old new = ChangesOwners found sequences.now name.now other.now old new
+DoesFor found (ReleaseSequence sequences sequence) given old new = ChangesSequence found sequences.now sequence.now old new
+DoesFor found (Migrate database tables) given old new = OpensOnce database.now old new
+DoesFor found ListCodes given old new = new ≡ old
 
 -- What arguments have it do: nothing, unless they ask for something.
-abbrev pub DoesAsked : (told : List ℕ → Option (List ℕ)) → List Text → (given : Option (List ℕ)) → (old new : Option (List Deed)) → Type 0
-DoesAsked told words given old new = (new ≡ old) ⊎ ((request : Request) × AskFor words request × DoesFor told request given old new)
+abbrev pub DoesAsked : (found : List ℕ → Option (List ℕ)) → List Text → (given : Option (List ℕ)) → (old new : Option (List Deed)) → Type 0
+DoesAsked found words given old new = (new ≡ old) ⊎ ((request : Request) × AskFor words request × DoesFor found request given old new)
 
 -- ---- a run
 

@@ -1,6 +1,7 @@
 //! The notes of sequences, as a run opens them.
 
-ghost use Rattle.std.specs.Prelude.{◌≡◌, ◌↔◌, ◌⊎◌, IfErr, IfOk};
+ghost use Rattle.std.specs.Prelude.{◌≡◌, ◌≢◌, ◌↔◌, ◌⊎◌, IfErr, IfOk};
+ghost use Rattle.std.specs.List.{AllPairs};
 ghost use Rattle.jc_base.specs.declared.id.Id128.{Id128};
 ghost use Rattle.jc_base.specs.declared.id.Key.{Key};
 ghost use Rattle.jc_base.specs.LogEntry.{LogEntry};
@@ -36,8 +37,9 @@ pub trait NoteFolders<S: Begun>: Sized + Drop {
         ensures failed { IfErr result (λ failure. (failure ≡ Failure.CannotOpen path.entry) ⊎ (failure ≡ Failure.OutOfMemory)) };
 
     /// The windows of sequences that have files in the folder at `path`, in the order of their sequences and then of their
-    /// numbers. Nothing is changed.
+    /// numbers, each once. Nothing is changed.
     fn list<'p>(self, path: &'p str) -> Result<Vec<WindowName>, Failure<'p>>
+        ensures once { IfOk result (λ windows. AllPairs (λ one other. one ≢ other) windows.items) }
         ensures failed { IfErr result (λ failure. (failure ≡ Failure.CannotOpen path.entry) ⊎ (failure ≡ Failure.OutOfMemory)) };
 
     /// Whatever was called of these notes, each sequence that belonged to a machine at first belongs to it, if they are

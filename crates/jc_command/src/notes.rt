@@ -22,12 +22,12 @@ pub(crate) fn work_on_notes<'w, Y: System, S: Begun, N: NoteFolders<S>, I: Read,
     input: &mut I,
     output: &mut O,
 ) -> Result<Status, Failure<'w>>
-    ensures worked { IfOk result (WorksOnNotes Y.told sequences.now task (I.remaining input.old)
+    ensures worked { IfOk result (WorksOnNotes Y.found sequences.now task (I.remaining input.old)
         (O.contents output.old) (O.contents output.new) (Y.deeds rt.old) (Y.deeds rt.new)) }
     ensures failed { IfErr result (NotesFailBy sequences.now task (I.remaining input.old)) }
     ensures untouched { IfErr result (λ failure. status_of failure ≢ Status.Failed
         → Keeps (O.contents output.old) (O.contents output.new)) }
-    ensures touched { ChangesNotes Y.told sequences.now task (I.remaining input.old) (Y.deeds rt.old) (Y.deeds rt.new) }
+    ensures touched { ChangesNotes Y.found sequences.now task (I.remaining input.old) (Y.deeds rt.old) (Y.deeds rt.new) }
 {
     match task {
         NotesTask::Has => {
@@ -53,7 +53,7 @@ pub(crate) fn list_all_owners<'w, Y: System, S: Begun, N: NoteFolders<S>, O: Wri
     sequences: &'w str,
     output: &mut O,
 ) -> Result<Status, Failure<'w>>
-    ensures listed { IfOk result (ListsOwners Y.told sequences.now (O.contents output.old) (O.contents output.new)) }
+    ensures listed { IfOk result (ListsOwners Y.found sequences.now (O.contents output.old) (O.contents output.new)) }
     ensures failed { IfErr result (FolderFailsBy sequences.now) }
     ensures untouched { IfErr result (λ failure. status_of failure ≢ Status.Failed
         → Keeps (O.contents output.old) (O.contents output.new)) }
@@ -72,12 +72,12 @@ pub(crate) fn rename_all<'w, Y: System, S: Begun, N: NoteFolders<S>, O: Write>(
     new: &str,
     output: &mut O,
 ) -> Result<(), Failure<'w>>
-    ensures renamed { OnOk result (RenamesOwner Y.told sequences.now old.now new.now
+    ensures renamed { OnOk result (RenamesOwner Y.found sequences.now old.now new.now
         (O.contents output.old) (O.contents output.new) (Y.deeds rt.old) (Y.deeds rt.new)) }
     ensures failed { IfErr result (FolderFailsBy sequences.now) }
     ensures untouched { IfErr result (λ failure. status_of failure ≢ Status.Failed
         → Keeps (O.contents output.old) (O.contents output.new)) }
-    ensures touched { ChangesOwners Y.told sequences.now old.now new.now (Y.deeds rt.old) (Y.deeds rt.new) }
+    ensures touched { ChangesOwners Y.found sequences.now old.now new.now (Y.deeds rt.old) (Y.deeds rt.new) }
 {
     let windows = folders.list(sequences)?;
     rename_owner(rt, sequences, &windows, old, new, output)

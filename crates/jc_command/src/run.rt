@@ -169,11 +169,11 @@ pub fn command<'a, Y: Databases, F: OpenFromFiles, S: Begun, I: Read, O: Output,
 ) -> u8
     ensures status { result ≤ 4 }
     ensures ended { (status : Status) → status ≢ Status.Failed → result ≡ number_of status
-        → EndsWithin (begins_with F.first S.windows S.finished S.aside S.came Y.told (Y.deeds rt.old) (O.entry_shape output.old))
+        → EndsWithin (begins_with F.first S.windows S.finished S.aside S.came Y.told Y.found (Y.deeds rt.old) (O.entry_shape output.old))
         (devices F.in_files ⟦<Sequences<'a, S> as Ledger>⟧) (Y.deeds rt.new) (map string_bytes words.items) (I.remaining input.old)
         (O.contents output.old) (O.contents output.new) (E.contents errors.old) (E.contents errors.new) status }
     // However it ends, this alone was done to files.
-    ensures touched { DoesAsked Y.told (map string_bytes words.items) (I.remaining input.old) (Y.deeds rt.old) (Y.deeds rt.new) }
+    ensures touched { DoesAsked Y.found (map string_bytes words.items) (I.remaining input.old) (Y.deeds rt.old) (Y.deeds rt.new) }
 {
     run_command::<_, F, S, _, _, _, _>(rt, folders, start, words, input, output, errors).status
 }
@@ -205,20 +205,20 @@ pub fn run_command<
     ensures status { result.status ≤ 4 }
     // Where something failed, it says so only if files come back: what was stored and printed before is there too.
     ensures ended { (status : Status) → (status ≡ Status.Failed → IsSome result.files) → result.status ≡ number_of status
-        → Ends (begins_with F.first S.windows S.finished S.aside S.came Y.told (Y.deeds rt.old) (O.entry_shape output.old))
+        → Ends (begins_with F.first S.windows S.finished S.aside S.came Y.told Y.found (Y.deeds rt.old) (O.entry_shape output.old))
         (devices F.in_files ⟦<N::Notes as Ledger>⟧) (leaves result.files result.ledger (Y.deeds rt.new)) (map string_bytes words.items) (I.remaining input.old)
         (O.contents output.old) (O.contents output.new) (E.contents errors.old) (E.contents errors.new) status }
     // Whatever the status is, either what was asked for is performed, or what is left of a union has what was printed, or is as it
     // was opened, and is handed back.
     ensures failed { (status : Status) → result.status ≡ number_of status
-        → PerformsAsked (begins_with F.first S.windows S.finished S.aside S.came Y.told (Y.deeds rt.old) (O.entry_shape output.old))
+        → PerformsAsked (begins_with F.first S.windows S.finished S.aside S.came Y.told Y.found (Y.deeds rt.old) (O.entry_shape output.old))
         (devices F.in_files ⟦<N::Notes as Ledger>⟧) (leaves result.files result.ledger (Y.deeds rt.new)) (map string_bytes words.items) (I.remaining input.old)
         (O.contents output.old) (O.contents output.new) status
-        ⊎ FailsAsked (begins_with F.first S.windows S.finished S.aside S.came Y.told (Y.deeds rt.old) (O.entry_shape output.old))
+        ⊎ FailsAsked (begins_with F.first S.windows S.finished S.aside S.came Y.told Y.found (Y.deeds rt.old) (O.entry_shape output.old))
         (devices F.in_files ⟦<N::Notes as Ledger>⟧) (map string_bytes words.items) (I.remaining input.old)
         (O.contents output.old) (O.contents output.new) (Y.deeds rt.new) status result.left }
     // However it ends, this alone was done to files.
-    ensures touched { DoesAsked Y.told (map string_bytes words.items) (I.remaining input.old) (Y.deeds rt.old) (Y.deeds rt.new) }
+    ensures touched { DoesAsked Y.found (map string_bytes words.items) (I.remaining input.old) (Y.deeds rt.old) (Y.deeds rt.new) }
 {
     match answered::<_, F, S, _, _, _, _>(
         rt,
@@ -263,22 +263,22 @@ fn answered<
     output: &mut O,
     errors: &mut E,
 ) -> Result<Done<F::Files, N::Notes>, FailedRun<'w, F::Left, N::Notes>>
-    ensures ended { IfOk result (λ done. Ends (begins_with F.first S.windows S.finished S.aside S.came Y.told (Y.deeds rt.old) (O.entry_shape output.old))
+    ensures ended { IfOk result (λ done. Ends (begins_with F.first S.windows S.finished S.aside S.came Y.told Y.found (Y.deeds rt.old) (O.entry_shape output.old))
         (devices F.in_files ⟦<N::Notes as Ledger>⟧) (leaves done.files done.ledger (Y.deeds rt.new)) (map string_bytes words.entry.now) (I.remaining input.old)
         (O.contents output.old) (O.contents output.new) (E.contents errors.old) (E.contents errors.new) done.status) }
     ensures stopped { IfErr result (λ run. Stops Y.told (map string_bytes words.entry.now) (I.remaining input.old) (O.contents output.old)
         (O.contents output.new) run.failure) }
     // It performs what was asked for, or begins nothing.
-    ensures performed { IfOk result (λ done. PerformsAsked (begins_with F.first S.windows S.finished S.aside S.came Y.told (Y.deeds rt.old) (O.entry_shape output.old))
+    ensures performed { IfOk result (λ done. PerformsAsked (begins_with F.first S.windows S.finished S.aside S.came Y.told Y.found (Y.deeds rt.old) (O.entry_shape output.old))
         (devices F.in_files ⟦<N::Notes as Ledger>⟧) (leaves done.files done.ledger (Y.deeds rt.new)) (map string_bytes words.entry.now) (I.remaining input.old)
         (O.contents output.old) (O.contents output.new) done.status
-        ⊎ FailsAsked (begins_with F.first S.windows S.finished S.aside S.came Y.told (Y.deeds rt.old) (O.entry_shape output.old))
+        ⊎ FailsAsked (begins_with F.first S.windows S.finished S.aside S.came Y.told Y.found (Y.deeds rt.old) (O.entry_shape output.old))
         (devices F.in_files ⟦<N::Notes as Ledger>⟧) (map string_bytes words.entry.now) (I.remaining input.old)
         (O.contents output.old) (O.contents output.new) (Y.deeds rt.new) done.status None) }
-    ensures left { IfErr result (λ run. FailsAsked (begins_with F.first S.windows S.finished S.aside S.came Y.told (Y.deeds rt.old) (O.entry_shape output.old))
+    ensures left { IfErr result (λ run. FailsAsked (begins_with F.first S.windows S.finished S.aside S.came Y.told Y.found (Y.deeds rt.old) (O.entry_shape output.old))
         (devices F.in_files ⟦<N::Notes as Ledger>⟧) (map string_bytes words.entry.now) (I.remaining input.old)
         (O.contents output.old) (O.contents output.new) (Y.deeds rt.new) (status_of run.failure) run.left) }
-    ensures touched { DoesAsked Y.told (map string_bytes words.entry.now) (I.remaining input.old) (Y.deeds rt.old) (Y.deeds rt.new) }
+    ensures touched { DoesAsked Y.found (map string_bytes words.entry.now) (I.remaining input.old) (Y.deeds rt.old) (Y.deeds rt.new) }
 {
     match parse(rt.alloc(), words) {
         Ok(request) => perform::<_, F, S, _, _, _, _>(
@@ -307,13 +307,13 @@ fn perform<
     output: &mut O,
     errors: &mut E,
 ) -> Result<Done<F::Files, N::Notes>, FailedRun<'w, F::Left, N::Notes>>
-    ensures performed { IfOk result (λ done. HasPerformed (begins_with F.first S.windows S.finished S.aside S.came Y.told (Y.deeds rt.old) (O.entry_shape output.old))
+    ensures performed { IfOk result (λ done. HasPerformed (begins_with F.first S.windows S.finished S.aside S.came Y.told Y.found (Y.deeds rt.old) (O.entry_shape output.old))
         (devices F.in_files ⟦<N::Notes as Ledger>⟧) (leaves done.files done.ledger (Y.deeds rt.new)) request.entry (I.remaining input.old)
         (O.contents output.old) (O.contents output.new) (E.contents errors.old) (E.contents errors.new) done.status) }
-    ensures failed { IfErr result (HasFailed (begins_with F.first S.windows S.finished S.aside S.came Y.told (Y.deeds rt.old) (O.entry_shape output.old))
+    ensures failed { IfErr result (HasFailed (begins_with F.first S.windows S.finished S.aside S.came Y.told Y.found (Y.deeds rt.old) (O.entry_shape output.old))
         (devices F.in_files ⟦<N::Notes as Ledger>⟧) request.entry (I.remaining input.old) (O.contents output.old) (O.contents output.new) (Y.deeds rt.new)) }
     // However it ends, this alone was done to files.
-    ensures touched { DoesFor Y.told request.entry (I.remaining input.old) (Y.deeds rt.old) (Y.deeds rt.new) }
+    ensures touched { DoesFor Y.found request.entry (I.remaining input.old) (Y.deeds rt.old) (Y.deeds rt.new) }
 {
     match request {
         Request::Verify { kind, file } => Done::without(verify(rt, kind, file, output)),

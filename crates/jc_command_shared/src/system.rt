@@ -29,6 +29,10 @@ pub trait System {
     /// proved for whatever they have.
     ghost told: { List ℕ → Maybe (List ℕ) } = { λ _. None };
 
+    /// What is found where a file is opened to be read, or isn't there: all that it has, or nothing. By paths, where that is
+    /// known.
+    ghost found: { List ℕ → Maybe (List ℕ) } = { λ _. None };
+
     /// The system's memory.
     fn alloc(&self) -> Global;
 
@@ -36,8 +40,10 @@ pub trait System {
     fn open(&self, path: &str) -> io::Result<Self::File>
         ensures stream { IfOk result (λ file. Self.File.remaining file ≡ told path.now) }
         ensures bytes { IfOk result (λ file. Self.File.bytes file ≡ told path.now) }
-        // Of one that isn't there nothing is told.
-        ensures missing { IfErr result (λ error. error_kind error ≡ ErrorKind.NotFound → told path.now ≡ None) };
+        ensures whole { IfOk result (λ file. IfSome (found path.now) (λ held. Self.File.remaining file ≡ Some held)) }
+        // Of one that isn't there nothing is told, and nothing is found.
+        ensures missing { IfErr result (λ error. error_kind error ≡ ErrorKind.NotFound → told path.now ≡ None) }
+        ensures absent { IfErr result (λ error. error_kind error ≡ ErrorKind.NotFound → IfSome (found path.now) (λ held. held ≡ [])) };
 
     /// What the system says of the file at `path`.
     fn metadata(&self, path: &str) -> io::Result<Metadata>;

@@ -67,10 +67,10 @@ module _ {Is Other : List ℕ → List Deed → Type 0} (more : (text : List ℕ
   may_more at (inr works) = inr (works_more works)
 
 -- An owner's notes are changed, or stay.
-module _ (told : List ℕ → Option (List ℕ)) (folder : List ℕ) (name : WindowName) (Asked : Option MachineDigest → Type 0) (line : List ℕ)
-    (put notes : List WindowNote) (read : AreRead (told (path_of folder name)) notes) where
+module _ (found : List ℕ → Option (List ℕ)) (folder : List ℕ) (name : WindowName) (Asked : Option MachineDigest → Type 0) (line : List ℕ)
+    (put notes : List WindowNote) (read : AreRead (found (path_of folder name)) notes) where
   pub owner_changes : Asked (owner_of notes) → (old new : Option (List ℕ)) (first now : Option (List Deed)) → Adds first now (replacing (path_of folder name) put)
-      → Appends old new line → Works (IsOwnerChange told folder name Asked line put) old new first now
+      → Appends old new line → Works (IsOwnerChange found folder name Asked line put) old new first now
   owner_changes was old new first now added gained = record {
     text = line;
     deeds = replacing (path_of folder name) put;
@@ -80,15 +80,15 @@ module _ (told : List ℕ → Option (List ℕ)) (folder : List ℕ) (name : Win
   }
 
   pub owner_stays : (Asked (owner_of notes) → ⊥) → (known : Option (List ℕ)) (old : Option (List Deed))
-      → Works (IsOwnerChange told folder name Asked line put) known known old old
+      → Works (IsOwnerChange found folder name Asked line put) known known old old
   owner_stays other known old = idle known old (record { notes = notes; read = read; done = inr (other, (refl, refl)) })
 
-module _ (told : List ℕ → Option (List ℕ)) (folder : List ℕ) (front : Front) (notes : List WindowNote) (read : AreRead (told (path_of folder front.window)) notes) where
-  pub front_stays : (old : Option (List Deed)) → length notes ≤ front.count → Works (IsKeptFront told folder front) None None old old
+module _ (found : List ℕ → Option (List ℕ)) (folder : List ℕ) (front : Front) (notes : List WindowNote) (read : AreRead (found (path_of folder front.window)) notes) where
+  pub front_stays : (old : Option (List Deed)) → length notes ≤ front.count → Works (IsKeptFront found folder front) None None old old
   front_stays old few = idle None old (record { notes = notes; read = read; done = inl (few, refl); silent = refl })
 
   pub front_kept : {T E : Type 0} (result : Result T E) (first now : Option (List Deed)) → front.count < length notes → (put : List WindowNote) → put ≡ take front.count notes
-      → OnOk result (Adds first now (replacing (path_of folder front.window) put)) → OnOk result (Works (IsKeptFront told folder front) None None first now)
+      → OnOk result (Adds first now (replacing (path_of folder front.window) put)) → OnOk result (Works (IsKeptFront found folder front) None None first now)
   front_kept result first now more put is replaced = on_ok result
       (λ added. record {
         text = [];

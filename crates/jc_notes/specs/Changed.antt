@@ -16,9 +16,9 @@ abbrev pub replacing : (at : List ℕ) → List WindowNote → List Deed
 replacing at notes = changes (beside at) ∷ puts (beside at) at (Some (blocks notes ++ 0 ∷ [])) ∷ []
 
 -- A window that has more notes than are named keeps the first of them alone. Another stays as it is. Nothing is printed.
-pub record IsKeptFront (told : List ℕ → Option (List ℕ)) (folder : List ℕ) (front : Front) (text : List ℕ) (deeds : List Deed) : Type 0 where
+pub record IsKeptFront (found : List ℕ → Option (List ℕ)) (folder : List ℕ) (front : Front) (text : List ℕ) (deeds : List Deed) : Type 0 where
   pub notes : List WindowNote
-  pub read : AreRead (told (path_of folder front.window)) notes
+  pub read : AreRead (found (path_of folder front.window)) notes
   pub done : ((length notes ≤ front.count) × (deeds ≡ []))
       ⊎ ((front.count < length notes) × (deeds ≡ replacing (path_of folder front.window) (take front.count notes)))
   pub silent : text ≡ []

@@ -28,31 +28,31 @@ abbrev pub IsOf : WindowName → WindowNote → Type 0
 IsOf name note = note.number / 4096 ≡ name.window
 
 -- The text sums the notes that a window's file has, each of which is of the window.
-pub record IsSummed (told : Option (List ℕ)) (name : WindowName) (text : List ℕ) : Type 0 where
+pub record IsSummed (found : Option (List ℕ)) (name : WindowName) (text : List ℕ) : Type 0 where
   pub notes : List WindowNote
-  pub read : AreRead told notes
+  pub read : AreRead found notes
   pub own : All (IsOf name) notes
   pub line : text ≡ window_line name notes
 
 -- ... if they could be read and are of the window
-abbrev pub IsSummedIf : (told : Option (List ℕ)) → WindowName → Bool → List ℕ → Type 0
-IsSummedIf told name true text = IsSummed told name text
-IsSummedIf told name false text = text ≡ bad_line name
+abbrev pub IsSummedIf : (found : Option (List ℕ)) → WindowName → Bool → List ℕ → Type 0
+IsSummedIf found name true text = IsSummed found name text
+IsSummedIf found name false text = text ≡ bad_line name
 
 -- The text says whose a sequence is by the notes that its owner's window has. It is empty if it is nobody's.
-pub record IsOwnerTold (told : Option (List ℕ)) (name : WindowName) (text : List ℕ) : Type 0 where
+pub record IsOwnerTold (found : Option (List ℕ)) (name : WindowName) (text : List ℕ) : Type 0 where
   pub notes : List WindowNote
-  pub read : AreRead told notes
+  pub read : AreRead found notes
   pub line : text ≡ owner_text name.sequence (owner_of notes)
 
-abbrev pub IsOwnerToldIf : (told : Option (List ℕ)) → WindowName → Bool → List ℕ → Type 0
-IsOwnerToldIf told name true text = IsOwnerTold told name text
-IsOwnerToldIf told name false text = text ≡ bad_line name
+abbrev pub IsOwnerToldIf : (found : Option (List ℕ)) → WindowName → Bool → List ℕ → Type 0
+IsOwnerToldIf found name true text = IsOwnerTold found name text
+IsOwnerToldIf found name false text = text ≡ bad_line name
 
 -- Of a window in which an owner is noted the text says so. Of another it is empty, and all is well.
-abbrev pub IsListedIf : (told : List ℕ → Option (List ℕ)) (folder : List ℕ) → WindowName → Bool → List ℕ → Type 0
-IsListedIf told folder name is_read text =
-    ((name.window ≡ 2 ^ 51) × IsOwnerToldIf (told (path_of folder name)) name is_read text)
+abbrev pub IsListedIf : (found : List ℕ → Option (List ℕ)) (folder : List ℕ) → WindowName → Bool → List ℕ → Type 0
+IsListedIf found folder name is_read text =
+    ((name.window ≡ 2 ^ 51) × IsOwnerToldIf (found (path_of folder name)) name is_read text)
     ⊎ ((name.window ≢ 2 ^ 51) × ((is_read ≡ true) × (text ≡ [])))
 
 -- The note that a sequence is a machine's.
@@ -61,27 +61,27 @@ owner_note machine = record { number = 2 ^ 63; digest = record { 0 = machine.0 }
 
 -- If the owner by the notes of a window's file is one that is asked for, these notes alone take their place, and the line is
 -- printed. Else nothing is done or printed.
-pub record IsOwnerChange (told : List ℕ → Option (List ℕ)) (folder : List ℕ) (name : WindowName) (Asked : Option MachineDigest → Type 0) (line : List ℕ) (put : List WindowNote) (text : List ℕ) (deeds : List Deed) : Type 0 where
+pub record IsOwnerChange (found : List ℕ → Option (List ℕ)) (folder : List ℕ) (name : WindowName) (Asked : Option MachineDigest → Type 0) (line : List ℕ) (put : List WindowNote) (text : List ℕ) (deeds : List Deed) : Type 0 where
   pub notes : List WindowNote
-  pub read : AreRead (told (path_of folder name)) notes
+  pub read : AreRead (found (path_of folder name)) notes
   pub done : (Asked (owner_of notes) × ((text ≡ line) × (deeds ≡ replacing (path_of folder name) put)))
       ⊎ ((¬ Asked (owner_of notes)) × ((text ≡ []) × (deeds ≡ [])))
 
 -- If a sequence was the first machine's, it is the other one's now, and the text says so.
-abbrev pub IsRenaming : (told : List ℕ → Option (List ℕ)) (folder : List ℕ) (old new : MachineDigest) → WindowName → (text : List ℕ) → List Deed → Type 0
-IsRenaming told folder old new name text deeds =
-    IsOwnerChange told folder name (λ owner. owner ≡ Some old) (owner_line name.sequence new) (owner_note new ∷ []) text deeds
+abbrev pub IsRenaming : (found : List ℕ → Option (List ℕ)) (folder : List ℕ) (old new : MachineDigest) → WindowName → (text : List ℕ) → List Deed → Type 0
+IsRenaming found folder old new name text deeds =
+    IsOwnerChange found folder name (λ owner. owner ≡ Some old) (owner_line name.sequence new) (owner_note new ∷ []) text deeds
 
 -- Of a window in which an owner is noted this is so. Of another nothing is done or printed.
-abbrev pub IsRenamingIf : (told : List ℕ → Option (List ℕ)) (folder : List ℕ) (old new : MachineDigest) → WindowName → (text : List ℕ) → List Deed → Type 0
-IsRenamingIf told folder old new name text deeds =
-    ((name.window ≡ 2 ^ 51) × IsRenaming told folder old new name text deeds)
+abbrev pub IsRenamingIf : (found : List ℕ → Option (List ℕ)) (folder : List ℕ) (old new : MachineDigest) → WindowName → (text : List ℕ) → List Deed → Type 0
+IsRenamingIf found folder old new name text deeds =
+    ((name.window ≡ 2 ^ 51) × IsRenaming found folder old new name text deeds)
     ⊎ ((name.window ≢ 2 ^ 51) × ((text ≡ []) × (deeds ≡ [])))
 
 -- If a sequence was a machine's, it is nobody's now, and the text says so.
-abbrev pub IsRelease : (told : List ℕ → Option (List ℕ)) (folder : List ℕ) → Id128 → (text : List ℕ) → List Deed → Type 0
-IsRelease told folder sequence text deeds =
-    IsOwnerChange told folder (owner_window sequence) (λ owner. owner ≢ None) (free_line sequence) [] text deeds
+abbrev pub IsRelease : (found : List ℕ → Option (List ℕ)) (folder : List ℕ) → Id128 → (text : List ℕ) → List Deed → Type 0
+IsRelease found folder sequence text deeds =
+    IsOwnerChange found folder (owner_window sequence) (λ owner. owner ≢ None) (free_line sequence) [] text deeds
 
 -- The digits spell a sequence that this is so of.
 pub record OfSequence (digits : List ℕ) (Does : Id128 → Type 0) : Type 0 where
@@ -90,8 +90,8 @@ pub record OfSequence (digits : List ℕ) (Does : Id128 → Type 0) : Type 0 whe
   pub does : Does sequence
 
 -- The text says whether a key is noted in the file of its window. That is well, whatever it says.
-pub record IsNotedTold (told : List ℕ → Option (List ℕ)) (folder : List ℕ) (key : Key) (is_well : Bool) (text : List ℕ) : Type 0 where
+pub record IsNotedTold (found : List ℕ → Option (List ℕ)) (folder : List ℕ) (key : Key) (is_well : Bool) (text : List ℕ) : Type 0 where
   pub digest : Option EntryDigest
-  pub is : IsNotedIn (told (path_of folder (window_of key))) key.seqnum digest
+  pub is : IsNotedIn (found (path_of folder (window_of key))) key.seqnum digest
   pub well : is_well ≡ true
   pub line : text ≡ noted_line (is_some digest)

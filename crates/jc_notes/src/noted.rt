@@ -32,7 +32,7 @@ pub struct NotesRead {
 impl NotesRead {
     /// None was read yet. Takes no memory.
     pub fn new(alloc: Global) -> NotesRead
-        ensures none { (told : List ℕ → Maybe (List ℕ)) (folder : List ℕ) → KeepsRead told folder result }
+        ensures none { (found : List ℕ → Maybe (List ℕ)) (folder : List ℕ) → KeepsRead found folder result }
     {
         NotesRead {
             window: None,
@@ -48,9 +48,9 @@ impl NotesRead {
         key: &Key,
     ) -> Result<Option<EntryDigest>, Failure<'p>>
         // What is kept is of this folder, if it was before.
-        ensures kept { KeepsRead R.told folder.now self.old → KeepsRead R.told folder.now self.new }
-        ensures found { KeepsRead R.told folder.now self.old
-            → IfOk result (IsNotedIn (R.told (path_of folder.now (window_of key.now))) key.now.seqnum) }
+        ensures kept { KeepsRead R.found folder.now self.old → KeepsRead R.found folder.now self.new }
+        ensures found { KeepsRead R.found folder.now self.old
+            → IfOk result (IsNotedIn (R.found (path_of folder.now (window_of key.now))) key.now.seqnum) }
         ensures failed { IfErr result ReadingFails }
     {
         let window = window_of(key);
@@ -72,7 +72,7 @@ pub fn say_noted<'p, R: System, I: Read, O: Write>(
 ) -> Result<(), Failure<'p>>
     // Of each key that a known text asks for.
     ensures printed { OnOk result (IfSome (I.remaining input.old) (OfLines key_at
-        (λ keys. PrintsEach (IsNotedTold R.told folder.now) keys Status.Success (O.contents output.old) (O.contents output.new)))) }
+        (λ keys. PrintsEach (IsNotedTold R.found folder.now) keys Status.Success (O.contents output.old) (O.contents output.new)))) }
     ensures bad { IfErr result (λ failure. (line : ℕ) → failure ≡ Failure.BadLine line
         → IfSome (I.remaining input.old) (λ text. IsFirstBad key_at text line)) }
     ensures failed { IfErr result LinesFail }
@@ -91,7 +91,7 @@ fn say_each<'p, R: System, O: Write>(
     keys: &[Key],
     output: &mut O,
 ) -> Result<(), Failure<'p>>
-    ensures printed { OnOk result (PrintsEach (IsNotedTold R.told folder.now) keys.now Status.Success
+    ensures printed { OnOk result (PrintsEach (IsNotedTold R.found folder.now) keys.now Status.Success
         (O.contents output.old) (O.contents output.new)) }
     ensures failed { IfErr result WorkFails }
 {
@@ -110,9 +110,9 @@ fn say_key<'p, R: System, O: Write>(
     notes: &mut NotesRead,
     output: &mut O,
 ) -> Result<(), Failure<'p>>
-    ensures kept { KeepsRead R.told folder.now notes.old → KeepsRead R.told folder.now notes.new }
-    ensures printed { KeepsRead R.told folder.now notes.old
-        → OnOk result (Prints (IsNotedTold R.told folder.now key.now true) (O.contents output.old) (O.contents output.new)) }
+    ensures kept { KeepsRead R.found folder.now notes.old → KeepsRead R.found folder.now notes.new }
+    ensures printed { KeepsRead R.found folder.now notes.old
+        → OnOk result (Prints (IsNotedTold R.found folder.now key.now true) (O.contents output.old) (O.contents output.new)) }
     ensures failed { IfErr result WorkFails }
 {
     let found = notes.find(rt, folder, key)?;

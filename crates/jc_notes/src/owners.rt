@@ -33,7 +33,7 @@ pub fn list_owners<'p, R: System, O: Write>(
     windows: &[WindowName],
     output: &mut O,
 ) -> Result<Status, Failure<'p>>
-    ensures printed { IfOk result (λ status. PrintsEach (IsListedIf R.told folder.now)
+    ensures printed { IfOk result (λ status. PrintsEach (IsListedIf R.found folder.now)
         windows.now status (O.contents output.old) (O.contents output.new)) }
     ensures judged { IfOk result (λ status. (status ≡ Status.Success) ⊎ (status ≡ Status.Refused)) }
     ensures failed { IfErr result WorkFails }
@@ -55,7 +55,7 @@ fn list_one<'p, R: System, O: Write>(
     output: &mut O,
 ) -> Result<bool, Failure<'p>>
     ensures printed { IfOk result (λ is_read.
-        Prints (IsListedIf R.told folder.now name is_read) (O.contents output.old) (O.contents output.new)) }
+        Prints (IsListedIf R.found folder.now name is_read) (O.contents output.old) (O.contents output.new)) }
     ensures failed { IfErr result WorkFails }
 {
     if name.window != owner_window(name.sequence).window {
@@ -72,7 +72,7 @@ fn print_one<'p, R: System, O: Write>(
     output: &mut O,
 ) -> Result<bool, Failure<'p>>
     ensures printed { IfOk result (λ is_read.
-        Prints (IsOwnerToldIf (R.told (path_of folder.now name)) name is_read) (O.contents output.old) (O.contents output.new)) }
+        Prints (IsOwnerToldIf (R.found (path_of folder.now name)) name is_read) (O.contents output.old) (O.contents output.new)) }
     ensures failed { IfErr result WorkFails }
 {
     match notes_in(rt, folder, name) {
@@ -98,10 +98,10 @@ pub fn rename_owner<'p, R: System, O: Write>(
     new: &str,
     output: &mut O,
 ) -> Result<(), Failure<'p>>
-    ensures renamed { OnOk result (WorksEach (IsRenamingIf R.told folder.now (machine_named old.now) (machine_named new.now)) windows.now
+    ensures renamed { OnOk result (WorksEach (IsRenamingIf R.found folder.now (machine_named old.now) (machine_named new.now)) windows.now
         (O.contents output.old) (O.contents output.new) (R.deeds rt.old) (R.deeds rt.new)) }
     // A failure comes behind the first of these windows.
-    ensures stopped { OnErr result (GivesUp (IsRenamingIf R.told folder.now (machine_named old.now) (machine_named new.now))
+    ensures stopped { OnErr result (GivesUp (IsRenamingIf R.found folder.now (machine_named old.now) (machine_named new.now))
         (path_of folder.now) windows.now (R.deeds rt.old) (R.deeds rt.new)) }
     ensures touched { ChangesOnly (IsInFolder folder.now) (R.deeds rt.old) (R.deeds rt.new) }
     ensures failed { IfErr result WorkFails }
@@ -122,9 +122,9 @@ fn rename_each<'p, R: System, O: Write>(
     to: MachineDigest,
     output: &mut O,
 ) -> Result<(), Failure<'p>>
-    ensures renamed { OnOk result (WorksEach (IsRenamingIf R.told folder.now from to) windows.now
+    ensures renamed { OnOk result (WorksEach (IsRenamingIf R.found folder.now from to) windows.now
         (O.contents output.old) (O.contents output.new) (R.deeds rt.old) (R.deeds rt.new)) }
-    ensures stopped { OnErr result (GivesUp (IsRenamingIf R.told folder.now from to) (path_of folder.now) windows.now
+    ensures stopped { OnErr result (GivesUp (IsRenamingIf R.found folder.now from to) (path_of folder.now) windows.now
         (R.deeds rt.old) (R.deeds rt.new)) }
     ensures touched { ChangesOnly (IsInFolder folder.now) (R.deeds rt.old) (R.deeds rt.new) }
     ensures failed { IfErr result WorkFails }
@@ -145,9 +145,9 @@ fn rename_one<'p, R: System, O: Write>(
     to: MachineDigest,
     output: &mut O,
 ) -> Result<(), Failure<'p>>
-    ensures renamed { OnOk result (Works (IsRenamingIf R.told folder.now from to name)
+    ensures renamed { OnOk result (Works (IsRenamingIf R.found folder.now from to name)
         (O.contents output.old) (O.contents output.new) (R.deeds rt.old) (R.deeds rt.new)) }
-    ensures stopped { OnErr result (MayWork (IsRenamingIf R.told folder.now from to name) (path_of folder.now name)
+    ensures stopped { OnErr result (MayWork (IsRenamingIf R.found folder.now from to name) (path_of folder.now name)
         (R.deeds rt.old) (R.deeds rt.new)) }
     ensures touched { ChangesOnly (IsInFolder folder.now) (R.deeds rt.old) (R.deeds rt.new) }
     ensures failed { IfErr result WorkFails }
@@ -168,9 +168,9 @@ fn rename_noted<'p, R: System, O: Write>(
     to: MachineDigest,
     output: &mut O,
 ) -> Result<(), Failure<'p>>
-    ensures renamed { OnOk result (Works (IsRenaming R.told folder.now from to name)
+    ensures renamed { OnOk result (Works (IsRenaming R.found folder.now from to name)
         (O.contents output.old) (O.contents output.new) (R.deeds rt.old) (R.deeds rt.new)) }
-    ensures stopped { OnErr result (MayWork (IsRenaming R.told folder.now from to name) (path_of folder.now name)
+    ensures stopped { OnErr result (MayWork (IsRenaming R.found folder.now from to name) (path_of folder.now name)
         (R.deeds rt.old) (R.deeds rt.new)) }
     ensures touched { ChangesOnly (IsInFolder folder.now) (R.deeds rt.old) (R.deeds rt.new) }
     ensures failed { IfErr result WorkFails }
@@ -191,11 +191,11 @@ pub fn release_sequence<'p, R: System, O: Write>(
     sequence: &'p str,
     output: &mut O,
 ) -> Result<(), Failure<'p>>
-    ensures released { OnOk result (OfSequence sequence.entry.now (λ s. Works (IsRelease R.told folder.now s)
+    ensures released { OnOk result (OfSequence sequence.entry.now (λ s. Works (IsRelease R.found folder.now s)
         (O.contents output.old) (O.contents output.new) (R.deeds rt.old) (R.deeds rt.new))) }
     // A failure leaves all as it was, or the file of this sequence's owner, or comes behind its release.
     ensures stopped { OnErr result ((R.deeds rt.new ≡ R.deeds rt.old) ⊎ OfSequence sequence.entry.now
-        (λ s. MayWork (IsRelease R.told folder.now s) (path_of folder.now (owner_window s)) (R.deeds rt.old) (R.deeds rt.new))) }
+        (λ s. MayWork (IsRelease R.found folder.now s) (path_of folder.now (owner_window s)) (R.deeds rt.old) (R.deeds rt.new))) }
     ensures bad { IfErr result (λ failure. failure ≡ Failure.BadId → ¬ IsIdText sequence.entry.now) }
     ensures unchanged { IfErr result (λ failure. status_of failure ≢ Status.Failed → R.deeds rt.new ≡ R.deeds rt.old) }
     ensures touched { ChangesOnly (IsInFolder folder.now) (R.deeds rt.old) (R.deeds rt.new) }
@@ -216,9 +216,9 @@ fn release_one<'p, R: System, O: Write>(
     sequence: Id128,
     output: &mut O,
 ) -> Result<(), Failure<'p>>
-    ensures released { OnOk result (Works (IsRelease R.told folder.now sequence)
+    ensures released { OnOk result (Works (IsRelease R.found folder.now sequence)
         (O.contents output.old) (O.contents output.new) (R.deeds rt.old) (R.deeds rt.new)) }
-    ensures stopped { OnErr result (MayWork (IsRelease R.told folder.now sequence) (path_of folder.now (owner_window sequence))
+    ensures stopped { OnErr result (MayWork (IsRelease R.found folder.now sequence) (path_of folder.now (owner_window sequence))
         (R.deeds rt.old) (R.deeds rt.new)) }
     ensures touched { ChangesOnly (IsInFolder folder.now) (R.deeds rt.old) (R.deeds rt.new) }
     ensures failed { IfErr result WorkFails }

@@ -20,7 +20,7 @@ pub(crate) fn notes_in<'p, R: System>(
     folder: &str,
     name: WindowName,
 ) -> Result<Vec<WindowNote>, Failure<'p>>
-    ensures notes { IfOk result (λ notes. AreRead (R.told (path_of folder.now name)) notes.items) }
+    ensures notes { IfOk result (λ notes. AreRead (R.found (path_of folder.now name)) notes.items) }
     ensures failed { IfErr result ReadingFails }
 {
     let Ok(path) = window_path(rt.alloc(), folder, name) else {

@@ -24,7 +24,7 @@ pub fn verify_notes<'p, R: System, O: Write>(
     windows: &[WindowName],
     output: &mut O,
 ) -> Result<Status, Failure<'p>>
-    ensures printed { IfOk result (λ status. PrintsEach (λ name. IsSummedIf (R.told (path_of folder.now name)) name)
+    ensures printed { IfOk result (λ status. PrintsEach (λ name. IsSummedIf (R.found (path_of folder.now name)) name)
         windows.now status (O.contents output.old) (O.contents output.new)) }
     ensures judged { IfOk result (λ status. (status ≡ Status.Success) ⊎ (status ≡ Status.Refused)) }
     ensures failed { IfErr result WorkFails }
@@ -53,7 +53,7 @@ fn verify_one<'p, R: System, O: Write>(
     output: &mut O,
 ) -> Result<bool, Failure<'p>>
     ensures printed { IfOk result (λ is_read.
-        Prints (IsSummedIf (R.told (path_of folder.now name)) name is_read) (O.contents output.old) (O.contents output.new)) }
+        Prints (IsSummedIf (R.found (path_of folder.now name)) name is_read) (O.contents output.old) (O.contents output.new)) }
     ensures failed { IfErr result WorkFails }
 {
     match notes_in(rt, folder, name) {

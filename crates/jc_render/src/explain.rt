@@ -32,7 +32,7 @@ pub fn explained<'a, F: OpenFromFiles, S: Begun, I: Read, O: Output + Drop, E: E
     ensures status { result ≤ 4 }
     // `told` is what `errors` had before the explanations, and what came then goes on from there.
     ensures ended { (status : Status) → status ≢ Status.Failed → result ≡ number_of status → (told : Maybe (List ℕ))
-        × EndsWithin (begins_with F.first S.windows S.finished S.aside S.came (λ _. None) None (O.entry_shape output.old.inner)) (devices F.in_files ⟦<Sequences<'a, S> as Ledger>⟧)
+        × EndsWithin (begins_with F.first S.windows S.finished S.aside S.came (λ _. None) (λ _. None) None (O.entry_shape output.old.inner)) (devices F.in_files ⟦<Sequences<'a, S> as Ledger>⟧)
         None (map string_bytes words.items) (I.remaining input.old) (O.contents output.old.inner) (O.contents output.new.inner)
         (E.contents errors.old.inner) told status
         × TellsOn (map string_bytes words.items) CODES.now told (E.contents errors.new.inner) }

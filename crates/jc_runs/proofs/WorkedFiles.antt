@@ -182,7 +182,7 @@ module _ (files : Files) where
   none_noted = files.read [] [] (record { rest = []; whole = refl; closed = tt; are = no_notes })
 
   pub first : FirstBegins
-  first made told deeds shape = record {
+  first made told seen deeds shape = record {
     holds = makes_file made;
     noted = λ k key. ap (λ (ns : List WindowNote). noted ns k.seqnum) none_noted;
     owner = λ s. ap owner_of none_noted;
@@ -211,14 +211,14 @@ module _ (files : Files) where
     noted = ap (λ (o : Known). o of_one.key) known ∙ ap (option_map (digest_under of_one.key)) has_one_of_p2;
     noted_of_other = ap (λ (o : Known). o of_other.key) known ∙ ap (option_map (digest_under of_other.key)) has_other_of_p2;
     windows = windows;
-    began = λ made kind image told deeds shape begins. record {
+    began = λ made kind image told seen deeds shape begins. record {
       holds = begins;
       noted = λ k key. known_there k key ∙ ap (λ (o : Known). o k) (sym known);
       owner = λ s. owner_there s ∙ ap (λ (o : Owner). o s) (sym owner);
       past = all_there;
       came = λ e inside. inside;
     };
-    begins = λ image told deeds shape. begins_alike (sym all_there) (λ k key. known_there k key ∙ ap (λ (o : Known). o k) (sym known)) (λ e inside. inside)
+    begins = λ image told seen deeds shape. begins_alike (sym all_there) (λ k key. known_there k key ∙ ap (λ (o : Known). o k) (sym known)) (λ e inside. inside)
         (keeps_on laws nothing b (take steps worked) leads (subst (λ (es : List LogEntry). NoneCollide (Contains es)) (sym had) none_collide) (stands_at_first laws.same)).stands.begins;
   }
     where

@@ -93,16 +93,16 @@ pub record PrintsStep (Runs : List (Option (List ℕ)) → List Answer → Type 
 abbrev pub NextBegins : Type 0
 NextBegins =
     (made kind : Tables) (b : Between) (now finished aside : Journal) (windows : WindowName → List ℕ) (image : Image) (came : List LogEntry)
-    (told : List ℕ → Option (List ℕ)) (deeds : Option (List Deed)) (shape : Shape) → BeginsIn made kind image now → union finished aside ≡ b.past
-    → BeganWith made kind (begins_with image windows finished aside (Contains came) told deeds shape) (behind b now windows came)
+    (told found : List ℕ → Option (List ℕ)) (deeds : Option (List Deed)) (shape : Shape) → BeginsIn made kind image now → union finished aside ≡ b.past
+    → BeganWith made kind (begins_with image windows finished aside (Contains came) told found deeds shape) (behind b now windows came)
 
 -- A run that begins with what there is supposes no more of it than that a run may begin.
 abbrev pub BegunMayStart : Type 0
 BegunMayStart =
     (made kind : Tables) (b : Between) (finished aside : Journal) (windows : WindowName → List ℕ) (image : Image)
-    (came : List LogEntry) (told : List ℕ → Option (List ℕ)) (deeds : Option (List Deed)) (shape : Shape)
-    → BeganWith made kind (begins_with image windows finished aside (Contains came) told deeds shape) b → MayBegin b
-    → MayStart (begins_with image windows finished aside (Contains came) told deeds shape) b.now
+    (came : List LogEntry) (told found : List ℕ → Option (List ℕ)) (deeds : Option (List Deed)) (shape : Shape)
+    → BeganWith made kind (begins_with image windows finished aside (Contains came) told found deeds shape) b → MayBegin b
+    → MayStart (begins_with image windows finished aside (Contains came) told found deeds shape) b.now
 
 -- No file yet: neither a database nor a log beside it.
 abbrev pub no_file : Image
@@ -115,8 +115,8 @@ MayMake b = (made : Tables) → BeginsIn made made no_file b.now
 -- The first run begins so, and with no file of notes.
 abbrev pub FirstBegins : Type 0
 FirstBegins =
-    (made : Tables) (told : List ℕ → Option (List ℕ)) (deeds : Option (List Deed)) (shape : Shape)
-    → BeganWith made made (begins_with no_file (λ _. []) empty empty (Contains []) told deeds shape) nothing
+    (made : Tables) (told found : List ℕ → Option (List ℕ)) (deeds : Option (List Deed)) (shape : Shape)
+    → BeganWith made made (begins_with no_file (λ _. []) empty empty (Contains []) told found deeds shape) nothing
 
 -- What is found of files that had this, behind a run that opened no database in them: what they had, if it handed none
 -- back, or else what a crash may leave of what it did, if their disks returned what was written.
@@ -153,9 +153,9 @@ module _ {S C L N : Type 0} (begun : Begins) (g : Devices S C L N) (files_leave 
   abbrev pub FailLeadsOn : Type 0
   FailLeadsOn =
       (made kind : Tables) (left : Option L) (b : Between) (finished aside : Journal) (windows : WindowName → List ℕ)
-      (image : Image) (came : List LogEntry) (told : List ℕ → Option (List ℕ)) (deeds : Option (List Deed))
+      (image : Image) (came : List LogEntry) (told found : List ℕ → Option (List ℕ)) (deeds : Option (List Deed))
       (shape : Shape)
       → AreAsBegun begun g notes → IfSome left (LeavesBegun g.database made begun.image) → BeganWith made kind begun b
       → ((w : WindowName) → files_leave notes w (windows w)) → IsFoundUnopened g.database begun.image left image
       → ((e : LogEntry) → Contains b.came e → Contains came e) → union finished aside ≡ b.past
-      → ∥ BeganWith made kind (begins_with image windows finished aside (Contains came) told deeds shape) b ∥₁
+      → ∥ BeganWith made kind (begins_with image windows finished aside (Contains came) told found deeds shape) b ∥₁

@@ -117,7 +117,7 @@ pub record Starts (steps : ℕ) (b : Between) : Type 0 where
   pub noted : b.known of_one.key ≡ Some (digest_of of_one)
   pub noted_of_other : b.known of_other.key ≡ Some (digest_of of_other)
   pub windows : WindowName → List ℕ
-  pub began : (made kind : Tables) (image : Image) (told : List ℕ → Option (List ℕ)) (deeds : Option (List Deed)) (shape : Shape) → BeginsIn made kind image b.now
-      → BeganWith made kind (begins_with image windows b.past empty (Contains b.came) told deeds shape) b
-  pub begins : (image : Image) (told : List ℕ → Option (List ℕ)) (deeds : Option (List Deed)) (shape : Shape)
-      → MayStart (begins_with image windows b.past empty (Contains b.came) told deeds shape) b.now
+  pub began : (made kind : Tables) (image : Image) (told found : List ℕ → Option (List ℕ)) (deeds : Option (List Deed)) (shape : Shape) → BeginsIn made kind image b.now
+      → BeganWith made kind (begins_with image windows b.past empty (Contains b.came) told found deeds shape) b
+  pub begins : (image : Image) (told found : List ℕ → Option (List ℕ)) (deeds : Option (List Deed)) (shape : Shape)
+      → MayStart (begins_with image windows b.past empty (Contains b.came) told found deeds shape) b.now

@@ -21,13 +21,13 @@ use jc_ledger_files::LedgerInFiles;
 pub fn next_run<F: OpenFromFiles, S: Begun, N: NoteFolders<S>>(files: &F::Files, notes: &N::Notes)
 where
     N::Notes: LedgerInFiles,
-    ensures ended { (told : List ℕ → Option (List ℕ)) (deeds : Option (List Deed)) (shape : Shape) → EndLeadsOn (begins_with F.first S.windows S.finished S.aside S.came told deeds shape) (devices F.in_files ⟦<N::Notes as Ledger>⟧)
+    ensures ended { (told found : List ℕ → Option (List ℕ)) (deeds : Option (List Deed)) (shape : Shape) → EndLeadsOn (begins_with F.first S.windows S.finished S.aside S.came told found deeds shape) (devices F.in_files ⟦<N::Notes as Ledger>⟧)
         N.Notes.files_leave notes.now files.now }
-    ensures stopped { (told : List ℕ → Option (List ℕ)) (deeds : Option (List Deed)) (shape : Shape) → StopLeadsOn (begins_with F.first S.windows S.finished S.aside S.came told deeds shape) (devices F.in_files ⟦<N::Notes as Ledger>⟧)
+    ensures stopped { (told found : List ℕ → Option (List ℕ)) (deeds : Option (List Deed)) (shape : Shape) → StopLeadsOn (begins_with F.first S.windows S.finished S.aside S.came told found deeds shape) (devices F.in_files ⟦<N::Notes as Ledger>⟧)
         N.Notes.files_leave notes.now }
     // Behind a run that failed before its database was opened the next one begins as it did.
-    ensures failed { (told : List ℕ → Option (List ℕ)) (deeds : Option (List Deed)) (shape : Shape)
-        → FailLeadsOn (begins_with F.first S.windows S.finished S.aside S.came told deeds shape)
+    ensures failed { (told found : List ℕ → Option (List ℕ)) (deeds : Option (List Deed)) (shape : Shape)
+        → FailLeadsOn (begins_with F.first S.windows S.finished S.aside S.came told found deeds shape)
         (devices F.in_files ⟦<N::Notes as Ledger>⟧) N.Notes.files_leave notes.now }
     // What came is a list, if what had come before was one.
     ensures come { (b : Between) → ((e : LogEntry) → S.came e ↔ Contains b.came e) → ComeAsList (⟦<N::Notes as Ledger>⟧.came notes.now) b }

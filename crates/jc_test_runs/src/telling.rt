@@ -48,6 +48,8 @@ impl<'a, A: Abort, T: Told> System for Telling<'a, A, T> {
 
     ghost told = { T.told };
 
+    ghost found = { T.told };
+
     fn alloc(&self) -> Global {
         self.others.alloc()
     }

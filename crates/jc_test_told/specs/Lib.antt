@@ -1,3 +1,4 @@
 pub mod Samples
 pub mod Machines
 pub mod Noted
+pub mod OneNote

@@ -5,6 +5,7 @@
 mod machines;
 mod memory;
 mod noted;
+mod one_note;
 mod samples;
 #[cfg(test)]
 mod tests;
@@ -12,4 +13,5 @@ mod tests;
 pub use machines::Machines;
 pub use memory::{Memory, MemoryFile, Told};
 pub use noted::{Note, WrittenFile};
+pub use one_note::OneNote;
 pub use samples::Samples;

@@ -1,6 +1,6 @@
 //! Files in memory.
 
-ghost use Rattle.std.specs.Prelude.{◌≡◌, ◌∷◌, ◌++◌, [], List, ℕ, OnErr, OnOk, Option as Maybe, Some, map, option_map};
+ghost use Rattle.std.specs.Prelude.{◌≡◌, ◌∷◌, ◌++◌, [], List, ℕ, OnErr, OnOk, Option as Maybe, Some, map, option_map, unwrap_or};
 ghost use Rattle.jc_command_shared.specs.Deeds.{Adds, opens};
 ghost use Rattle.jc_test_told.specs.Noted.{deed_of};
 
@@ -134,6 +134,9 @@ impl<T: Told> System for Memory<T> {
     ghost deeds = { λ s. Some (map deed_of s.notes.items) };
 
     ghost told = { T.told };
+
+    // There are no other files.
+    ghost found = { λ path. Some (unwrap_or (T.told path) []) };
 
     fn alloc(&self) -> Global {
         self.alloc

@@ -1,5 +1,6 @@
 //! Uploads that a list names, and a resume point that is kept, over files that tell what they have.
 
+mod notes;
 mod runs;
 
 use crate::{Memory, Note, Samples};

@@ -253,7 +253,7 @@ returns-in-ReleaseSequence-clause-failed g c =
 pub returns-in-ReleaseSequence-clause-touched : goal.returns-in-ReleaseSequence-clause-touched
 returns-in-ReleaseSequence-clause-touched g c =
     does_as _ _ _ _ _ _ c.in-ReleaseSequence.is
-    (releases g.Y.System.told c.in-ReleaseSequence.sequences.now c.release_sequence.result c.in-ReleaseSequence.sequence.now
+    (releases g.Y.System.found c.in-ReleaseSequence.sequences.now c.release_sequence.result c.in-ReleaseSequence.sequence.now
     (g.O.Write.contents c.args.output.now) (g.O.Write.contents c.release_sequence.new.output) (g.Y.System.deeds c.args.rt.now) (g.Y.System.deeds c.release_sequence.new.rt)
     c.release_sequence.ensures.released c.release_sequence.ensures.stopped c.release_sequence.ensures.touched)
 
@@ -316,7 +316,7 @@ pub returns-in_err-run-in-CollectIntoUnion-clause-failed : goal.returns-in_err-r
 returns-in_err-run-in-CollectIntoUnion-clause-failed g c =
     let opened = c.in_ok-ledger-in-CollectIntoUnion.ensures in
     let ends = c.in_err-run-in-CollectIntoUnion.ensures in
-    let begun = begins_with g.F.OpenFromFiles.first g.S.Begun.windows g.S.Begun.finished g.S.Begun.aside g.S.Begun.came g.Y.System.told (g.Y.System.deeds c.args.rt.now) (g.O.Output.entry_shape c.args.output.now) in
+    let begun = begins_with g.F.OpenFromFiles.first g.S.Begun.windows g.S.Begun.finished g.S.Begun.aside g.S.Begun.came g.Y.System.told g.Y.System.found (g.Y.System.deeds c.args.rt.now) (g.O.Output.entry_shape c.args.output.now) in
     let seen = devices g.F.StoreInFiles.in_files g.N.Notes.Ledger in
     err_is c.from_residual-in_err-run-in-CollectIntoUnion.result _ _ c.from_residual-in_err-run-in-CollectIntoUnion.ensures.1
     (fails_one begun seen _ _ (g.I.Read.remaining c.args.input.now) (g.O.Write.contents c.args.output.now) _ _ c.in-CollectIntoUnion.is (record {

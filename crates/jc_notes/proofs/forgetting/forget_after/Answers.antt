@@ -16,7 +16,7 @@ returns-clause-kept g c =
     let once : NameOnce fronts = search rules in
     on_ok c.keep_fronts.result
     (λ it. of_lines front_at
-    (λ fs. NameOnce fs × WorksEach (IsKeptFront g.R.System.told c.args.folder.now) fs None None (g.R.System.deeds c.args.rt.now) (g.R.System.deeds c.keep_fronts.new.rt))
+    (λ fs. NameOnce fs × WorksEach (IsKeptFront g.R.System.found c.args.folder.now) fs None None (g.R.System.deeds c.args.rt.now) (g.R.System.deeds c.keep_fronts.new.rt))
     given text fronts c.in_ok-text.ensures.whole lines (once, it))
     (search rules)
 
@@ -29,6 +29,6 @@ returns-clause-stopped g c =
     let once : NameOnce fronts = search rules in
     on_err c.keep_fronts.result
     (λ it. inr (of_lines front_at
-    (λ fs. NameOnce fs × GivesUp (IsKeptFront g.R.System.told c.args.folder.now) (λ front. path_of c.args.folder.now front.window) fs (g.R.System.deeds c.args.rt.now) (g.R.System.deeds c.keep_fronts.new.rt))
+    (λ fs. NameOnce fs × GivesUp (IsKeptFront g.R.System.found c.args.folder.now) (λ front. path_of c.args.folder.now front.window) fs (g.R.System.deeds c.args.rt.now) (g.R.System.deeds c.keep_fronts.new.rt))
     given text fronts c.in_ok-text.ensures.whole lines (once, it)))
     (search rules)

@@ -14,6 +14,6 @@ returns-clause-printed g c =
     let keys = c.in_ok-keys.keys.items in
     let lines : AreLines key_at keys text = search rules in
     on_ok c.say_each.result
-    (of_lines key_at (λ ks. PrintsEach (IsNotedTold g.R.System.told c.args.folder.now) ks Success (g.O.Write.contents c.args.output.now) (g.O.Write.contents c.say_each.new.output))
+    (of_lines key_at (λ ks. PrintsEach (IsNotedTold g.R.System.found c.args.folder.now) ks Success (g.O.Write.contents c.args.output.now) (g.O.Write.contents c.say_each.new.output))
     given text keys c.in_ok-text.ensures.whole lines)
     (search rules)

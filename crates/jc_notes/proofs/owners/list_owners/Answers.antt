@@ -9,12 +9,12 @@ abbrev none_there : WindowName
 none_there = record { sequence = record { 0 = [] }; window = 0 }
 
 pub loop-name-init : goal.loop-name-init
-loop-name-init g c = record { status = search rules; printed = none_printed (IsListedIf g.R.System.told c.args.folder.now) (g.O.Write.contents c.args.output.now) }
+loop-name-init g c = record { status = search rules; printed = none_printed (IsListedIf g.R.System.found c.args.folder.now) (g.O.Write.contents c.args.output.now) }
 
 pub loop-name-preserved : goal.loop-name-preserved
 loop-name-preserved g c = record {
   status = search rules;
-  printed = one_printed (IsListedIf g.R.System.told c.args.folder.now) c.args.windows.now c.loop-name.name-index none_there
+  printed = one_printed (IsListedIf g.R.System.found c.args.folder.now) c.args.windows.now c.loop-name.name-index none_there
       c.loop-name.status c.judged-status.result c.in_ok-is_read.is_read (g.O.Write.contents c.args.output.now)
       (g.O.Write.contents c.loop-name.output) (g.O.Write.contents c.list_one.new.output)
       c.loop-name-test.true c.loop-name.invariant.printed c.in_ok-is_read.ensures.printed c.judged-status.ensures;

@@ -7,5 +7,5 @@ use Rattle.jc_notes.proofs.owners.list_owners.Given as goal
 abbrev pub invariant-loop-name : goal.invariant-loop-name
 invariant-loop-name g l = record {
   status : (l.status ≡ Success) ⊎ (l.status ≡ Refused);
-  printed : PrintsEach (IsListedIf g.R.System.told l.folder) (take l.name-index l.windows) l.status (g.O.Write.contents l.fn.output) (g.O.Write.contents l.output);
+  printed : PrintsEach (IsListedIf g.R.System.found l.folder) (take l.name-index l.windows) l.status (g.O.Write.contents l.fn.output) (g.O.Write.contents l.output);
 }

@@ -12,41 +12,41 @@ use Rattle.jc_notes.proofs.owners.release_one.Goals as goal
 
 pub returns-then-is_none-clause-released : goal.returns-then-is_none-clause-released
 returns-then-is_none-clause-released g c =
-    let told = g.R.System.told in
+    let found = g.R.System.found in
     let folder = c.args.folder.now in
     let none : owner_of c.in_ok-notes.notes.items ≡ None = search rules in
     let known = g.O.Write.contents c.args.output.now in
     let deeds = g.R.System.deeds c.args.rt.now in
-    subst (λ (w : WindowName). Works (IsOwnerChange told folder w (λ owner. owner ≢ None) (free_line c.args.sequence) []) known known deeds deeds)
+    subst (λ (w : WindowName). Works (IsOwnerChange found folder w (λ owner. owner ≢ None) (free_line c.args.sequence) []) known known deeds deeds)
     c.owner_window-name.ensures
-    (owner_stays told folder c.owner_window-name.result (λ owner. owner ≢ None) (free_line c.args.sequence) [] c.in_ok-notes.notes.items
+    (owner_stays found folder c.owner_window-name.result (λ owner. owner ≢ None) (free_line c.args.sequence) [] c.in_ok-notes.notes.items
     c.in_ok-notes.ensures.notes (λ some. some none) known deeds)
 
 pub returns-clause-released : goal.returns-clause-released
 returns-clause-released g c =
-    let told = g.R.System.told in
+    let found = g.R.System.found in
     let folder = c.args.folder.now in
     let was : owner_of c.in_ok-notes.notes.items ≢ None = search rules in
     let old = g.O.Write.contents c.args.output.now in
     let new = g.O.Write.contents c.print_free.new.output in
     let first = g.R.System.deeds c.args.rt.now in
     let now = g.R.System.deeds c.replace_notes.new.rt in
-    subst (λ (w : WindowName). OnOk c.print_free.result (Works (IsOwnerChange told folder w (λ owner. owner ≢ None) (free_line c.args.sequence) []) old new first now))
+    subst (λ (w : WindowName). OnOk c.print_free.result (Works (IsOwnerChange found folder w (λ owner. owner ≢ None) (free_line c.args.sequence) []) old new first now))
     c.owner_window-name.ensures
     (on_ok c.print_free.result
-    (owner_changes told folder c.owner_window-name.result (λ owner. owner ≢ None) (free_line c.args.sequence) [] c.in_ok-notes.notes.items
+    (owner_changes found folder c.owner_window-name.result (λ owner. owner ≢ None) (free_line c.args.sequence) [] c.in_ok-notes.notes.items
     c.in_ok-notes.ensures.notes was old new first now c.in_ok-replace_notes.ensures.replaced)
     (search rules))
 
 pub returns-clause-stopped : goal.returns-clause-stopped
 returns-clause-stopped g c =
-    let told = g.R.System.told in
+    let found = g.R.System.found in
     let folder = c.args.folder.now in
     let was : owner_of c.in_ok-notes.notes.items ≢ None = search rules in
     let first = g.R.System.deeds c.args.rt.now in
     let now = g.R.System.deeds c.replace_notes.new.rt in
-    subst (λ (w : WindowName). OnErr c.print_free.result (MayWork (IsOwnerChange told folder w (λ owner. owner ≢ None) (free_line c.args.sequence) []) (path_of folder w) first now))
+    subst (λ (w : WindowName). OnErr c.print_free.result (MayWork (IsOwnerChange found folder w (λ owner. owner ≢ None) (free_line c.args.sequence) []) (path_of folder w) first now))
     c.owner_window-name.ensures
     (err_is c.print_free.result (inr
-    (owner_changes told folder c.owner_window-name.result (λ owner. owner ≢ None) (free_line c.args.sequence) [] c.in_ok-notes.notes.items
+    (owner_changes found folder c.owner_window-name.result (λ owner. owner ≢ None) (free_line c.args.sequence) [] c.in_ok-notes.notes.items
     c.in_ok-notes.ensures.notes was None None first now c.in_ok-replace_notes.ensures.replaced tt)))

@@ -13,13 +13,13 @@ none_there = record { sequence = record { 0 = [] }; window = 0 }
 pub loop-name-init : goal.loop-name-init
 loop-name-init g c = record {
   touched = nothing_changes (g.R.System.deeds c.args.rt.now);
-  renamed = none_done (IsRenamingIf g.R.System.told c.args.folder.now c.args.from c.args.to) (g.O.Write.contents c.args.output.now) (g.R.System.deeds c.args.rt.now);
+  renamed = none_done (IsRenamingIf g.R.System.found c.args.folder.now c.args.from c.args.to) (g.O.Write.contents c.args.output.now) (g.R.System.deeds c.args.rt.now);
 }
 
 pub loop-name-preserved : goal.loop-name-preserved
 loop-name-preserved g c = record {
   touched = changes_then c.loop-name.invariant.touched c.rename_one.ensures.touched;
-  renamed = one_done (IsRenamingIf g.R.System.told c.args.folder.now c.args.from c.args.to) c.args.windows.now c.loop-name.name-index none_there
+  renamed = one_done (IsRenamingIf g.R.System.found c.args.folder.now c.args.from c.args.to) c.args.windows.now c.loop-name.name-index none_there
       (g.O.Write.contents c.args.output.now) (g.O.Write.contents c.loop-name.output) (g.O.Write.contents c.rename_one.new.output)
       (g.R.System.deeds c.args.rt.now) (g.R.System.deeds c.loop-name.rt) (g.R.System.deeds c.rename_one.new.rt)
       c.loop-name-test.true c.loop-name.invariant.renamed c.in_ok-rename_one.ensures.renamed;
@@ -27,14 +27,14 @@ loop-name-preserved g c = record {
 
 pub returns-clause-renamed : goal.returns-clause-renamed
 returns-clause-renamed g c =
-    all_done (IsRenamingIf g.R.System.told c.args.folder.now c.args.from c.args.to) c.args.windows.now c.loop-name.name-index
+    all_done (IsRenamingIf g.R.System.found c.args.folder.now c.args.from c.args.to) c.args.windows.now c.loop-name.name-index
     (g.O.Write.contents c.args.output.now) (g.O.Write.contents c.loop-name.output)
     (g.R.System.deeds c.args.rt.now) (g.R.System.deeds c.loop-name.rt) (search rules) c.loop-name.invariant.renamed
 
 pub returns-in_err-rename_one-clause-stopped : goal.returns-in_err-rename_one-clause-stopped
 returns-in_err-rename_one-clause-stopped g c =
     err_is c.from_residual.result
-    (gives_up (IsRenamingIf g.R.System.told c.args.folder.now c.args.from c.args.to) (path_of c.args.folder.now) c.args.windows.now c.loop-name.name-index none_there
+    (gives_up (IsRenamingIf g.R.System.found c.args.folder.now c.args.from c.args.to) (path_of c.args.folder.now) c.args.windows.now c.loop-name.name-index none_there
     (g.O.Write.contents c.args.output.now) (g.O.Write.contents c.loop-name.output)
     (g.R.System.deeds c.args.rt.now) (g.R.System.deeds c.loop-name.rt) (g.R.System.deeds c.rename_one.new.rt)
     c.loop-name-test.true c.loop-name.invariant.renamed c.in_err-rename_one.ensures.stopped)

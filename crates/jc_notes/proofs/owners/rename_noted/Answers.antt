@@ -15,7 +15,7 @@ use Rattle.jc_notes.proofs.owners.rename_noted.Goals as goal
 
 pub returns-then-ne-clause-renamed : goal.returns-then-ne-clause-renamed
 returns-then-ne-clause-renamed g c =
-    owner_stays g.R.System.told c.args.folder.now c.args.name (λ owner. owner ≡ Some c.args.from) (owner_line c.args.name.sequence c.args.to)
+    owner_stays g.R.System.found c.args.folder.now c.args.name (λ owner. owner ≡ Some c.args.from) (owner_line c.args.name.sequence c.args.to)
     (owner_note c.args.to ∷ []) c.in_ok-notes.notes.items c.in_ok-notes.ensures.notes
     (λ is. not_same eq-value.it c.owner_of.result c.args.from c.if-ne.ensures (nat_list_eq_equiv.refl c.args.from.0)
     (c.owner_of.ensures ∙ ap owner_of c.deref.ensures.value ∙ is))
@@ -28,7 +28,7 @@ returns-clause-renamed g c =
     subst (λ (note : WindowNote). Adds (g.R.System.deeds c.args.rt.now) (g.R.System.deeds c.replace_notes.new.rt) (replacing (path_of c.args.folder.now c.args.name) (note ∷ [])))
     c.owner_note.ensures c.in_ok-replace_notes.ensures.replaced in
     on_ok c.print_owner.result
-    (owner_changes g.R.System.told c.args.folder.now c.args.name (λ owner. owner ≡ Some c.args.from) (owner_line c.args.name.sequence c.args.to)
+    (owner_changes g.R.System.found c.args.folder.now c.args.name (λ owner. owner ≡ Some c.args.from) (owner_line c.args.name.sequence c.args.to)
     (owner_note c.args.to ∷ []) c.in_ok-notes.notes.items c.in_ok-notes.ensures.notes was
     (g.O.Write.contents c.args.output.now) (g.O.Write.contents c.print_owner.new.output) (g.R.System.deeds c.args.rt.now) (g.R.System.deeds c.replace_notes.new.rt) added)
     (search rules)
@@ -40,6 +40,6 @@ returns-clause-stopped g c =
     subst (λ (note : WindowNote). Adds (g.R.System.deeds c.args.rt.now) (g.R.System.deeds c.replace_notes.new.rt) (replacing (path_of c.args.folder.now c.args.name) (note ∷ [])))
     c.owner_note.ensures c.in_ok-replace_notes.ensures.replaced in
     err_is c.print_owner.result (inr
-    (owner_changes g.R.System.told c.args.folder.now c.args.name (λ owner. owner ≡ Some c.args.from) (owner_line c.args.name.sequence c.args.to)
+    (owner_changes g.R.System.found c.args.folder.now c.args.name (λ owner. owner ≡ Some c.args.from) (owner_line c.args.name.sequence c.args.to)
     (owner_note c.args.to ∷ []) c.in_ok-notes.notes.items c.in_ok-notes.ensures.notes was
     None None (g.R.System.deeds c.args.rt.now) (g.R.System.deeds c.replace_notes.new.rt) added tt))

@@ -10,7 +10,7 @@ use Rattle.jc_notes.proofs.owners.rename_owner.Goals as goal
 
 pub returns-clause-renamed : goal.returns-clause-renamed
 returns-clause-renamed g c =
-    let told = g.R.System.told in
+    let found = g.R.System.found in
     let folder = c.args.folder.now in
     let windows = c.args.windows.now in
     let old = g.O.Write.contents c.args.output.now in
@@ -20,15 +20,15 @@ returns-clause-renamed g c =
     let from : c.of-from.result ≡ machine_named c.args.old.now = search rules in
     let to : c.of-to.result ≡ machine_named c.args.new.now = search rules in
     on_ok c.printed.result
-    (λ kept. subst (λ (m : MachineDigest). WorksEach (IsRenamingIf told folder m (machine_named c.args.new.now)) windows old new first now) from
-    (subst (λ (m : MachineDigest). WorksEach (IsRenamingIf told folder c.of-from.result m) windows old new first now) to
-    (each_kept (IsRenamingIf told folder c.of-from.result c.of-to.result) windows old (g.O.Write.contents c.rename_each.new.output) new first now
+    (λ kept. subst (λ (m : MachineDigest). WorksEach (IsRenamingIf found folder m (machine_named c.args.new.now)) windows old new first now) from
+    (subst (λ (m : MachineDigest). WorksEach (IsRenamingIf found folder c.of-from.result m) windows old new first now) to
+    (each_kept (IsRenamingIf found folder c.of-from.result c.of-to.result) windows old (g.O.Write.contents c.rename_each.new.output) new first now
     c.in_ok-rename_each.ensures.renamed kept.1)))
     c.printed.ensures.whole
 
 pub returns-clause-stopped : goal.returns-clause-stopped
 returns-clause-stopped g c =
-    let told = g.R.System.told in
+    let found = g.R.System.found in
     let folder = c.args.folder.now in
     let windows = c.args.windows.now in
     let first = g.R.System.deeds c.args.rt.now in
@@ -36,6 +36,6 @@ returns-clause-stopped g c =
     let from : c.of-from.result ≡ machine_named c.args.old.now = search rules in
     let to : c.of-to.result ≡ machine_named c.args.new.now = search rules in
     err_is c.printed.result
-    (subst (λ (m : MachineDigest). GivesUp (IsRenamingIf told folder m (machine_named c.args.new.now)) (path_of folder) windows first now) from
-    (subst (λ (m : MachineDigest). GivesUp (IsRenamingIf told folder c.of-from.result m) (path_of folder) windows first now) to
-    (gives_up_last (IsRenamingIf told folder c.of-from.result c.of-to.result) (path_of folder) c.in_ok-rename_each.ensures.renamed)))
+    (subst (λ (m : MachineDigest). GivesUp (IsRenamingIf found folder m (machine_named c.args.new.now)) (path_of folder) windows first now) from
+    (subst (λ (m : MachineDigest). GivesUp (IsRenamingIf found folder c.of-from.result m) (path_of folder) windows first now) to
+    (gives_up_last (IsRenamingIf found folder c.of-from.result c.of-to.result) (path_of folder) c.in_ok-rename_each.ensures.renamed)))

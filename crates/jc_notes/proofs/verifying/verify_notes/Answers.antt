@@ -10,12 +10,12 @@ abbrev none_there : WindowName
 none_there = record { sequence = record { 0 = [] }; window = 0 }
 
 pub loop-name-init : goal.loop-name-init
-loop-name-init g c = record { status = search rules; printed = none_printed (λ name. IsSummedIf (g.R.System.told (path_of c.args.folder.now name)) name) (g.O.Write.contents c.args.output.now) }
+loop-name-init g c = record { status = search rules; printed = none_printed (λ name. IsSummedIf (g.R.System.found (path_of c.args.folder.now name)) name) (g.O.Write.contents c.args.output.now) }
 
 pub loop-name-preserved : goal.loop-name-preserved
 loop-name-preserved g c = record {
   status = search rules;
-  printed = one_printed (λ name. IsSummedIf (g.R.System.told (path_of c.args.folder.now name)) name) c.args.windows.now c.loop-name.name-index none_there
+  printed = one_printed (λ name. IsSummedIf (g.R.System.found (path_of c.args.folder.now name)) name) c.args.windows.now c.loop-name.name-index none_there
       c.loop-name.status c.judged-status.result c.in_ok-is_read.is_read (g.O.Write.contents c.args.output.now)
       (g.O.Write.contents c.loop-name.output) (g.O.Write.contents c.verify_one.new.output)
       c.loop-name-test.true c.loop-name.invariant.printed c.in_ok-is_read.ensures.printed c.judged-status.ensures;

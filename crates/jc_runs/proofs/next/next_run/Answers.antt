@@ -8,7 +8,7 @@ use Rattle.jc_runs.proofs.next.next_run.Goals as goal
 
 pub returns-clause-ended : goal.returns-clause-ended
 returns-clause-ended g c =
-    λ told done shape made kind list most_windows given old new status b windows image came deeds does clean l_clean began begins found.
+    λ told seen done shape made kind list most_windows given old new status b windows image came deeds does clean l_clean began begins found.
     let sound = does.noted l_clean in
     let ends = does.stores clean kind b.now began.holds (
       begins_alike (sym began.past) began.noted began.came begins,
@@ -39,7 +39,7 @@ returns-clause-ended g c =
 
 pub returns-clause-stopped : goal.returns-clause-stopped
 returns-clause-stopped g c =
-    λ told done shape made kind text most_windows answers b windows image came stops clean began found.
+    λ told seen done shape made kind text most_windows answers b windows image came stops clean began found.
     let left = c.show_files.ensures.known windows found.files_left in
     let leaves = leaves_earlier made kind _ b stops.found windows came _ began (c.show_steady.ensures.stay_after clean)
     (c.show_files.ensures.owners windows found.files_left) found.come.had_come in
@@ -51,7 +51,7 @@ returns-clause-stopped g c =
 
 pub returns-clause-failed : goal.returns-clause-failed
 returns-clause-failed g c =
-    λ told done shape made kind left b finished aside windows image came told' deeds shape' notes begun began files
+    λ told seen done shape made kind left b finished aside windows image came told' seen' deeds shape' notes begun began files
     found more same.
     let known = c.show_files.ensures.known windows files in
     let durable = g.met.N.Notes.Ledger.durable c.args.notes.now known.0 notes.sound known.1.0 in
@@ -70,9 +70,9 @@ pub returns-clause-come : goal.returns-clause-come
 returns-clause-come g c = λ b list. come_as_list _ _ b c.show_steady.ensures.came list
 
 pub returns-clause-begins : goal.returns-clause-begins
-returns-clause-begins g c = λ made kind b now finished aside windows image came told deeds shape holds same.
+returns-clause-begins g c = λ made kind b now finished aside windows image came told seen deeds shape holds same.
     record { holds = holds; noted = λ k key. refl; owner = λ s. refl; past = same; came = λ e has. has }
 
 pub returns-clause-may_start : goal.returns-clause-may_start
-returns-clause-may_start g c = λ made kind b finished aside windows image came told deeds shape began begins.
+returns-clause-may_start g c = λ made kind b finished aside windows image came told seen deeds shape began begins.
     begins_alike (sym began.past) began.noted began.came begins
