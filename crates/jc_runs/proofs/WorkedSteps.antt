@@ -31,7 +31,7 @@ use Rattle.jc_runs.proofs.Unions.{has_none, in_either, in_now, in_past, part_get
 
 -- ---- journals with one entry
 
-pub one_only : LogEntry → Journal
+unfoldable pub one_only : LogEntry → Journal
 one_only e = insert empty e.key e.body
 
 one_get : (e : LogEntry) (k : Key) (b : Bool) → key_eq k e.key ≡ b → get (one_only e) k ≡ cond b (Some e.body) None
