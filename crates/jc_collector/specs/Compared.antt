@@ -33,7 +33,7 @@ HasNoJournal (Bad fault) = IsDatabaseFault fault
 abbrev pub Stays : (before after : Journal) → Type 0
 Stays before after = after ≡ before
 
--- The files are given back with the journal that they had, or there was none.
+-- The files are given back with the journal that they had, or the comparison says that they have none.
 abbrev pub LeavesCompared : {S C L : Type 0} → Image → InFiles S C L → Comparison → Option C → Type 0
 LeavesCompared image o comparison files = MatchOption files (HasNoJournal comparison) (λ closed. LeadsThere image o closed Stays)
 

@@ -55,7 +55,7 @@ pub fn check_noted<'a, Y: Databases, F: OpenFromFiles, O: Output>(
     folder: &'a str,
     output: &mut O,
 ) -> Result<Examined<Status, F::Files>, Failure<'a>>
-    // It prints what was found, and the files keep the journal that they had; or they have none.
+    // It prints what was found, and the files keep the journal that they had; or it says that they have none.
     ensures compared { IfOk result (λ examined. ComparesNoted F.first F.in_files examined.files examined.value
         (O.contents output.old) (O.contents output.new)) }
     ensures failed { IfErr result (λ failure. (failure ≡ Failure.ReadFailed) ⊎ CheckFailsBy database.now failure) }
