@@ -86,8 +86,8 @@ performed begun g left words (requests.Acknowledged upload) given output output'
 performed begun g left words (requests.CheckNoted database sequences) given output output' errors errors' Misused asks does quiet = absurd (found_not_misused (comparison_found does.comparison) does.printed.judged)
 performed begun g left words (requests.Notes sequences Has) given output output' errors errors' Misused asks does quiet = let same : Misused ≡ Success = does.0 in cc
 performed begun g left words (requests.Notes sequences ForgetAfter) given output output' errors errors' Misused asks does quiet = let same : Misused ≡ Success = does.0 in cc
-performed begun g left words (requests.Notes sequences tasks.Verify) given output output' errors errors' Misused asks does quiet = absurd (each_not_misused (all_well does.1.found) does.1.judged)
-performed begun g left words (requests.ListOwners sequences) given output output' errors errors' Misused asks does quiet = absurd (each_not_misused (all_well does.1.found) does.1.judged)
+performed begun g left words (requests.Notes sequences tasks.Verify) given output output' errors errors' Misused asks does quiet = absurd (each_not_misused (all_well does.2.found) does.2.judged)
+performed begun g left words (requests.ListOwners sequences) given output output' errors errors' Misused asks does quiet = absurd (each_not_misused (all_well does.2.found) does.2.judged)
 performed begun g left words (requests.RenameOwner sequences name other) given output output' errors errors' Misused asks does quiet = let same : Misused ≡ Success = does.0 in cc
 performed begun g left words (requests.ReleaseSequence sequences sequence) given output output' errors errors' Misused asks does quiet = let same : Misused ≡ Success = does.0 in cc
 performed begun g left words (requests.Export database) given output output' errors errors' Misused asks does quiet = let same : Misused ≡ Success = does.0 in cc
