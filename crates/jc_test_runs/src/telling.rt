@@ -1,94 +1,82 @@
-//! The program's system, but for the files that are read and written.
+//! The program's system, but for the files that are read.
 
 ghost use Rattle.std.specs.Prelude.{◌≡◌};
 
-use jc_command_shared::System;
+use jc_command_shared::{Host, System};
 use jc_database::{Databases, FailedOpen, OpenFromFiles};
-use jc_test_told::{Memory, MemoryFile, Note, Told, WrittenFile};
+use jc_test_told::{Memory, MemoryFile, Told};
 use sqlite::Connection;
 use std::alloc::Global;
-use std::fs::Metadata;
+use std::fs::{File, Metadata};
+use std::io;
 use std::path::PathBuf;
-use std::process::Abort;
-use std::rt::Files;
-use std::{fs, io};
 
-/// A system that tells what its files have which are read, and notes what is done to files. Its databases are files, and
-/// all others are in memory.
-/// Without memory for that the process ends, by `abort`.
+/// A system that tells what its files have which are read, since these are in memory. Its databases are files, and whatever
+/// else is written.
 #[derive(Drop)]
-pub struct Telling<'a, A: Abort, T: Told> {
-    runtime: &'a HostRuntime,
-    abort: &'a A,
-    others: Memory<T>,
+pub struct Telling<'a, T: Told> {
+    host: Host<'a>,
+    read: Memory<T>,
 }
 
-impl<'a, A: Abort, T: Told> Telling<'a, A, T> {
+impl<'a, T: Told> Telling<'a, T> {
     /// The system of this runtime, with the files of `T`.
-    pub fn new(rt: &'a HostRuntime, abort: &'a A) -> Telling<'a, A, T> {
+    pub fn new(rt: &'a HostRuntime) -> Telling<'a, T> {
         Telling {
-            runtime: rt,
-            abort,
-            others: Memory::new(rt.alloc()),
+            host: Host::new(rt),
+            read: Memory::new(rt.alloc()),
         }
     }
-
-    /// What was done to files, the first first.
-    pub fn notes(&self) -> &[Note] {
-        self.others.notes()
-    }
 }
 
-impl<'a, A: Abort, T: Told> System for Telling<'a, A, T> {
+impl<'a, T: Told> System for Telling<'a, T> {
+    ghost use Rattle.std.specs.Prelude.{None};
+
     type File = MemoryFile;
 
-    type NewFile = WrittenFile;
+    type NewFile = File;
 
-    ghost deeds = { λ s. ⟦<Memory<T> as System>⟧.deeds s.others };
+    ghost deeds = { λ _. None };
 
     ghost told = { T.told };
 
-    ghost found = { T.told };
+    ghost found = { ⟦<Memory<T> as System>⟧.found };
 
     fn alloc(&self) -> Global {
-        self.others.alloc()
+        self.host.alloc()
     }
 
     fn open(&self, path: &str) -> io::Result<MemoryFile> {
-        self.others.open(path)
+        self.read.open(path)
     }
 
     fn metadata(&self, path: &str) -> io::Result<Metadata> {
-        fs::metadata(self.runtime, path)
+        self.host.metadata(path)
     }
 
     fn canonicalize(&self, path: &str) -> io::Result<PathBuf> {
-        self.runtime.canonicalize(self.alloc(), path)
+        self.host.canonicalize(path)
     }
 
-    fn create(&mut self, path: &str) -> io::Result<WrittenFile> {
-        self.others.create(path)
+    fn create(&mut self, path: &str) -> io::Result<File> {
+        self.host.create(path)
     }
 
-    fn rename(&mut self, file: &WrittenFile, from: &str, to: &str) -> io::Result<()> {
-        self.others.rename(file, from, to)
+    fn rename(&mut self, file: &File, from: &str, to: &str) -> io::Result<()> {
+        self.host.rename(file, from, to)
     }
 
     fn remove_file(&mut self, path: &str) -> io::Result<()> {
-        self.others.remove_file(path)
+        self.host.remove_file(path)
     }
 }
 
-impl<'a, A: Abort, T: Told> Databases for Telling<'a, A, T> {
+impl<'a, T: Told> Databases for Telling<'a, T> {
     fn open_database<F: OpenFromFiles>(
         &mut self,
         path: &str,
         start: F::Start,
     ) -> Result<Connection<F>, FailedOpen<F::Left>> {
-        self.others.note_opened(self.abort, path);
-        match F::open(self.runtime, path, start) {
-            Ok(conn) => Ok(conn.into()),
-            Err(failed) => Err(failed),
-        }
+        self.host.open_database::<F>(path, start)
     }
 }

@@ -10,10 +10,9 @@ use jc_database::{OpenFromFiles, OverFiles, over_files};
 use jc_ledger_files::LedgerInFiles;
 use jc_runs::{next_run, runs_keep};
 use jc_sequences::{Faults, Folders};
-use jc_test_told::{Machines, Note};
+use jc_test_told::Machines;
 use jc_theorems::collect_into_union_and_stop;
 use sqlite::Unknown;
-use std::process::Abort;
 use std::test::Fail;
 use std::{env, fs, io, process};
 
@@ -27,9 +26,8 @@ enum Until {
 
 /// A run over a database, of uploads whose names stand in lines behind the machine that brings each.
 #[derive(Drop)]
-struct Run<'a, A: Abort> {
+struct Run<'a> {
     rt: &'a HostRuntime,
-    abort: &'a A,
     sequences: &'a str,
     database: &'a str,
     lines: &'a [u8],
@@ -43,34 +41,31 @@ struct Printed {
     output: Vec<u8>,
 }
 
-impl<'a, A: Abort> OverFiles for Run<'a, A> {
+impl<'a> OverFiles for Run<'a> {
     type Outcome = io::Result<Printed>;
 
     ghost ends = { λ _ _. ⊤ };
 
     fn over<F: OpenFromFiles>(self, start: F::Start) -> io::Result<Printed> {
-        run_over::<F, Unknown, A>(self, start)
+        run_over::<F, Unknown>(self, start)
     }
 }
 
 // These have no contract, so that none names what stands for the notes in folders, which is large. They are over any
 // `S`, since the checker has a fault where `Folders` is put for `N` over `Unknown`.
 
-fn run_over<F: OpenFromFiles, S: Begun, A: Abort>(
-    run: Run<'_, A>,
-    start: F::Start,
-) -> io::Result<Printed> {
+fn run_over<F: OpenFromFiles, S: Begun>(run: Run<'_>, start: F::Start) -> io::Result<Printed> {
     let faults = Faults::new();
     let folders = Folders::new(run.rt, &faults);
     match run.until {
-        Until::End => run_to_end::<F, S, Folders<'_>, A>(run, folders, start),
-        Until::Stop => Ok(run_to_stop::<F, S, Folders<'_>, A>(run, folders, start)),
+        Until::End => run_to_end::<F, S, Folders<'_>>(run, folders, start),
+        Until::Stop => Ok(run_to_stop::<F, S, Folders<'_>>(run, folders, start)),
     }
 }
 
 /// Of what the run hands back, what it promises is a step, and behind any steps what is acknowledged is kept.
-fn run_to_end<F: OpenFromFiles, S: Begun, N: NoteFolders<S>, A: Abort>(
-    run: Run<'_, A>,
+fn run_to_end<F: OpenFromFiles, S: Begun, N: NoteFolders<S>>(
+    run: Run<'_>,
     folders: N,
     start: F::Start,
 ) -> io::Result<Printed>
@@ -87,7 +82,7 @@ where
         String::from_str(alloc, "-")?,
         String::from_str(alloc, run.database)?,
     ]?;
-    let mut system = Telling::<A, Machines>::new(run.rt, run.abort);
+    let mut system = Telling::<Machines>::new(run.rt);
     let mut input = run.lines;
     let mut output = Text {
         inner: Vec::new(alloc),
@@ -104,7 +99,6 @@ where
         &mut output,
         &mut errors,
     );
-    assert!(run.abort; matches!(system.notes(), [Note::Opened(_)]));
     let followed = match (&ended.files, &ended.ledger) {
         (Some(files), Some(notes)) => {
             next_run::<F, S, N>(files, notes);
@@ -119,13 +113,13 @@ where
     })
 }
 
-fn run_to_stop<F: OpenFromFiles, S: Begun, N: NoteFolders<S>, A: Abort>(
-    run: Run<'_, A>,
+fn run_to_stop<F: OpenFromFiles, S: Begun, N: NoteFolders<S>>(
+    run: Run<'_>,
     folders: N,
     start: F::Start,
 ) -> Printed {
     let alloc = run.rt.alloc();
-    let mut system = Telling::<A, Machines>::new(run.rt, run.abort);
+    let mut system = Telling::<Machines>::new(run.rt);
     let mut names = run.lines;
     let mut output = Text {
         inner: Vec::new(alloc),
@@ -156,7 +150,6 @@ fn run_to_stop<F: OpenFromFiles, S: Begun, N: NoteFolders<S>, A: Abort>(
 /// Such a run over a database and notes in a folder.
 fn collected(
     rt: &HostRuntime,
-    abort: &impl Abort,
     folder: &str,
     database: &str,
     lines: &str,
@@ -166,7 +159,6 @@ fn collected(
     let database = format!(in rt.alloc(); "{folder}{database}")?;
     let run = Run {
         rt,
-        abort,
         sequences: sequences.as_str(),
         database: database.as_str(),
         lines: lines.as_bytes(),
@@ -204,16 +196,16 @@ const BOTH_ARE_THERE: &str = "ack 02000000000000000000000000000000 0 1 0 0\n\
 fn uploads_that_are_told_are_collected(rt: HostRuntime) -> Result<(), Fail> {
     let folder = new_folder(&rt)?;
     let folder = folder.as_str();
-    let new = collected(&rt, &rt, folder, "first.db", "\u{1}\t1\n", Until::End)?;
+    let new = collected(&rt, folder, "first.db", "\u{1}\t1\n", Until::End)?;
     assert!(rt; are(&new, Some(0), ONE_IS_NEW));
-    let other = collected(&rt, &rt, folder, "second.db", "\u{2}\t2\n", Until::Stop)?;
+    let other = collected(&rt, folder, "second.db", "\u{2}\t2\n", Until::Stop)?;
     assert!(rt; are(&other, None, OTHER_IS_NEW));
     let lines = "\u{2}\t2\n\u{1}\tgone\n\u{1}\t1\n";
-    let again = collected(&rt, &rt, folder, "second.db", lines, Until::End)?;
+    let again = collected(&rt, folder, "second.db", lines, Until::End)?;
     assert!(rt; are(&again, Some(3), BOTH_ARE_THERE));
     let window = format!(in rt.alloc(); "{folder}sequences/01000000000000000000000000000000/0")?;
     fs::remove_file(&rt, window.as_str())?;
-    let anew = collected(&rt, &rt, folder, "third.db", "\u{1}\t1\n", Until::End)?;
+    let anew = collected(&rt, folder, "third.db", "\u{1}\t1\n", Until::End)?;
     assert!(rt; are(&anew, Some(0), ONE_IS_NEW));
     Ok(fs::remove_dir_all(&rt, folder)?)
 }

@@ -1,7 +1,6 @@
 //! Files in memory.
 
 ghost use Rattle.std.specs.Prelude.{◌≡◌, ◌∷◌, ◌++◌, [], List, ℕ, OnErr, OnOk, Option as Maybe, Some, map, option_map, unwrap_or};
-ghost use Rattle.jc_command_shared.specs.Deeds.{Adds, opens};
 ghost use Rattle.jc_test_told.specs.Noted.{deed_of};
 
 use crate::noted::{Note, WrittenFile};
@@ -13,7 +12,6 @@ use std::io;
 use std::io::{Error, ErrorKind, Read};
 use std::marker::PhantomData;
 use std::path::PathBuf;
-use std::process::Abort;
 
 /// What the files have, by their paths.
 pub trait Told {
@@ -105,14 +103,6 @@ impl<T: Told> Memory<T> {
     /// What was done to files, the first first.
     pub fn notes(&self) -> &[Note] {
         &self.notes
-    }
-
-    /// Notes that a database was opened. The process ends if there is no memory for that.
-    pub fn note_opened(&mut self, rt: &impl Abort, path: &str)
-        ensures { Adds (⟦<Memory<T> as System>⟧.deeds self.old) (⟦<Memory<T> as System>⟧.deeds self.new) (opens path.now ∷ []) }
-    {
-        let note = Note::opened(self.alloc, path).expect(rt, "no memory");
-        self.note(note).expect(rt, "no memory");
     }
 
     fn note(&mut self, note: Note) -> io::Result<()>

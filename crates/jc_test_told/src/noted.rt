@@ -1,7 +1,7 @@
 //! What is done to files in memory.
 
 ghost use Rattle.std.specs.Prelude.{◌≡◌, IfOk, Some};
-ghost use Rattle.jc_command_shared.specs.Deeds.{changes, opens, puts};
+ghost use Rattle.jc_command_shared.specs.Deeds.{changes, puts};
 ghost use Rattle.jc_test_told.specs.Noted.{deed_of};
 
 use std::alloc::Global;
@@ -12,8 +12,6 @@ use std::io::{Error, ErrorKind, Write};
 /// What was done to a file.
 #[derive(Drop)]
 pub enum Note {
-    /// The database at this path was opened.
-    Opened(Vec<u8>),
     /// The file at this path was made, or taken away.
     Changed(Vec<u8>),
     /// A new file got another path in place of its own, and had these bytes.
@@ -25,12 +23,6 @@ pub enum Note {
 }
 
 impl Note {
-    pub(crate) fn opened(alloc: Global, path: &str) -> io::Result<Note>
-        ensures { IfOk result (λ note. deed_of note ≡ opens path.now) }
-    {
-        Ok(Note::Opened(copied(alloc, path.as_bytes())?))
-    }
-
     pub(crate) fn changed(alloc: Global, path: &str) -> io::Result<Note>
         ensures { IfOk result (λ note. deed_of note ≡ changes path.now) }
     {
