@@ -44,7 +44,7 @@ use Rattle.jc_command.specs.Run.{Begins, Collects, Devices, DoesFor, Ends, Fails
 use Rattle.jc_command_shared.specs.Status.{number_of}
 use Rattle.jc_notes.specs.Each.{all_well}
 use Rattle.jc_sender.proofs.Outcomes.{told_not_misused}
-use Rattle.jc_command_args.specs.Words.{AreAnswered, AskFor}
+use Rattle.jc_command_args.specs.Words.{AreAnswered, AreWrong, AskFor, AskForHelp}
 
 -- what was found has one of two statuses
 found_not_misused : (it : Found) → Misused ≡ found_status it → ⊥
@@ -369,23 +369,27 @@ stops_answered told words k r given output output' errors errors' asked mistaken
     by_write (Ok status) fact = tt
     by_write (Err why) fact = inl (ap status_of fact)
 
--- ... and leaves nothing of a database: nothing was printed, or help was
+-- ... and leaves nothing of a database: help was printed, or nothing was, since they are wrong or there is no memory
 pub left_answered : {S C L N : Type 0} (begun : Begins) (g : Devices S C L N) (words : List Text) (k : ErrorKind) (r : Result Status Failure) (given output output' : Option (List ℕ)) (status : Status) (left : Option (NotedLeft L N))
     → left ≡ None → (k ≡ kind.OutOfMemory) ⊎ AreAnswered words k
     → (¬ IsAskedFor k → k ≢ kind.OutOfMemory → (r ≡ Ok Misused) × Keeps output output')
     → (k ≡ kind.OutOfMemory → (r ≡ Err failures.OutOfMemory) × Keeps output output')
+    → (r ≡ Err failures.OutOfMemory → status ≡ Failed)
     → FailsAsked begun g words given output output' begun.deeds status left
-left_answered begun g words k r given output output' status left none answered mistaken memory =
-    inl (
-      elim (sorted k) [
-        | inl h ↦ elim answered [ inl m ↦ inl (memory m).1 | inr is ↦ inr (k, h, is) ]
-        | inr rest ↦ elim rest [
-          | inl m ↦ inl (memory m).1
-          | inr n ↦ inl (mistaken n.0 n.1).1
-        ]
-      ],
-      (refl, none),
-    )
+left_answered begun g words k r given output output' status left none answered mistaken memory fails = inl (ends answered, (refl, none))
+  where
+    Ends : Type 0
+    Ends = AskForHelp words ⊎ (Keeps output output' × (AreWrong words ⊎ (status ≡ Failed)))
+
+    refused : k ≡ kind.OutOfMemory → Ends
+    refused m = inr ((memory m).1, inr (fails (memory m).0))
+
+    ends : (k ≡ kind.OutOfMemory) ⊎ AreAnswered words k → Ends
+    ends (inl m) = refused m
+    ends (inr is) = elim (sorted k) [
+      | inl h ↦ inl (k, h, is)
+      | inr rest ↦ elim rest [ inl m ↦ refused m | inr n ↦ inr ((mistaken n.0 n.1).1, inl (k, n.0, is)) ]
+    ]
 
 -- the status that a number says, whether it is performed or fails
 pub either_by_number : {S C L N : Type 0} (begun : Begins) (g : Devices S C L N) (left : Leaves C N) (words texts : List Text) (given output output' : Option (List ℕ)) (deeds : Option (List Deed)) (n : ℕ)

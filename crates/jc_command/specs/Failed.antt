@@ -1,5 +1,6 @@
 -- What a run of the program leaves in which what was asked for isn't performed. (own)
 use Rattle.std.specs.Prelude.{◌≡◌, ◌≢◌, ◌↔◌, ◌⊎◌, ℕ, List, Option, None, IsSomeAnd}
+use Rattle.std.specs.Borrow.{Bor}
 use Rattle.std.specs.Io.KnownBytes.{Keeps}
 use Rattle.clap.specs.Words.{Text}
 use Rattle.jc_base.specs.declared.id.Id128.{Id128}
@@ -10,15 +11,20 @@ use Rattle.jc_collector.specs.Unopened.{IsLeftUnopened}
 use Rattle.jc_collector.specs.declared.into_union.closing.FailedRun.{FailedRun}
 use Rattle.jc_collector.specs.declared.into_union.closing.NotedLeft.{NotedLeft}
 use Rattle.jc_collector_answers.specs.Tied.{PrintsFront}
-use Rattle.jc_command_args.specs.Words.{AskFor, AskForHelp}
+use Rattle.jc_command_args.specs.Words.{AreWrong, AskFor, AskForHelp}
 use Rattle.jc_command_args.specs.declared.request.Request.{Request}
 use Rattle.jc_command_args.specs.declared.request.Request.TheVariants.{CollectIntoUnion}
 use Rattle.jc_command_shared.specs.Deeds.{Deed}
 use Rattle.jc_command_shared.specs.Failure.{status_of}
 use Rattle.jc_command_shared.specs.declared.failure.Failure.{Failure}
+use Rattle.jc_command_shared.specs.declared.failure.Failure.TheVariants.{CannotOpen, OutOfMemory}
 use Rattle.jc_command_shared.specs.declared.status.Status.{Status}
 use Rattle.jc_command_shared.specs.declared.status.Status.TheVariants.{Failed}
 use Rattle.jc_command.specs.Run.{Begins, Devices, FailsBy, LeavesUnion}
+
+-- Why a folder of notes isn't opened.
+abbrev pub IsUnopened : (folder : Bor (List ℕ)) → Failure → Type 0
+IsUnopened folder failure = (failure ≡ CannotOpen folder) ⊎ (failure ≡ OutOfMemory)
 
 module _ {S C L N : Type 0} (begun : Begins) (g : Devices S C L N) where
   -- Notes are as they were opened: they tell what their files had, and no failure has shut them.
@@ -28,17 +34,17 @@ module _ {S C L N : Type 0} (begun : Begins) (g : Devices S C L N) where
     pub owner : (s : Id128) → g.ledger.owner notes s ≡ begun.owner s
     pub came : (e : LogEntry) → g.ledger.came notes e ↔ begun.came e
 
-  -- Nothing was done to files, and nothing is handed back.
+  -- No database was opened, no file was made or changed but those of notes, and nothing is handed back.
   abbrev pub BeginsNothing : (deeds : Option (List Deed)) → Option (NotedLeft L N) → Type 0
   BeginsNothing deeds left = (deeds ≡ begun.deeds) × (left ≡ None)
 
-  -- What a request leaves that fails. Of a union there may be nothing, as if its notes weren't opened: then no database was
-  -- opened, and nothing was printed. Or the notes are as they were opened, as if its present database wasn't: nothing was printed
+  -- What a request leaves that fails. Of a union there may be nothing, for a reason for which its notes aren't opened: then no
+  -- database was opened, and nothing was printed. Or the notes are as they were opened, as if its present database wasn't: nothing was printed
   -- either, and what is left of the database's files is handed back. Otherwise what is left of both has what was printed. Of
   -- other requests nothing is handed back.
   abbrev pub FailsLeaving : Request → (given old new : Option (List ℕ)) → (deeds : Option (List Deed)) → Failure → Option (NotedLeft L N) → Type 0
   FailsLeaving (CollectIntoUnion database tables list sequences most_windows then_export) given old new deeds failure left =
-      (BeginsNothing deeds left × Keeps old new)
+      (BeginsNothing deeds left × (IsUnopened sequences failure × Keeps old new))
       ⊎ IsSomeAnd left (λ it.
       (AreAsBegun it.ledger × (IsLeftUnopened g.database tables begun.image failure begun.deeds deeds it.files × Keeps old new))
       ⊎ IsSomeAnd it.files (λ files. LeavesUnion begun g tables list.now most_windows given
@@ -51,10 +57,10 @@ module _ {S C L N : Type 0} (begun : Begins) (g : Devices S C L N) where
     pub leaves : FailsLeaving request given old new deeds run.failure run.left
     pub kept : status_of run.failure ≢ Failed → Keeps old new
 
-  -- The arguments ask for nothing that is begun, and nothing was printed, or help was; or they ask for something that fails with
-  -- this status and leaves that.
+  -- The arguments ask for nothing that is begun: for help, or they are wrong, or memory was refused, and nothing was printed; or
+  -- they ask for something that fails with this status and leaves that.
   abbrev pub FailsAsked : List Text → (given old new : Option (List ℕ)) → (deeds : Option (List Deed)) → Status → Option (NotedLeft L N) → Type 0
   FailsAsked words given old new deeds status left =
-      ((Keeps old new ⊎ AskForHelp words) × BeginsNothing deeds left)
+      ((AskForHelp words ⊎ (Keeps old new × (AreWrong words ⊎ (status ≡ Failed)))) × BeginsNothing deeds left)
       ⊎ ((request : Request) × AskFor words request
       × ((failure : Failure) × (status ≡ status_of failure) × FailsLeaving request given old new deeds failure left))

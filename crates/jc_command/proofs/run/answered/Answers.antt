@@ -1,9 +1,15 @@
 -- A request is performed; what clap answers in place of one is printed.
-use Rattle.std.proofs.Common.{None, inl, inr, map, refl, string_bytes}
+use Rattle.std.proofs.Common.{◌≡◌, ◌∙◌, None, Result, Ok, Err, inl, inr, map, refl, string_bytes, subst, sym}
+use Rattle.std.specs.Prelude.{IfErr}
 use Rattle.std.proofs.lemmas.Result.{IfErr-weaker, IfOk-weaker}
 use Rattle.clap.specs.Words.{kind_of}
-use Rattle.jc_command.proofs.Runs.{at_ok, err_of, failed, left_answered, performed, ends_as, ends_words, ok_of, stops_answered}
+use Rattle.jc_command.proofs.Runs.{IfErr-both, at_ok, err_of, failed, left_answered, performed, ends_as, ends_words, ok_of, stops_answered}
 use Rattle.jc_command.specs.Run.{begins_with, devices}
+use Rattle.jc_command_shared.specs.Failure.{status_of}
+use Rattle.jc_command_shared.specs.declared.failure.Failure.{Failure}
+use Rattle.jc_command_shared.specs.declared.failure.Failure.TheVariants.{OutOfMemory}
+use Rattle.jc_command_shared.specs.declared.status.Status.{Status}
+use Rattle.jc_command_shared.specs.declared.status.Status.TheVariants.{Failed}
 use Rattle.jc_command.proofs.run.answered.Goals as goal
 
 pub returns-in-Ok-clause-ended : goal.returns-in-Ok-clause-ended
@@ -63,17 +69,18 @@ returns-in-Ok-clause-left g c =
 pub returns-in-Err-clause-performed : goal.returns-in-Err-clause-performed
 returns-in-Err-clause-performed g c =
     let prints = c.answer_words.ensures in
-    IfOk-weaker c.without.result _ _
-    (λ done it. inr (left_answered (begins_with g.F.OpenFromFiles.first g.S.Begun.windows g.S.Begun.finished g.S.Begun.aside g.S.Begun.came g.Y.System.told g.Y.System.found (g.Y.System.deeds c.args.rt.now) (g.O.Output.entry_shape c.args.output.now)) (devices g.F.StoreInFiles.in_files g.N.Notes.Ledger)
+    ok_of c.without.result c.answer_words.result _ _ c.without.ensures.done
+    (λ done status was same. inr (left_answered (begins_with g.F.OpenFromFiles.first g.S.Begun.windows g.S.Begun.finished g.S.Begun.aside g.S.Begun.came g.Y.System.told g.Y.System.found (g.Y.System.deeds c.args.rt.now) (g.O.Output.entry_shape c.args.output.now)) (devices g.F.StoreInFiles.in_files g.N.Notes.Ledger)
     (map string_bytes c.args.words.now) (kind_of c.in-Err.answer) c.answer_words.result (g.I.Read.remaining c.args.input.now)
-    (g.O.Write.contents c.args.output.now) (g.O.Write.contents c.answer_words.new.output) done.status None refl c.in-Err.ensures.answer prints.mistaken prints.memory))
-    c.without.ensures.done
+    (g.O.Write.contents c.args.output.now) (g.O.Write.contents c.answer_words.new.output) done.status None refl c.in-Err.ensures.answer prints.mistaken prints.memory
+    (λ refused. let clash : Ok status ≡ Err OutOfMemory = sym was ∙ refused in cc)))
 
 pub returns-in-Err-clause-left : goal.returns-in-Err-clause-left
 returns-in-Err-clause-left g c =
     let prints = c.answer_words.ensures in
-    IfErr-weaker c.without.result _ _
-    (λ run none. left_answered (begins_with g.F.OpenFromFiles.first g.S.Begun.windows g.S.Begun.finished g.S.Begun.aside g.S.Begun.came g.Y.System.told g.Y.System.found (g.Y.System.deeds c.args.rt.now) (g.O.Output.entry_shape c.args.output.now)) (devices g.F.StoreInFiles.in_files g.N.Notes.Ledger)
+    IfErr-both c.without.result _ _ _
+    (λ run same none. left_answered (begins_with g.F.OpenFromFiles.first g.S.Begun.windows g.S.Begun.finished g.S.Begun.aside g.S.Begun.came g.Y.System.told g.Y.System.found (g.Y.System.deeds c.args.rt.now) (g.O.Output.entry_shape c.args.output.now)) (devices g.F.StoreInFiles.in_files g.N.Notes.Ledger)
     (map string_bytes c.args.words.now) (kind_of c.in-Err.answer) c.answer_words.result (g.I.Read.remaining c.args.input.now)
-    (g.O.Write.contents c.args.output.now) (g.O.Write.contents c.answer_words.new.output) _ run.left none c.in-Err.ensures.answer prints.mistaken prints.memory)
-    c.without.ensures.left
+    (g.O.Write.contents c.args.output.now) (g.O.Write.contents c.answer_words.new.output) _ run.left none c.in-Err.ensures.answer prints.mistaken prints.memory
+    (λ refused. subst (λ (r : Result Status Failure). IfErr r (λ failure. status_of failure ≡ Failed)) (sym refused ∙ same) refl))
+    c.without.ensures.failed c.without.ensures.left

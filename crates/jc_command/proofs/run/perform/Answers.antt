@@ -1,11 +1,11 @@
 -- What each request comes to, from what its command does, and what is made of that.
-use Rattle.std.proofs.Common.{inl, inr, refl}
+use Rattle.std.proofs.Common.{inl, inr, refl, subst, sym}
 use Rattle.std.proofs.KnownBytes.{Keeps-refl}
 use Rattle.std.proofs.lemmas.Result.{IfErr-weaker}
 use Rattle.jc_collector.specs.UnionRunLaws.{runs_left, runs_noted, runs_printed, runs_quiet, runs_stored, runs_untouched}
 use Rattle.jc_command.proofs.NotesFailing.{by_name, releases}
 use Rattle.jc_command.proofs.Runs.{IfErr-both, at_ok, by_file, by_folder, by_upload, collects_as, does_as, err_and, err_is, fails_as, fails_one, leads_from, ok_of, performs_as, performs_still, same_start, unless_failed, write_fails}
-use Rattle.jc_command.specs.Failed.{AreAsBegun}
+use Rattle.jc_command.specs.Failed.{AreAsBegun, IsUnopened}
 use Rattle.jc_command.specs.Run.{begins_with, devices}
 use Rattle.jc_command.proofs.run.perform.Goals as goal
 
@@ -333,6 +333,9 @@ returns-in_err-ledger-in-CollectIntoUnion-clause-failed g c =
     err_and c.from_residual.result _ _ c.from_residual.ensures.1
     (λ run is. fails_one _ _ _ _ (g.I.Read.remaining c.args.input.now) output output run c.in-CollectIntoUnion.is (record {
       why = by_folder _ _ c.in-CollectIntoUnion.list.now _ _ is.0 c.in_err-ledger-in-CollectIntoUnion.ensures.failed;
-      leaves = inl ((refl, is.1), Keeps-refl output);
+      leaves = inl ((refl, is.1), (
+        subst (IsUnopened c.in-CollectIntoUnion.sequences) (sym is.0) c.in_err-ledger-in-CollectIntoUnion.ensures.failed,
+        Keeps-refl output,
+      ));
       kept = λ other. Keeps-refl output;
     }))
