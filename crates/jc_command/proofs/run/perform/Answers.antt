@@ -333,9 +333,12 @@ returns-in_err-ledger-in-CollectIntoUnion-clause-failed g c =
     err_and c.from_residual.result _ _ c.from_residual.ensures.1
     (λ run is. fails_one _ _ _ _ (g.I.Read.remaining c.args.input.now) output output run c.in-CollectIntoUnion.is (record {
       why = by_folder _ _ c.in-CollectIntoUnion.list.now _ _ is.0 c.in_err-ledger-in-CollectIntoUnion.ensures.failed;
-      leaves = inl ((refl, is.1), (
-        subst (IsUnopened c.in-CollectIntoUnion.sequences) (sym is.0) c.in_err-ledger-in-CollectIntoUnion.ensures.failed,
-        Keeps-refl output,
-      ));
+      leaves = inl (
+        (refl, is.1),
+        (
+          subst (IsUnopened c.in-CollectIntoUnion.sequences) (sym is.0) c.in_err-ledger-in-CollectIntoUnion.ensures.failed,
+          Keeps-refl output,
+        ),
+      );
       kept = λ other. Keeps-refl output;
     }))
