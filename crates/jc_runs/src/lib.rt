@@ -6,4 +6,4 @@ mod law;
 mod next;
 
 pub use law::runs_keep;
-pub use next::next_run;
+pub use next::{next_run, next_run_over_notes};

@@ -15,14 +15,22 @@ use jc_ledger::Ledger;
 use jc_ledger_files::LedgerInFiles;
 
 /// What `run_command` says of a run of `collect --sequences` is a step of a run that ended, whether the next run finds the files
-/// of its database as they read then, or as a crash leaves them. What `collect_into_union_and_stop` says is a step of a run that
-/// was stopped, where it finds these as the stop left them. Of the files of notes it finds whatever may be left: what they read
-/// is among that. Does nothing.
+/// of its database as they read then, or as a crash leaves them. Of the files of notes it finds whatever may be left: what they
+/// read is among that. Does nothing.
 pub fn next_run<F: OpenFromFiles, S: Begun, N: NoteFolders<S>>(files: &F::Files, notes: &N::Notes)
 where
     N::Notes: LedgerInFiles,
     ensures ended { (told found : List ℕ → Option (List ℕ)) (deeds : Option (List Deed)) (shape : Shape) → EndLeadsOn (begins_with F.first S.windows S.finished S.aside S.came told found deeds shape) (devices F.in_files ⟦<N::Notes as Ledger>⟧)
         N.Notes.files_leave notes.now files.now }
+{
+    notes.show_files();
+}
+
+/// What the next run finds behind one that handed back no closed files. What `collect_into_union_and_stop` says is a step of a
+/// run that was stopped, where it finds the files of its database as the stop left them. Does nothing.
+pub fn next_run_over_notes<F: OpenFromFiles, S: Begun, N: NoteFolders<S>>(notes: &N::Notes)
+where
+    N::Notes: LedgerInFiles,
     ensures stopped { (told found : List ℕ → Option (List ℕ)) (deeds : Option (List Deed)) (shape : Shape) → StopLeadsOn (begins_with F.first S.windows S.finished S.aside S.came told found deeds shape) (devices F.in_files ⟦<N::Notes as Ledger>⟧)
         N.Notes.files_leave notes.now }
     // Behind a run that failed before its database was opened the next one begins as it did.

@@ -8,7 +8,7 @@ use jc_command_args::Tables;
 use jc_command_shared::Text;
 use jc_database::{OpenFromFiles, OverFiles, over_files};
 use jc_ledger_files::LedgerInFiles;
-use jc_runs::{next_run, runs_keep};
+use jc_runs::{next_run, next_run_over_notes, runs_keep};
 use jc_sequences::{Faults, Folders};
 use jc_test_told::Machines;
 use jc_theorems::collect_into_union_and_stop;
@@ -102,6 +102,7 @@ where
     let followed = match (&ended.files, &ended.ledger) {
         (Some(files), Some(notes)) => {
             next_run::<F, S, N>(files, notes);
+            next_run_over_notes::<F, S, N>(notes);
             runs_keep();
             Some(ended.status)
         }
