@@ -4,8 +4,8 @@
 mod board;
 mod cause;
 mod explain;
-mod json;
 mod noting;
+mod objects;
 mod terminal;
 mod why;
 mod witness;
@@ -13,7 +13,7 @@ mod words;
 
 pub use board::{Board, Line, Unit, board_for};
 pub use explain::explained;
-pub use json::Json;
 pub use noting::Noting;
+pub use objects::Json;
 pub use terminal::{Masked, Wiping};
 pub use words::{EXPLAIN, JSON, has_objects, take_option};

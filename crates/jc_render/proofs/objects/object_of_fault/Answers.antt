@@ -1,7 +1,7 @@
 -- The table lacks the code, and the line stands for it.
 use Rattle.std.proofs.Common.{inr}
 use Rattle.std.proofs.lemmas.Result.{IfOk-weaker}
-use Rattle.jc_render.proofs.json.object_of_fault.Goals as goal
+use Rattle.jc_render.proofs.objects.object_of_fault.Goals as goal
 
 pub returns-in_default : goal.returns-in_default
 returns-in_default c =

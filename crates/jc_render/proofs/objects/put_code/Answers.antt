@@ -1,7 +1,7 @@
 -- Of a code that the table lacks nothing is written.
 use Rattle.std.proofs.Common.{[], inr, refl}
 use Rattle.std.proofs.KnownBytes.{Appends-nil}
-use Rattle.jc_render.proofs.json.put_code.Goals as goal
+use Rattle.jc_render.proofs.objects.put_code.Goals as goal
 
 pub returns-in-None : goal.returns-in-None
 returns-in-None g c =

@@ -4,7 +4,7 @@ use Rattle.std.specs.Io.KnownBytes.{Appends}
 use Rattle.std.proofs.KnownBytes.{Appends-trans, Appends-nil}
 use Rattle.jc_command_args.specs.declared.codes.TheConstants.{CODES}
 use Rattle.jc_render.specs.Objects.{more, none, AreLinesBelow}
-use Rattle.jc_render.proofs.json.put_codes.Goals as goal
+use Rattle.jc_render.proofs.objects.put_codes.Goals as goal
 
 pub loop-code-init : goal.loop-code-init
 loop-code-init g c = ([], none, Appends-nil _)

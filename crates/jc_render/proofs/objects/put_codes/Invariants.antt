@@ -2,7 +2,7 @@ use Rattle.std.proofs.Common.{ℕ, List}
 use Rattle.std.specs.Io.KnownBytes.{Appends}
 use Rattle.jc_command_args.specs.declared.codes.TheConstants.{CODES}
 use Rattle.jc_render.specs.Objects.{AreLinesBelow}
-use Rattle.jc_render.proofs.json.put_codes.Given as goal
+use Rattle.jc_render.proofs.objects.put_codes.Given as goal
 
 -- the lines of the codes so far went out
 abbrev pub invariant-loop-code : goal.invariant-loop-code
