@@ -1,7 +1,7 @@
 -- A journal that has one entry.
 use Rattle.std.proofs.Common.{◌≡◌, ◌↔◌, ℕ, true, List, [], ◌∷◌, Option, Some, None, Ok, Err, IfSome, refl, sym, ap, subst, unwrap_or}
 use Rattle.std.specs.Prelude.{Result, IfOk, is_ok}
-use Rattle.core.specs.Result.{result_ok}
+use Rattle.std.specs.Result.{result_ok}
 use Rattle.std.specs.FinMap.{empty, get, get-empty, insert, same_map}
 use Rattle.jc_base.specs.declared.fault.Ending.{Ending}
 use Rattle.jc_base.specs.Journal.{Journal, key_cmp}
