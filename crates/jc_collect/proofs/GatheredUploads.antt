@@ -11,9 +11,10 @@ use Rattle.jc_base.specs.Journal.{Journal}
 use Rattle.jc_keeper.specs.declared.keeper.KeepStop.{KeepStop}
 use Rattle.jc_keeper.specs.declared.keeper.KeepStop.TheVariants.{ReadFailed, StoreFailed}
 use Rattle.jc_keeper.specs.declared.keeper.Keeper as keepers
-use Rattle.jc_keeper.specs.BroughtLaws.{brought_none}
+use Rattle.jc_keeper.specs.BroughtLaws.{brought_none, whose_stays}
 use Rattle.jc_keeper.specs.Crash.{AddsOnly}
 use Rattle.jc_keeper.specs.Keeping.{StoreHasCause}
+use Rattle.jc_keeper.specs.Whose.{StayWhose}
 use Rattle.jc_upload.specs.declared.answer.Answer.{Answer}
 use Rattle.jc_upload.specs.declared.answer.Answer.TheVariants.{Ack, No}
 use Rattle.jc_collect.specs.Chain.{is_acknowledged}
@@ -151,6 +152,7 @@ module _ {K : Type 0} (k : keepers.Ghosts K) where
     same = λ is is_made. refl;
     unless = λ none. refl;
     brought = brought_none k.brings keeper;
+    unclaimed = λ is is_made. whose_stays (k.whose keeper);
     all = λ limits known first so_far. all_unsettled limits known first keeper answers none so_far;
   }
 
@@ -158,7 +160,8 @@ module _ {K : Type 0} (k : keepers.Ghosts K) where
       (settled : k.settled new) (same : k.made mid → k.sound new → k.journal new ≡ k.journal mid) (before : k.sound new → k.sound mid) (clean : k.clean new → k.clean mid)
       (crash : k.clean new → k.made mid → AddsOnly (k.may_leave mid) (k.may_leave new) (λ found. k.sound mid × (found ≡ k.journal mid)))
       (recovers : k.clean new → k.made mid → k.leaves_journals mid → k.leaves_journals new) (made : k.made mid → k.made new)
-      (store : StoreHasCause (k.failures mid) (k.failures new) result) (brought : Brings k mid new) (unless : NoneAcknowledged answers → new ≡ mid)
+      (store : StoreHasCause (k.failures mid) (k.failures new) result) (brought : Brings k mid new)
+      (unclaimed : k.sound new → k.made mid → StayWhose (k.whose new) (k.whose mid)) (unless : NoneAcknowledged answers → new ≡ mid)
     where
       module _ (limits : Limits) (known : List (Option (List ℕ))) (old : K) (so_far : HasCollectedAll k limits known old mid answers) where
         abbrev first : Held
@@ -265,6 +268,7 @@ module _ {K : Type 0} (k : keepers.Ghosts K) where
         same = same;
         unless = unless;
         brought = brought;
+        unclaimed = unclaimed;
         all = λ limits known first so_far. all_stored limits known first so_far durable stores ok;
       }
 
@@ -281,5 +285,6 @@ module _ {K : Type 0} (k : keepers.Ghosts K) where
         same = same;
         unless = unless;
         brought = brought;
+        unclaimed = unclaimed;
         all = λ limits known first so_far. subst (HasAnsweredAll k limits known first new) (sym is) (all_withdrawn limits known first so_far stop failed other shut);
       }

@@ -12,8 +12,11 @@ use Rattle.jc_keeper.specs.declared.keeper.KeepStop.{KeepStop}
 use Rattle.jc_keeper.specs.declared.keeper.KeepStop.TheVariants.{ReadFailed, StoreFailed, OutOfMemory}
 use Rattle.jc_keeper.specs.declared.keeper.Keeper as keepers
 use Rattle.jc_keeper.specs.BroughtLaws.{brought_then}
+use Rattle.jc_keeper.specs.Claimed.{ClaimsFor, StoresNew}
+use Rattle.jc_keeper.specs.ClaimedLaws.{claims_stay}
 use Rattle.jc_keeper.specs.Crash.{AddsOnly}
 use Rattle.jc_keeper.specs.Keeping.{StoreHasCause, code_of_stop}
+use Rattle.jc_keeper.specs.Whose.{StayWhose}
 use Rattle.jc_upload.specs.declared.answer.Answer.{Answer}
 use Rattle.jc_upload.specs.declared.answer.Answer.TheVariants.{Ack, No}
 use Rattle.jc_collect.specs.Chain.{is_acknowledged}
@@ -102,6 +105,7 @@ module _ {K : Type 0} {k : keepers.Ghosts K} {limits : Limits} {known : Option (
     owner = was.owner;
     foreign = was.foreign;
     brought = was.brought;
+    claimed = was.claimed;
     store = was.store;
   }
 
@@ -110,6 +114,7 @@ module _ {K : Type 0} {k : keepers.Ghosts K} {limits : Limits} {known : Option (
       (crash : k.clean new → k.made mid → AddsOnly (k.may_leave mid) (k.may_leave new) (λ found. k.sound mid × (found ≡ k.journal mid)))
       (recovers : k.clean new → k.made mid → k.leaves_journals mid → k.leaves_journals new) (made : k.made mid → k.made new)
       (store : StoreHasCause (k.failures mid) (k.failures new) result) (brought : Brings k mid new)
+      (unclaimed : k.sound new → k.made mid → StayWhose (k.whose new) (k.whose mid))
     where
       -- What a crash leaves of it is the whole upload, whatever it is answered.
       leaves : (answer : Answer) → MayBeKept answer → k.clean new → k.made old
@@ -161,6 +166,14 @@ module _ {K : Type 0} {k : keepers.Ghosts K} {limits : Limits} {known : Option (
         owner = λ code. absurd code;
         foreign = λ is machine brings. tt;
         brought = brought_then k.brings old mid new before was.stays_made was.brought brought;
+        claimed = record {
+          claims = λ is is_made machine brings.
+              let is_mid = was.stays_made is_made in
+              let stored = (brought machine (was.brought machine brings).0).1.stays is in
+              subst (λ (j : Journal). ClaimsFor machine (k.whose old) (k.whose new) (λ s. StoresNew (k.journal old) j s ⊎ ⊥)) (sym (same is_mid is))
+              (claims_stay machine (k.whose old) (k.whose mid) (k.whose new) (λ s. StoresNew (k.journal old) (k.journal mid) s ⊎ ⊥) stored (unclaimed is is_mid)
+              (was.claimed.claims (before is) is_made machine brings));
+        };
         store = record { never_falls = omega (arith, was.store.never_falls, store.never_falls); failed = λ code. absurd code };
       }
 
@@ -179,6 +192,7 @@ module _ {K : Type 0} {k : keepers.Ghosts K} {limits : Limits} {known : Option (
         owner = λ code. absurd (never_owned stop (Ack source start count more left) code);
         foreign = λ is. absurd (shut is);
         brought = brought_then k.brings old mid new before was.stays_made was.brought brought;
+        claimed = record { claims = λ is. absurd (shut is) };
         store = record {
           never_falls = omega (arith, was.store.never_falls, store.never_falls);
           failed = λ code. rose_then (k.failures old) (k.failures mid) (k.failures new) was.store.never_falls store (failed ∙ ap Err (store_failed stop code));

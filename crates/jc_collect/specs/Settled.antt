@@ -10,10 +10,10 @@ use Rattle.jc_keeper.specs.Keeping.{code_of_stop}
 use Rattle.jc_upload.specs.declared.answer.Answer.{Answer}
 use Rattle.jc_upload.specs.declared.answer.Answer.TheVariants.{Ack, No}
 use Rattle.jc_collect.specs.Chain.{is_acknowledged}
-use Rattle.jc_collect.specs.Crash.{TakesUpload}
+use Rattle.jc_collect.specs.Crash.{IsUnstored, TakesUpload}
 use Rattle.jc_collect.specs.Foreign.{NamesForeign}
 use Rattle.jc_collect.specs.Position.{Collects, HasCause, HasCode}
-use Rattle.jc_collect.specs.Taken.{Brings}
+use Rattle.jc_collect.specs.Taken.{Brings, Claims}
 
 -- The answer to an upload, if what was to be stored with it can't be. What a conflict is with may be of that.
 abbrev pub withdrawn : KeepStop → Answer → Answer
@@ -36,4 +36,5 @@ pub record HasAnswered {K : Type 0} (k : keepers.Ghosts K) (limits : Limits) (kn
   pub owner : HasCode answer NotTheOwner → k.has_owners
   pub foreign : k.sound new → (machine : Option (List ℕ)) → k.brings old machine → NamesForeign limits known ((k.whose old).foreign machine) answer
   pub brought : Brings k old new
+  pub claimed : Claims k (IsUnstored answer) old new
   pub store : HasCause StoreFailed (k.failures old) (k.failures new) answer

@@ -8,18 +8,23 @@ use Rattle.jc_keeper.specs.declared.keeper.KeepStop.{KeepStop}
 use Rattle.jc_keeper.specs.declared.keeper.Keeper as keepers
 use Rattle.jc_keeper.specs.Absorb.{IsNotTheOwner, IsTakenUp, RefusesFormat}
 use Rattle.jc_keeper.specs.Brought.{HasBrought}
+use Rattle.jc_keeper.specs.Claimed.{HasClaimed, IsUnanswered}
 use Rattle.jc_keeper.specs.Crash.{AddsOnly}
 use Rattle.jc_keeper.specs.Keeping.{StoreHasCause}
 use Rattle.jc_upload.specs.declared.answer.Answer.{Answer}
 use Rattle.jc_collect.specs.Body.{AbsorbsBody}
 use Rattle.jc_collect.specs.Chain.{is_acknowledged}
-use Rattle.jc_collect.specs.Crash.{TakesBody, TakesUpload}
+use Rattle.jc_collect.specs.Crash.{IsUnstored, TakesBody, TakesUpload}
 use Rattle.jc_collect.specs.Foreign.{NamesForeign, TellsForeignIn}
 use Rattle.jc_collect.specs.Position.{Collects, HasCause, HasCode}
 
 -- Between two moments of a keeper what it has stored new belongs to the machine that brings it.
 abbrev pub Brings : {K : Type 0} → (k : keepers.Ghosts K) → (old new : K) → Type 0
 Brings k old new = HasBrought k.whose k.journal k.sound k.made k.brings old new
+
+-- ... and a sequence comes to belong to that machine alone, and only if an entry of it is stored new, or this failed.
+abbrev pub Claims : {K : Type 0} → (k : keepers.Ghosts K) → (Failed : Type 0) → (old new : K) → Type 0
+Claims k Failed old new = HasClaimed k.whose k.journal k.sound k.made k.brings Failed old new
 
 -- The body of an upload, which says such a reading, was taken up or not.
 pub record HasAbsorbed {K : Type 0} (k : keepers.Ghosts K) (Says : Reading → Type 0) (old new : K) (result : Result Absorbed KeepStop) : Type 0 where
@@ -38,6 +43,7 @@ pub record HasAbsorbed {K : Type 0} (k : keepers.Ghosts K) (Says : Reading → T
   pub owner : IsNotTheOwner result → k.has_owners
   pub foreign : k.sound new → (machine : Option (List ℕ)) → k.brings old machine → TellsForeignIn Says ((k.whose old).foreign machine) result
   pub brought : Brings k old new
+  pub claimed : Claims k (IsUnanswered result) old new
   pub store : StoreHasCause (k.failures old) (k.failures new) result
 
 -- An upload was taken up or not, and answered.
@@ -53,4 +59,5 @@ pub record HasCollected {K : Type 0} (k : keepers.Ghosts K) (limits : Limits) (k
   pub owner : HasCode answer NotTheOwner → k.has_owners
   pub foreign : k.sound new → (machine : Option (List ℕ)) → k.brings old machine → NamesForeign limits known ((k.whose old).foreign machine) answer
   pub brought : Brings k old new
+  pub claimed : Claims k (IsUnstored answer) old new
   pub store : HasCause StoreFailed (k.failures old) (k.failures new) answer

@@ -6,6 +6,7 @@ use Rattle.jc_base.specs.Device.{Rose}
 use Rattle.jc_base.specs.Journal.{Journal}
 use Rattle.jc_keeper.specs.declared.keeper.KeepStop.{KeepStop}
 use Rattle.jc_keeper.specs.declared.keeper.Keeper as keepers
+use Rattle.jc_keeper.specs.Whose.{StayWhose}
 use Rattle.jc_upload.specs.declared.answer.Answer.{Answer}
 use Rattle.jc_collect.specs.Each.{CollectsEach, Gathers, HoldsCollected, NoneAcknowledged, held}
 use Rattle.jc_collect.specs.Run.{AreCaused}
@@ -68,6 +69,8 @@ pub record HasSettled {K : Type 0} (k : keepers.Ghosts K) (old new : K) (answers
   -- where nothing is acknowledged, nothing is done
   pub unless : NoneAcknowledged answers → new ≡ old
   pub brought : Brings k old new
+  -- no sequence comes to belong to a machine
+  pub unclaimed : k.sound new → k.made old → StayWhose (k.whose new) (k.whose old)
   -- whichever uploads they were given to, since whatever moment of the keeper
   pub all : (limits : Limits) (known : List (Option (List ℕ))) (first : K) → HasCollectedAll k limits known first old answers
       → HasAnsweredAll k limits known first new given

@@ -22,6 +22,7 @@ collected g c = let call = c.collect_one-answer.ensures in record {
   owner = call.owner;
   foreign = call.foreign;
   brought = call.brought;
+  claimed = call.claimed;
   store = call.store;
 }
 
@@ -33,7 +34,7 @@ returns-in-Ok-clause-answers g c =
     let one = collected g (goal.at.returns-in-Ok-clause-answers g c).After-collect_one-answer in
     subst (λ (a : Answer). HasAnswered g.K.Keeper c.args.limits.now (of_delivery g.R.ByteStream.remaining g.B.ByteSpace.bytes c.args.delivery.now) c.args.keeper.now c.settle.new.self a) (sym c.in-Ack.is)
     (answered_ok (subst (λ (a : Answer). HasCollected g.K.Keeper c.args.limits.now (of_delivery g.R.ByteStream.remaining g.B.ByteSpace.bytes c.args.delivery.now) c.args.keeper.now c.collect_one-answer.new.keeper a) c.in-Ack.is one)
-    set.settled set.same set.before set.clean set.crash set.recovers set.made set.store set.brought set.answered refl)
+    set.settled set.same set.before set.clean set.crash set.recovers set.made set.store set.brought set.unclaimed set.answered refl)
 
 -- ---- it isn't
 
@@ -42,7 +43,7 @@ returns-in-Err-clause-answers g c =
     let set = c.in-Err.ensures in
     let one = collected g (goal.at.returns-in-Err-clause-answers g c).After-collect_one-answer in
     answered_withdrawn (subst (λ (a : Answer). HasCollected g.K.Keeper c.args.limits.now (of_delivery g.R.ByteStream.remaining g.B.ByteSpace.bytes c.args.delivery.now) c.args.keeper.now c.collect_one-answer.new.keeper a) c.in-Ack.is one)
-    set.settled set.same set.before set.clean set.crash set.recovers set.made set.store set.brought
+    set.settled set.same set.before set.clean set.crash set.recovers set.made set.store set.brought set.unclaimed
     c.in-Err.stop c.withdrawn.result (c.withdrawn.ensures ∙ ap (withdrawn c.in-Err.stop) c.in-Ack.is) refl (never_reads set.never_read) set.shut
 
 pub returns-in-Err-clause-read : goal.returns-in-Err-clause-read

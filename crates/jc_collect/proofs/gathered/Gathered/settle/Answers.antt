@@ -16,7 +16,7 @@ returns-in_default g c =
     let set = c.in_default.ensures in
     let some : ¬ NoneAcknowledged c.args.self.now.answers.items = search rules in
     settled_ok g.K.Keeper c.args.keeper.now c.settle.new.self c.args.self.now.answers.items
-    set.settled set.same set.before set.clean set.crash set.recovers set.made set.store set.brought (λ none. absurd (some none))
+    set.settled set.same set.before set.clean set.crash set.recovers set.made set.store set.brought set.unclaimed (λ none. absurd (some none))
     (λ found late made settled may. g.met.K.Keeper.durable c.settle.new.self found late made settled may) set.answered refl
 
 pub returns-in-Err : goal.returns-in-Err
@@ -25,5 +25,5 @@ returns-in-Err g c =
     let some : ¬ NoneAcknowledged c.args.self.now.answers.items = search rules in
     let changed : c.withdraw_each.new.answers ≡ map (withdrawn c.in-Err.stop) c.args.self.now.answers.items = search rules in
     settled_not g.K.Keeper c.args.keeper.now c.settle.new.self c.args.self.now.answers.items
-    set.settled set.same set.before set.clean set.crash set.recovers set.made set.store set.brought (λ none. absurd (some none))
+    set.settled set.same set.before set.clean set.crash set.recovers set.made set.store set.brought set.unclaimed (λ none. absurd (some none))
     c.in-Err.stop _ (all_changed (withdrawn c.in-Err.stop) c.args.self.now.answers.items c.withdraw_each.new.answers _ changed (search rules)) refl (never_reads set.never_read) set.shut
