@@ -24,6 +24,7 @@ use Rattle.jc_collector_answers.specs.Kept.{AnswersHold, HasKept, Printing, held
 use Rattle.jc_collector_answers.specs.PrintedLaws.{front_none, named}
 use Rattle.jc_collector_answers.specs.Tied.{NamedWith, PrintsFront, PrintsWith}
 use Rattle.jc_collector_answers.specs.declared.name_lines.NameLines.{NameLines}
+use Rattle.jc_collector_answers.proofs.Claiming.{grows_each}
 use Rattle.jc_collector_answers.proofs.Defaults.{by_default}
 use Rattle.jc_collector_answers.proofs.Grouping.{IsGroup, group_from, kept_by_group}
 use Rattle.jc_collector_answers.proofs.Kept.{kept_then}
@@ -139,14 +140,14 @@ module _ (told : List ℕ → Option (List ℕ)) (lines : NameLines) (text : Opt
       pub each : k.clean now → k.made first → HoldsSoFar (HoldsUpTo told lines text rest (held_by k first) (held_by k now)) text rest status old out
       pub owner : HoldsSoFar (OnlyIfOwned k.has_owners) text rest status old out
       pub brought : k.clean now → k.sound now → k.made first
-          → HoldsSoFar (LinesUpTo told lines (k.whose now) text rest (k.journal first) (k.journal now)) text rest status old out
+          → HoldsSoFar (LinesUpTo told lines (k.whose first) (k.whose now) text rest (k.journal first) (k.journal now)) text rest status old out
 
     pub so_far_first : (keeper : K) (old : Option (List ℕ)) → SoFar text keeper keeper Success old old
     so_far_first keeper old = record {
       each = λ clean made. holds_first (HoldsUpTo told lines text text (held_by k keeper) (held_by k keeper)) (first_of_all (held_by k keeper)) text old;
       owner = holds_first (OnlyIfOwned k.has_owners) (owned_none k.has_owners) text old;
       brought = λ clean sound made.
-          holds_first (LinesUpTo told lines (k.whose keeper) text text (k.journal keeper) (k.journal keeper))
+          holds_first (LinesUpTo told lines (k.whose keeper) (k.whose keeper) text text (k.journal keeper) (k.journal keeper))
           (up_to_none told lines (k.whose keeper) text (k.journal keeper)) text old;
     }
 
@@ -170,11 +171,13 @@ module _ (told : List ℕ → Option (List ℕ)) (lines : NameLines) (text : Opt
                 (λ those others h same. owned_then k.has_owners those others h (subst (OnlyIfOwned k.has_owners) (sym same) group.all.owner))
                 (length given) text rest next status more old was new holds.owner (lost_lines rest next come (length given) group.each lost) prints;
             brought = λ clean sound made.
-                holds_on_to (LinesUpTo told lines (k.whose mid) text rest (k.journal first) (k.journal mid)) (these given)
-                (LinesUpTo told lines (k.whose late) text next (k.journal first) (k.journal late))
-                (λ those others h same. subst (λ (l : List Answer). LinesUpTo told lines (k.whose late) text next (k.journal first) (k.journal late) (those ++ l)) (sym same)
-                (up_to_more told lines (k.whose mid) (k.whose late) (k.journal first) (k.journal mid) (k.journal late) text rest next come lost those given
-                (group.stays sound) h (group.own sound (so.stays_made made))))
+                holds_on_to (LinesUpTo told lines (k.whose first) (k.whose mid) text rest (k.journal first) (k.journal mid)) (these given)
+                (LinesUpTo told lines (k.whose first) (k.whose late) text next (k.journal first) (k.journal late))
+                (λ those others h same. subst (λ (l : List Answer). LinesUpTo told lines (k.whose first) (k.whose late) text next (k.journal first) (k.journal late) (those ++ l)) (sym same)
+                (up_to_more told lines (k.whose first) (k.whose mid) (k.whose late) (k.journal first) (k.journal mid) (k.journal late) text rest next come lost those given
+                (group.stays sound) (so.stored (group.all.was_sound sound) made)
+                (grows_each limits (uploads_of told lines come) (k.journal mid) given (k.journal late) ((group.all.holds clean (so.stays_made made)).collected sound))
+                h (group.own sound (so.stays_made made)) (group.claims sound (so.stays_made made))))
                 (length given) text rest next status more old was new (holds.brought (group.all.was_clean clean) (group.all.was_sound sound) made) (lost_lines rest next come (length given) group.each lost) prints;
           }
 
@@ -218,11 +221,11 @@ module _ (told : List ℕ → Option (List ℕ)) (lines : NameLines) (text : Opt
       }
 
       pub so_far_brought : IfSome rest (λ left. left ≡ []) → (k.sound mid → k.clean mid) → k.sound mid → k.made first
-          → NamedWith (CollectsText told lines (k.whose mid) text (k.journal first) (k.journal mid)) text status old was
+          → NamedWith (CollectsText told lines (k.whose first) (k.whose mid) text (k.journal first) (k.journal mid)) text status old was
       so_far_brought none clean is_sound is_made =
           let it = holds.brought (clean is_sound) is_sound is_made in
-          holds_named (CollectsText told lines (k.whose mid) text (k.journal first) (k.journal mid)) text rest status old was
-          (it.0, up_to_all told lines (k.whose mid) text rest none (k.journal first) (k.journal mid) it.0.1.answers it.1) none
+          holds_named (CollectsText told lines (k.whose first) (k.whose mid) text (k.journal first) (k.journal mid)) text rest status old was
+          (it.0, up_to_all told lines (k.whose first) (k.whose mid) text rest none (k.journal first) (k.journal mid) it.0.1.answers it.1) none
 
 -- ---- a group of them
 

@@ -20,19 +20,20 @@ use Rattle.jc_keeper.specs.declared.keeper.KeepStop.{KeepStop}
 use Rattle.jc_keeper.specs.declared.keeper.Keeper as keepers
 use Rattle.jc_keeper.specs.Brought.{StoresFor}
 use Rattle.jc_keeper.specs.BroughtLaws.{whose_stays, whose_then}
-use Rattle.jc_keeper.specs.Whose.{StayWhose}
+use Rattle.jc_keeper.specs.Whose.{AreSame, StayWhose}
 use Rattle.jc_upload.specs.declared.answer.Answer.{Answer}
 use Rattle.jc_upload.specs.declared.answer.Answer.TheVariants.{Ack, No}
 use Rattle.jc_collect.specs.Answer.{is_failure}
 use Rattle.jc_command_shared.specs.declared.status.Status.{Status}
 use Rattle.jc_command_shared.specs.declared.status.Status.TheVariants.{Success, Refused, Failed}
 use Rattle.jc_collector_answers.specs.Answered.{is_refusal, judged}
-use Rattle.jc_collector_answers.specs.Brought.{CollectsLines}
+use Rattle.jc_collector_answers.specs.Brought.{ClaimsByLines, CollectsLines}
 use Rattle.jc_collector_answers.specs.Collected.{LosesName, upload_in}
 use Rattle.jc_collector_answers.specs.Grouped.{GivesAnswers, GoesOn, HasTakenLines, LinesCome, TakesLines, uploads_of}
 use Rattle.jc_collector_answers.specs.Kept.{HasKept}
 use Rattle.jc_collector_answers.specs.Named.{HasParts}
 use Rattle.jc_collector_answers.specs.declared.name_lines.NameLines.{NameLines}
+use Rattle.jc_collector_answers.proofs.Claiming.{claims_both, claims_none, claims_one, claims_stayed, grows_each, grows_one}
 use Rattle.jc_collector_answers.proofs.Defaults.{by_default}
 use Rattle.jc_collector_answers.proofs.Machines.{come_none, come_on, come_one, lines_both, lines_stay, uploads_on}
 
@@ -41,6 +42,7 @@ pub record IsGroup {K : Type 0} (k : keepers.Ghosts K) (limits : Limits) (told :
   pub each : length given ≡ length come
   pub all : HasAnsweredAll k limits (uploads_of told lines come) old new given
   pub own : k.sound new → k.made old → CollectsLines told lines (k.whose new) come (k.journal old) given (k.journal new)
+  pub claims : k.sound new → k.made old → ClaimsByLines lines (k.whose old) (k.whose new) come (k.journal old) (k.journal new) given
   pub stays : k.sound new → StayWhose (k.whose old) (k.whose new)
 
 pub answered_length : (stopped : Option KeepStop) (answers : List Answer) → length (answered stopped answers) ≡ length answers
@@ -53,6 +55,7 @@ module _ {K : Type 0} (k : keepers.Ghosts K) (limits : Limits) (told : List ℕ 
     each = refl;
     all = all_none k limits keeper;
     own = λ is is_made. refl;
+    claims = λ is is_made. claims_none lines (k.whose keeper) (k.journal keeper);
     stays = λ is. whose_stays (k.whose keeper);
     brings = inl refl;
   }
@@ -62,13 +65,15 @@ module _ {K : Type 0} (k : keepers.Ghosts K) (limits : Limits) (told : List ℕ 
     pub taken_told : (machine : Option (List ℕ)) → k.journal new ≡ k.journal mid → (k.clean new ↔ k.clean mid) → (k.sound new ↔ k.sound mid) → (k.made new ↔ k.made mid)
         → (k.settled mid → k.settled new) → ((found : Journal) → k.may_leave new found ↔ k.may_leave mid found)
         → (k.leaves_journals new ↔ k.leaves_journals mid) → k.failures new ≡ k.failures mid → k.brings new machine
-        → StayWhose (k.whose mid) (k.whose new) → HasTakenLines k limits told lines come old new answers
+        → AreSame (k.whose mid) (k.whose new) → HasTakenLines k limits told lines come old new answers
     taken_told machine journal clean sound made settled crash recovers failures brings owners = record {
       each = taken.each;
       all = all_told k limits (uploads_of told lines come) old mid new answers taken.all journal clean sound made settled crash recovers failures;
       own = λ is is_made. subst (λ (j : Journal). CollectsLines told lines (k.whose new) come (k.journal old) answers j) (sym journal)
-          (lines_stay told lines (k.whose mid) (k.whose new) owners come (k.journal old) answers (k.journal mid) (taken.own (sound.0 is) is_made));
-      stays = λ is. whose_then (k.whose old) (k.whose mid) (k.whose new) (taken.stays (sound.0 is)) owners;
+          (lines_stay told lines (k.whose mid) (k.whose new) owners.0 come (k.journal old) answers (k.journal mid) (taken.own (sound.0 is) is_made));
+      claims = λ is is_made. subst (λ (j : Journal). ClaimsByLines lines (k.whose old) (k.whose new) come (k.journal old) j answers) (sym journal)
+          (claims_stayed lines (k.whose old) (k.whose mid) (k.whose new) come (k.journal old) answers owners.0 owners.1 (k.journal mid) (taken.claims (sound.0 is) is_made));
+      stays = λ is. whose_then (k.whose old) (k.whose mid) (k.whose new) (taken.stays (sound.0 is)) owners.0;
       brings = inr (machine, brings);
     }
 
@@ -86,6 +91,16 @@ module _ {K : Type 0} (k : keepers.Ghosts K) (limits : Limits) (told : List ℕ 
           (lines_both told lines (k.whose new) come (line ∷ []) (k.journal old) (k.journal mid) (k.journal new) answers (took.answer ∷ [])
           (lines_stay told lines (k.whose mid) (k.whose new) (stored.1.stays is) come (k.journal old) answers (k.journal mid) (taken.own (took.collected.was_sound is) is_made))
           (one_line is is_made));
+      claims = λ is is_made.
+          let was = took.collected.was_sound is in
+          let mid_made = taken.all.stays_made is_made in
+          subst (λ (l : List Answer). ClaimsByLines lines (k.whose old) (k.whose new) (come ++ line ∷ []) (k.journal old) (k.journal new) l) (sym took.behind)
+          (claims_both lines (k.whose old) (k.whose mid) (k.whose new) come (k.journal old) answers (line ∷ []) (took.answer ∷ []) (k.journal mid) (k.journal new) taken.each
+          (grows_each limits (uploads_of told lines come) (k.journal old) answers (k.journal mid) (taken.all.collected was is_made))
+          (grows_one limits (told (upload_in lines line)) (k.journal mid) took.answer (k.journal new) (took.collected.position was mid_made is))
+          (stored.1.stays is) (taken.claims was is_made)
+          (claims_one lines line machine (upload_in lines line) parts (k.whose mid) (k.whose new) (k.journal mid) (k.journal new) took.answer
+          (took.collected.claimed.claims is mid_made machine brings)));
       stays = λ is. whose_then (k.whose old) (k.whose mid) (k.whose new) (taken.stays (took.collected.was_sound is)) (stored.1.stays is);
       brings = inr (machine, stored.0);
     }
@@ -121,6 +136,13 @@ module _ {K : Type 0} (k : keepers.Ghosts K) (limits : Limits) (told : List ℕ 
           subst (λ (l : List Answer). CollectsLines told lines (k.whose new) come (k.journal old) l (k.journal new)) (sym same)
           (subst (λ (j : Journal). CollectsLines told lines (k.whose new) come (k.journal old) answers j) (sym (settled.same (taken.all.stays_made is_made) is))
           (lines_stay told lines (k.whose mid) (k.whose new) (over is) come (k.journal old) answers (k.journal mid) (taken.own (settled.was_sound is) is_made)));
+      claims = λ is is_made.
+          let same : given ≡ answers = settled.given_is ∙ ap (λ (s : Option KeepStop). answered s answers) (settled.stored is) in
+          let mid_made = taken.all.stays_made is_made in
+          subst (λ (l : List Answer). ClaimsByLines lines (k.whose old) (k.whose new) come (k.journal old) (k.journal new) l) (sym same)
+          (subst (λ (j : Journal). ClaimsByLines lines (k.whose old) (k.whose new) come (k.journal old) j answers) (sym (settled.same mid_made is))
+          (claims_stayed lines (k.whose old) (k.whose mid) (k.whose new) come (k.journal old) answers (over is) (settled.unclaimed is mid_made) (k.journal mid)
+          (taken.claims (settled.was_sound is) is_made)));
       stays = λ is. whose_then (k.whose old) (k.whose mid) (k.whose new) (taken.stays (settled.was_sound is)) (over is);
     }
       where
@@ -176,7 +198,7 @@ module _ {K : Type 0} (k : keepers.Ghosts K) (limits : Limits) (told : List ℕ 
     module _ (between new : K) (machine : Option (List ℕ)) (journal : k.journal between ≡ k.journal mid) (clean : k.clean between ↔ k.clean mid) (sound : k.sound between ↔ k.sound mid)
         (made : k.made between ↔ k.made mid) (settled : k.settled mid → k.settled between) (crash : (found : Journal) → k.may_leave between found ↔ k.may_leave mid found)
         (recovers : k.leaves_journals between ↔ k.leaves_journals mid) (failures : k.failures between ≡ k.failures mid) (brings : k.brings between machine)
-        (owners : StayWhose (k.whose mid) (k.whose between)) (more : List Answer)
+        (owners : AreSame (k.whose mid) (k.whose between)) (more : List Answer)
       where
         was_told : HasTakenLines k limits told lines so.come old between answers
         was_told = taken_told k limits told lines so.come old mid between answers so.taken machine journal clean sound made settled crash recovers failures brings owners

@@ -5,6 +5,7 @@ pub mod Printing
 pub mod LeftPrinted
 pub mod Kept
 pub mod Tying
+pub mod Claiming
 pub mod Machines
 pub mod Defaults
 pub mod Grouping

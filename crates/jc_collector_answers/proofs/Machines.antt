@@ -6,11 +6,12 @@ use Rattle.jc_base.specs.Journal.{Journal}
 use Rattle.jc_collect.specs.ForeignLaws.{foreign_later}
 use Rattle.jc_keeper.specs.Whose.{StayWhose, Whose}
 use Rattle.jc_upload.specs.declared.answer.Answer.{Answer}
-use Rattle.jc_collector_answers.specs.Brought.{CollectsLines, CollectsText}
+use Rattle.jc_collector_answers.specs.Brought.{ClaimsByLines, CollectsLines, CollectsText}
 use Rattle.jc_collector_answers.specs.Collected.{LosesName, names_in, upload_in}
 use Rattle.jc_collector_answers.specs.Grouped.{LinesCome, uploads_of}
 use Rattle.jc_collector_answers.specs.Named.{HasParts}
 use Rattle.jc_collector_answers.specs.declared.name_lines.NameLines.{NameLines}
+use Rattle.jc_collector_answers.proofs.Claiming.{Grows, claims_both, claims_none, lines_many}
 use Rattle.jc_collector_answers.proofs.Naming.{upload_is}
 
 -- the parts of a line that was read
@@ -77,31 +78,33 @@ module _ (told : List ℕ → Option (List ℕ)) (lines : NameLines) where
       (h.0, h.1, lines_both Of names others h.0 mid late one more h.2 then)
 
   -- What is so of those that came of a text before this rest.
-  pub record LinesUpTo (Of : Whose) (text rest : Option (List ℕ)) (first now : Journal) (answers : List Answer) : Type 0 where
+  pub record LinesUpTo (First Of : Whose) (text rest : Option (List ℕ)) (first now : Journal) (answers : List Answer) : Type 0 where
     pub come : List (List ℕ)
     pub are : LinesCome text rest come
     pub collected : CollectsLines told lines Of come first answers now
+    pub claims : ClaimsByLines lines First Of come first now answers
 
-  pub up_to_none : (Of : Whose) (text : Option (List ℕ)) (now : Journal) → LinesUpTo Of text text now now []
-  up_to_none Of text now = record { come = []; are = come_none text; collected = refl }
+  pub up_to_none : (Of : Whose) (text : Option (List ℕ)) (now : Journal) → LinesUpTo Of Of text text now now []
+  up_to_none Of text now = record { come = []; are = come_none text; collected = refl; claims = claims_none lines Of now }
 
-  pub up_to_more : (Of Now : Whose) (first mid late : Journal) (text rest next : Option (List ℕ)) (more : List (List ℕ)) → LinesCome rest next more
-      → (one others : List Answer) → StayWhose Of Now → LinesUpTo Of text rest first mid one
-      → CollectsLines told lines Now more mid others late → LinesUpTo Now text next first late (one ++ others)
-  up_to_more Of Now first mid late text rest next more lost one others stays so then = record {
+  pub up_to_more : (First Of Now : Whose) (first mid late : Journal) (text rest next : Option (List ℕ)) (more : List (List ℕ)) → LinesCome rest next more
+      → (one others : List Answer) → StayWhose Of Now → Grows first mid → Grows mid late → LinesUpTo First Of text rest first mid one
+      → CollectsLines told lines Now more mid others late → ClaimsByLines lines Of Now more mid late others → LinesUpTo First Now text next first late (one ++ others)
+  up_to_more First Of Now first mid late text rest next more lost one others stays before behind so then claims = record {
     come = so.come ++ more;
     are = come_on text rest next so.come more so.are lost;
     collected = lines_both Now so.come more first mid late one others (lines_stay Of Now stays so.come first one mid so.collected) then;
+    claims = claims_both lines First Of Now so.come first one more others mid late (lines_many told lines Of so.come first one mid so.collected) before behind stays so.claims claims;
   }
 
-  pub up_to_all : (Of : Whose) (text rest : Option (List ℕ)) → IfSome rest (λ left. left ≡ []) → (first now : Journal) (answers : List Answer)
-      → LinesUpTo Of text rest first now answers → CollectsText told lines Of text first now answers
+  pub up_to_all : (First Of : Whose) (text rest : Option (List ℕ)) → IfSome rest (λ left. left ≡ []) → (first now : Journal) (answers : List Answer)
+      → LinesUpTo First Of text rest first now answers → CollectsText told lines First Of text first now answers
   unfolding names_in
-  up_to_all Of text rest none first now answers so = whole text rest none so.are
+  up_to_all First Of text rest none first now answers so = whole text rest none so.are
     where
-      whole : (text rest : Option (List ℕ)) → IfSome rest (λ left. left ≡ []) → LinesCome text rest so.come → CollectsText told lines Of text first now answers
+      whole : (text rest : Option (List ℕ)) → IfSome rest (λ left. left ≡ []) → LinesCome text rest so.come → CollectsText told lines First Of text first now answers
       whole None rest none came = tt
       whole (Some bytes) None none came = absurd came
       whole (Some bytes) (Some left) none came =
-          subst (λ (ns : List (List ℕ)). CollectsLines told lines Of ns first answers now)
-          (sym (came ∙ ap (λ (l : List ℕ). so.come ++ names_in l) none ∙ append-nil so.come)) so.collected
+          subst (λ (ns : List (List ℕ)). CollectsLines told lines Of ns first answers now × ClaimsByLines lines First Of ns first now answers)
+          (sym (came ∙ ap (λ (l : List ℕ). so.come ++ names_in l) none ∙ append-nil so.come)) (so.collected, so.claims)

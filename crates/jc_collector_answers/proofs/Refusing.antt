@@ -9,6 +9,7 @@ use Rattle.jc_base.specs.Fault.{number_of}
 use Rattle.jc_base.specs.declared.id.Id128.{Id128}
 use Rattle.jc_base.specs.declared.limits.Limits.{Limits}
 use Rattle.jc_collect.specs.Answer.{is_failure_code}
+use Rattle.jc_collect.specs.Crash.{IsUnstored}
 use Rattle.jc_collect.specs.ForeignLaws.{foreign_untold}
 use Rattle.jc_collect.specs.Position.{Collects}
 use Rattle.jc_collect.specs.Taken.{HasCollected}
@@ -18,6 +19,7 @@ use Rattle.jc_collect.proofs.Each.{unknown_of}
 use Rattle.jc_collect.proofs.OneMore.{SaysOnce}
 use Rattle.jc_keeper.specs.declared.keeper.Keeper as keepers
 use Rattle.jc_keeper.specs.BroughtLaws.{brought_none}
+use Rattle.jc_keeper.specs.ClaimedLaws.{claimed_none}
 use Rattle.jc_upload.specs.Answer.{IsAnswer, answer_text}
 use Rattle.jc_upload.specs.declared.answer.Answer.{Answer}
 use Rattle.jc_upload.specs.declared.answer.Answer.TheVariants.{Ack, No}
@@ -44,6 +46,7 @@ module _ {K : Type 0} (k : keepers.Ghosts K) (limits : Limits) (keeper : K) wher
     owner = λ other. absurd (owned other);
     foreign = λ is machine brings other. absurd (owned other);
     brought = brought_none k.brings keeper;
+    claimed = claimed_none (IsUnstored (No of code place)) keeper;
     store = record { never_falls = omega arith; failed = λ other. absurd (stored other) };
   }
 
@@ -101,6 +104,7 @@ untold_taken once k limits known old new answers more took =
         owner = one.owner;
         foreign = λ is machine brings. foreign_untold limits known ((k.whose old).foreign machine) took.answer (one.foreign is machine brings);
         brought = one.brought;
+        claimed = one.claimed;
         store = one.store;
       };
     }

@@ -6,7 +6,7 @@ use Rattle.jc_command_shared.specs.declared.status.Status.{Status}
 use Rattle.jc_keeper.specs.declared.keeper.Keeper as keepers
 use Rattle.jc_keeper.specs.Whose.{StayWhose}
 use Rattle.jc_upload.specs.declared.answer.Answer.{Answer}
-use Rattle.jc_collector_answers.specs.Brought.{CollectsLines}
+use Rattle.jc_collector_answers.specs.Brought.{ClaimsByLines, CollectsLines}
 use Rattle.jc_collector_answers.specs.Collected.{names_in, upload_in}
 use Rattle.jc_collector_answers.specs.Kept.{HoldsPrinted}
 use Rattle.jc_collector_answers.specs.PrintedLaws.{many}
@@ -28,12 +28,13 @@ known_within None known = known
 known_within (Some most) known = None
 
 -- The uploads that these lines name were taken up, or not, over a keeper, and there is an answer for each, which isn't given
--- yet. What is new of each belongs to the machine that its line names.
+-- yet. What is new of each belongs to the machine that its line names. A sequence comes to belong to a machine only by a line.
 pub record HasTakenLines {K : Type 0} (k : keepers.Ghosts K) (limits : Limits) (told : List ℕ → Option (List ℕ)) (lines : NameLines) (come : List (List ℕ)) (old new : K) (answers : List Answer)
     : Type 0 where
   pub each : length answers ≡ length come
   pub all : HasCollectedAll k limits (uploads_of told lines come) old new answers
   pub own : k.sound new → k.made old → CollectsLines told lines (k.whose new) come (k.journal old) answers (k.journal new)
+  pub claims : k.sound new → k.made old → ClaimsByLines lines (k.whose old) (k.whose new) come (k.journal old) (k.journal new) answers
   pub stays : k.sound new → StayWhose (k.whose old) (k.whose new)
   -- some machine brings the last one, if there is one
   pub brings : (answers ≡ []) ⊎ ((machine : Option (List ℕ)) × k.brings new machine)
