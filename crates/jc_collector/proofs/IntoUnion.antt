@@ -126,13 +126,13 @@ pub apart_before : {before later : LogEntry → Type 0} → ComesToo before late
 apart_before comes none e f here there = none e f (comes e here) (comes f there)
 
 -- whose what is new is, between the same journals
-pub named_between : {F : Type 0} (told : List ℕ → Option (List ℕ)) (Of : Whose) (text : Option (List ℕ)) (past first then now last : Journal)
+pub named_between : {F : Type 0} (told : List ℕ → Option (List ℕ)) (First Of : Whose) (text : Option (List ℕ)) (past first then now last : Journal)
     (result : Result Status F) (old new : Option (List ℕ)) → then ≡ first → last ≡ now
-    → IfOk result (λ status. NamedWith (CollectsText told MachinesAndUploads Of text (union past then) (union past now)) text status old new)
-    → IfOk result (λ status. NamedWith (CollectsText told MachinesAndUploads Of text (union past first) (union past last)) text status old new)
-named_between told Of text past first then now last result old new begins ends named =
-    subst (λ (j : Journal). IfOk result (λ status. NamedWith (CollectsText told MachinesAndUploads Of text (union past j) (union past last)) text status old new)) begins
-    (subst (λ (j : Journal). IfOk result (λ status. NamedWith (CollectsText told MachinesAndUploads Of text (union past then) (union past j)) text status old new)) (sym ends) named)
+    → IfOk result (λ status. NamedWith (CollectsText told MachinesAndUploads First Of text (union past then) (union past now)) text status old new)
+    → IfOk result (λ status. NamedWith (CollectsText told MachinesAndUploads First Of text (union past first) (union past last)) text status old new)
+named_between told First Of text past first then now last result old new begins ends named =
+    subst (λ (j : Journal). IfOk result (λ status. NamedWith (CollectsText told MachinesAndUploads First Of text (union past j) (union past last)) text status old new)) begins
+    (subst (λ (j : Journal). IfOk result (λ status. NamedWith (CollectsText told MachinesAndUploads First Of text (union past then) (union past j)) text status old new)) (sym ends) named)
 
 -- where nothing is pending, the union is that of what the databases have
 module _ {F : Type 0} (text : Option (List ℕ)) (past first last : Journal) (pending pending_now : List LogEntry) (none : pending ≡ []) (none_now : pending_now ≡ [])
@@ -145,12 +145,12 @@ module _ {F : Type 0} (text : Option (List ℕ)) (past first last : Journal) (pe
         subst (λ (es : List LogEntry). HoldsPrinted (named text) (HoldsFirstOf AreUploads (held (union past (with_all first es)) Was had) (held (union past last) Now has)) result old new) none
         (subst (λ (es : List LogEntry). HoldsPrinted (named text) (HoldsFirstOf AreUploads (held (union past (with_all first pending)) Was had) (held (union past (with_all last es)) Now has)) result old new) none_now holds)
 
-    pub named_stored : (told : List ℕ → Option (List ℕ)) (Of : Whose)
-        → IfOk result (λ status. NamedWith (CollectsText told MachinesAndUploads Of text (union past (with_all first pending)) (union past (with_all last pending_now))) text status old new)
-        → IfOk result (λ status. NamedWith (CollectsText told MachinesAndUploads Of text (union past first) (union past last)) text status old new)
-    named_stored told Of holds =
-        subst (λ (es : List LogEntry). IfOk result (λ status. NamedWith (CollectsText told MachinesAndUploads Of text (union past (with_all first es)) (union past last)) text status old new)) none
-        (subst (λ (es : List LogEntry). IfOk result (λ status. NamedWith (CollectsText told MachinesAndUploads Of text (union past (with_all first pending)) (union past (with_all last es))) text status old new)) none_now holds)
+    pub named_stored : (told : List ℕ → Option (List ℕ)) (First Of : Whose)
+        → IfOk result (λ status. NamedWith (CollectsText told MachinesAndUploads First Of text (union past (with_all first pending)) (union past (with_all last pending_now))) text status old new)
+        → IfOk result (λ status. NamedWith (CollectsText told MachinesAndUploads First Of text (union past first) (union past last)) text status old new)
+    named_stored told First Of holds =
+        subst (λ (es : List LogEntry). IfOk result (λ status. NamedWith (CollectsText told MachinesAndUploads First Of text (union past (with_all first es)) (union past last)) text status old new)) none
+        (subst (λ (es : List LogEntry). IfOk result (λ status. NamedWith (CollectsText told MachinesAndUploads First Of text (union past (with_all first pending)) (union past (with_all last es))) text status old new)) none_now holds)
 
 pub keeps_same : {S C L : Type 0} {o : InFiles S C L} (m : Meaning) (files : C) (one other : Journal) → one ≡ other → KeepsAlways m o files one
     → KeepsAlways m o files other

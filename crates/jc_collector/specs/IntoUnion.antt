@@ -35,19 +35,20 @@ LeadsIf made image o files Holds Step =
 -- What is noted of a database that was set aside counts as a finished one's. Of what else it has nothing is said: that may be
 -- stored once more.
 -- What is new of each line belongs to the machine that the line names. If 71 is answered to it, the entry at its place is of
--- a sequence that belongs to another one.
-pub record StoresNotedNames (told : List ℕ → Option (List ℕ)) (past : Journal) (known : Known) (came : LogEntry → Type 0) (owner : Owner) (text : Option (List ℕ)) (status : Status)
+-- a sequence that belongs to another one. A sequence comes to belong to a machine only if a line names that machine, and an
+-- entry of the sequence is stored new, or the line is answered 62 or 63.
+pub record StoresNotedNames (told : List ℕ → Option (List ℕ)) (past : Journal) (known : Known) (came : LogEntry → Type 0) (first owner : Owner) (text : Option (List ℕ)) (status : Status)
     (old new : Option (List ℕ)) (before after : Journal) : Type 0 where
   pub kept : IsKept known past after came
   pub stored : NamedWith (λ answers. StoresFirstOf (those_named told MachinesAndUploads text) (union past before) answers (union past after)) text status old new
-  pub own : NamedWith (CollectsText told MachinesAndUploads (whose_by owner) text (union past before) (union past after)) text status old new
+  pub own : NamedWith (CollectsText told MachinesAndUploads (whose_by first) (whose_by owner) text (union past before) (union past after)) text status old new
 
 -- The same of an answer for each line of a list, where windows of sequences may be bounded.
-pub record StoresNotedFromList (told : List ℕ → Option (List ℕ)) (most_windows : Option ℕ) (past : Journal) (known : Known) (came : LogEntry → Type 0) (owner : Owner) (list : List ℕ) (given : Option (List ℕ))
+pub record StoresNotedFromList (told : List ℕ → Option (List ℕ)) (most_windows : Option ℕ) (past : Journal) (known : Known) (came : LogEntry → Type 0) (first owner : Owner) (list : List ℕ) (given : Option (List ℕ))
     (status : Status) (old new : Option (List ℕ)) (before after : Journal) : Type 0 where
   pub text : Option (List ℕ)
   pub listed : IsListed told list given text
-  pub stored : StoresNotedNames (told_within most_windows told) past known came owner text status old new before after
+  pub stored : StoresNotedNames (told_within most_windows told) past known came first owner text status old new before after
 
 -- Why a run over a union whose uploads lines name fails, once its present database is open.
 abbrev pub UnionStopsBy : Failure → Type 0

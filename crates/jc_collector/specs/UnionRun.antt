@@ -50,7 +50,7 @@ module _ {S C R N : Type 0} (o : InFiles S C R) (n : ledgers.Ghosts N) (made : T
     -- one had. Then what is noted is what they have.
     pub stored : IfOk result (λ run. LeadsIf made first o run.files
         (λ before. MayCatchUp (n.known ledger) past before (n.came ledger) × n.clean run.ledger × NoneCollide (n.came run.ledger))
-        (StoresNotedNames told past (n.known run.ledger) (n.came run.ledger) (n.owner run.ledger) text run.status old new))
+        (StoresNotedNames told past (n.known run.ledger) (n.came run.ledger) (n.owner ledger) (n.owner run.ledger) text run.status old new))
     pub printed : IfOk result (λ run. PrintsNamed text run.status old new)
     pub quiet : IfOk result (λ run. run.status ≡ Success → KeepsBytes errors errors_now)
     -- No failure has shut the notes.

@@ -1,23 +1,33 @@
 -- What a run over a union whose uploads a list names comes to, by how it ends. (own)
-use Rattle.std.proofs.Common.{◌≡◌, ◌≢◌, ℕ, List, Option, Result, inl, inr, subst, sym}
+use Rattle.std.proofs.Common.{◌≡◌, ◌≢◌, ℕ, List, Option, Result, inl, inr, subst, sym, ⊎_elim}
 use Rattle.std.proofs.lemmas.Result.{IfErr-weaker, IfOk-weaker}
 use Rattle.std.specs.Prelude.{◌⊎◌, IfErr, IfOk, IsSomeAnd, None, Some}
 use Rattle.std.specs.Io.KnownBytes.{Keeps}
+use Rattle.std.specs.Option.{option_map}
 use Rattle.sqlite.specs.Recovery.{Image}
+use Rattle.jc_base.specs.declared.id.Id128.{Id128}
 use Rattle.jc_base.specs.Journal.{Journal}
+use Rattle.jc_base.specs.LogEntry.{LogEntry}
+use Rattle.jc_collector_answers.specs.Brought.{CollectsText}
 use Rattle.jc_collector_answers.specs.Collected.{told_within}
+use Rattle.jc_collector_answers.specs.declared.name_lines.NameLines.TheVariants.{MachinesAndUploads}
 use Rattle.jc_collector_answers.specs.Tied.{PrintsFront}
 use Rattle.jc_command_args.specs.declared.request.Tables.{Tables}
 use Rattle.jc_command_shared.specs.Deeds.{Deed}
 use Rattle.jc_command_shared.specs.Failure.{status_of}
 use Rattle.jc_command_shared.specs.declared.failure.Failure.{Failure}
+use Rattle.jc_command_shared.specs.declared.status.Status.{Status}
 use Rattle.jc_command_shared.specs.declared.status.Status.TheVariants.{Failed, Success}
 use Rattle.jc_database.specs.Files.{InFiles}
 use Rattle.jc_ledger.specs.declared.ledger.Ledger as ledgers
 use Rattle.jc_ledger.specs.Kept.{NoneCollide}
+use Rattle.jc_ledger.specs.Known.{Known}
+use Rattle.jc_ledger.specs.Owners.{BelongsTo, Owner, machine_named, whose_by}
+use Rattle.jc_ledger.specs.Union.{union}
 use Rattle.jc_ledger.specs.Lagging.{MayCatchUp}
+use Rattle.jc_upload.specs.declared.answer.Answer.{Answer}
 use Rattle.jc_collector.specs.FromList.{PrintsFromList}
-use Rattle.jc_collector.specs.IntoUnion.{LeadsIf, StoresNotedFromList}
+use Rattle.jc_collector.specs.IntoUnion.{LeadsIf, StoresNotedFromList, StoresNotedNames}
 use Rattle.jc_collector.specs.OverFiles.{IsListed}
 use Rattle.jc_collector.specs.UnionLeft.{FilesLeft, HowPrinted, UnionIsLeft, handed_back}
 use Rattle.jc_collector.specs.UnionRun.{FailsEarly, ListIsLeft, RunsFromList}
@@ -32,18 +42,37 @@ module _ {S C R N : Type 0} (o : InFiles S C R) (n : ledgers.Ghosts N) (made : T
     abbrev pub Runs : Type 0
     Runs = RunsFromList o n made first told most_windows past ledger list given result old new errors errors_now deeds deeds_now
 
+    -- owners that are found to be the same
+    began_as : (text : Option (List ℕ)) (owned : Owner) → ((s : Id128) → n.owner ledger s ≡ owned s) → {within : List ℕ → Option (List ℕ)} {known : Known} {came : LogEntry → Type 0} {owner : Owner}
+        {status : Status} {before after : Journal} → StoresNotedNames within past known came (n.owner ledger) owner text status old new before after
+        → StoresNotedNames within past known came owned owner text status old new before after
+    began_as text owned same {within = within} {owner = owner} {before = before} {after = after} it = record {
+      kept = it.kept;
+      stored = it.stored;
+      own = record { shown = it.own.shown; holds = holds text it.own.holds };
+    }
+      where
+        holds : (text : Option (List ℕ)) {answers : List Answer} → CollectsText within MachinesAndUploads (whose_by (n.owner ledger)) (whose_by owner) text (union past before) (union past after) answers
+            → CollectsText within MachinesAndUploads (whose_by owned) (whose_by owner) text (union past before) (union past after) answers
+        holds None it = tt
+        holds (Some lines) it = (
+          it.0,
+          λ machine s is. ⊎_elim (λ was. inl (subst (BelongsTo (option_map machine_named machine)) (same s) was)) (λ some. inr some) (it.1 machine s is),
+        )
+
     early_ok : (P : NotedRun C N → Type 0) → FailsEarly o made first ledger result old new deeds deeds_now → IfOk result P
     early_ok P early = subst (λ (r : Result (NotedRun C N) (FailedRun R N)). IfOk r P) (sym early.failed) tt
 
-    pub runs_stored : Runs → IfOk result (λ run. LeadsIf made first o run.files
+    -- ... by whom sequences belonged to at first
+    pub runs_stored : (owned : Owner) → ((s : Id128) → n.owner ledger s ≡ owned s) → Runs → IfOk result (λ run. LeadsIf made first o run.files
         (λ before. MayCatchUp (n.known ledger) past before (n.came ledger) × n.clean run.ledger × NoneCollide (n.came run.ledger))
-        (StoresNotedFromList told most_windows past (n.known run.ledger) (n.came run.ledger) (n.owner run.ledger) list given run.status old new))
-    runs_stored (inl early) = early_ok _ early
-    runs_stored (inr (text, listed, runs)) = IfOk-weaker result _ _
+        (StoresNotedFromList told most_windows past (n.known run.ledger) (n.came run.ledger) owned (n.owner run.ledger) list given run.status old new))
+    runs_stored owned same (inl early) = early_ok _ early
+    runs_stored owned same (inr (text, listed, runs)) = IfOk-weaker result _ _
         (λ run leads clean kind before begin holds.
         let it = leads clean kind before begin holds in record {
           found = it.found;
-          is = record { text = text; listed = listed; stored = it.is };
+          is = record { text = text; listed = listed; stored = began_as text owned same it.is };
           keeps = it.keeps;
         })
         runs.stored

@@ -276,9 +276,10 @@ pub fn join_open<
     // acknowledge is stored and noted, and found after a crash.
     ensures answers { AnswersNoted T.meaning S.Store L.Ledger ⟦<TableUnion<S, T, L, P> as Keeper>⟧ P.journal (λ Holds. NamedWith Holds (N.remaining names.old))
         (those_named (told_within most Y.told) NameLines.MachinesAndUploads (N.remaining names.old)) present.conn ledger result.union result.union.present.conn result.union.ledger result.answered (O.contents output.old) (O.contents output.new) }
-    // What is new of each line belongs to the machine that the line names. What is told to be another machine's is.
+    // What is new of each line belongs to the machine that the line names. What is told to be another machine's is. A sequence
+    // comes to belong to a machine only by a line that names it.
     ensures brought { ⟦<TableUnion<S, T, L, P> as Keeper>⟧.sound result.union → MayOpen T.meaning S.Store present.conn (L.known ledger) P.journal (L.came ledger)
-        → IfOk result.answered (λ status. NamedWith (CollectsText (told_within most Y.told) NameLines.MachinesAndUploads (whose_by (L.owner result.union.ledger)) (N.remaining names.old)
+        → IfOk result.answered (λ status. NamedWith (CollectsText (told_within most Y.told) NameLines.MachinesAndUploads (whose_by (L.owner ledger)) (whose_by (L.owner result.union.ledger)) (N.remaining names.old)
         (union P.journal (journal_of T.meaning S.Store present.conn)) (union P.journal (journal_of T.meaning S.Store result.union.present.conn)))
         (N.remaining names.old) status (O.contents output.old) (O.contents output.new)) }
     // No failure has shut the notes.

@@ -165,10 +165,11 @@ module _ {S C L N : Type 0} (begun : Begins) (g : Devices S C L N) (left : Leave
 
   -- An answer to each upload that a list names was printed, line by line. What they acknowledge is stored in the present database,
   -- or was still noted of an earlier one. What is noted then is what these have. What is new of a line belongs to the machine that
-  -- it names, and an entry that 71 names to another one. No sequence was taken from its owner. No failure has shut the notes.
+  -- it names, and an entry that 71 names to another one. No sequence was taken from its owner, and one came to belong to a machine
+  -- only by a line that names it. No failure has shut the notes.
   pub record CollectsIntoUnion (made : Tables) (list : List ℕ) (most_windows : Option ℕ) (given old new : Option (List ℕ)) (status : Status) : Type 0 where
     pub printed : PrintsFromList begun.told list given status old new
-    pub stores : LeadsNoted made (λ known came owner. StoresNotedFromList begun.told most_windows (stored_before begun) known came owner list given status old new)
+    pub stores : LeadsNoted made (λ known came owner. StoresNotedFromList begun.told most_windows (stored_before begun) known came begun.owner owner list given status old new)
     pub owners : IsSomeAnd left.ledger KeepOwners
     pub noted : IsSomeAnd left.ledger (λ notes. g.ledger.clean notes → g.ledger.sound notes)
 

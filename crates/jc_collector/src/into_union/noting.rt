@@ -24,6 +24,7 @@ pub(super) fn note_listed<L: Ledger>(
 ) -> Result<(), OpenStop>
     ensures notes { CatchesUp L.Ledger (λ now. IfOk text (λ bytes. bytes.items ≡ export_text now) × OnOk text (All IsEntry (entries_of now)))
         ledger.old ledger.new result }
+    ensures owners { L.sound ledger.new → L.owner ledger.new ≡ L.owner ledger.old }
     ensures listed { IfErr text (λ stop. result ≡ Err (OpenStop.Stopped stop)) }
     ensures store { result ≡ Err (OpenStop.Stopped KeepStop.StoreFailed)
         → (text ≡ Err KeepStop.StoreFailed) ⊎ Rose (L.failures ledger.old) (L.failures ledger.new) }
@@ -37,6 +38,7 @@ pub(super) fn note_listed<L: Ledger>(
 
 fn note_text<L: Ledger>(alloc: Global, ledger: &mut L, text: &[u8]) -> Result<(), OpenStop>
     ensures notes { CatchesUp L.Ledger (λ now. (text.now ≡ export_text now) × All IsEntry (entries_of now)) ledger.old ledger.new result }
+    ensures owners { L.sound ledger.new → L.owner ledger.new ≡ L.owner ledger.old }
     ensures store { result ≡ Err (OpenStop.Stopped KeepStop.StoreFailed) → Rose (L.failures ledger.old) (L.failures ledger.new) }
     ensures read { result ≢ Err (OpenStop.Stopped KeepStop.ReadFailed) }
 {

@@ -65,6 +65,7 @@ pub fn open_union<S: Alter + Drop, T: Listed + Drop, L: Ledger + Drop, P: Past>(
     ensures journal { KeepsJournal T.meaning S.Store present.conn result.union.present.conn }
     ensures before { IsSound S.Store result.union.present.conn → IsSound S.Store present.conn }
     ensures ledger { L.sound result.union.ledger → L.sound ledger }
+    ensures owners { L.sound result.union.ledger → L.owner result.union.ledger ≡ L.owner ledger }
     ensures clean { ⟦<TableUnion<S, T, L, P> as Keeper>⟧.clean result.union → HasCleanDisk (state S.Store present.conn) × L.clean ledger }
     ensures comes { ComesToo (L.came ledger) (L.came result.union.ledger) }
     // Then no entry differs from its note, and a fault is that of an entry over the limits.

@@ -1,6 +1,6 @@
 -- What was answered stands in the union, and the export behind it changes nothing. The keeper that was answered over isn't
 -- named, so that another one doesn't fit.
-use Rattle.std.proofs.Common.{ap, inl, inr, ◌∙◌}
+use Rattle.std.proofs.Common.{ap, inl, inr, sym, ◌∙◌}
 use Rattle.std.specs.Prelude.{⊤}
 use Rattle.sqlite.specs.Held.{state}
 use Rattle.sqlite.specs.State.{HasCleanDisk}
@@ -196,14 +196,14 @@ returns-in-Ok-clause-brought g c = λ late may.
     (rw settle.present at (exported.before late.0), (settle.ledger.was.was_sound late.1.0, (tt, apart_before settle.ledger.comes late.1.1.1))) in
     let then_sound = kept.was_sound told_sound in
     let made = on_ok _ _ _ c.in-Ok.is (opened.made may then_sound.1.1.1) in
-    rw (settle.ledger.owners late.1.0)
+    rw (sym (opened.owners then_sound.1.0), settle.ledger.owners late.1.0)
     (value_of_other c.export_after-done.result c.answer_names_within-answered.result (λ status. status) _
     (value_of_other c.export_after-done.result c.settle_after-settled.result (λ status. status) _ exported.answered settle.answered)
-    (named_between (told_within c.args.most g.Y.System.told) (whose_by (g.L.Ledger.owner _)) (g.N.Read.remaining c.args.names.now) g.P.Past.journal _ _ _ _ c.answer_names_within-answered.result _ _
+    (named_between (told_within c.args.most g.Y.System.told) (whose_by (g.L.Ledger.owner _)) (whose_by (g.L.Ledger.owner _)) (g.N.Read.remaining c.args.names.now) g.P.Past.journal _ _ _ _ c.answer_names_within-answered.result _ _
     (opened.journal.same may.sound may.made then_sound.0) (rw settle.present at (exported.keeps.same (exported.before late.0) (settle.made none (kept.stays_made made)).0 late.0))
     (named_stored (g.N.Read.remaining c.args.names.now) g.P.Past.journal (journal_of m g.S.Store then.present.conn) (journal_of m g.S.Store told.present.conn)
     then.pending.items told.pending.items opened.none none c.answer_names_within-answered.result _ _
-    (told_within c.args.most g.Y.System.told) (whose_by (g.L.Ledger.owner told.ledger))
+    (told_within c.args.most g.Y.System.told) (whose_by (g.L.Ledger.owner then.ledger)) (whose_by (g.L.Ledger.owner told.ledger))
     (c.answer_names_within-answered.ensures.brought told_sound made))))
 
 pub returns-in-Ok-clause-noted : goal.returns-in-Ok-clause-noted

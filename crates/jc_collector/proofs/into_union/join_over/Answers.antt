@@ -68,9 +68,9 @@ returns-clause-runs g c = λ lawful made first found.
                 shown = printed.shown;
                 holds = subst (λ (j : Journal). StoresFirstOf named_uploads (union past j) printed.shown.printed.answers (union past after)) has.is (printed.holds.stored now);
               };
-              own = subst (λ (l : g.row.L.Denot). NamedWith (CollectsText (told_within c.args.most_windows g.Y.System.told) MachinesAndUploads (whose_by (g.L.Ledger.owner l)) text
+              own = subst (λ (l : g.row.L.Denot). NamedWith (CollectsText (told_within c.args.most_windows g.Y.System.told) MachinesAndUploads (whose_by (g.L.Ledger.owner c.args.ledger)) (whose_by (g.L.Ledger.owner l)) text
                   (union past before) (union past after)) text run.status old new) (sym ledger)
-                  (subst (λ (j : Journal). NamedWith (CollectsText (told_within c.args.most_windows g.Y.System.told) MachinesAndUploads (whose_by (g.L.Ledger.owner it.ledger)) text
+                  (subst (λ (j : Journal). NamedWith (CollectsText (told_within c.args.most_windows g.Y.System.told) MachinesAndUploads (whose_by (g.L.Ledger.owner c.args.ledger)) (whose_by (g.L.Ledger.owner it.ledger)) text
                   (union past j) (union past after)) text run.status old new) has.is
                   (at_ok answered run.status _ done (c.join_open-union.ensures.brought now may)));
             };

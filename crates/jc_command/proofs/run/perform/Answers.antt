@@ -301,7 +301,7 @@ returns-in_ok-run-in-CollectIntoUnion-clause-performed g c =
       record {
         printed = runs_printed _ _ _ _ _ _ _ _ _ _ _ _ _ _ _ _ _ runs;
         stores = leads_from _ _ _ _ _ _
-            (λ before asked. (same_start opened.known (λ e came. (opened.came e).1 came) asked.0, asked.1, asked.2)) (runs_stored _ _ _ _ _ _ _ _ _ _ _ _ _ _ _ _ _ runs);
+            (λ before asked. (same_start opened.known (λ e came. (opened.came e).1 came) asked.0, asked.1, asked.2)) (runs_stored _ _ _ _ _ _ _ _ _ _ _ _ _ _ _ _ _ _ opened.owner runs);
         owners = record {
           stay = c.show_steady.ensures.stay;
           after = c.show_steady.ensures.stay_after;

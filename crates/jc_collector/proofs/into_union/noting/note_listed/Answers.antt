@@ -16,3 +16,6 @@ returns-in-Ok-clause-read g c = λ is. absurd (c.note_text.ensures.read is)
 
 pub returns-in-Err-clause-notes : goal.returns-in-Err-clause-notes
 returns-in-Err-clause-notes g c = caught_nothing g.L.Ledger _ c.args.ledger.now _ c.in-Err.stop refl
+
+pub returns-in-Ok-clause-owners : goal.returns-in-Ok-clause-owners
+returns-in-Ok-clause-owners g c = c.note_text.ensures.owners

@@ -38,3 +38,9 @@ returns-clause-notes g c =
     λ m lists r read. c.canonical_texts_read_back.ensures.whole limits 0 (entries_of m) r lists.1 (subst (λ (b : List ℕ). StreamReading limits 0 b r) lists.0 read) in
     caught_stopped g.L.Ledger _ _ _ _ (λ m lists. gives_all limits _ _ text m (reads m lists) c.new.ensures c.in-Ok.ensures.reading)
     c.in-Err.ensures.crash _ c.in-Err.stop _ c.in-Err.ensures.call refl
+
+pub returns-in-Ok-catch_up-clause-owners : goal.returns-in-Ok-catch_up-clause-owners
+returns-in-Ok-catch_up-clause-owners g c = c.in-Ok-catch_up.ensures.owners
+
+pub returns-clause-owners : goal.returns-clause-owners
+returns-clause-owners g c = c.in-Err.ensures.owners

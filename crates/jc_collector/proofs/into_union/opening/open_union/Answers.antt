@@ -89,6 +89,9 @@ returns-clause-never_read g c = λ is. c.list_present-present.ensures.never_read
 pub returns-clause-ledger : goal.returns-clause-ledger
 returns-clause-ledger g c = c.note_listed-opened.ensures.notes.was_sound
 
+pub returns-clause-owners : goal.returns-clause-owners
+returns-clause-owners g c = c.note_listed-opened.ensures.owners
+
 pub returns-clause-comes : goal.returns-clause-comes
 returns-clause-comes g c = c.note_listed-opened.ensures.notes.comes
 
