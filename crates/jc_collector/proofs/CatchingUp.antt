@@ -12,7 +12,7 @@ use Rattle.jc_ledger.specs.Lagging.{EndsIn, GivesAll, IsCaughtUp, LagsBehind, Ma
 use Rattle.jc_ledger.specs.declared.catching_up.CaughtUp.{CaughtUp}
 use Rattle.jc_ledger.specs.declared.ledger.Ledger as ledgers
 use Rattle.jc_collector.specs.Noting.{CatchesUp}
-use Rattle.jc_collector.specs.UnionOpened.{HasOneOver, IsTold, MayStop}
+use Rattle.jc_collector.specs.UnionOpened.{IsOfOneOver, IsTold, MayStop}
 use Rattle.jc_collector.specs.declared.into_union.opening.OpenStop.{OpenStop}
 use Rattle.jc_collector.specs.declared.into_union.opening.OpenStop.TheVariants.{Stopped}
 use Rattle.jc_collector.proofs.Given.{told_kept}
@@ -28,7 +28,7 @@ module _ {N T : Type 0} (n : ledgers.Ghosts N) (Lists : Journal → Type 0) wher
   -- nothing was noted
   pub caught_nothing : (ledger : N) (r : Result T OpenStop) (stop : KeepStop) → r ≡ Err (Stopped stop) → CatchesUp n Lists ledger ledger r
   caught_nothing ledger r stop is = record {
-    kept = λ sound apart past noted now kept lags lists. may_stop _ now r stop is;
+    kept = λ clean apart past noted now kept lags lists. may_stop _ now r stop is;
     crash = λ clean apart past noted now kept lags lists found left. inl left;
     sound = λ clean. none_done _ r stop is;
     was_sound = λ sound. sound;
@@ -58,10 +58,10 @@ module _ {N T : Type 0} (n : ledgers.Ghosts N) (Lists : Journal → Type 0) wher
           → (past noted now : Journal) → IsKept (n.known old) past noted (n.came old) → LagsBehind past noted now → GivesAll given now
           → IsCaughtUp (IsKept (n.known new) past now (n.came new)) given is)
           → IsCall n.clean n.sound n.came n.failures old new (Ok u)
-          → ((m : Journal) → Lists m → (fault : Fault) → EndsIn given fault → HasOneOver m) → IsTold is r → CatchesUp n Lists old new r
+          → ((m : Journal) → Lists m → (fault : Fault) → EndsIn given fault → IsOfOneOver m fault) → IsTold is r → CatchesUp n Lists old new r
       caught_told u is r caught call over told = record {
-        kept = λ sound apart past noted now kept lags lists.
-            told_kept _ given now is r told (caught sound apart past noted now kept lags (gives now lists)) (over now lists);
+        kept = λ clean apart past noted now kept lags lists.
+            told_kept _ given now is r told (caught (call.answered clean refl) apart past noted now kept lags (gives now lists)) (over now lists);
         crash = λ clean apart past noted now kept lags lists. crash clean apart past noted now kept lags (gives now lists);
         sound = λ clean. on_any r _ (call.answered clean refl);
         was_sound = call.was_sound;
@@ -72,7 +72,7 @@ module _ {N T : Type 0} (n : ledgers.Ghosts N) (Lists : Journal → Type 0) wher
       pub caught_stopped : {U : Type 0} (why stop : KeepStop) (r : Result T OpenStop) → IsCall {T = U} n.clean n.sound n.came n.failures old new (Err why)
           → r ≡ Err (Stopped stop) → CatchesUp n Lists old new r
       caught_stopped why stop r call is = record {
-        kept = λ sound apart past noted now kept lags lists. may_stop _ now r stop is;
+        kept = λ clean apart past noted now kept lags lists. may_stop _ now r stop is;
         crash = λ clean apart past noted now kept lags lists. crash clean apart past noted now kept lags (gives now lists);
         sound = λ clean. none_done _ r stop is;
         was_sound = call.was_sound;

@@ -1,8 +1,11 @@
 -- A source over what a database lists gives its entries.
-use Rattle.std.proofs.Common.{◌≡◌, ◌∙◌, ℕ, List, ◌∷◌, Option, Some, None, Result, Ok, Err, ap, refl, subst, sym, inl, inr, arith}
-use Rattle.std.specs.Prelude.{IsErrAnd, MatchResult}
+use Rattle.std.proofs.Common.{◌≡◌, ◌≢◌, ◌∙◌, ◌+◌, ℕ, List, ◌∷◌, Option, Some, None, Result, Ok, Err, ap, refl, subst, sym, inl, inr, arith}
+use Rattle.std.specs.Prelude.{IsErrAnd, MatchResult, length}
 use Rattle.std.specs.List.{Contains}
 use Rattle.std.proofs.lemmas.List.Elements.{Contains-append_left, Contains-append_right}
+use Rattle.jc_base.specs.declared.fault.Code.{Code}
+use Rattle.jc_base.specs.declared.fault.Code.TheVariants.{Conflict}
+use Rattle.jc_base.specs.declared.fault.Ending.{Ending}
 use Rattle.jc_base.specs.declared.fault.Ending.TheVariants.{Bad, End}
 use Rattle.jc_base.specs.declared.fault.Fault.{Fault}
 use Rattle.jc_base.specs.declared.limits.Limits.{Limits}
@@ -17,8 +20,8 @@ use Rattle.jc_ledger.specs.Lagging.{EndsIn, GivesAll, IsCaughtUp}
 use Rattle.jc_ledger.specs.declared.catching_up.CaughtUp.{CaughtUp}
 use Rattle.jc_ledger.specs.declared.catching_up.CaughtUp.TheVariants as caught
 use Rattle.jc_stream.specs.Streaming.{ReadsKnown}
-use Rattle.jc_export.specs.Stream.{StreamReading}
-use Rattle.jc_collector.specs.UnionOpened.{HasOneOver, IsTold, MayStop}
+use Rattle.jc_export.specs.Stream.{EndsAs, IsFaulty, IsStuck, StreamReading}
+use Rattle.jc_collector.specs.UnionOpened.{HasOneOver, IsOfOneOver, IsTold, MayStop}
 use Rattle.jc_collector.specs.declared.into_union.opening.OpenStop.{OpenStop}
 use Rattle.jc_collector.specs.declared.into_union.opening.OpenStop.TheVariants.{Stopped}
 use Rattle.jc_collector.proofs.Listed.{listed_stored, stored_listed}
@@ -60,21 +63,33 @@ one_over limits defaults given r m fault is (inr stops) ends = record {
   beyond = stops.beyond;
 }
 
+-- no stream has the fault that an entry differs from another one
+no_conflict : (limits : Limits) (text : List ℕ) (r : Reading) (fault : Fault) → StreamReading limits 0 text r → r.ending ≡ Bad fault → fault.code ≢ Conflict
+no_conflict limits text r fault read ends same =
+    let shows : EndsAs limits (0 + length read.front) read.rest (Bad fault) = subst (λ (e : Ending). EndsAs limits (0 + length read.front) read.rest e) ends read.ends in
+    elim shows [
+      | inl stuck ↦ (subst (λ (code : Code). IsStuck limits read.rest code stuck.0) same stuck.1).shows
+      | inr faulty ↦ (subst (λ (code : Code). IsFaulty limits read.rest code) same faulty.0).fault.has
+    ]
+
 pub over_all : (limits : Limits) → AreDefaults limits.name limits.value limits.fields limits.entry limits.file → (device : Option (List ℕ)) (given : Option Reading)
     (text : List ℕ) (m : Journal)
     → ((r : Reading) → StreamReading limits 0 text r → ReadsBack limits (entries_of m) r) → device ≡ Some text → ReadsKnown limits device given
-    → (fault : Fault) → EndsIn given fault → HasOneOver m
+    → (fault : Fault) → EndsIn given fault → IsOfOneOver m fault
 over_all limits defaults device given text m back is known fault ends =
     known_over given (subst (λ (d : Option (List ℕ)). ReadsKnown limits d given) is known) ends
   where
-    known_over : (given : Option Reading) → ReadsKnown limits (Some text) given → EndsIn given fault → HasOneOver m
+    known_over : (given : Option Reading) → ReadsKnown limits (Some text) given → EndsIn given fault → IsOfOneOver m fault
     known_over None known ends = absurd known
-    known_over (Some r) known ends = one_over limits defaults (Some r) r m fault refl (back r known) ends
+    known_over (Some r) known ends = record {
+      one = one_over limits defaults (Some r) r m fault refl (back r known) ends;
+      other = no_conflict limits text r fault known (ends r refl);
+    }
 
 -- ---- what is told of it
 
 pub told_kept : {T : Type 0} (Holds : Type 0) (given : Option Reading) (m : Journal) (is : CaughtUp) (result : Result T OpenStop) → IsTold is result
-    → IsCaughtUp Holds given is → ((fault : Fault) → EndsIn given fault → HasOneOver m) → MatchResult result (λ _. Holds) (MayStop m)
+    → IsCaughtUp Holds given is → ((fault : Fault) → EndsIn given fault → IsOfOneOver m fault) → MatchResult result (λ _. Holds) (MayStop m)
 told_kept Holds given m caught.Done (Ok x) told holds over = holds
 told_kept Holds given m caught.Done (Err why) told holds over = absurd (let none : ⊥ = cc in none)
 told_kept Holds given m (caught.Differs index) result told holds over = absurd holds

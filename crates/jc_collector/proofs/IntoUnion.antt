@@ -1,7 +1,7 @@
 -- A run over a union of databases: why it fails, and what it makes of the files.
 use Rattle.std.proofs.Common.{◌≡◌, ◌⊎◌, ℕ, List, [], Option, None, Result, Ok, Err, ap, inl, inr, refl, sym, subst, subst₂}
 use Rattle.std.proofs.KnownBytes.{Keeps-refl}
-use Rattle.std.specs.Prelude.{IfOk, IfSome, IsSomeAnd}
+use Rattle.std.specs.Prelude.{IfErr, IfOk, IfSome, IsSomeAnd}
 use Rattle.sqlite.specs.Store.{Ghosts}
 use Rattle.sqlite.specs.Effect.{Database}
 use Rattle.sqlite.specs.Recovery.{Image}
@@ -29,40 +29,68 @@ use Rattle.jc_ledger.specs.Union.{union, with_all}
 use Rattle.jc_store.specs.Crash.{MayLeave}
 use Rattle.jc_store.specs.Meaning.{AreMade, IsSound, Meaning, journal_of}
 use Rattle.jc_collector.specs.Noted.{WhyNoUnion}
-use Rattle.jc_collector.specs.Database.{DatabaseFailsBy, MayEndNames}
+use Rattle.jc_collector.specs.Database.{DatabaseFailsBy, IsOutFailure, MayEndNames, WhyNoJournal}
 use Rattle.jc_collector.specs.IntoUnion.{LeadsIf, UnionFailsBy, UnionStopsBy}
 use Rattle.jc_collector.specs.Kinds.{meaning_of}
 use Rattle.jc_collector.specs.Open.{IsFoundIn}
+use Rattle.jc_collector.specs.UnionOpened.{FaultsOver}
 use Rattle.jc_collector.specs.UnionRun.{FailsEarly, IsFoundAs}
-use Rattle.jc_collector.specs.Unopened.{IsLeftUnopened, LeavesBegun}
+use Rattle.jc_collector.specs.Unopened.{FaultsDatabase, IsLeftUnopened, LeavesBegun}
 use Rattle.jc_collector.specs.declared.into_union.closing.FailedRun.{FailedRun}
 use Rattle.jc_collector.proofs.Open.{front_named}
-use Rattle.jc_collector.proofs.Results.{some_each}
+use Rattle.jc_collector.proofs.Results.{IfErr-each, failure_of_other, some_each}
 use Rattle.jc_upload.specs.declared.answer.Answer.{Answer}
 
 -- ---- before its present database is open
 
 -- What is handed back of it, if that isn't opened.
-pub fails_early : {S C R N : Type 0} (o : InFiles S C R) (made : Tables) (first : Image) (ledger : N) (run : FailedRun R N) (failure : Failure) (files : Option R) (old : Option (List ℕ))
+pub fails_early : {S C R N : Type 0} (o : InFiles S C R) (made : Tables) (database : List ℕ) (first : Image) (ledger : N) (run : FailedRun R N) (failure : Failure) (files : Option R) (old : Option (List ℕ))
     (deeds deeds_now : Option (List Deed)) → run.failure ≡ failure → IsSomeAnd run.left (λ it. (it.files ≡ files) × (it.ledger ≡ ledger))
-    → IsLeftUnopened o made first failure deeds deeds_now files → FailsEarly o made first ledger (Err run) old old deeds deeds_now
-fails_early {R = R} o made first ledger run failure files old deeds deeds_now same left unopened = record {
+    → IsLeftUnopened o made database first failure deeds deeds_now files → FailsEarly o made database first ledger (Err run) old old deeds deeds_now
+fails_early {R = R} o made database first ledger run failure files old deeds deeds_now same left unopened = record {
   run = run;
   failed = refl;
   left =
       some_each run.left _ _ left
-      (λ it is. (is.1, subst₂ (λ (w : Failure) (f : Option R). IsLeftUnopened o made first w deeds deeds_now f) (sym same) (sym is.0) unopened));
+      (λ it is. (is.1, subst₂ (λ (w : Failure) (f : Option R). IsLeftUnopened o made database first w deeds deeds_now f) (sym same) (sym is.0) unopened));
   kept = Keeps-refl old;
 }
 
 -- ... or no file of it is.
-pub fails_first : {S C R N : Type 0} (o : InFiles S C R) (made : Tables) (first : Image) (ledger : N) (run : FailedRun R N) (files : Option R) (old : Option (List ℕ)) (deeds : Option (List Deed)) → files ≡ None
-    → IsSomeAnd run.left (λ it. (it.files ≡ files) × (it.ledger ≡ ledger)) → FailsEarly o made first ledger (Err run) old old deeds deeds
-fails_first {R = R} o made first ledger run files old deeds none left =
-    fails_early o made first ledger run run.failure files old deeds deeds refl left (record {
+pub fails_first : {S C R N : Type 0} (o : InFiles S C R) (made : Tables) (database : List ℕ) (first : Image) (ledger : N) (run : FailedRun R N) (failure : Failure) (files : Option R) (old : Option (List ℕ)) (deeds : Option (List Deed))
+    → run.failure ≡ failure → FaultsDatabase failure → files ≡ None
+    → IsSomeAnd run.left (λ it. (it.files ≡ files) × (it.ledger ≡ ledger)) → FailsEarly o made database first ledger (Err run) old old deeds deeds
+fails_first {R = R} o made database first ledger run failure files old deeds same fault none left =
+    fails_early o made database first ledger run failure files old deeds deeds same left (record {
       begins = subst (λ (f : Option R). IfSome f (LeavesBegun o made first)) (sym none) tt;
       handed = inr (inl refl);
+      fault = fault;
     })
+
+-- What is refused of names is no fault.
+pub names_fault : {Bad Export : Type 0} (failure : Failure) → ((failure ≡ BadDatabaseName) × Bad) ⊎ (((failure ≡ BadExportName) × Export) ⊎ (failure ≡ OutOfMemory)) → FaultsDatabase failure
+names_fault failure (inl name) = subst FaultsDatabase (sym name.0) tt
+names_fault failure (inr (inl name)) = subst FaultsDatabase (sym name.0) tt
+names_fault failure (inr (inr memory)) = subst FaultsDatabase (sym memory) tt
+
+-- That of a database that isn't opened is its own.
+pub database_fault : (path : List ℕ) (failure : Failure) → WhyNoJournal path failure → FaultsDatabase failure
+database_fault path (Bad fault) why = why
+database_fault path SourceChanged why = tt
+database_fault path BadResume why = tt
+database_fault path (BadAnswer line) why = tt
+database_fault path (BadLine line) why = tt
+database_fault path BadId why = tt
+database_fault path BadFieldName why = tt
+database_fault path BadDatabaseName why = tt
+database_fault path BadExportName why = tt
+database_fault path BadUpload why = tt
+database_fault path (CannotOpen at) why = tt
+database_fault path ReadFailed why = tt
+database_fault path WriteFailed why = tt
+database_fault path StoreFailed why = tt
+database_fault path OutOfMemory why = tt
+database_fault path WordsAreNoText why = tt
 
 -- ---- why it fails
 
@@ -72,8 +100,28 @@ by_answers failure (inr (inl write)) = inl (inr write)
 by_answers failure (inr (inr (inl store))) = inl (inl (subst WhyNoUnion (sym store) tt))
 by_answers failure (inr (inr (inr memory))) = inl (inl (subst WhyNoUnion (sym memory) tt))
 
-module _ (database : List ℕ) (paths : List (List ℕ)) where
-  no_union : (failure : Failure) → WhyNoUnion failure → UnionFailsBy database paths failure
+-- ... and no fault
+pub names_over : (journal : Journal) (failure : Failure) → MayEndNames failure → FaultsOver journal failure
+names_over journal failure (inl read) = subst (FaultsOver journal) (sym read) tt
+names_over journal failure (inr (inl write)) = subst (FaultsOver journal) (sym write) tt
+names_over journal failure (inr (inr (inl store))) = subst (FaultsOver journal) (sym store) tt
+names_over journal failure (inr (inr (inr memory))) = subst (FaultsOver journal) (sym memory) tt
+
+-- the answers, what waits, and then the export: the first failure is told
+pub names_ended : {A : Type 0} (answered settled done : Result A Failure)
+    → IfErr answered (λ failure. (failure ≡ ReadFailed) ⊎ ((failure ≡ WriteFailed) ⊎ (failure ≡ OutOfMemory)))
+    → IfErr settled (λ failure. (answered ≡ Err failure) ⊎ ((failure ≡ StoreFailed) ⊎ (failure ≡ OutOfMemory)))
+    → IfErr done (λ failure. (settled ≡ Err failure) ⊎ IsOutFailure failure) → IfErr done MayEndNames
+names_ended answered settled done answers settles ends =
+    failure_of_other done settled IsOutFailure MayEndNames ends
+    (failure_of_other settled answered _ MayEndNames settles
+    (IfErr-each answered _ MayEndNames
+    (λ failure why. elim why [ inl is ↦ inl is | inr more ↦ elim more [ inl is ↦ inr (inl is) | inr is ↦ inr (inr (inr is)) ] ]) answers)
+    (λ failure its. inr (inr its)))
+    (λ failure out. inr out)
+
+module _ (database : List ℕ) (paths : List (List ℕ)) (at : Option (List ℕ)) where
+  no_union : (failure : Failure) → WhyNoUnion failure → UnionFailsBy database paths at failure
   no_union (Bad fault) why = tt
   no_union SourceChanged why = absurd why
   no_union BadResume why = absurd why
@@ -84,14 +132,14 @@ module _ (database : List ℕ) (paths : List (List ℕ)) where
   no_union BadDatabaseName why = absurd why
   no_union BadExportName why = absurd why
   no_union BadUpload why = absurd why
-  no_union (CannotOpen at) why = absurd why
+  no_union (CannotOpen path) why = absurd why
   no_union ReadFailed why = absurd why
   no_union WriteFailed why = absurd why
   no_union StoreFailed why = tt
   no_union OutOfMemory why = tt
   no_union WordsAreNoText why = absurd why
 
-  by_database : (failure : Failure) → DatabaseFailsBy database failure → UnionFailsBy database paths failure
+  by_database : (failure : Failure) → DatabaseFailsBy database failure → UnionFailsBy database paths at failure
   by_database (Bad fault) why = tt
   by_database SourceChanged why = why
   by_database BadResume why = why
@@ -100,19 +148,19 @@ module _ (database : List ℕ) (paths : List (List ℕ)) where
   by_database BadId why = why
   by_database BadFieldName why = why
   by_database BadDatabaseName why = why
-  by_database BadExportName why = tt
+  by_database BadExportName why = absurd why
   by_database BadUpload why = why
-  by_database (CannotOpen at) why = inl why
+  by_database (CannotOpen path) why = inl why
   by_database ReadFailed why = tt
   by_database WriteFailed why = why
   by_database StoreFailed why = why
   by_database OutOfMemory why = why
   by_database WordsAreNoText why = why
 
-  pub by_union : (failure : Failure) → UnionStopsBy failure ⊎ DatabaseFailsBy database failure → UnionFailsBy database paths failure
+  pub by_union : (failure : Failure) → UnionStopsBy failure ⊎ DatabaseFailsBy database failure → UnionFailsBy database paths at failure
   by_union failure (inl (inl (inl why))) = no_union failure why
-  by_union failure (inl (inl (inr write))) = subst (UnionFailsBy database paths) (sym write) tt
-  by_union failure (inl (inr read)) = subst (UnionFailsBy database paths) (sym read) tt
+  by_union failure (inl (inl (inr write))) = subst (UnionFailsBy database paths at) (sym write) tt
+  by_union failure (inl (inr read)) = subst (UnionFailsBy database paths at) (sym read) tt
   by_union failure (inr why) = by_database failure why
 
 -- ---- what it makes of the files

@@ -26,6 +26,13 @@ pub IfErr-each : {T E : Type 0} (r : Result T E) (P Q : E → Type 0) → ((e : 
 IfErr-each (Ok x) P Q each p = tt
 IfErr-each (Err e) P Q each p = each e p
 
+pub IfErr-both : {T E : Type 0} (r : Result T E) (P Q R : E → Type 0) → ((e : E) → P e → Q e → R e) → IfErr r P → IfErr r Q → IfErr r R
+IfErr-both (Ok x) P Q R both p q = tt
+IfErr-both (Err e) P Q R both p q = both e p q
+
+pub at_err : {T E : Type 0} (r : Result T E) (e : E) (P : E → Type 0) → r ≡ Err e → IfErr r P → P e
+at_err r e P is p = subst (λ d. IfErr d P) is p
+
 -- a value that is another result's
 pub value_of_other : {C T E F : Type 0} (r : Result C F) (done : Result T E) (value : C → T) (P : T → Type 0)
     → IfOk r (λ c. done ≡ Ok (value c)) → IfOk done P → IfOk r (λ c. P (value c))

@@ -1,5 +1,5 @@
 -- Why collecting uploads fails, by why taking up deliveries does, or the uploads that lines name.
-use Rattle.std.proofs.Common.{◌≡◌, ◌⊎◌, inl, inr, ℕ, List}
+use Rattle.std.proofs.Common.{◌≡◌, ◌⊎◌, inl, inr, ℕ, List, Option}
 use Rattle.std.specs.Prelude.{⊤}
 use Rattle.jc_command_shared.specs.declared.failure.Failure.{Failure}
 use Rattle.jc_command_shared.specs.declared.failure.Failure.TheVariants.{Bad, BadAnswer, BadDatabaseName, BadExportName, BadFieldName, BadId, BadLine, BadResume, BadUpload, CannotOpen, OutOfMemory, ReadFailed, SourceChanged, StoreFailed, WordsAreNoText, WriteFailed}
@@ -15,20 +15,20 @@ module _ (database : List ℕ) where
   by_lines failure (inl read) = inl read.1
   by_lines failure (inr why) = inr why
 
-  pub by_collecting : (uploads : List (List ℕ)) (failure : Failure) → DatabaseFailsBy database failure → CollectFailsBy database uploads failure
-  by_collecting uploads (Bad fault) why = why
-  by_collecting uploads SourceChanged why = why
-  by_collecting uploads BadResume why = why
-  by_collecting uploads (BadAnswer line) why = why
-  by_collecting uploads (BadLine line) why = why
-  by_collecting uploads BadId why = why
-  by_collecting uploads BadFieldName why = why
-  by_collecting uploads BadDatabaseName why = why
-  by_collecting uploads BadExportName why = tt
-  by_collecting uploads BadUpload why = why
-  by_collecting uploads (CannotOpen at) why = inl why
-  by_collecting uploads ReadFailed why = tt
-  by_collecting uploads WriteFailed why = why
-  by_collecting uploads StoreFailed why = why
-  by_collecting uploads OutOfMemory why = why
-  by_collecting uploads WordsAreNoText why = why
+  pub by_collecting : (uploads : List (List ℕ)) (at : Option (List ℕ)) (failure : Failure) → DatabaseFailsBy database failure → CollectFailsBy database uploads at failure
+  by_collecting uploads at (Bad fault) why = why
+  by_collecting uploads at SourceChanged why = why
+  by_collecting uploads at BadResume why = why
+  by_collecting uploads at (BadAnswer line) why = why
+  by_collecting uploads at (BadLine line) why = why
+  by_collecting uploads at BadId why = why
+  by_collecting uploads at BadFieldName why = why
+  by_collecting uploads at BadDatabaseName why = why
+  by_collecting uploads at BadExportName why = absurd why
+  by_collecting uploads at BadUpload why = why
+  by_collecting uploads at (CannotOpen path) why = inl why
+  by_collecting uploads at ReadFailed why = tt
+  by_collecting uploads at WriteFailed why = why
+  by_collecting uploads at StoreFailed why = why
+  by_collecting uploads at OutOfMemory why = why
+  by_collecting uploads at WordsAreNoText why = why

@@ -1,5 +1,5 @@
 -- The databases that commands work on, and why one of these commands fails. (own)
-use Rattle.std.specs.Prelude.{◌≡◌, ◌⊎◌, ℕ, List, take, Option, None, Some, IsSomeAnd, ⊤, codes}
+use Rattle.std.specs.Prelude.{◌≡◌, ◌⊎◌, ℕ, List, take, Option, None, Some, IsSome, IsSomeAnd, ⊤, codes}
 use Rattle.std.specs.Io.KnownBytes.{Appends, append_known}
 use Rattle.std.specs.List.{Contains}
 use Rattle.jc_base.specs.declared.fault.Code.TheVariants.{BadRow, NotAJournal, OldSchema}
@@ -57,13 +57,13 @@ DatabaseFailsBy database BadDatabaseName = IsBadName database
 DatabaseFailsBy database WriteFailed = ⊤
 DatabaseFailsBy database failure = WhyNoJournal database failure
 
--- Why a command over a database that reads uploads too, from files with these paths, fails. No contract can name which
--- file stands under a name, and so whether that of an export is the database's.
-abbrev pub CollectFailsBy : (database : List ℕ) → (uploads : List (List ℕ)) → Failure → Type 0
-CollectFailsBy database uploads (CannotOpen path) = (path.now ≡ database) ⊎ Contains uploads path.now
-CollectFailsBy database uploads BadExportName = ⊤
-CollectFailsBy database uploads ReadFailed = ⊤
-CollectFailsBy database uploads failure = DatabaseFailsBy database failure
+-- Why a command over a database that reads uploads too, from files with these paths, fails. An export's name is refused only if
+-- one is given. No contract can name which file stands under a name, and so whether that of an export is the database's.
+abbrev pub CollectFailsBy : (database : List ℕ) → (uploads : List (List ℕ)) → (at : Option (List ℕ)) → Failure → Type 0
+CollectFailsBy database uploads at (CannotOpen path) = (path.now ≡ database) ⊎ Contains uploads path.now
+CollectFailsBy database uploads at BadExportName = IsSome at
+CollectFailsBy database uploads at ReadFailed = ⊤
+CollectFailsBy database uploads at failure = DatabaseFailsBy database failure
 
 -- The id that a listing asks for is the one that the digits spell, if they are given.
 abbrev pub AsksId : (digits : Option (List ℕ)) → Option Id128 → Type 0

@@ -54,8 +54,8 @@ pub record StoresNotedFromList (told : List ℕ → Option (List ℕ)) (most_win
 abbrev pub UnionStopsBy : Failure → Type 0
 UnionStopsBy failure = NotedFailsBy failure ⊎ (failure ≡ ReadFailed)
 
--- Why a command over a union fails: with a fault, of which nothing is said here, or as another command over a database does
--- that reads files with these paths.
-abbrev pub UnionFailsBy : (database : List ℕ) → (paths : List (List ℕ)) → Failure → Type 0
-UnionFailsBy database paths (Bad fault) = ⊤
-UnionFailsBy database paths failure = CollectFailsBy database paths failure
+-- Why a command over a union fails: with a fault, of which what it leaves says more, or as another command over a database does
+-- that reads files with these paths, and may export.
+abbrev pub UnionFailsBy : (database : List ℕ) → (paths : List (List ℕ)) → (at : Option (List ℕ)) → Failure → Type 0
+UnionFailsBy database paths at (Bad fault) = ⊤
+UnionFailsBy database paths at failure = CollectFailsBy database paths at failure

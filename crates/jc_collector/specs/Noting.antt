@@ -10,7 +10,7 @@ use Rattle.jc_collector.specs.declared.into_union.opening.OpenStop.{OpenStop}
 
 -- A ledger that lagged behind a journal, of which this holds, has caught up with it, or why it hasn't is the result.
 pub record CatchesUp {N T : Type 0} (n : ledgers.Ghosts N) (Lists : Journal → Type 0) (old new : N) (result : Result T OpenStop) : Type 0 where
-  pub kept : n.sound new → NoneCollide (n.came new)
+  pub kept : n.clean new → NoneCollide (n.came new)
       → (past noted now : Journal) → IsKept (n.known old) past noted (n.came old) → LagsBehind past noted now → Lists now
       → MatchResult result (λ _. IsKept (n.known new) past now (n.came new)) (MayStop now)
   -- after a crash meanwhile the rest may be noted again

@@ -15,6 +15,7 @@ use Rattle.jc_upload.specs.declared.answer.Answer.{Answer}
 use Rattle.jc_collector.specs.declared.into_union.opening.OpenStop.{OpenStop}
 use Rattle.jc_collector.specs.declared.into_union.opening.OpenStop.TheVariants as stop
 use Rattle.jc_collector.specs.Noted.{HoldsNoted, WhyNoUnion, failure_of}
+use Rattle.jc_collector.specs.UnionOpened.{FaultsOver, MayStop}
 
 -- whatever stops an opening, a command can say so
 pub no_union : (why : OpenStop) → WhyNoUnion (failure_of why)
@@ -23,6 +24,14 @@ no_union (stop.Stopped keep.StoreFailed) = tt
 no_union (stop.Stopped keep.ReadFailed) = tt
 no_union (stop.Differs index) = tt
 no_union (stop.Faulty fault) = tt
+
+-- ... and if it may stop it, the fault is that of an entry over the limits
+pub faults_over : (journal : Journal) (why : OpenStop) → MayStop journal why → FaultsOver journal (failure_of why)
+faults_over journal (stop.Stopped keep.OutOfMemory) may = tt
+faults_over journal (stop.Stopped keep.StoreFailed) may = tt
+faults_over journal (stop.Stopped keep.ReadFailed) may = tt
+faults_over journal (stop.Differs index) may = absurd may
+faults_over journal (stop.Faulty fault) may = may
 
 -- what is known alike lags alike
 pub alike : {known : Known} {past now : Journal} {came : LogEntry → Type 0} → MayCatchUp known past now came → (found : Known) → ((k : Key) → found k ≡ known k)

@@ -9,6 +9,7 @@ use Rattle.jc_base.specs.LogEntry.{LogEntry}
 use Rattle.jc_collector_answers.specs.Collected.{KeepsFirstOf, those_named}
 use Rattle.jc_collector_answers.specs.declared.name_lines.NameLines.TheVariants.{MachinesAndUploads}
 use Rattle.jc_command_args.specs.declared.request.Tables.{Tables}
+use Rattle.jc_command_shared.specs.declared.failure.Failure.{Failure}
 use Rattle.jc_database.specs.Files.{AreLawful, HoldsJournal, InFiles}
 use Rattle.jc_database.specs.Left.{IsLeftOf}
 use Rattle.jc_ledger.specs.declared.ledger.Ledger as ledgers
@@ -20,6 +21,7 @@ use Rattle.jc_store.specs.Crash.{LeavesJournals}
 use Rattle.jc_store.specs.Meaning.{AreMade, Meaning}
 use Rattle.jc_upload.specs.declared.answer.Answer.{Answer}
 use Rattle.jc_collector.specs.Kinds.{BeginsIn, meaning_of}
+use Rattle.jc_collector.specs.UnionOpened.{FaultsOver}
 
 -- What a crash left of the present database's files has a journal, in tables of this meaning. Its union with the finished
 -- databases has what these answers to the first ones of some uploads acknowledge, over what was stored, and all of some of the
@@ -51,13 +53,15 @@ pub record IsLeftAs (m : Meaning) {S : Type 0} (g : Ghosts S) (conn : Held S) (f
 abbrev pub HowPrinted : Type 1
 HowPrinted = (Holds : List Answer → Type 0) → Type 0
 
--- What a run left that failed once its present database was open. If the disks returned what was written, the files had a
--- journal when it began, or none, and this is so of the notes beside it: whatever a crash leaves of the files and of the notes
--- has what the answers acknowledge whose lines were printed. They were given to the first ones of the uploads that a text names.
+-- What a run left that failed so once its present database was open. If the disks returned what was written, the files had a
+-- journal when it began, or none, and this is so of the notes beside it: a fault is that of an entry over the limits. Whatever
+-- a crash leaves of the files and of the notes has what the answers acknowledge whose lines were printed. They were given to the
+-- first ones of the uploads that a text names.
 abbrev pub UnionIsLeft : {N : Type 0} → ledgers.Ghosts N → (made : Tables) → (first : Image) → (told : List ℕ → Option (List ℕ)) → (past : Journal)
-    → (Noted : Journal → Type 0) → (text : Option (List ℕ)) → (Prints : HowPrinted) → FilesLeft → (notes : N) → Type 0
-UnionIsLeft n made first told past Noted text Prints files notes =
+    → (Noted : Journal → Type 0) → (text : Option (List ℕ)) → (Prints : HowPrinted) → Failure → FilesLeft → (notes : N) → Type 0
+UnionIsLeft n made first told past Noted text Prints failure files notes =
     files.clean → n.clean notes → NoneCollide (n.came notes)
     → (kind : Tables) (before : Journal) → BeginsIn made kind first before → Noted before
-    → Prints (λ answers. (image : Image) → files.images image
+    → FaultsOver before failure
+    × Prints (λ answers. (image : Image) → files.images image
     → ∥ LeavesNoted (those_named told MachinesAndUploads text) (meaning_of kind) past before (n.came notes) (n.may_leave notes) answers image ∥₁)

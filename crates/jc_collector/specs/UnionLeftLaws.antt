@@ -1,6 +1,7 @@
 -- What is left of a union, by what was answered over it. (own)
-use Rattle.std.proofs.Common.{◌≡◌, ℕ, List, Option, Result, subst, sym}
+use Rattle.std.proofs.Common.{◌≡◌, ◌⊎◌, ℕ, List, Option, Result, Err, inl, inr, subst, sym}
 use Rattle.std.proofs.Math.Logic.{∥∥₁_map}
+use Rattle.std.specs.Prelude.{IfErr}
 use Rattle.sqlite.specs.Store.{Ghosts}
 use Rattle.sqlite.specs.Recovery.{Image}
 use Rattle.sqlite.specs.State.{HasCleanDisk}
@@ -12,6 +13,8 @@ use Rattle.jc_collector_answers.specs.Kept.{HoldsPrinted}
 use Rattle.jc_collector_answers.specs.PrintedLaws.{named, text_other}
 use Rattle.jc_collector_answers.specs.declared.name_lines.NameLines.TheVariants.{MachinesAndUploads}
 use Rattle.jc_command_args.specs.declared.request.Tables.{Tables}
+use Rattle.jc_command_shared.specs.declared.failure.Failure.{Failure}
+use Rattle.jc_command_shared.specs.declared.failure.Failure.TheVariants.{StoreFailed}
 use Rattle.jc_command_shared.specs.declared.status.Status.{Status}
 use Rattle.jc_database.specs.Files.{AreLawful, HoldsJournal}
 use Rattle.jc_database.specs.Left.{IsLeftOf}
@@ -29,7 +32,7 @@ use Rattle.jc_collector.specs.Noted.{HoldsNoted}
 use Rattle.jc_collector.specs.Open.{IsFoundIn}
 use Rattle.jc_collector.specs.UnionAnswered.{AnswersNoted}
 use Rattle.jc_collector.specs.UnionLeft.{FilesLeft, IsLeftAs, LeavesNoted, UnionIsLeft}
-use Rattle.jc_collector.specs.UnionOpened.{MayOpen}
+use Rattle.jc_collector.specs.UnionOpened.{FaultsOver, MayOpen}
 use Rattle.jc_collector.specs.UnionRun.{IsFoundAs}
 
 module _ {S : Type 0} {g : Ghosts S} {m : Meaning} {present : Held S} {past before after : Journal} {Sound : Type 0} {known : Known} {came : LogEntry → Type 0}
@@ -56,18 +59,24 @@ leaves_as m n AreUploads past one other came ledgers answers image same holds le
   holds = holds it.found it.holds;
 })
 
+-- a failure is that of the answers, or the database couldn't be closed
+fault_of : (journal : Journal) (result : Result Status Failure) (failure : Failure) → IfErr result (FaultsOver journal)
+    → (result ≡ Err failure) ⊎ (failure ≡ StoreFailed) → FaultsOver journal failure
+fault_of journal result failure faults (inl is) = subst (λ (r : Result Status Failure). IfErr r (FaultsOver journal)) is faults
+fault_of journal result failure faults (inr is) = subst (FaultsOver journal) (sym is) tt
+
 -- A database that was found in files was the present one of a union, over which uploads were answered that a text names. It is
 -- left, and so are the notes, as they are then.
-module _ {S N U F : Type 0} {g : Ghosts S} {n : ledgers.Ghosts N} {u : keepers.Ghosts U} {m : Meaning} {past : Journal} {text : Option (List ℕ)}
-    {present now : Held S} {notes notes_now : N} {joined : U} {result : Result Status F} {old new : Option (List ℕ)} (told : List ℕ → Option (List ℕ)) (made : Tables) (first : Image) (found : IsFoundAs m g made first present)
+module _ {S N U : Type 0} {g : Ghosts S} {n : ledgers.Ghosts N} {u : keepers.Ghosts U} {m : Meaning} {past : Journal} {text : Option (List ℕ)}
+    {present now : Held S} {notes notes_now : N} {joined : U} {result : Result Status Failure} {old new : Option (List ℕ)} (told : List ℕ → Option (List ℕ)) (made : Tables) (first : Image) (found : IsFoundAs m g made first present)
     (ran : AnswersNoted m g n u past (named text) (those_named told MachinesAndUploads text) present notes joined now notes_now result old new)
     (joins : HasCleanDisk (state g now) → n.clean notes_now → NoneCollide (n.came notes_now) → u.clean joined)
     (journals : u.leaves_journals joined → LeavesJournals m g now) (lawful : AreLawful m)
   where
-    at_end : (files : FilesLeft) → IsLeftAs m g now files
+    at_end : (failure : Failure) → (result ≡ Err failure) ⊎ (failure ≡ StoreFailed) → (files : FilesLeft) → IsLeftAs m g now files
         → UnionIsLeft n made first told past (λ before. MayCatchUp (n.known notes) past before (n.came notes) × n.sound notes) text
-        (λ Holds. HoldsPrinted (named text) Holds result old new) files notes_now
-    at_end files left clean l_clean none kind before begin noted =
+        (λ Holds. HoldsPrinted (named text) Holds result old new) failure files notes_now
+    at_end failure why files left clean l_clean none kind before begin noted =
         let AreUploads = those_named told MachinesAndUploads text in
         let u_clean = joins (left.was_clean clean) l_clean none in
         let was = (ran.was_clean u_clean).0 in
@@ -76,19 +85,22 @@ module _ {S N U F : Type 0} {g : Ghosts S} {n : ledgers.Ghosts N} {u : keepers.G
           sound = found.sound was;
           made = has.made;
           lags = subst (λ (j : Journal). MayCatchUp (n.known notes) past j (n.came notes)) (sym has.is) noted.0;
-        } in
-        text_other _ _
-        (λ answers h image is. leaves_as m (meaning_of kind) AreUploads past _ before _ _ answers image has.is (λ j holds. found.same was kind before begin image j holds)
-        (leaves_noted AreUploads answers image
-        (left.leaves lawful (ran.tables u_clean may) (journals (ran.recovers u_clean may noted.1)) clean image is) h))
-        text result old new (ran.each u_clean may noted.1)
+        } in (
+          subst (λ (j : Journal). FaultsOver j failure) has.is (fault_of (journal_of m g present) result failure (ran.faults u_clean may) why),
+          text_other _ _
+              (λ answers h image is. leaves_as m (meaning_of kind) AreUploads past _ before _ _ answers image has.is (λ j holds. found.same was kind before begin image j holds)
+              (leaves_noted AreUploads answers image
+              (left.leaves lawful (ran.tables u_clean may) (journals (ran.recovers u_clean may noted.1)) clean image is) h))
+              text result old new (ran.each u_clean may noted.1),
+        )
 
-    pub union_left : (files : FilesLeft) → IsLeftAs m g now files → (notes_left : N) → notes_left ≡ notes_now
+    pub union_left : (failure : Failure) → (result ≡ Err failure) ⊎ (failure ≡ StoreFailed) → (files : FilesLeft) → IsLeftAs m g now files
+        → (notes_left : N) → notes_left ≡ notes_now
         → UnionIsLeft n made first told past (λ before. MayCatchUp (n.known notes) past before (n.came notes) × n.sound notes) text
-        (λ Holds. HoldsPrinted (named text) Holds result old new) files notes_left
-    union_left files left notes_left same =
+        (λ Holds. HoldsPrinted (named text) Holds result old new) failure files notes_left
+    union_left failure why files left notes_left same =
         subst (λ (l : N). UnionIsLeft n made first told past (λ before. MayCatchUp (n.known notes) past before (n.came notes) × n.sound notes) text
-        (λ Holds. HoldsPrinted (named text) Holds result old new) files l) (sym same) (at_end files left)
+        (λ Holds. HoldsPrinted (named text) Holds result old new) failure files l) (sym same) (at_end failure why files left)
 
 -- what holds of a union that may be opened of what was found in the files, and of the notes beside it
 module _ {S : Type 0} {g : Ghosts S} (made mine : Tables) (image : Image) (first : Held S) (found : IsFoundIn g made mine image first)

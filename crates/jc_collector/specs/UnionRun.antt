@@ -12,6 +12,7 @@ use Rattle.jc_collector_answers.specs.Tied.{PrintsFront}
 use Rattle.jc_command_args.specs.declared.request.Tables.{Tables}
 use Rattle.jc_command_shared.specs.Deeds.{Deed}
 use Rattle.jc_command_shared.specs.Failure.{status_of}
+use Rattle.jc_command_shared.specs.declared.failure.Failure.{Failure}
 use Rattle.jc_command_shared.specs.declared.status.Status.TheVariants.{Failed, Success}
 use Rattle.jc_database.specs.Files.{HoldsJournal, InFiles, Keeps}
 use Rattle.jc_ledger.specs.declared.ledger.Ledger as ledgers
@@ -34,12 +35,12 @@ pub record IsFoundAs (m : Meaning) {S : Type 0} (g : Ghosts S) (made : Tables) (
   pub same : HasCleanDisk (state g present) → (kind : Tables) (before : Journal) → BeginsIn made kind first before
       → (image : Image) (found : Journal) → HoldsJournal m image found → HoldsJournal (meaning_of kind) image found
 
--- The present database wasn't opened, and nothing is printed. The notes are handed back as they were given, and what is left
+-- The present database at this path wasn't opened, and nothing is printed. The notes are handed back as they were given, and what is left
 -- of the database's files.
-pub record FailsEarly {S C R N : Type 0} (o : InFiles S C R) (made : Tables) (first : Image) (ledger : N) (result : Result (NotedRun C N) (FailedRun R N)) (old new : Option (List ℕ)) (deeds deeds_now : Option (List Deed)) : Type 0 where
+pub record FailsEarly {S C R N : Type 0} (o : InFiles S C R) (made : Tables) (database : List ℕ) (first : Image) (ledger : N) (result : Result (NotedRun C N) (FailedRun R N)) (old new : Option (List ℕ)) (deeds deeds_now : Option (List Deed)) : Type 0 where
   pub run : FailedRun R N
   pub failed : result ≡ Err run
-  pub left : IsSomeAnd run.left (λ it. (it.ledger ≡ ledger) × IsLeftUnopened o made first run.failure deeds deeds_now it.files)
+  pub left : IsSomeAnd run.left (λ it. (it.ledger ≡ ledger) × IsLeftUnopened o made database first run.failure deeds deeds_now it.files)
   pub kept : KeepsBytes old new
 
 module _ {S C R N : Type 0} (o : InFiles S C R) (n : ledgers.Ghosts N) (made : Tables) (first : Image) (told : List ℕ → Option (List ℕ)) (past : Journal) (ledger : N) where
@@ -55,28 +56,29 @@ module _ {S C R N : Type 0} (o : InFiles S C R) (n : ledgers.Ghosts N) (made : T
     pub quiet : IfOk result (λ run. run.status ≡ Success → KeepsBytes errors errors_now)
     -- No failure has shut the notes.
     pub noted : IfOk result (λ run. n.clean run.ledger → n.sound run.ledger)
-    -- If it fails, what those acknowledge that were printed before is in what is handed back.
+    -- If it fails, what those acknowledge that were printed before is in what is handed back, and a fault is that of an entry over
+    -- the limits.
     pub left : IfErr result (λ run. IsSomeAnd run.left (λ it. IsSomeAnd it.files (λ files. UnionIsLeft n made first told past
-        (λ before. MayCatchUp (n.known ledger) past before (n.came ledger) × n.sound ledger) text (λ Holds. PrintsFront Holds old new) (handed_back o first files) it.ledger)))
+        (λ before. MayCatchUp (n.known ledger) past before (n.came ledger) × n.sound ledger) text (λ Holds. PrintsFront Holds old new) run.failure (handed_back o first files) it.ledger)))
     pub untouched : IfErr result (λ run. status_of run.failure ≢ Failed → KeepsBytes old new)
 
   -- The same of a run that may fail before its present database is open.
-  abbrev pub RunsNotedOrNot : (text : Option (List ℕ)) → Result (NotedRun C N) (FailedRun R N) → (old new errors errors_now : Option (List ℕ)) → (deeds deeds_now : Option (List Deed)) → Type 0
-  RunsNotedOrNot text result old new errors errors_now deeds deeds_now =
-      FailsEarly o made first ledger result old new deeds deeds_now ⊎ RunsNoted text result old new errors errors_now
+  abbrev pub RunsNotedOrNot : (database : List ℕ) → (text : Option (List ℕ)) → Result (NotedRun C N) (FailedRun R N) → (old new errors errors_now : Option (List ℕ)) → (deeds deeds_now : Option (List Deed)) → Type 0
+  RunsNotedOrNot database text result old new errors errors_now deeds deeds_now =
+      FailsEarly o made database first ledger result old new deeds deeds_now ⊎ RunsNoted text result old new errors errors_now
 
 -- The same of a list, which is given by its name, where windows of sequences may be bounded.
 abbrev pub RunsFromList : {S C R N : Type 0} → InFiles S C R → ledgers.Ghosts N → (made : Tables) → (first : Image) → (told : List ℕ → Option (List ℕ)) → (most_windows : Option ℕ)
-    → (past : Journal) → (ledger : N) → (list : List ℕ) → (given : Option (List ℕ)) → Result (NotedRun C N) (FailedRun R N) → (old new errors errors_now : Option (List ℕ)) → (deeds deeds_now : Option (List Deed)) → Type 0
-RunsFromList o n made first told most_windows past ledger list given result old new errors errors_now deeds deeds_now =
-    FailsEarly o made first ledger result old new deeds deeds_now
+    → (past : Journal) → (ledger : N) → (database list : List ℕ) → (given : Option (List ℕ)) → Result (NotedRun C N) (FailedRun R N) → (old new errors errors_now : Option (List ℕ)) → (deeds deeds_now : Option (List Deed)) → Type 0
+RunsFromList o n made first told most_windows past ledger database list given result old new errors errors_now deeds deeds_now =
+    FailsEarly o made database first ledger result old new deeds deeds_now
     ⊎ ((text : Option (List ℕ)) × IsListed told list given text
     × RunsNoted o n made first (told_within most_windows told) past ledger text result old new errors errors_now)
 
--- What a run over the uploads that a list names left: of the text that its name stands for, where windows may be bounded.
+-- What a run over the uploads that a list names left that failed so: of the text that its name stands for, where windows may be bounded.
 abbrev pub ListIsLeft : {N : Type 0} → ledgers.Ghosts N → (made : Tables) → (first : Image) → (told : List ℕ → Option (List ℕ)) → (most_windows : Option ℕ)
     → (past : Journal) → (Noted : Journal → Type 0) → (list : List ℕ) → (given : Option (List ℕ))
-    → (Prints : (text : Option (List ℕ)) → HowPrinted) → FilesLeft → (notes : N) → Type 0
-ListIsLeft n made first told most_windows past Noted list given Prints files notes =
+    → (Prints : (text : Option (List ℕ)) → HowPrinted) → Failure → FilesLeft → (notes : N) → Type 0
+ListIsLeft n made first told most_windows past Noted list given Prints failure files notes =
     (text : Option (List ℕ)) × IsListed told list given text
-    × UnionIsLeft n made first (told_within most_windows told) past Noted text (Prints text) files notes
+    × UnionIsLeft n made first (told_within most_windows told) past Noted text (Prints text) failure files notes

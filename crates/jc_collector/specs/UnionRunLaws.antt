@@ -37,10 +37,10 @@ use Rattle.jc_collector.specs.declared.into_union.closing.NotedLeft.{NotedLeft}
 use Rattle.jc_collector.specs.declared.into_union.closing.NotedRun.{NotedRun}
 
 module _ {S C R N : Type 0} (o : InFiles S C R) (n : ledgers.Ghosts N) (made : Tables) (first : Image) (told : List ℕ → Option (List ℕ)) (most_windows : Option ℕ)
-    (past : Journal) (ledger : N) (list : List ℕ) (given : Option (List ℕ)) (result : Result (NotedRun C N) (FailedRun R N)) (old new errors errors_now : Option (List ℕ)) (deeds deeds_now : Option (List Deed))
+    (past : Journal) (ledger : N) (database list : List ℕ) (given : Option (List ℕ)) (result : Result (NotedRun C N) (FailedRun R N)) (old new errors errors_now : Option (List ℕ)) (deeds deeds_now : Option (List Deed))
   where
     abbrev pub Runs : Type 0
-    Runs = RunsFromList o n made first told most_windows past ledger list given result old new errors errors_now deeds deeds_now
+    Runs = RunsFromList o n made first told most_windows past ledger database list given result old new errors errors_now deeds deeds_now
 
     -- owners that are found to be the same
     began_as : (text : Option (List ℕ)) (owned : Owner) → ((s : Id128) → n.owner ledger s ≡ owned s) → {within : List ℕ → Option (List ℕ)} {known : Known} {came : LogEntry → Type 0} {owner : Owner}
@@ -60,7 +60,7 @@ module _ {S C R N : Type 0} (o : InFiles S C R) (n : ledgers.Ghosts N) (made : T
           λ machine s is. ⊎_elim (λ was. inl (subst (BelongsTo (option_map machine_named machine)) (same s) was)) (λ some. inr some) (it.1 machine s is),
         )
 
-    early_ok : (P : NotedRun C N → Type 0) → FailsEarly o made first ledger result old new deeds deeds_now → IfOk result P
+    early_ok : (P : NotedRun C N → Type 0) → FailsEarly o made database first ledger result old new deeds deeds_now → IfOk result P
     early_ok P early = subst (λ (r : Result (NotedRun C N) (FailedRun R N)). IfOk r P) (sym early.failed) tt
 
     -- ... by whom sequences belonged to at first
@@ -100,37 +100,37 @@ module _ {S C R N : Type 0} (o : InFiles S C R) (n : ledgers.Ghosts N) (made : T
     module _ (Noted : Journal → Type 0) (each : (before : Journal) → Noted before → MayCatchUp (n.known ledger) past before (n.came ledger) × n.sound ledger)
         (AreGiven : N → Type 0) (given_so : AreGiven ledger)
       where
-        listed_left : (text : Option (List ℕ)) → IsListed told list given text → (Prints : (text : Option (List ℕ)) → HowPrinted) (files : FilesLeft) (notes : N)
-            → UnionIsLeft n made first (told_within most_windows told) past (λ before. MayCatchUp (n.known ledger) past before (n.came ledger) × n.sound ledger) text (Prints text) files notes
-            → ListIsLeft n made first told most_windows past Noted list given Prints files notes
-        listed_left text listed Prints files notes left =
+        listed_left : (text : Option (List ℕ)) → IsListed told list given text → (Prints : (text : Option (List ℕ)) → HowPrinted) (failure : Failure) (files : FilesLeft) (notes : N)
+            → UnionIsLeft n made first (told_within most_windows told) past (λ before. MayCatchUp (n.known ledger) past before (n.came ledger) × n.sound ledger) text (Prints text) failure files notes
+            → ListIsLeft n made first told most_windows past Noted list given Prints failure files notes
+        listed_left text listed Prints failure files notes left =
             (text, listed, λ clean l_clean none kind before begin noted. left clean l_clean none kind before begin (each before noted))
 
         abbrev pub LeavesNotes : Failure → NotedLeft R N → Type 0
         LeavesNotes failure it =
-            (AreGiven it.ledger × (IsLeftUnopened o made first failure deeds deeds_now it.files × Keeps old new))
+            (AreGiven it.ledger × (IsLeftUnopened o made database first failure deeds deeds_now it.files × Keeps old new))
             ⊎ IsSomeAnd it.files (λ files. ListIsLeft n made first told most_windows past Noted list given
-            (λ text Holds. PrintsFront Holds old new) (handed_back o first files) it.ledger)
+            (λ text Holds. PrintsFront Holds old new) failure (handed_back o first files) it.ledger)
 
         left_early : (failure : Failure) (left : Option (NotedLeft R N)) → Keeps old new
-            → IsSomeAnd left (λ it. (it.ledger ≡ ledger) × IsLeftUnopened o made first failure deeds deeds_now it.files) → IsSomeAnd left (LeavesNotes failure)
+            → IsSomeAnd left (λ it. (it.ledger ≡ ledger) × IsLeftUnopened o made database first failure deeds deeds_now it.files) → IsSomeAnd left (LeavesNotes failure)
         left_early failure None kept some = absurd some
         left_early failure (Some it) kept early = inl (subst AreGiven (sym early.0) given_so, (early.1, kept))
 
-        left_files : (text : Option (List ℕ)) → IsListed told list given text → (notes : N) → (files : Option R)
+        left_files : (text : Option (List ℕ)) → IsListed told list given text → (failure : Failure) (notes : N) → (files : Option R)
             → IsSomeAnd files (λ files. UnionIsLeft n made first (told_within most_windows told) past
-            (λ before. MayCatchUp (n.known ledger) past before (n.came ledger) × n.sound ledger) text (λ Holds. PrintsFront Holds old new) (handed_back o first files) notes)
+            (λ before. MayCatchUp (n.known ledger) past before (n.came ledger) × n.sound ledger) text (λ Holds. PrintsFront Holds old new) failure (handed_back o first files) notes)
             → IsSomeAnd files (λ files. ListIsLeft n made first told most_windows past Noted list given
-            (λ text Holds. PrintsFront Holds old new) (handed_back o first files) notes)
-        left_files text listed notes None some = absurd some
-        left_files text listed notes (Some files) left = listed_left text listed (λ text Holds. PrintsFront Holds old new) (handed_back o first files) notes left
+            (λ text Holds. PrintsFront Holds old new) failure (handed_back o first files) notes)
+        left_files text listed failure notes None some = absurd some
+        left_files text listed failure notes (Some files) left = listed_left text listed (λ text Holds. PrintsFront Holds old new) failure (handed_back o first files) notes left
 
         left_some : (text : Option (List ℕ)) → IsListed told list given text → (failure : Failure) (left : Option (NotedLeft R N))
             → IsSomeAnd left (λ it. IsSomeAnd it.files (λ files. UnionIsLeft n made first (told_within most_windows told) past
-            (λ before. MayCatchUp (n.known ledger) past before (n.came ledger) × n.sound ledger) text (λ Holds. PrintsFront Holds old new) (handed_back o first files) it.ledger))
+            (λ before. MayCatchUp (n.known ledger) past before (n.came ledger) × n.sound ledger) text (λ Holds. PrintsFront Holds old new) failure (handed_back o first files) it.ledger))
             → IsSomeAnd left (LeavesNotes failure)
         left_some text listed failure None some = absurd some
-        left_some text listed failure (Some it) left = inr (left_files text listed it.ledger it.files left)
+        left_some text listed failure (Some it) left = inr (left_files text listed failure it.ledger it.files left)
 
         pub runs_left : Runs → IfErr result (λ run. IsSomeAnd run.left (LeavesNotes run.failure))
         runs_left (inl early) =

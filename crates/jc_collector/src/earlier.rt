@@ -35,7 +35,7 @@ pub(crate) fn open_earlier<'a, Y: Databases, F: OpenFromFiles>(
 ) -> Result<EarlierFiles<F>, Unopened<'a, F::Left>>
     ensures found { IfOk result (IsEarlierFound F.Store F.first) }
     ensures failed { IfErr result (λ unopened. WhyNoJournal path.now unopened.failure) }
-    ensures handed { IfErr result (λ unopened. HandsBack unopened.left unopened.failure (Y.deeds rt.old) (Y.deeds rt.new)) }
+    ensures handed { IfErr result (λ unopened. HandsBack path.now unopened.left unopened.failure (Y.deeds rt.old) (Y.deeds rt.new)) }
     ensures crash { IfErr result (λ unopened. IfSome unopened.left (LeavesAsBefore F.in_files F.first)) }
     ensures touched { OpensOnce path.now (Y.deeds rt.old) (Y.deeds rt.new) }
 {

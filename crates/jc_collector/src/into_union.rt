@@ -80,13 +80,14 @@ pub fn collect_into_union<
 ) -> Result<NotedRun<F::Files, L>, FailedRun<'a, F::Left, L>>
     // Line by line the answers are those to the uploads in the files that the lines name, and what they acknowledge is stored in
     // the union and noted. If it fails, what the lines acknowledge that were printed before is in what is left.
-    ensures runs { RunsFromList F.in_files L.Ledger tables F.first Y.told most_windows P.journal ledger list.now (I.remaining input.old)
+    ensures runs { RunsFromList F.in_files L.Ledger tables F.first Y.told most_windows P.journal ledger database.now list.now (I.remaining input.old)
         result (O.contents output.old) (O.contents output.new) (E.contents errors.old) (E.contents errors.new) (Y.deeds rt.old) (Y.deeds rt.new) }
     // If so, the present database's journal was exported, if a path is given.
     ensures exported { IfOk result (λ run. LeadsIf tables F.first F.in_files run.files
         (λ before. MayCatchUp (L.known ledger) P.journal before (L.came ledger) × L.clean run.ledger × NoneCollide (L.came run.ledger))
         (λ _. OpensAndExports database.now (option_map (λ name. name.now) then_export.entry) (Y.deeds rt.old) (Y.deeds rt.new))) }
-    ensures failed { IfErr result (λ run. UnionFailsBy database.now (list.now ∷ []) run.failure) }
+    ensures failed { IfErr result (λ run. UnionFailsBy database.now (list.now ∷ [])
+        (option_map (λ name. name.now) then_export.entry) run.failure) }
     ensures touched { OpensAndMayReplace database.now (option_map (λ name. name.now) then_export.entry)
         (Y.deeds rt.old) (Y.deeds rt.new) }
 {
@@ -126,7 +127,7 @@ fn join_lines<
     output: &mut O,
     errors: &mut E,
 ) -> Result<NotedRun<F::Files, L>, FailedRun<'a, F::Left, L>>
-    ensures runs { RunsNotedOrNot F.in_files L.Ledger target.entry.tables F.first (told_within most_windows Y.told) P.journal ledger (N.remaining list)
+    ensures runs { RunsNotedOrNot F.in_files L.Ledger target.entry.tables F.first (told_within most_windows Y.told) P.journal ledger target.entry.database.now (N.remaining list)
         result (O.contents output.old) (O.contents output.new) (E.contents errors.old) (E.contents errors.new) (Y.deeds rt.old) (Y.deeds rt.new) }
     ensures exported { IfOk result (λ run. LeadsIf target.entry.tables F.first F.in_files run.files
         (λ before. MayCatchUp (L.known ledger) P.journal before (L.came ledger) × L.clean run.ledger × NoneCollide (L.came run.ledger))
@@ -161,7 +162,7 @@ fn join_names<
     output: &mut O,
     errors: &mut E,
 ) -> Result<NotedRun<F::Files, L>, FailedRun<'a, F::Left, L>>
-    ensures runs { RunsNotedOrNot F.in_files L.Ledger target.entry.tables F.first (told_within most_windows Y.told) P.journal ledger (N.remaining names.old)
+    ensures runs { RunsNotedOrNot F.in_files L.Ledger target.entry.tables F.first (told_within most_windows Y.told) P.journal ledger target.entry.database.now (N.remaining names.old)
         result (O.contents output.old) (O.contents output.new) (E.contents errors.old) (E.contents errors.new) (Y.deeds rt.old) (Y.deeds rt.new) }
     ensures exported { IfOk result (λ run. LeadsIf target.entry.tables F.first F.in_files run.files
         (λ before. MayCatchUp (L.known ledger) P.journal before (L.came ledger) × L.clean run.ledger × NoneCollide (L.came run.ledger))

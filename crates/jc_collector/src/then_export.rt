@@ -1,6 +1,6 @@
 //! `--then-export`: a journal goes to a file once the uploads are answered.
 
-ghost use Rattle.std.specs.Prelude.{◌≡◌, ◌⊎◌, ◌≤◌, Ok, Err, IfOk, IfErr, OnErr, OnOk, option_map};
+ghost use Rattle.std.specs.Prelude.{◌≡◌, ◌⊎◌, ◌≤◌, Ok, Err, IfOk, IfErr, IsSome, OnErr, OnOk, option_map};
 ghost use Rattle.sqlite.specs.Held.{state};
 ghost use Rattle.sqlite.specs.View.{doubt};
 ghost use Rattle.jc_command_shared.specs.Deeds.{LeavesOld, Replaces};
@@ -32,7 +32,8 @@ pub(crate) fn check_names<'a, Y: System>(
     then_export: Option<&str>,
 ) -> Result<(), Failure<'a>>
     ensures { IfErr result (λ failure. ((failure ≡ Failure.BadDatabaseName) × IsBadName database.now)
-        ⊎ (failure ≡ Failure.BadExportName) ⊎ (failure ≡ Failure.OutOfMemory)) }
+        ⊎ ((failure ≡ Failure.BadExportName) × IsSome (option_map (λ name. name.now) then_export.entry))
+        ⊎ (failure ≡ Failure.OutOfMemory)) }
 {
     check_name(database)?;
     check_export(rt, database, then_export)
@@ -44,7 +45,8 @@ fn check_export<'a, Y: System>(
     database: &str,
     path: Option<&str>,
 ) -> Result<(), Failure<'a>>
-    ensures { IfErr result (λ failure. (failure ≡ Failure.BadExportName) ⊎ (failure ≡ Failure.OutOfMemory)) }
+    ensures { IfErr result (λ failure. ((failure ≡ Failure.BadExportName) × IsSome (option_map (λ name. name.now) path.entry))
+        ⊎ (failure ≡ Failure.OutOfMemory)) }
 {
     let Some(path) = path else {
         return Ok(());

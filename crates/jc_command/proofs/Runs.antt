@@ -177,10 +177,10 @@ by_upload file failure (inr (inr (inl is))) = subst (UploadFileFailsBy file.now)
 by_upload file failure (inr (inr (inr (inl is)))) = subst (UploadFileFailsBy file.now) (sym is) tt
 by_upload file failure (inr (inr (inr (inr is)))) = subst (UploadFileFailsBy file.now) (sym is) tt
 
-pub by_folder : (folder : Bor (List ℕ)) (database list : List ℕ) (is failure : Failure) → is ≡ failure
-    → (failure ≡ failures.CannotOpen folder) ⊎ (failure ≡ failures.OutOfMemory) → (is ≡ failures.CannotOpen folder) ⊎ UnionFailsBy database (list ∷ []) is
-by_folder folder database list is failure same (inl cannot) = inl (same ∙ cannot)
-by_folder folder database list is failure same (inr none) = inr (subst (UnionFailsBy database (list ∷ [])) (sym (same ∙ none)) tt)
+pub by_folder : (folder : Bor (List ℕ)) (database list : List ℕ) (at : Option (List ℕ)) (is failure : Failure) → is ≡ failure
+    → (failure ≡ failures.CannotOpen folder) ⊎ (failure ≡ failures.OutOfMemory) → (is ≡ failures.CannotOpen folder) ⊎ UnionFailsBy database (list ∷ []) at is
+by_folder folder database list at is failure same (inl cannot) = inl (same ∙ cannot)
+by_folder folder database list at is failure same (inr none) = inr (subst (UnionFailsBy database (list ∷ []) at) (sym (same ∙ none)) tt)
 
 -- where nothing but a write fails a device does
 pub write_fails : {T : Type 0} (r : Result T Failure) (output output' : Option (List ℕ)) → IfErr r (λ failure. failure ≡ failures.WriteFailed)

@@ -46,9 +46,9 @@ module _ {S C L N : Type 0} (begun : Begins) (g : Devices S C L N) where
   FailsLeaving (CollectIntoUnion database tables list sequences most_windows then_export) given old new deeds failure left =
       (BeginsNothing deeds left × (IsUnopened sequences failure × Keeps old new))
       ⊎ IsSomeAnd left (λ it.
-      (AreAsBegun it.ledger × (IsLeftUnopened g.database tables begun.image failure begun.deeds deeds it.files × Keeps old new))
+      (AreAsBegun it.ledger × (IsLeftUnopened g.database tables database.now begun.image failure begun.deeds deeds it.files × Keeps old new))
       ⊎ IsSomeAnd it.files (λ files. LeavesUnion begun g tables list.now most_windows given
-      (λ text Holds. PrintsFront Holds old new) (handed_back g.database begun.image files) it.ledger))
+      (λ text Holds. PrintsFront Holds old new) failure (handed_back g.database begun.image files) it.ledger))
   FailsLeaving _ given old new deeds failure left = left ≡ None
 
   -- A request fails for such a reason, and leaves that. Unless a device or memory failed, nothing was printed.
@@ -58,9 +58,9 @@ module _ {S C L N : Type 0} (begun : Begins) (g : Devices S C L N) where
     pub kept : status_of run.failure ≢ Failed → Keeps old new
 
   -- The arguments ask for nothing that is begun: for help, or they are wrong, or memory was refused, and nothing was printed; or
-  -- they ask for something that fails with this status and leaves that.
+  -- they ask for something that fails for such a reason, with this status, and leaves that.
   abbrev pub FailsAsked : List Text → (given old new : Option (List ℕ)) → (deeds : Option (List Deed)) → Status → Option (NotedLeft L N) → Type 0
   FailsAsked words given old new deeds status left =
       ((AskForHelp words ⊎ (Keeps old new × (AreWrong words ⊎ (status ≡ Failed)))) × BeginsNothing deeds left)
       ⊎ ((request : Request) × AskFor words request
-      × ((failure : Failure) × (status ≡ status_of failure) × FailsLeaving request given old new deeds failure left))
+      × ((failure : Failure) × (status ≡ status_of failure) × FailsBy begun.told request given failure × FailsLeaving request given old new deeds failure left))

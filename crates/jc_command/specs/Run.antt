@@ -112,12 +112,13 @@ abbrev pub leaves : {C N : Type 0} → Option C → Option N → Option (List De
 leaves files ledger deeds = record { files = files; ledger = ledger; deeds = deeds }
 
 -- What is left of a union's files and notes has what the answers acknowledge whose lines were printed, if the notes were at
--- first what is still noted of earlier databases, and some of what the present one had. A list names their uploads.
+-- first what is still noted of earlier databases, and some of what the present one had. A list names their uploads. If a run
+-- fails so, a fault is that of an entry over the limits.
 abbrev pub LeavesUnion : {S C L N : Type 0} → Begins → Devices S C L N → (made : Tables) → (list : List ℕ) → (most_windows : Option ℕ) → (given : Option (List ℕ))
-    → (Prints : (text : Option (List ℕ)) → HowPrinted) → FilesLeft → (notes : N) → Type 0
-LeavesUnion begun g made list most_windows given Prints files notes =
+    → (Prints : (text : Option (List ℕ)) → HowPrinted) → Failure → FilesLeft → (notes : N) → Type 0
+LeavesUnion begun g made list most_windows given Prints failure files notes =
     ListIsLeft g.ledger made begun.image begun.told most_windows (stored_before begun)
-    (λ before. MayCatchUp begun.noted (stored_before begun) before begun.came) list given Prints files notes
+    (λ before. MayCatchUp begun.noted (stored_before begun) before begun.came) list given Prints failure files notes
 
 module _ {S C L N : Type 0} (begun : Begins) (g : Devices S C L N) (left : Leaves C N) where
   -- A run ends with the files of its database, closed, and made such a step over the journal that they had, or over the empty
@@ -256,10 +257,12 @@ FailsBy told (Inspect file most_entries most_fields most_bytes most_windows) giv
 FailsBy told (Upload source limit most_bytes whole) given failure = UploadFailsBy told source failure
 FailsBy told (Ack source) given failure = AckFailsBy told source given failure
 FailsBy told (Acknowledged upload) given failure = UploadFileFailsBy upload.now failure
-FailsBy told (Collect database tables uploads then_export) given failure = CollectFailsBy database.now (map (λ path. path.now) uploads.items) failure
-FailsBy told (CollectListed database tables list then_export) given failure = CollectFailsBy database.now (list.now ∷ []) failure
+FailsBy told (Collect database tables uploads then_export) given failure =
+    CollectFailsBy database.now (map (λ path. path.now) uploads.items) (option_map (λ name. name.now) then_export) failure
+FailsBy told (CollectListed database tables list then_export) given failure =
+    CollectFailsBy database.now (list.now ∷ []) (option_map (λ name. name.now) then_export) failure
 FailsBy told (CollectIntoUnion database tables list sequences most_windows then_export) given failure =
-    (failure ≡ CannotOpen sequences) ⊎ UnionFailsBy database.now (list.now ∷ []) failure
+    (failure ≡ CannotOpen sequences) ⊎ UnionFailsBy database.now (list.now ∷ []) (option_map (λ name. name.now) then_export) failure
 FailsBy told (request.Export database) given failure = DatabaseFailsBy database.now failure
 FailsBy told (Show database field id first last) given failure =
     ShowFailsBy database.now (option_map (λ name. name.now) field) (option_map (λ digits. digits.now) id) failure

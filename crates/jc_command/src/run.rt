@@ -209,7 +209,8 @@ pub fn run_command<
         (devices F.in_files ⟦<N::Notes as Ledger>⟧) (leaves result.files result.ledger (Y.deeds rt.new)) (map string_bytes words.items) (I.remaining input.old)
         (O.contents output.old) (O.contents output.new) (E.contents errors.old) (E.contents errors.new) status }
     // Whatever the status is, either what was asked for is performed, or nothing was begun and nothing comes back. Or a union fails,
-    // and what is left of it has what was printed, or is as it was opened; or another request, of which nothing comes back.
+    // and what is left of it has what was printed, or is as it was opened; or another request, of which nothing comes back. A fault
+    // that a union fails with is one of its present database, or of an entry in it that is over the limits.
     ensures failed { (status : Status) → result.status ≡ number_of status
         → PerformsAsked (begins_with F.first S.windows S.finished S.aside S.came Y.told Y.found (Y.deeds rt.old) (O.entry_shape output.old))
         (devices F.in_files ⟦<N::Notes as Ledger>⟧) (leaves result.files result.ledger (Y.deeds rt.new)) (map string_bytes words.items) (I.remaining input.old)

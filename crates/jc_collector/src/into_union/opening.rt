@@ -69,7 +69,7 @@ pub fn open_union<S: Alter + Drop, T: Listed + Drop, L: Ledger + Drop, P: Past>(
     ensures clean { ⟦<TableUnion<S, T, L, P> as Keeper>⟧.clean result.union → HasCleanDisk (state S.Store present.conn) × L.clean ledger }
     ensures comes { ComesToo (L.came ledger) (L.came result.union.ledger) }
     // Then no entry differs from its note, and a fault is that of an entry over the limits.
-    ensures failed { ⟦<TableUnion<S, T, L, P> as Keeper>⟧.sound result.union
+    ensures failed { ⟦<TableUnion<S, T, L, P> as Keeper>⟧.clean result.union
         → MayOpen T.meaning S.Store present.conn (L.known ledger) P.journal (L.came ledger)
         → IfErr result.opened (MayStop (journal_of T.meaning S.Store present.conn)) }
     ensures store { result.opened ≡ Err (OpenStop.Stopped KeepStop.StoreFailed)

@@ -3,7 +3,7 @@ use Rattle.std.proofs.Common.{inl, inr}
 use Rattle.jc_command_args.specs.declared.request.Tables.TheVariants.{ByKey, ByNumber}
 use Rattle.jc_collector.specs.ExportedLaws.{opens_alone, opens_then}
 use Rattle.jc_collector.proofs.Exported.{opens_exports}
-use Rattle.jc_collector.proofs.IntoUnion.{fails_early, found_as}
+use Rattle.jc_collector.proofs.IntoUnion.{database_fault, fails_early, found_as}
 use Rattle.jc_collector.proofs.Results.{IfOk-each}
 use Rattle.jc_collector.proofs.into_union.join_names.Goals as goal
 
@@ -31,8 +31,12 @@ returns-in-Err-clause-touched g c = opens_alone c.in-Err.ensures.touched
 -- the present database isn't opened
 pub returns-in-Err-clause-runs : goal.returns-in-Err-clause-runs
 returns-in-Err-clause-runs g c =
-    inl (fails_early g.F.StoreInFiles.in_files c.args.target.tables g.F.OpenFromFiles.first c.args.ledger c.unopened.result _ _ (g.O.Write.contents c.args.output.now) _ _
-    c.unopened.ensures.failure c.unopened.ensures.left (record { begins = c.in-Err.ensures.crash; handed = c.in-Err.ensures.handed }))
+    inl (fails_early g.F.StoreInFiles.in_files c.args.target.tables c.args.target.database.now g.F.OpenFromFiles.first c.args.ledger c.unopened.result _ _ (g.O.Write.contents c.args.output.now) _ _
+    c.unopened.ensures.failure c.unopened.ensures.left (record {
+      begins = c.in-Err.ensures.crash;
+      handed = c.in-Err.ensures.handed;
+      fault = database_fault c.args.target.database.now _ c.in-Err.ensures.failed;
+    }))
 
 pub returns-in-ByKey-clause-exported : goal.returns-in-ByKey-clause-exported
 returns-in-ByKey-clause-exported g c =

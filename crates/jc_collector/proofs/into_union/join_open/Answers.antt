@@ -8,8 +8,8 @@ use Rattle.jc_ledger.specs.Kept.{NoneCollide}
 use Rattle.jc_ledger.specs.Owners.{whose_by}
 use Rattle.jc_store.specs.Crash.{MayLeave}
 use Rattle.jc_store.specs.Meaning.{IsSound, journal_of}
-use Rattle.jc_collector.specs.UnionLaws.{holds_nothing, holds_through, no_union}
-use Rattle.jc_collector.specs.Database.{IsOutFailure, MayEndNames}
+use Rattle.jc_collector.specs.UnionLaws.{faults_over, holds_nothing, holds_through, no_union}
+use Rattle.jc_collector.specs.Database.{MayEndNames}
 use Rattle.jc_collector.specs.IntoUnion.{UnionStopsBy}
 use Rattle.jc_collector_answers.specs.Collected.{those_named, told_within}
 use Rattle.jc_collector_answers.specs.CollectedLaws.{some_named}
@@ -17,10 +17,10 @@ use Rattle.jc_collector_answers.specs.PrintedLaws.{front_none, named, text_other
 use Rattle.jc_collector_answers.specs.declared.name_lines.NameLines.TheVariants.{MachinesAndUploads}
 use Rattle.jc_collector.proofs.Causes.{names_failed}
 use Rattle.jc_collector.proofs.Exported.{same_exported}
-use Rattle.jc_collector.proofs.IntoUnion.{apart_before, by_answers, holds_stored, kept_same, named_between, named_stored}
+use Rattle.jc_collector.proofs.IntoUnion.{apart_before, by_answers, holds_stored, kept_same, named_between, names_ended, named_stored, names_over}
 use Rattle.jc_collector.proofs.Counted.{printed_behind}
 use Rattle.jc_collector.proofs.Open.{clean_before, front_named, on_ok_of_other}
-use Rattle.jc_collector.proofs.Results.{IfErr-each, failure_of_other, on_any, on_ok, on_ok_if, value_of_other}
+use Rattle.jc_collector.proofs.Results.{IfErr-each, at_err, on_any, on_ok, on_ok_if, value_of_other}
 use Rattle.jc_collector.proofs.into_union.join_open.Goals as goal
 
 -- What is sound, or clean, behind the export was so behind the answers.
@@ -51,6 +51,10 @@ returns-in-Ok-clause-answers g c =
             exported.keeps.made made.0,
             (tt, (tt, λ late. rw (exported.keeps.same (exported.before late.0) made.0 late.0) (made.1.1.1 (exported.before late.0, late.1)))),
           );
+      faults = λ clean may.
+          IfErr-each c.export_after-done.result MayEndNames _ (names_over _)
+          (names_ended c.answer_names_within-answered.result c.settle_after-settled.result c.export_after-done.result
+          c.answer_names_within-answered.ensures.failed c.settle_after-settled.ensures.failed c.export_after-done.ensures.failed);
       recovers = λ clean may l_sound.
           let disk = clean_before exported.clean clean.0 in
           let told_clean : HasCleanDisk (state g.S.Store told.present.conn) × (g.L.Ledger.clean told.ledger × (⊤ × NoneCollide (g.L.Ledger.came told.ledger))) =
@@ -131,22 +135,14 @@ returns-in-Ok-clause-quiet g c =
 pub returns-in-Ok-clause-failed : goal.returns-in-Ok-clause-failed
 returns-in-Ok-clause-failed g c =
     IfErr-each c.export_after-done.result MayEndNames UnionStopsBy by_answers
-    (failure_of_other c.export_after-done.result c.settle_after-settled.result IsOutFailure MayEndNames c.export_after-done.ensures.failed
-    (failure_of_other c.settle_after-settled.result c.answer_names_within-answered.result _ MayEndNames c.settle_after-settled.ensures.failed
-    (IfErr-each c.answer_names_within-answered.result _ MayEndNames
-    (λ failure why. elim why [ inl is ↦ inl is | inr more ↦ elim more [ inl is ↦ inr (inl is) | inr is ↦ inr (inr (inr is)) ] ]) c.answer_names_within-answered.ensures.failed)
-    (λ failure its. inr (inr its)))
-    (λ failure out. inr out))
+    (names_ended c.answer_names_within-answered.result c.settle_after-settled.result c.export_after-done.result
+    c.answer_names_within-answered.ensures.failed c.settle_after-settled.ensures.failed c.export_after-done.ensures.failed)
 
 pub returns-in-Ok-clause-untouched : goal.returns-in-Ok-clause-untouched
 returns-in-Ok-clause-untouched g c =
     IfErr-each c.export_after-done.result MayEndNames _ (λ failure out judged. absurd (judged (names_failed failure out)))
-    (failure_of_other c.export_after-done.result c.settle_after-settled.result IsOutFailure MayEndNames c.export_after-done.ensures.failed
-    (failure_of_other c.settle_after-settled.result c.answer_names_within-answered.result _ MayEndNames c.settle_after-settled.ensures.failed
-    (IfErr-each c.answer_names_within-answered.result _ MayEndNames
-    (λ failure why. elim why [ inl is ↦ inl is | inr more ↦ elim more [ inl is ↦ inr (inl is) | inr is ↦ inr (inr (inr is)) ] ]) c.answer_names_within-answered.ensures.failed)
-    (λ failure its. inr (inr its)))
-    (λ failure out. inr out))
+    (names_ended c.answer_names_within-answered.result c.settle_after-settled.result c.export_after-done.result
+    c.answer_names_within-answered.ensures.failed c.settle_after-settled.ensures.failed c.export_after-done.ensures.failed)
 
 pub returns-in-Err-clause-answers : goal.returns-in-Err-clause-answers
 returns-in-Err-clause-answers g c =
@@ -156,6 +152,7 @@ returns-in-Err-clause-answers g c =
       was_sound = λ sound. (opened.before sound.0, opened.ledger sound.1.0);
       was_clean = opened.clean;
       tables = λ clean may. opened.journal.made may.made;
+      faults = λ clean may. rw c.why_no_union.ensures (faults_over _ c.in-Err.stop (at_err c.open_union-union.result.opened c.in-Err.stop _ c.in-Err.is (opened.failed clean may)));
       is_made = λ clean may. tt;
       recovers = opened.recovers;
       each = λ clean may l_sound.

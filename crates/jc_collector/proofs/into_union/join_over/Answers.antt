@@ -23,7 +23,7 @@ use Rattle.jc_collector.specs.UnionLeft.{handed_back}
 use Rattle.jc_collector.specs.UnionLeftLaws.{union_left}
 use Rattle.jc_collector.proofs.Causes.{failed}
 use Rattle.jc_collector.proofs.IntoUnion.{by_answers, front_any, leads_found}
-use Rattle.jc_collector.proofs.Results.{IfErr-each, IfOk-both, IfOk-four, at_ok, failure_in_other, on_ok, some_each, value_of_other}
+use Rattle.jc_collector.proofs.Results.{IfErr-both, IfOk-both, IfOk-four, at_ok, failure_in_other, on_ok, some_each, value_of_other}
 use Rattle.jc_collector.proofs.into_union.join_over.Goals as goal
 
 pub returns-clause-runs : goal.returns-clause-runs
@@ -83,12 +83,13 @@ returns-clause-runs g c = λ lawful made first found.
           (λ run done ledger. λ l_clean.
           subst g.L.Ledger.sound (sym ledger) (on_ok answered run.status _ done (c.join_open-union.ensures.noted (subst g.L.Ledger.clean ledger l_clean))))
           closed.answered closed.ledger;
-      left = IfErr-each c.close_union.result _ _
-          (λ run some. some_each run.left _ _ some
+      left = IfErr-both c.close_union.result _ _ _
+          (λ run why some. some_each run.left _ _ some
           (λ it back. some_each it.files _ _ back.1
-          (λ files leaves. λ clean l_clean none kind before begin noted. front_any _ text old new answered
-          (left (handed_back g.F.StoreInFiles.in_files first files) (leaves first) it.ledger back.0 clean l_clean none kind before begin noted))))
-          closed.left;
+          (λ files leaves. λ clean l_clean none kind before begin noted.
+          let is = left run.failure why (handed_back g.F.StoreInFiles.in_files first files) (leaves first) it.ledger back.0 clean l_clean none kind before begin noted in
+          (is.0, front_any _ text old new answered is.1))))
+          closed.failed closed.left;
       untouched = failure_in_other c.close_union.result answered (λ run. run.failure) _ _ closed.failed
           c.join_open-union.ensures.untouched (λ failure is judged. absurd (judged (failed failure (inr (inl is)))));
     }

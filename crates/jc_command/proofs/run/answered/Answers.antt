@@ -64,7 +64,7 @@ returns-in-Ok-clause-performed g c =
 
 pub returns-in-Ok-clause-left : goal.returns-in-Ok-clause-left
 returns-in-Ok-clause-left g c =
-    IfErr-weaker c.perform.result _ _ (λ run it. inr (c.in-Ok.request, c.in-Ok.ensures.request, (run.failure, refl, it.leaves))) c.perform.ensures.failed
+    IfErr-weaker c.perform.result _ _ (λ run it. inr (c.in-Ok.request, c.in-Ok.ensures.request, (run.failure, refl, it.why, it.leaves))) c.perform.ensures.failed
 
 pub returns-in-Err-clause-performed : goal.returns-in-Err-clause-performed
 returns-in-Err-clause-performed g c =

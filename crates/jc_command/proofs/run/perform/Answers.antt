@@ -297,16 +297,16 @@ pub returns-in_ok-run-in-CollectIntoUnion-clause-performed : goal.returns-in_ok-
 returns-in_ok-run-in-CollectIntoUnion-clause-performed g c =
     let runs = c.in_ok-run-in-CollectIntoUnion.ensures.runs in
     let opened = c.in_ok-ledger-in-CollectIntoUnion.ensures in
-    performs_as _ _ _ _ _ _ _ _ _ _ _ _ _ _ _ _ c.in-CollectIntoUnion.is c.noted.ensures.files c.noted.ensures.ledger c.noted.ensures.status (runs_quiet _ _ _ _ _ _ _ _ _ _ _ _ _ _ _ _ _ runs) (
+    performs_as _ _ _ _ _ _ _ _ _ _ _ _ _ _ _ _ c.in-CollectIntoUnion.is c.noted.ensures.files c.noted.ensures.ledger c.noted.ensures.status (runs_quiet _ _ _ _ _ _ _ _ _ _ _ _ _ _ _ _ _ _ runs) (
       record {
-        printed = runs_printed _ _ _ _ _ _ _ _ _ _ _ _ _ _ _ _ _ runs;
+        printed = runs_printed _ _ _ _ _ _ _ _ _ _ _ _ _ _ _ _ _ _ runs;
         stores = leads_from _ _ _ _ _ _
-            (λ before asked. (same_start opened.known (λ e came. (opened.came e).1 came) asked.0, asked.1, asked.2)) (runs_stored _ _ _ _ _ _ _ _ _ _ _ _ _ _ _ _ _ _ opened.owner runs);
+            (λ before asked. (same_start opened.known (λ e came. (opened.came e).1 came) asked.0, asked.1, asked.2)) (runs_stored _ _ _ _ _ _ _ _ _ _ _ _ _ _ _ _ _ _ _ opened.owner runs);
         owners = record {
           stay = c.show_steady.ensures.stay;
           after = c.show_steady.ensures.stay_after;
         };
-        noted = runs_noted _ _ _ _ _ _ _ _ _ _ _ _ _ _ _ _ _ runs;
+        noted = runs_noted _ _ _ _ _ _ _ _ _ _ _ _ _ _ _ _ _ _ runs;
       },
       leads_from _ _ _ _ _ _ (λ before asked. (same_start opened.known (λ e came. (opened.came e).1 came) asked.0, asked.1, asked.2))
           c.in_ok-run-in-CollectIntoUnion.ensures.exported,
@@ -321,10 +321,10 @@ returns-in_err-run-in-CollectIntoUnion-clause-failed g c =
     err_is c.from_residual-in_err-run-in-CollectIntoUnion.result _ _ c.from_residual-in_err-run-in-CollectIntoUnion.ensures.1
     (fails_one begun seen _ _ (g.I.Read.remaining c.args.input.now) (g.O.Write.contents c.args.output.now) _ _ c.in-CollectIntoUnion.is (record {
       why = inr ends.failed;
-      leaves = inr (runs_left _ _ _ _ _ _ _ _ _ _ _ _ _ _ _ _ _ _
+      leaves = inr (runs_left _ _ _ _ _ _ _ _ _ _ _ _ _ _ _ _ _ _ _
           (λ before noted. (same_start opened.known (λ e came. (opened.came e).1 came) noted, opened.sound))
           (AreAsBegun begun seen) (record { sound = opened.sound; known = opened.known; owner = opened.owner; came = opened.came }) ends.runs);
-      kept = runs_untouched _ _ _ _ _ _ _ _ _ _ _ _ _ _ _ _ _ ends.runs;
+      kept = runs_untouched _ _ _ _ _ _ _ _ _ _ _ _ _ _ _ _ _ _ ends.runs;
     }))
 
 pub returns-in_err-ledger-in-CollectIntoUnion-clause-failed : goal.returns-in_err-ledger-in-CollectIntoUnion-clause-failed
@@ -332,7 +332,7 @@ returns-in_err-ledger-in-CollectIntoUnion-clause-failed g c =
     let output = g.O.Write.contents c.args.output.now in
     err_and c.from_residual.result _ _ c.from_residual.ensures.1
     (λ run is. fails_one _ _ _ _ (g.I.Read.remaining c.args.input.now) output output run c.in-CollectIntoUnion.is (record {
-      why = by_folder _ _ c.in-CollectIntoUnion.list.now _ _ is.0 c.in_err-ledger-in-CollectIntoUnion.ensures.failed;
+      why = by_folder _ _ c.in-CollectIntoUnion.list.now _ _ _ is.0 c.in_err-ledger-in-CollectIntoUnion.ensures.failed;
       leaves = inl (
         (refl, is.1),
         (

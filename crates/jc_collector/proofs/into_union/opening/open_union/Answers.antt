@@ -21,7 +21,7 @@ returns-clause-made g c = λ may none.
     (IsSound g.S.Store c.list_present-present.result.0.conn × (g.L.Ledger.sound c.note_listed-opened.new.ledger × ⊤))
     (IsKept (g.L.Ledger.known c.note_listed-opened.new.ledger) g.P.Past.journal before (g.L.Ledger.came c.note_listed-opened.new.ledger))
     (MayStop before) _
-    (λ sounds. noted.kept sounds.1.0 none g.P.Past.journal lag.noted before lag.kept lag.lags
+    (λ sounds. noted.kept (g.met.L.Ledger.clean_if_sound _ sounds.1.0) none g.P.Past.journal lag.noted before lag.kept lag.lags
     (listed.text may.sound may.made sounds.0, listed.lawful may.sound may.made sounds.0))
     (λ kept. (
       listed.keeps.made may.made,
@@ -71,13 +71,17 @@ pub returns-clause-clean : goal.returns-clause-clean
 returns-clause-clean g c = λ clean. (omega (arith, c.list_present-present.ensures.clean, clean.0), c.note_listed-opened.ensures.notes.was_clean clean.1.0)
 
 pub returns-clause-failed : goal.returns-clause-failed
-returns-clause-failed g c = λ sounds may.
+returns-clause-failed g c = λ clean may.
     let listed = c.list_present-present.ensures in
+    let text = c.list_present-present.result.1 in
     let lag = may.lags in
+    let there = listed.sound clean.0 in
     if_err_of c.note_listed-opened.result _ _
-    (c.note_listed-opened.ensures.notes.kept sounds.1.0 sounds.1.1.1 g.P.Past.journal lag.noted
-    (journal_of g.T.Layout.meaning g.S.Store c.args.present.conn) lag.kept lag.lags
-    (listed.text may.sound may.made sounds.0, listed.lawful may.sound may.made sounds.0))
+    (c.note_listed-opened.ensures.notes.kept clean.1.0 clean.1.1.1 g.P.Past.journal lag.noted
+    (journal_of g.T.Layout.meaning g.S.Store c.args.present.conn) lag.kept lag.lags (
+      ok_each text _ _ there (λ sound. listed.text may.sound may.made sound),
+      on_each text _ _ there (λ sound. listed.lawful may.sound may.made sound),
+    ))
 
 pub returns-clause-store : goal.returns-clause-store
 returns-clause-store g c = λ is.
